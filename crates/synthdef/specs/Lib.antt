@@ -1,0 +1,7 @@
+pub mod Read
+pub mod Fields
+pub mod Definition
+pub mod Reader
+pub mod Writer
+pub mod Bounds
+pub mod Worked

@@ -1,0 +1,2 @@
+// SynthDef2 files: read, refused, looked up.
+pub fn nothing() {}
