@@ -4,4 +4,5 @@ pub mod Definition
 pub mod Reader
 pub mod Writer
 pub mod Bounds
+pub mod Answers
 pub mod Worked

@@ -1,2 +1,7 @@
 // SynthDef2 files: read, refused, looked up.
-pub fn nothing() {}
+mod cursor;
+
+pub use cursor::Cursor;
+pub use cursor::Number;
+pub use cursor::Step;
+pub use cursor::Text;

@@ -1,0 +1,36 @@
+use Prim.Native.Nat.{ℕ, zero, suc, _+_, _*_, _-_, _≤_, _<_}
+use mathlib.Core.Bool.{Bool, true, false, not}
+use mathlib.Core.Path.{_≡_, refl, sym, ap, _∙_}
+use mathlib.Core.List.{List, [], _∷_, _++_, append-assoc}
+use native.Mathlib.Omega.{arith}
+use native.Mathlib.Numerals.{add-one}
+use borrow.Author.Needs.{needs}
+use borrow.Author.Tests.{lt-ltb, le-ltb, le-leb, lt-leb, eq-eqb, ne-eqb}
+use lib.ListN.{length, take, drop, getD, set, length-set, length-drop}
+use borrow.Author.Needs.{needs}
+use Rattle.synthdef.proofs.cursor.Cursor.int8.Statement.{statement}
+use Rattle.synthdef.proofs.cursor.Cursor.int8.Tie as tie
+use Rattle.synthdef.proofs.cursor.Cursor.int8.Reads as reads
+use Rattle.synthdef.proofs.cursor.Cursor.int8.Lts as lts
+
+returns : tie.Need-returns
+returns c =
+    let a = c .before .args in
+    rw (lt-leb (a .self .at + 1) (length (a .s .now)) (omega arith))
+
+shared-slice-read-t8 : tie.Need-shared-slice-read-t8
+shared-slice-read-t8 c = search needs
+
+cast-t9 : tie.Need-cast-t9
+cast-t9 c = omega (arith, c .shared-slice-known .given (c .before .before .args .self .at))
+
+add-t4 : tie.Need-add-t4
+add-t4 c = search needs
+
+returns-2 : tie.Need-returns-2
+returns-2 c =
+    let a = c .before .before .args in
+    rw (le-leb (a .self .at + 1) (length (a .s .now)) (omega arith))
+
+pub int8-spec : {M : Type 1} → statement M
+int8-spec = tie.close (tie.spec returns shared-slice-read-t8 cast-t9 add-t4 returns-2)
