@@ -1,6 +1,7 @@
 pub mod Table
 pub mod Place
 pub mod Edit
+pub mod Split
 pub mod Structure
 pub mod Forest
 pub mod Order
