@@ -1,1 +1,3 @@
 pub mod Flatten
+pub mod Leaves
+pub mod Edits
