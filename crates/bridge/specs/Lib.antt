@@ -1,3 +1,4 @@
 pub mod Flatten
 pub mod Leaves
 pub mod Edits
+pub mod Shape
