@@ -10,7 +10,7 @@ use Rattle.words.specs.Choice.{pick}
 use Rattle.nodes.specs.declared.Node.{Node}
 use Rattle.nodes.specs.Place.{isGroup}
 use Rattle.nodes.specs.Edit.{withRun}
-use Rattle.nodes.specs.Forest.{Forest, none, node, beside, prune, single, has, subtree, edit, free, freeBelow, freeDeep, change, putHead, putTail, putBefore, putAfter, putOver, placeBefore, placeAfter, placeHead, placeTail}
+use Rattle.nodes.specs.Forest.{Forest, none, node, beside, prune, single, has, subtree, edit, free, freeBelow, freeDeep, change, putHead, putTail, putBefore, putAfter, putOver}
 use Rattle.bridge.specs.Flatten.{key, Inherited}
 
 -- an item that is no group has none below
@@ -132,7 +132,7 @@ module _ (n : ℕ) (f : Forest Node) (l : Leaves f) where
       leaves-putTail = into (λ b. beside b g) (λ b l. leaves-beside b g l m)
 
 -- a free leaves no synth of a number where there was none
-nosynth-free : (m n : ℕ) (f : Forest Node) → NoSynth m f → NoSynth m (free key n f)
+pub nosynth-free : (m n : ℕ) (f : Forest Node) → NoSynth m f → NoSynth m (free key n f)
 unfolding NoSynth edit
 nosynth-free m n none s = tt
 nosynth-free m n (node x b a) s = go (eqb (x .number) n) (has key n b) (nosynth-free m n b (s .1)) (nosynth-free m n a (s .2))
@@ -141,17 +141,3 @@ nosynth-free m n (node x b a) s = go (eqb (x .number) n) (has key n b) (nosynth-
     go true q i j = s .2
     go false true i j = (s .0, i, s .2)
     go false false i j = (s .0, s .1, j)
-
--- moves
-module _ (m n : ℕ) (f : Forest Node) (l : Leaves f) where
-  pub leaves-placeBefore : Leaves (placeBefore key m n f)
-  leaves-placeBefore = leaves-putBefore n (free key m f) (leaves-free m f l) (subtree key m f) (leaves-subtree m f l)
-
-  pub leaves-placeAfter : Leaves (placeAfter key m n f)
-  leaves-placeAfter = leaves-putAfter n (free key m f) (leaves-free m f l) (subtree key m f) (leaves-subtree m f l)
-
-  pub leaves-placeHead : NoSynth n f → Leaves (placeHead key m n f)
-  leaves-placeHead s = leaves-putHead n (free key m f) (leaves-free m f l) (subtree key m f) (leaves-subtree m f l) (nosynth-free n m f s)
-
-  pub leaves-placeTail : NoSynth n f → Leaves (placeTail key m n f)
-  leaves-placeTail s = leaves-putTail n (free key m f) (leaves-free m f l) (subtree key m f) (leaves-subtree m f l) (nosynth-free n m f s)

@@ -2,3 +2,4 @@ pub mod Flatten
 pub mod Leaves
 pub mod Edits
 pub mod Shape
+pub mod Rooted
