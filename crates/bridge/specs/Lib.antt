@@ -3,3 +3,4 @@ pub mod Leaves
 pub mod Edits
 pub mod Shape
 pub mod Rooted
+pub mod Tally
