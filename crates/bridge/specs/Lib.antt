@@ -4,3 +4,4 @@ pub mod Edits
 pub mod Shape
 pub mod Rooted
 pub mod Tally
+pub mod Keep
