@@ -12,7 +12,7 @@ use Rattle.nodes.specs.declared.Node.{Node}
 use Rattle.nodes.specs.Place.{groupSlot, isGroup, lives}
 use Rattle.nodes.specs.Edit.{withRun, setRun}
 use Rattle.nodes.specs.Formed.{apart, firstGiven, lastGiven, numberFormed, rowFormed, fieldsFormed, allFormed, rowTaken, rowsApart, synthLives}
-use Rattle.bridge.specs.Tally.{Blind, one, tally, tally-length, tally-setRun, Within, Same, Grown}
+use Rattle.bridge.specs.Tally.{Blind, one, tally, tally-length, tally-setRun, tally-setRun-same, Within, Same, Grown}
 
 -- the tests: a record has the number n; it is a synth with the row k; a synth with the number n; its fields break a rule
 abbrev pub numbered : ℕ → Node → Bool
@@ -278,3 +278,19 @@ module _ (n flag : ℕ) (t : List Node) where
 
       still : (r : Node) → illFormed next r ≡ false → illFormed next (withRun flag r) ≡ false
       still r e = rw (le-leb flag 1 low) (go (numberFormed next r) (leb (r .run) 1) (both (leb (r .slot) groupSlot) (rowFormed r)) e)
+
+  -- nothing comes or goes by it
+  turned-test : (test : List Node → Bool) (p : Node → Bool) → ((r : Node) → p (withRun flag r) ≡ p r) → ((l : List Node) → test l ≡ some p l) → test (setRun n flag t) ≡ test t
+  turned-test test p g means = means (setRun n flag t) ∙ ap (λ (k : ℕ). ltb 0 k) (tally-setRun-same p n flag t g) ∙ sym (means t)
+
+  pub setRun-lives : (m : ℕ) → lives m (setRun n flag t) ≡ lives m t
+  setRun-lives m = turned-test (lives m) (numbered m) (λ r. refl) (lives-some m)
+
+  pub setRun-rowTaken : (k : ℕ) → rowTaken k (setRun n flag t) ≡ rowTaken k t
+  setRun-rowTaken k = turned-test (rowTaken k) (inRow k) (λ r. refl) (rowTaken-some k)
+
+  pub setRun-synthLives : (m : ℕ) → synthLives m (setRun n flag t) ≡ synthLives m t
+  setRun-synthLives m = turned-test (synthLives m) (synthNumbered m) (λ r. refl) (synthLives-some m)
+
+  pub setRun-length : length (setRun n flag t) ≡ length t
+  setRun-length = sym (tally-length (setRun n flag t)) ∙ tally-setRun-same (λ r. true) n flag t (λ r. refl) ∙ tally-length t

@@ -5,3 +5,6 @@ pub mod Shape
 pub mod Rooted
 pub mod Tally
 pub mod Keep
+pub mod Latest
+pub mod Order
+pub mod MapForest

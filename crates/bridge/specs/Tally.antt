@@ -100,6 +100,16 @@ module _ (p : Node → Bool) where
       one-most true false g = absurd (let q : true ≡ false = g refl in let z : _≡_ {A = ℕ} 0 1 = cc in omega arith)
       one-most false b g = omega arith
 
+  -- .. and if it makes none fail it either
+  pub tally-setRun-same : (n flag : ℕ) (t : List Node) → ((r : Node) → p (withRun flag r) ≡ p r) → tally p (setRun n flag t) ≡ tally p t
+  unfolding tally editRows
+  tally-setRun-same n flag [] g = refl
+  tally-setRun-same n flag (r ∷ l) g = go (tally-setRun-same n flag l g) (eqb (r .number) n)
+    where
+      go : tally p (setRun n flag l) ≡ tally p l → (b : Bool) → tally p (pick b (withRun flag r ∷ l) (r ∷ setRun n flag l)) ≡ one (p r) + tally p l
+      go ih true = ap (λ (b : Bool). one b + tally p l) (g r)
+      go ih false = ap (λ (k : ℕ). one (p r) + k) ih
+
   module _ (blind : Blind p) where
     tally-lift : (k : ℕ) (l : List Node) → tally p (lift k l) ≡ tally p l
     unfolding tally lift

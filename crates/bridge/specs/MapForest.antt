@@ -1,0 +1,1 @@
+-- Each edit of a plain tree commutes with a change of its items that keeps their numbers.
