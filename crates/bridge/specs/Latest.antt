@@ -17,7 +17,7 @@ abbrev pub groupNumbered : ℕ → Node → Bool
 groupNumbered n r = pick (isGroup r) (eqb (r .number) n) false
 
 -- a node is a group or a synth
-kinds : (n : ℕ) (t : List Node) → tally (numbered n) t ≡ tally (synthNumbered n) t + tally (groupNumbered n) t
+pub kinds : (n : ℕ) (t : List Node) → tally (numbered n) t ≡ tally (synthNumbered n) t + tally (groupNumbered n) t
 unfolding tally
 kinds n [] = refl
 kinds n (r ∷ l) = let ih = kinds n l in let k = go (isGroup r) (eqb (r .number) n) in omega arith

@@ -8,3 +8,4 @@ pub mod Keep
 pub mod Latest
 pub mod Order
 pub mod MapForest
+pub mod Left
