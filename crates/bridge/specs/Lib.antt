@@ -9,3 +9,4 @@ pub mod Latest
 pub mod Order
 pub mod MapForest
 pub mod Left
+pub mod Parent
