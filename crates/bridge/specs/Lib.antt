@@ -10,3 +10,5 @@ pub mod Order
 pub mod MapForest
 pub mod Left
 pub mod Parent
+pub mod Outside
+pub mod Untouched
