@@ -1,5 +1,4 @@
 -- Each edit of the plain tree, laid out, is the same edit of the table.
-use Prim.{Unit, tt}
 use Prim.Native.Nat.{ℕ, _+_}
 use mathlib.Core.Bool.{Bool, true, false}
 use mathlib.Core.Path.{_≡_, refl, sym, ap, ap₂, _∙_}
@@ -8,9 +7,9 @@ use native.Mathlib.Omega.{arith}
 use Rattle.words.specs.Choice.{pick}
 use Rattle.nodes.specs.declared.Node.{Node}
 use Rattle.nodes.specs.Place.{isGroup, lives}
-use Rattle.nodes.specs.Edit.{level, withRun, lift, takeDeeper, dropDeeper, onlyGroups, runOf, isBelow, cut, cutBelow, deepFree, setRun, addHead, addTail, addBefore, addAfter, addOver, moveBefore, moveAfter, moveHead, moveTail}
-use Rattle.nodes.specs.Forest.{Forest, none, node, flatten, beside, prune, has, subtree, inside, free, freeBelow, freeDeep, change, putHead, putTail, putBefore, putAfter, putOver, placeBefore, placeAfter, placeHead, placeTail}
-use Rattle.bridge.specs.Flatten.{key, Shallow, taken, dropped, lift-flatten, beside-flatten, lives-has, Agrees, AgreesOn, edit-tree, edit-tree-on, run-tree}
+use Rattle.nodes.specs.Edit.{level, withRun, lift, takeDeeper, dropDeeper, onlyGroups, isBelow, cut, cutBelow, deepFree, setRun, addHead, addTail, addBefore, addAfter, addOver, moveBefore, moveAfter, moveHead, moveTail}
+use Rattle.nodes.specs.Forest.{Forest, none, node, flatten, beside, prune, subtree, inside, free, freeBelow, freeDeep, change, putHead, putTail, putBefore, putAfter, putOver, placeBefore, placeAfter, placeHead, placeTail}
+use Rattle.bridge.specs.Flatten.{key, taken, dropped, lift-flatten, beside-flatten, lives-has, Agrees, AgreesOn, edit-tree, edit-tree-on, run-tree}
 use Rattle.bridge.specs.Leaves.{Leaves, leaves-down}
 
 pub below-tree : (a b : ℕ) (f : Forest Node) → isBelow a b (flatten 0 f) ≡ inside key a b f

@@ -1,15 +1,15 @@
 -- Nodes that an edit neither adds, moves nor frees keep their records, depths included, and their order among themselves.
 use Prim.Native.Nat.{ℕ, _+_, _<_}
 use mathlib.Core.Bool.{Bool, true, false}
-use mathlib.Core.Path.{_≡_, refl, sym, ap, ap₂, _∙_}
-use mathlib.Core.List.{List, [], _∷_, _++_, append-assoc}
+use mathlib.Core.Path.{_≡_, refl, sym, ap, _∙_}
+use mathlib.Core.List.{List, [], _∷_, _++_}
 use native.Mathlib.Omega.{arith}
 use lib.Dec.{ltb, eqb}
 use borrow.Author.Tests.{lt-ltb, ltb-true, eqb-true, eq-eqb, ne-eqb}
 use Rattle.words.specs.Choice.{pick, either}
 use Rattle.nodes.specs.declared.Node.{Node}
 use Rattle.nodes.specs.Place.{isGroup, lives}
-use Rattle.nodes.specs.Edit.{level, withRun, lift, sink, takeDeeper, dropDeeper, onlyGroups, runOf, isBelow, editRows, cut, cutBelow, deepFree, setRun, addHead, addTail, addBefore, addAfter, addOver, moveBefore, moveAfter, moveHead, moveTail}
+use Rattle.nodes.specs.Edit.{withRun, lift, sink, takeDeeper, dropDeeper, onlyGroups, runOf, isBelow, editRows, cut, cutBelow, deepFree, setRun, addHead, addTail, addBefore, addAfter, addOver, moveBefore, moveAfter, moveHead, moveTail}
 use Rattle.nodes.specs.Split.{edit-none}
 use Rattle.nodes.specs.Formed.{apart, synthLives}
 use Rattle.bridge.specs.Tally.{one, tally, tally-append}

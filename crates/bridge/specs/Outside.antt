@@ -5,13 +5,13 @@ use mathlib.Core.Bool.{Bool, true, false}
 use mathlib.Core.Path.{_≡_, refl, sym, ap, ap₂, _∙_}
 use native.Mathlib.Omega.{arith}
 use lib.Dec.{eqb}
-use borrow.Author.Tests.{eqb-true, eqb-false, eq-eqb, ne-eqb}
+use borrow.Author.Tests.{eqb-true, eq-eqb, ne-eqb}
 use Rattle.words.specs.Choice.{pick}
 use Rattle.nodes.specs.declared.Node.{Node}
 use Rattle.nodes.specs.Place.{isGroup}
 use Rattle.nodes.specs.Edit.{withRun}
 use Rattle.nodes.specs.Forest.{Forest, none, node, beside, prune, has, subtree, edit, free, freeBelow, freeDeep, change, putHead, putTail, putBefore, putAfter, putOver, placeBefore, placeAfter, placeHead, placeTail}
-use Rattle.nodes.specs.Structure.{noNode, parentIn, parent}
+use Rattle.nodes.specs.Structure.{parentIn}
 use Rattle.bridge.specs.Flatten.{key, neither}
 use Rattle.bridge.specs.Leaves.{Leaves, NoSynth, leaves-subtree}
 use Rattle.bridge.specs.Parent.{parent-absent}

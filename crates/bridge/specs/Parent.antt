@@ -1,17 +1,16 @@
 -- A node's parent in the table is its parent in the plain tree.
 use Prim.Native.Nat.{ℕ, _+_, _≤_, _<_}
 use mathlib.Core.Bool.{Bool, true, false}
-use mathlib.Core.Path.{_≡_, refl, sym, ap, ap₂, _∙_}
-use mathlib.Core.List.{List, [], _∷_, _++_, append-assoc, append-nil}
+use mathlib.Core.Path.{_≡_, refl, sym, ap, _∙_}
+use mathlib.Core.List.{List, [], _++_, append-assoc, append-nil}
 use native.Mathlib.Omega.{arith}
 use lib.Dec.{ltb, eqb}
 use borrow.Author.Tests.{lt-ltb, le-ltb, ltb-true, ltb-false}
 use Rattle.words.specs.Choice.{pick}
 use Rattle.nodes.specs.declared.Node.{Node}
-use Rattle.nodes.specs.Place.{lives}
 use Rattle.nodes.specs.Forest.{Forest, none, node, flatten, has}
 use Rattle.nodes.specs.Structure.{noNode, depthOf, lastAbove, parentOf, parentIn, parent}
-use Rattle.bridge.specs.Flatten.{key, neither, lives-has}
+use Rattle.bridge.specs.Flatten.{key, neither}
 
 -- the depth of n in a forest at d
 unfoldable pub depthIn : ℕ → ℕ → Forest Node → ℕ

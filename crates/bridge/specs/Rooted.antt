@@ -1,5 +1,5 @@
 -- Each edit that a command makes keeps the root alone on top, with synths as leaves: of the plain tree, and so of the table.
-use Prim.{Unit, tt}
+use Prim.{tt}
 use Prim.Native.Nat.{ℕ, _+_}
 use mathlib.Core.Bool.{Bool, true, false}
 use mathlib.Core.Path.{_≡_, refl, sym, ap, subst, _∙_}
@@ -7,14 +7,14 @@ use mathlib.Core.List.{List, [], _∷_, _++_, append-assoc, append-nil}
 use native.Mathlib.Omega.{arith}
 use lib.Dec.{eqb}
 use borrow.Author.Tests.{eqb-true, eqb-false, ne-eqb, eq-eqb}
-use Rattle.words.specs.Choice.{pick, either, either-false}
+use Rattle.words.specs.Choice.{pick, either-false}
 use Rattle.nodes.specs.declared.Node.{Node}
 use Rattle.nodes.specs.Place.{isGroup}
 use Rattle.nodes.specs.Edit.{level, withRun, cut, cutBelow, deepFree, setRun, addHead, addTail, addBefore, addAfter, addOver, moveBefore, moveAfter, moveHead, moveTail}
 use Rattle.nodes.specs.Forest.{Forest, none, node, flatten, beside, prune, single, has, subtree, edit, free, freeBelow, freeDeep, change, putHead, putTail, putBefore, putAfter, putOver, placeBefore, placeAfter, placeHead, placeTail}
 use Rattle.nodes.specs.Formed.{rooted, synthLives}
 use Rattle.bridge.specs.Flatten.{key}
-use Rattle.bridge.specs.Leaves.{Leaves, NoSynth, leaves-single, leaves-subtree, nosynth-free, leaves-free, leaves-freeBelow, leaves-freeDeep, leaves-run, leaves-putHead, leaves-putTail, leaves-putBefore, leaves-putAfter, leaves-putOver}
+use Rattle.bridge.specs.Leaves.{Leaves, NoSynth, leaves-subtree, nosynth-free, leaves-free, leaves-freeBelow, leaves-freeDeep, leaves-run, leaves-putHead, leaves-putTail, leaves-putBefore, leaves-putAfter, leaves-putOver}
 use Rattle.bridge.specs.Edits.{cut-tree, cutBelow-tree, deepFree-tree, setRun-tree, addHead-tree, addTail-tree, addBefore-tree, addAfter-tree, addOver-tree, moveBefore-tree, moveAfter-tree, moveHead-tree, moveTail-tree}
 use Rattle.bridge.specs.Shape.{Tree, build, build-flatten, build-tree, flatten-rooted}
 

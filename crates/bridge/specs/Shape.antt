@@ -3,7 +3,7 @@ use Prim.{Unit, tt}
 use Prim.Native.Nat.{ℕ, _+_, _≤_, _<_}
 use mathlib.Core.Bool.{Bool, true, false}
 use mathlib.Core.Path.{_≡_, refl, sym, ap, ap₂, subst, _∙_}
-use mathlib.Core.List.{List, [], _∷_, _++_, append-assoc, append-nil}
+use mathlib.Core.List.{List, [], _∷_, _++_, append-assoc}
 use native.Mathlib.Omega.{arith}
 use lib.Dec.{ltb, leb, eqb}
 use borrow.Author.Tests.{lt-ltb, le-ltb, le-leb, eq-eqb, ltb-true, ltb-false, leb-true, eqb-true}
@@ -13,7 +13,7 @@ use Rattle.nodes.specs.Place.{isGroup}
 use Rattle.nodes.specs.Edit.{level}
 use Rattle.nodes.specs.Forest.{Forest, none, node, flatten, items}
 use Rattle.nodes.specs.Formed.{reach, steps, rooted}
-use Rattle.bridge.specs.Leaves.{Leaves, leaves-none}
+use Rattle.bridge.specs.Leaves.{Leaves}
 
 -- the first nodes of a list that are deeper than d, by the depths in their records, and what follows them
 unfoldable pub topsDeeper : ℕ → Forest Node → Forest Node

@@ -1,7 +1,7 @@
 -- How many records of a table pass a test that does not look at depths: what each edit does to that sum.
 use Prim.Native.Nat.{ℕ, _+_, _-_, _≤_}
 use mathlib.Core.Bool.{Bool, true, false}
-use mathlib.Core.Path.{_≡_, refl, sym, ap, ap₂, _∙_}
+use mathlib.Core.Path.{_≡_, refl, ap, ap₂}
 use mathlib.Core.List.{List, [], _∷_, _++_}
 use native.Mathlib.Omega.{arith}
 use lib.Dec.{ltb, eqb}
@@ -10,7 +10,6 @@ use Rattle.words.specs.Choice.{pick}
 use Rattle.nodes.specs.declared.Node.{Node}
 use Rattle.nodes.specs.Place.{isGroup, lives}
 use Rattle.nodes.specs.Edit.{level, withRun, lift, sink, takeDeeper, dropDeeper, onlyGroups, runOf, editRows, cut, cutBelow, deepFree, setRun, addHead, addTail, addBefore, addAfter, addOver, moveBefore, moveAfter, moveHead, moveTail}
-use Rattle.nodes.specs.Split.{edit-none}
 
 abbrev pub one : Bool → ℕ
 one b = pick b 1 0

@@ -4,20 +4,19 @@ use Prim.Native.Nat.{ℕ}
 use mathlib.Core.Bool.{Bool, true, false}
 use mathlib.Core.Path.{_≡_, refl, sym, ap, ap₂, _∙_}
 use mathlib.Core.List.{List, [], _∷_}
-use native.Mathlib.Omega.{arith}
 use lib.Dec.{eqb}
 use borrow.Author.Tests.{eqb-true, eqb-false}
 use Rattle.words.specs.Choice.{pick}
 use Rattle.nodes.specs.declared.Node.{Node}
 use Rattle.nodes.specs.Place.{isGroup, lives}
 use Rattle.nodes.specs.Edit.{withRun, runOf, isBelow, cut, cutBelow, deepFree, setRun, addHead, addTail, addBefore, addAfter, addOver, moveBefore, moveAfter, moveHead, moveTail}
-use Rattle.nodes.specs.Structure.{noNode, parentOf, parentIn}
+use Rattle.nodes.specs.Structure.{noNode, parentOf}
 use Rattle.nodes.specs.Forest.{Forest, none, node, flatten, has, subtree, free, freeBelow, freeDeep, change, putHead, putTail, putBefore, putAfter, putOver, placeBefore, placeAfter, placeHead, placeTail}
 use Rattle.nodes.specs.Formed.{rooted, apart, synthLives}
 use Rattle.bridge.specs.Flatten.{key, lives-has, neither}
 use Rattle.bridge.specs.Leaves.{Leaves, NoSynth}
 use Rattle.bridge.specs.Edits.{below-tree, cut-tree, cutBelow-tree, deepFree-tree, setRun-tree, addHead-tree, addTail-tree, addBefore-tree, addAfter-tree, addOver-tree, moveBefore-tree, moveAfter-tree, moveHead-tree, moveTail-tree}
-use Rattle.bridge.specs.Shape.{Tree, build, build-flatten, build-tree}
+use Rattle.bridge.specs.Shape.{build, build-flatten, build-tree}
 use Rattle.bridge.specs.Rooted.{tree-leaves, nosynth-tree}
 use Rattle.bridge.specs.Parent.{parent-tree}
 use Rattle.bridge.specs.Outside.{Stays, stays-free, stays-freeBelow, stays-freeBelow-self, stays-freeDeep, stays-run, stays-putHead, stays-putTail, stays-putBefore, stays-putAfter, stays-putOver, stays-placeHead, stays-placeTail, stays-placeBefore, stays-placeAfter}
