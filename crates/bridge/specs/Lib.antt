@@ -12,3 +12,4 @@ pub mod Left
 pub mod Parent
 pub mod Outside
 pub mod Untouched
+pub mod Family
