@@ -6,15 +6,15 @@ use mathlib.Core.Path.{_≡_, refl, sym, ap, ap₂, subst, _∙_}
 use mathlib.Core.List.{List, [], _∷_, _++_, append-assoc, append-nil}
 use native.Mathlib.Omega.{arith}
 use lib.Dec.{ltb, eqb}
-use borrow.Author.Tests.{lt-ltb, le-ltb, ltb-true, eq-eqb, ne-eqb, eqb-true, eqb-false}
+use borrow.Author.Tests.{le-ltb, ltb-true, eq-eqb, ne-eqb, eqb-true}
 use Rattle.words.specs.Choice.{pick, either}
 use Rattle.nodes.specs.declared.Node.{Node}
 use Rattle.nodes.specs.Place.{isGroup, lives}
-use Rattle.nodes.specs.Edit.{runOf, isBelow}
+use Rattle.nodes.specs.Edit.{isBelow}
 use Rattle.nodes.specs.Forest.{Forest, none, node, flatten, has, subtree, below}
 use Rattle.nodes.specs.Structure.{noNode, atDepth, childrenOf, parentOf, parentIn, parent, tops, children}
 use Rattle.nodes.specs.Formed.{rooted, apart}
-use Rattle.bridge.specs.Flatten.{key, neither, lives-has, subtree-absent, run-tree}
+use Rattle.bridge.specs.Flatten.{key, lives-has, run-tree}
 use Rattle.bridge.specs.Leaves.{Leaves}
 use Rattle.bridge.specs.Edits.{below-tree}
 use Rattle.bridge.specs.Shape.{Tree, build, build-flatten, build-tree}

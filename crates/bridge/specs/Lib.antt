@@ -13,3 +13,4 @@ pub mod Parent
 pub mod Outside
 pub mod Untouched
 pub mod Family
+pub mod Siblings

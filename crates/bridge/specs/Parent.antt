@@ -46,7 +46,7 @@ depth-flatten n d (node x b a) rest h = go (eqb (x .number) n) (has key n b) ref
     go false true e u i j = regroup ∙ i e
     go false false e u i j = regroup ∙ depth-past n (d + 1) b (flatten d a ++ rest) e ∙ j u
 
-depth-least : (n d : ℕ) (f : Forest Node) → has key n f ≡ true → d ≤ depthIn d n f
+pub depth-least : (n d : ℕ) (f : Forest Node) → has key n f ≡ true → d ≤ depthIn d n f
 unfolding has depthIn
 depth-least n d none h = absurd (let z : _≡_ {A = ℕ} 0 1 = cc in omega arith)
 depth-least n d (node x b a) h = go (eqb (x .number) n) (has key n b) refl h (depth-least n (d + 1) b) (depth-least n d a)
