@@ -29,7 +29,7 @@ const EXTREMES: [i32; 12] = [
 fn both_readers_agree() {
     let seed = seed();
     say(&format!("LIMUDVEK_SEED={seed}"));
-    let sections: [(&'static str, fn(&mut Section)); 12] = [
+    let sections: [(&'static str, fn(&mut Section)); 13] = [
         ("valid", valid),
         ("limit", limit),
         ("cut", cut),
@@ -38,6 +38,7 @@ fn both_readers_agree() {
         ("two bytes", two_bytes),
         ("inserted or deleted", inserted_or_deleted),
         ("broken definition", broken_definition),
+        ("many units", many_units),
         ("over-long", over_long),
         ("long file", long_file),
         ("noise", noise),
@@ -470,6 +471,29 @@ fn spoil(random: &mut Random, name: &mut Vec<u8>) {
         name.insert(random.below(name.len() + 1), byte);
     } else {
         name[random.below(255)] = byte;
+    }
+}
+
+/// As many of the shortest units as fit in the limit, and some more. One has an output, and the last
+/// unit takes it, or the output past it.
+fn many_units(section: &mut Section) {
+    for count in 160..=180 {
+        for from in 0..count - 1 {
+            let mut units = vec![Unit::default(); count];
+            units[from].outputs.push(1);
+            let index = section.random.below(2) as i32;
+            units[count - 1].inputs.push(Input {
+                unit: from as i32,
+                index,
+            });
+            let name = b"u".to_vec();
+            let definition = Definition {
+                name,
+                units,
+                ..Definition::default()
+            };
+            section.expect_written(&write(&[definition]));
+        }
     }
 }
 
