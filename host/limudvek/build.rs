@@ -1,6 +1,7 @@
 //! Links the proved static libraries, which `rt staticlib NAME` writes.
 
 use std::path::Path;
+use std::process::exit;
 
 /// The Rattle crates whose static libraries are linked.
 const CRATES: [&str; 1] = ["synthdef"];
@@ -13,10 +14,10 @@ fn main() {
     for name in CRATES {
         let archive = folder.join(format!("lib{name}.a"));
         println!("cargo:rerun-if-changed={}", archive.display());
-        assert!(
-            archive.exists(),
-            "there is no target/staticlib/lib{name}.a: run `rt staticlib {name}` at the root of the repository"
-        );
+        if !archive.exists() {
+            eprintln!("no target/staticlib/lib{name}.a: run `rt staticlib {name}` at the root of the repository");
+            exit(1);
+        }
         println!("cargo:rustc-link-lib=static={name}");
     }
 }

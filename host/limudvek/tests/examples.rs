@@ -149,7 +149,10 @@ fn ping() {
         parameters: vec![(b"freq".to_vec(), 0)],
         ..Definition::default()
     };
-    assert_eq!(independent::write(&[definition.clone()]).bytes, file);
+    assert_eq!(
+        independent::write(std::slice::from_ref(&definition)).bytes,
+        file
+    );
     assert_eq!(independent::read(file), Ok(vec![definition]));
 }
 

@@ -29,7 +29,7 @@ const EXTREMES: [i32; 12] = [
 fn both_readers_agree() {
     let seed = seed();
     say(&format!("LIMUDVEK_SEED={seed}"));
-    let sections: [(&'static str, fn(&mut Section)); 13] = [
+    let sections: [(&str, Run); 13] = [
         ("valid", valid),
         ("limit", limit),
         ("cut", cut),
@@ -87,6 +87,8 @@ fn seed() -> u64 {
 fn say(line: &str) {
     writeln!(std::io::stderr(), "{line}").expect("standard error is open");
 }
+
+type Run = fn(&mut Section);
 
 /// One kind of files: its own random numbers, and how often each answer came.
 struct Section {
