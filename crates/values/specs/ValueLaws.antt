@@ -10,8 +10,10 @@ use lib.IntN.{pos, negsuc}
 use lib.Ieee.{Float, nan, inf, fin, Format, binary32, low, prec, emax, isNan, neg, odd, units, nearest, size, round, ofInt, inFloat}
 use lib.Ieee.Exact.{HasValue}
 use lib.Ieee.Back.{round-whole}
+use lib.Ieee.Bits.{toBits-lt}
+use lib.Ieee.Fits.{ofInt-fits}
 use Rattle.words.specs.Choice.{pick}
-use Rattle.values.specs.Targets.{signed-low, signed-high}
+use Rattle.values.specs.Targets.{signed, signed-low, signed-high}
 use Rattle.values.specs.Values.{equalFloat, inBounds, pattern, patternOf}
 use Rattle.values.specs.declared.Value.{Value}
 use Rattle.values.specs.declared.Value.the-variants.{Integer}
@@ -26,6 +28,10 @@ equal-positive n h = round-whole binary32 false n h
 pub equal-negative : (n : ℕ) → n < 16777216 → HasValue (ofInt binary32 (negsuc n)) true (suc n) 1
 unfolding ofInt
 equal-negative n h = round-whole binary32 true (suc n) h
+
+pub integer-fits : (p : ℕ) → pattern (Integer p) < 4294967296
+unfolding pattern
+integer-fits p = toBits-lt binary32 (ofInt binary32 (signed p)) (ofInt-fits binary32 (signed p))
 
 pub in-float : (n : ℕ) → n ≤ 16777216 → T (inFloat binary32 (pos n))
 unfolding inFloat
