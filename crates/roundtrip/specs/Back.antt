@@ -1,22 +1,22 @@
 -- Reading what is written: a definition within the bounds, and a file of them, is read back as it was.
-use Prim.Native.Nat.{ℕ, zero, suc, _+_, _-_, _≤_, _<_}
-use mathlib.Core.Path.{_≡_, refl, sym, ap, _∙_}
-use mathlib.Core.Bool.{Bool, true, false, not}
+use Prim.Native.Nat.{ℕ, _+_, _-_, _≤_}
+use mathlib.Core.Path.{_≡_, refl}
+use mathlib.Core.Bool.{true, false, not}
 use mathlib.Core.List.{List, [], _∷_, _++_}
 use native.Mathlib.Omega.{arith}
 use lib.ListN.{length}
-use lib.Dec.{ltb, leb, eqb}
+use lib.Dec.{leb, eqb}
 use borrow.Author.Tests.{leb-true, le-ltb, not-true}
-use Rattle.words.specs.Choice.{pick, both, both-true}
+use Rattle.words.specs.Choice.{both-true}
 use Rattle.words.specs.declared.Refusal.the-variants.{NotSynthDef, BadVersion}
-use Rattle.synthdef.specs.Read.{Read, got, bad, andThen, checked}
+use Rattle.synthdef.specs.Read.{Read, got, andThen, checked}
 use Rattle.synthdef.specs.Definition.{Definition}
 use Rattle.synthdef.specs.Fields.{int32, shortCountTo}
 use Rattle.synthdef.specs.Reader.{mostDefinitions, sizeLimit, fileType, fileVersion, among, fits, readDefinition, readDefinitions, readHeader, readFile}
 use Rattle.synthdef.specs.Writer.{bytes16, bytes32, writeAll, writeDefinition, writeFile}
 use Rattle.synthdef.specs.Bounds.{isDefinition, areDefinitions, isFile}
 use Rattle.roundtrip.specs.Stands.{Stands, stands-in, stands-all, stands-left, stands-right}
-use Rattle.roundtrip.specs.Codec.{Reads, Back, onward-reads, then-reads, last-reads, none-reads, checked-reads}
+use Rattle.roundtrip.specs.Codec.{Reads, Back, then-reads, last-reads, none-reads, checked-reads}
 use Rattle.roundtrip.specs.FieldsBack.{int32-reads, short-count-reads}
 use Rattle.roundtrip.specs.RecordsBack.{definition-reads}
 
@@ -50,7 +50,7 @@ headerAt s at =
     andThen (checked BadVersion (λ v. eqb v fileVersion) p1 (int32 s p1)) (λ v p2.
     shortCountTo mostDefinitions s p2))
 
-abbrev writeHeader : ℕ → List ℕ
+abbrev pub writeHeader : ℕ → List ℕ
 writeHeader n = bytes32 fileType ++ (bytes32 fileVersion ++ bytes16 n)
 
 header-reads : Back headerAt writeHeader (λ n. leb n mostDefinitions)

@@ -1,14 +1,14 @@
 -- A reader, a writer and a test that belong together: what is written is read back. The laws of their combinations.
-use Prim.Native.Nat.{ℕ, zero, suc, _+_}
-use mathlib.Core.Path.{_≡_, refl, sym, ap, _∙_}
-use mathlib.Core.Bool.{Bool, true, false}
+use Prim.Native.Nat.{ℕ, _+_}
+use mathlib.Core.Path.{_≡_, ap, _∙_}
+use mathlib.Core.Bool.{Bool, true}
 use mathlib.Core.List.{List, [], _∷_, _++_}
 use native.Mathlib.Nat.{add-zero}
 use native.Mathlib.Omega.{arith}
 use lib.ListN.{length, length-append}
-use Rattle.words.specs.Choice.{pick, both-true}
+use Rattle.words.specs.Choice.{both-true}
 use Rattle.words.specs.declared.Refusal.{Refusal}
-use Rattle.synthdef.specs.Read.{Read, got, bad, andThen, checked, repeat}
+use Rattle.synthdef.specs.Read.{Read, got, andThen, checked, repeat}
 use Rattle.synthdef.specs.Writer.{writeAll}
 use Rattle.synthdef.specs.Bounds.{every}
 use Rattle.roundtrip.specs.Stands.{Stands, stands-left, stands-right}

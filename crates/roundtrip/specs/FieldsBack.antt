@@ -1,18 +1,16 @@
 -- The fields of a file, read back from their writing.
-use Prim.Native.Nat.{ℕ, zero, suc, _+_, _≤_, _<_}
-use mathlib.Core.Path.{_≡_, refl, sym, ap, ap₂, _∙_}
-use mathlib.Core.Bool.{Bool, true, false}
-use mathlib.Core.List.{List, [], _∷_, _++_}
+use Prim.Native.Nat.{ℕ, suc, _+_, _≤_, _<_}
+use mathlib.Core.Path.{_≡_, ap, _∙_}
+use mathlib.Core.List.{List, [], _∷_}
 use native.Mathlib.Nat.{add-zero}
 use native.Mathlib.Omega.{arith}
 use lib.ListN.{length, getD}
 use lib.Dec.{ltb, leb}
 use borrow.Author.Tests.{lt-ltb, le-leb, leb-true, ltb-true}
-use Rattle.words.specs.Choice.{pick, both, both-true}
-use Rattle.words.specs.Parts.{region}
+use Rattle.words.specs.Choice.{both, both-true}
 use Rattle.words.specs.declared.Refusal.the-variants.{BadCount, BadName, BadRate, BadIndex}
-use Rattle.synthdef.specs.Read.{Read, got, bad, andThen, checked}
-use Rattle.synthdef.specs.Fields.{whole, int8, int16, int32, float32, nameBytes, stringAt, pstring, name, definitionName, integer, highest16, highest32, highestRate, countTo, shortCountTo, rate, indexBelow}
+use Rattle.synthdef.specs.Read.{got}
+use Rattle.synthdef.specs.Fields.{whole, int8, int16, int32, float32, nameBytes, pstring, name, definitionName, highestRate, countTo, shortCountTo, rate, indexBelow}
 use Rattle.synthdef.specs.Writer.{bytes8, bytes16, bytes32, writeInteger, writeName}
 use Rattle.synthdef.specs.Bounds.{isName, isFloat, isRate}
 use Rattle.roundtrip.specs.Stands.{Stands, stands-right, stands-getD}

@@ -1,18 +1,18 @@
 -- The records of a file, read back from their writing.
 use Prim.Native.Nat.{ℕ, zero, suc, _+_, _≤_, _<_}
-use mathlib.Core.Path.{_≡_, refl, sym, ap, _∙_}
-use mathlib.Core.Bool.{Bool, true, false}
+use mathlib.Core.Path.{_≡_}
+use mathlib.Core.Bool.{true}
 use mathlib.Core.List.{List, [], _∷_, _++_}
 use native.Mathlib.Omega.{arith}
 use lib.ListN.{length, getD, length-append}
 use lib.Dec.{ltb, leb, eqb}
 use borrow.Author.Tests.{leb-true, ltb-true, eqb-true, ne-eqb}
-use Rattle.words.specs.Choice.{pick, both, both-true}
-use Rattle.synthdef.specs.Read.{Read, got, bad, andThen, repeat}
-use Rattle.synthdef.specs.Definition.{Input, constant, output, UnitSpec, ParameterName, Variant, Front, Definition}
+use Rattle.words.specs.Choice.{both, both-true}
+use Rattle.synthdef.specs.Read.{repeat}
+use Rattle.synthdef.specs.Definition.{constant, output, UnitSpec, Front}
 use Rattle.synthdef.specs.Fields.{float32, rate, highest16, highest32}
 use Rattle.synthdef.specs.Reader.{mostParameters, minusOne, parameterName, readFront, input, readUnit, readUnits, variant, readDefinition}
-use Rattle.synthdef.specs.Writer.{bytes8, bytes32, writeInteger, writeName, writeAll, writeCounted, writeParameterName, writeInput, writeUnit, writeVariant, writeFront, writeDefinition}
+use Rattle.synthdef.specs.Writer.{bytes8, bytes32, writeAll, writeParameterName, writeInput, writeUnit, writeVariant, writeFront, writeDefinition}
 use Rattle.synthdef.specs.Bounds.{every, isName, isFloat, isRate, isParameterName, isInput, isUnit, areUnits, isVariant, isFront, isDefinition}
 use Rattle.roundtrip.specs.Codec.{Reads, Back, onward-reads, then-reads, last-reads, none-reads, repeat-reads}
 use Rattle.roundtrip.specs.FieldsBack.{int16-reads, int32-reads, float-reads, name-reads, definition-name-reads, count-reads, short-count-reads, index-reads, rate-reads}
