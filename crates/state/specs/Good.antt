@@ -1,5 +1,5 @@
 -- The well-formed engine, as proofs use it: what `formed` says of the words, said of the model.
-use Prim.Native.Nat.{ℕ, _≤_}
+use Prim.Native.Nat.{ℕ, _≤_, _<_}
 use mathlib.Core.Bool.{Bool, true}
 use mathlib.Core.Path.{_≡_}
 use mathlib.Core.List.{List}
@@ -25,7 +25,7 @@ pub record Good (e : Engine) : Type 0 where
   pub tree : formed (e .next) (e .latest) (e .nodes) ≡ true
   pub ordered : e .order ≡ order (e .nodes)
   pub slotsMany : length (e .slots) ≡ slotCount
-  pub readable : (k : ℕ) → slotTaken k (slotAt (e .slots) k) (e .nodes) ≡ true → Readable (slotAt (e .slots) k)
+  pub readable : (k : ℕ) → k < slotCount → slotTaken k (slotAt (e .slots) k) (e .nodes) ≡ true → Readable (slotAt (e .slots) k)
   pub names : namesApart (e .slots) ≡ true
   pub controlsMany : length (e .controls) ≡ controlsWords
   pub mappings : controlsFormed (e .slots) (e .controls) (e .nodes) ≡ true
