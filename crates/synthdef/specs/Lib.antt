@@ -5,4 +5,6 @@ pub mod Reader
 pub mod Writer
 pub mod Bounds
 pub mod Answers
+pub mod Endings
+pub mod Units
 pub mod Worked

@@ -1,0 +1,176 @@
+-- Units by their shape: how many outputs a unit has and where it ends, from its counts alone; and the outputs of the units before one.
+use Prim.{Unit, tt}
+use Prim.Native.Nat.{ℕ, zero, suc, _+_, _*_, _≤_, _<_}
+use mathlib.Core.Bool.{Bool, true, false}
+use mathlib.Core.Path.{_≡_, refl, sym, ap, _∙_}
+use mathlib.Core.List.{List, [], _∷_, _++_}
+use mathlib.Core.Logic.{⊎-elim}
+use native.Mathlib.Omega.{arith}
+use native.Mathlib.Nat.{eq-or-lt-of-le}
+use native.Mathlib.Numerals.{add-one}
+use lib.ListN.{length, getD, length-append, List·getD-append}
+use lib.Seq.{getD-at}
+use lib.Dec.{ltb, leb, eqb}
+use Rattle.words.specs.Choice.{pick}
+use Rattle.words.specs.declared.Refusal.the-variants.{BadIndex, BadRate, BadCount, BadName, Truncated}
+use Rattle.synthdef.specs.Read.{Read, got, bad, andThen, checked, repeat, ending}
+use Rattle.synthdef.specs.Fields.{int8, int16, int32, name, count, rate, integer, indexBelow, pstring, stringAt, whole, nameBytes, highest32, highestRate}
+use Rattle.synthdef.specs.Definition.{Input, constant, output, UnitSpec}
+use Rattle.synthdef.specs.Reader.{input, readUnit, readUnits, minusOne}
+use Rattle.synthdef.specs.Endings.{told, Told, told-got, told-then, told-ending, ending-told, ending-keeps, parts, checked-got, whole-got, pick-got, pick-some, Sized, Repeated, repeat-got}
+
+-- the number of four bytes at a place
+abbrev pub word32 : List ℕ → ℕ → ℕ
+word32 s at = 16777216 * getD s at 0 + 65536 * getD s (at + 1) 0 + 256 * getD s (at + 2) 0 + getD s (at + 3) 0
+
+-- behind a unit's class and rate: the counts of its inputs and outputs, the special index, the inputs and the rates
+unfoldable pub unitCounts : List ℕ → ℕ → ℕ
+unitCounts s at = at + 2 + getD s at 0
+
+unfoldable pub unitOutputs : List ℕ → ℕ → ℕ
+unitOutputs s at = word32 s (unitCounts s at + 4)
+
+unfoldable pub unitEnd : List ℕ → ℕ → ℕ
+unitEnd s at = unitCounts s at + 10 + 8 * word32 s (unitCounts s at) + unitOutputs s at
+
+-- where the unit number n starts, where the first one starts at a place
+unfoldable pub unitPlace : List ℕ → ℕ → ℕ → ℕ
+unitPlace s start zero = start
+unitPlace s start (suc n) = unitEnd s (unitPlace s start n)
+
+-- how many outputs each of the first n units has
+unfoldable pub outsFrom : List ℕ → ℕ → ℕ → List ℕ
+outsFrom s start zero = []
+outsFrom s start (suc n) = outsFrom s start n ++ (unitOutputs s (unitPlace s start n) ∷ [])
+
+pub outs-length : (s : List ℕ) (start n : ℕ) → length (outsFrom s start n) ≡ n
+unfolding outsFrom
+outs-length s start zero = refl
+outs-length s start (suc n) = length-append (outsFrom s start n) _ ∙ omega (arith, outs-length s start n)
+
+pub outs-at : (s : List ℕ) (start n u : ℕ) → u < n → getD (outsFrom s start n) u 0 ≡ unitOutputs s (unitPlace s start u)
+unfolding outsFrom
+outs-at s start zero u h = absurd (omega arith)
+outs-at s start (suc n) u h =
+    let most : u ≤ n = omega arith in
+    ⊎-elim
+    (λ same. rw same (getD-at (outsFrom s start n) _ [] 0 n (outs-length s start n)))
+    (λ less. List·getD-append (outsFrom s start n) _ 0 u (rw outs-length less) ∙ outs-at s start n u less)
+    (eq-or-lt-of-le most)
+
+pub place-up : (s : List ℕ) (start u n : ℕ) → u ≤ n → unitPlace s start u ≤ unitPlace s start n
+unfolding unitPlace unitEnd unitCounts
+place-up s start u zero h =
+    let e : u ≡ 0 = omega arith in
+    rw e (omega arith)
+place-up s start u (suc n) h =
+    ⊎-elim
+    (λ same. rw same (omega arith))
+    (λ less. omega (arith, place-up s start u n (omega arith)))
+    (eq-or-lt-of-le h)
+
+-- an index takes four bytes, an input eight, a rate one
+pub index-sized : (bound : ℕ) (s : List ℕ) → Sized (indexBelow bound s) 4 (length s)
+index-sized bound s at x next h =
+    let p = checked-got BadIndex (λ i. ltb i bound) at (integer s at) h in
+    let w = whole-got 4 s at _ (p .0) in (w .1, w .2)
+
+pub input-sized : (k : ℕ) (outs s : List ℕ) → Sized (input k outs s) 8 (length s)
+input-sized k outs s at x next h =
+    parts (integer s at) _ h (λ u n e rest.
+    let w = whole-got 4 s at _ e in
+    behind (eqb u minusOne) (ltb u (length outs)) u (getD outs u 0) (w .1) rest) where
+      behind : (c d : Bool) (u b : ℕ) {n : ℕ} → n ≡ at + 4
+          → pick c (andThen (indexBelow k s n) (λ i end. got (constant i) end)) (pick d (andThen (indexBelow b s n) (λ o end. got (output u o) end)) (bad BadIndex at)) ≡ got x next
+          → (next ≡ at + 8) × (next ≤ length s)
+      behind true d u b {n = n} e r =
+          parts (indexBelow k s n) _ r (λ i m f last.
+          let q = index-sized k s n i m f in
+          let g : m ≡ next = cc in (omega arith, omega arith))
+      behind false true u b {n = n} e r =
+          parts (indexBelow b s n) _ r (λ i m f last.
+          let q = index-sized b s n i m f in
+          let g : m ≡ next = cc in (omega arith, omega arith))
+      behind false false u b e r = absurd (let z : _≡_ {A = ℕ} 0 1 = cc in omega arith)
+
+pub rate-sized : (s : List ℕ) → Sized (rate s) 1 (length s)
+rate-sized s at x next h =
+    let p = checked-got BadRate (λ r. leb r highestRate) at (int8 s at) h in
+    let w = whole-got 1 s at _ (p .0) in (w .1, w .2)
+
+pub count-got : (s : List ℕ) (at : ℕ) {n next : ℕ} → count s at ≡ got n next → (n ≡ word32 s at) × (next ≡ at + 4)
+count-got s at h =
+    let p = checked-got BadCount (λ n. leb n highest32) at (integer s at) h in
+    let w = whole-got 4 s at _ (p .0) in (sym (w .0), w .1)
+
+pub string-got : (s : List ℕ) (at : ℕ) {n : List ℕ} {next : ℕ} → pstring s at ≡ got n next → (stringAt s at ≡ n) × (next ≡ at + (1 + getD s at 0)) × (next ≤ length s)
+string-got s at h = whole-got (1 + getD s at 0) s at (stringAt s at) (pick-some (ltb at (length s)) _ Truncated at h .1)
+
+pub name-got : (s : List ℕ) (at : ℕ) {n : List ℕ} {next : ℕ} → name s at ≡ got n next → (stringAt s at ≡ n) × (next ≡ at + (1 + getD s at 0)) × (next ≤ length s)
+name-got s at h = string-got s at (checked-got BadName nameBytes at (pstring s at) h .0)
+
+-- the shape of a unit that was read
+pub record Shaped (s : List ℕ) (at out end : ℕ) : Type 0 where
+  pub outputs : out ≡ unitOutputs s at
+  pub past : end ≡ unitEnd s at
+  pub within : end ≤ length s
+
+pub unit-shape : (k : ℕ) (outs s : List ℕ) (at : ℕ) {out end : ℕ} → told (λ (u : UnitSpec). length (u .outputs)) (readUnit k outs s at) ≡ got out end → Shaped s at out end
+unfolding readUnit unitCounts unitOutputs unitEnd
+unit-shape k outs s at {out} {end} h =
+    let t = told-got _ (readUnit k outs s at) h in
+    parts (name s at) _ (t .read) (λ class p1 e1 r1.
+    parts (rate s p1) _ r1 (λ r p2 e2 r2.
+    parts (count s p2) _ r2 (λ many p3 e3 r3.
+    parts (count s p3) _ r3 (λ o p4 e4 r4.
+    parts (int16 s p4) _ r4 (λ special p5 e5 r5.
+    parts (repeat (input k outs s) many p5) _ r5 (λ inputs p6 e6 r6.
+    parts (repeat (rate s) o p6) _ r6 (λ outputs p7 e7 r7.
+    let a = name-got s at e1 in
+    let b = rate-sized s p1 r p2 e2 in
+    let c = count-got s p2 e3 in
+    let d = count-got s p3 e4 in
+    let e = whole-got 2 s p4 _ e5 in
+    let f = repeat-got (input k outs s) 8 (length s) (input-sized k outs s) many p5 e6 in
+    let g = repeat-got (rate s) 1 (length s) (rate-sized s) o p6 e7 in
+    let l : got (length outputs) p7 ≡ got (length (t .value .outputs)) end = ap (told (λ (u : UnitSpec). length (u .outputs))) r7 in
+    let m : length outputs ≡ length (t .value .outputs) = cc in
+    let n : p7 ≡ end = cc in
+    let o1 : out ≡ o = sym (t .same) ∙ sym m ∙ g .many in
+    let q2 : p2 ≡ at + 2 + getD s at 0 = omega arith in
+    let q3 : p3 ≡ at + 2 + getD s at 0 + 4 = omega arith in
+    let ins : many ≡ word32 s (at + 2 + getD s at 0) = c .0 ∙ ap (λ (p : ℕ). word32 s p) q2 in
+    let out1 : o ≡ word32 s (at + 2 + getD s at 0 + 4) = d .0 ∙ ap (λ (p : ℕ). word32 s p) q3 in
+    record { outputs = o1 ∙ out1; past = omega (arith, f .past, g .past); within = omega (arith, g .within (f .within (e .2))) })))))))
+
+-- a unit of which the outputs are told, field by field
+unfoldable pub skipUnit : ℕ → List ℕ → List ℕ → ℕ → Read ℕ
+skipUnit k outs s at =
+    andThen (name s at) (λ class p1.
+    andThen (rate s p1) (λ r p2.
+    andThen (count s p2) (λ many p3.
+    andThen (count s p3) (λ out p4.
+    andThen (int16 s p4) (λ special p5.
+    andThen (ending (repeat (input k outs s) many p5)) (λ u p6.
+    andThen (ending (repeat (rate s) out p6)) (λ v end.
+    got out end)))))))
+
+pub skip-unit : (k : ℕ) (outs s : List ℕ) (at : ℕ) → told (λ (u : UnitSpec). length (u .outputs)) (readUnit k outs s at) ≡ skipUnit k outs s at
+unfolding readUnit skipUnit
+skip-unit k outs s at =
+    told-then _ (name s at) _ _ (λ class p1.
+    told-then _ (rate s p1) _ _ (λ r p2.
+    told-then _ (count s p2) _ _ (λ many p3.
+    told-then _ (count s p3) _ _ (λ out p4.
+    told-then _ (int16 s p4) _ _ (λ special p5.
+    told-ending _ (repeat (input k outs s) many p5) _ _ (λ inputs p6 e6.
+    told-ending _ (repeat (rate s) out p6) _ (λ end. got out end) (λ outputs end e7.
+    let many = repeat-got (rate s) 1 (length s) (rate-sized s) out p6 e7 .many in
+    ap (λ (n : ℕ). got n end) many)))))))
+
+-- one unit of several
+pub skip-units : (k : ℕ) (s : List ℕ) (n : ℕ) (outs : List ℕ) (at : ℕ)
+    → ending (readUnits k s (suc n) outs at) ≡ andThen (told (λ (u : UnitSpec). length (u .outputs)) (readUnit k outs s at)) (λ o next. ending (readUnits k s n (outs ++ (o ∷ [])) next))
+unfolding readUnits
+skip-units k s n outs at =
+    ending-told _ (readUnit k outs s at) _ _ (λ u next. ending-keeps (readUnits k s n (outs ++ (length (u .outputs) ∷ [])) next) (λ us. u ∷ us))
