@@ -102,7 +102,10 @@ impl Cursor {
         if s.len() - at < 4 {
             return Number::Bad(Refusal::Truncated, at);
         }
-        Number::Value(number32(s[at], s[at + 1], s[at + 2], s[at + 3]), Cursor { at: at + 4 })
+        Number::Value(
+            number32(s[at], s[at + 1], s[at + 2], s[at + 3]),
+            Cursor { at: at + 4 },
+        )
     }
 
     // A float is its pattern.
