@@ -1,5 +1,8 @@
 pub mod Read
+pub mod ReadLaws
 pub mod Fields
+pub mod FieldLaws
+pub mod NameLaws
 pub mod Definition
 pub mod Reader
 pub mod Writer
