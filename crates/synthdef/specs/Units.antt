@@ -1,6 +1,6 @@
 -- Units by their shape: how many outputs a unit has and where it ends, from its counts alone; and the outputs of the units before one.
 use Prim.{Unit, tt}
-use Prim.Native.Nat.{ℕ, zero, suc, _+_, _*_, _≤_, _<_}
+use Prim.Native.Nat.{ℕ, zero, suc, _+_, _*_, _-_, _/_, _≤_, _<_}
 use mathlib.Core.Bool.{Bool, true, false}
 use mathlib.Core.Path.{_≡_, refl, sym, ap, _∙_}
 use mathlib.Core.List.{List, [], _∷_, _++_}
@@ -16,7 +16,7 @@ use Rattle.words.specs.declared.Refusal.the-variants.{BadIndex, BadRate, BadCou
 use Rattle.synthdef.specs.Read.{Read, got, bad, andThen, checked, repeat, ending}
 use Rattle.synthdef.specs.Fields.{int8, int16, int32, name, count, rate, integer, indexBelow, pstring, stringAt, whole, nameBytes, highest32, highestRate}
 use Rattle.synthdef.specs.Definition.{Input, constant, output, UnitSpec}
-use Rattle.synthdef.specs.Reader.{input, readUnit, readUnits, minusOne}
+use Rattle.synthdef.specs.Reader.{input, readUnit, readUnits, minusOne, sizeLimit}
 use Rattle.synthdef.specs.Endings.{told, Told, told-got, told-then, told-ending, ending-told, ending-keeps, parts, checked-got, whole-got, pick-got, pick-some, Sized, Repeated, repeat-got}
 
 -- the number of four bytes at a place
@@ -174,3 +174,13 @@ pub skip-units : (k : ℕ) (s : List ℕ) (n : ℕ) (outs : List ℕ) (at : ℕ)
 unfolding readUnits
 skip-units k s n outs at =
     ending-told _ (readUnit k outs s at) _ _ (λ u next. ending-keeps (readUnits k s n (outs ++ (length (u .outputs) ∷ [])) next) (λ us. u ∷ us))
+
+-- How many units' outputs are remembered while a definition is read. A unit takes at least 12 bytes, and a definition 20 besides: its name, its five counts
+-- of four bytes or two. So a definition within the size limit has at most 169.
+abbrev pub remembered : ℕ
+remembered = (sizeLimit - 20) / 12 + 1
+
+-- what is known of the units before one: they lie in the file, and the outputs of the first of them are in outs
+pub record Remembered (s : List ℕ) (start units : ℕ) (outs : List ℕ) : Type 0 where
+  pub within : 0 < units → unitPlace s start units ≤ length s
+  pub known : (u : ℕ) → u < units → u < remembered → getD outs u 0 ≡ unitOutputs s (unitPlace s start u)

@@ -1,5 +1,6 @@
 // SynthDef2 files: read, refused, looked up.
 mod cursor;
+mod units;
 
 pub use cursor::Cursor;
 pub use cursor::Number;

@@ -1,0 +1,96 @@
+// Units: each is read against the outputs of the units before it.
+use super::cursor::Cursor;
+use super::cursor::Number;
+use super::cursor::Step;
+use super::cursor::Text;
+use super::cursor::number32;
+use words::Refusal;
+ghost use Prim.Native.Nat.{suc, _+_, _≤_};
+ghost use mathlib.Core.Path.{_≡_};
+ghost use mathlib.Core.List.{[]};
+ghost use lib.ListN.{length};
+ghost use Rattle.synthdef.specs.Answers.{numberOf, stepOf};
+ghost use Rattle.synthdef.specs.Endings.{told};
+ghost use Rattle.synthdef.specs.Fields.{rate, indexBelow};
+ghost use Rattle.synthdef.specs.Read.{ending, repeat};
+ghost use Rattle.synthdef.specs.Reader.{input, readUnits};
+ghost use Rattle.synthdef.specs.Units.{word32, unitCounts, unitOutputs, unitEnd, unitPlace, outsFrom, skipUnit, Remembered};
+
+// A definition takes at most so many bytes.
+const SIZE_LIMIT: usize = 2048;
+
+// How many units' outputs are remembered: a unit takes at least 12 bytes and a definition 20 besides, so a
+// definition within the size limit has fewer units than this. The outputs of a unit past these are found by a
+// walk from the first unit, in time that is linear in the unit's number.
+const REMEMBERED: usize = (SIZE_LIMIT - 20) / 12 + 1;
+
+// The number of four bytes at a place.
+fn word_at(s: &[u8], at: usize) -> u32
+    requires { ⌜ at + 4 ≤ length (now s) ⌝ }
+    ensures { λ r. ⌜ r ≡ word32 (now (s .entry)) at ⌝ }
+{
+    number32(s[at], s[at + 1], s[at + 2], s[at + 3])
+}
+
+// The place of the counts of the unit at a place.
+fn unit_counts(s: &[u8], at: usize) -> usize
+    requires { ⌜ unitEnd (now s) at ≤ length (now s) ⌝ }
+    ensures { λ r. ⌜ r ≡ unitCounts (now (s .entry)) at ⌝ }
+{
+    let size = s[at] as usize;
+    at + 2 + size
+}
+
+// How many outputs the unit at a place has.
+fn unit_outputs(s: &[u8], at: usize) -> u32
+    requires { ⌜ unitEnd (now s) at ≤ length (now s) ⌝ }
+    ensures { λ r. ⌜ r ≡ unitOutputs (now (s .entry)) at ⌝ }
+{
+    let counts = unit_counts(s, at);
+    word_at(s, counts + 4)
+}
+
+// The place past the unit at a place.
+fn unit_end(s: &[u8], at: usize) -> usize
+    requires { ⌜ unitEnd (now s) at ≤ length (now s) ⌝ }
+    ensures { λ r. ⌜ r ≡ unitEnd (now (s .entry)) at ⌝ }
+{
+    let counts = unit_counts(s, at);
+    let inputs = word_at(s, counts);
+    let outputs = unit_outputs(s, at);
+    counts + 10 + 8 * inputs as usize + outputs as usize
+}
+
+// How many outputs a unit has, by a walk from the first.
+fn far_outputs(s: &[u8], start: usize, unit: u32) -> u32
+    requires { ⌜ unitPlace (now s) start (suc unit) ≤ length (now s) ⌝ }
+    ensures { λ r. ⌜ r ≡ unitOutputs (now (s .entry)) (unitPlace (now (s .entry)) start unit) ⌝ }
+{
+    let mut at = start;
+    let mut i = 0;
+    while i < unit {
+        at = unit_end(s, at);
+        i += 1;
+    }
+    unit_outputs(s, at)
+}
+
+// An index below a bound.
+fn read_index(s: &[u8], cursor: Cursor, bound: u32) -> Step
+    ensures { λ r. ⌜ stepOf r ≡ ending (indexBelow bound (now (s .entry)) (cursor .at)) ⌝ }
+{
+    match cursor.index_below(s, bound) {
+        Number::Value(_, next) => Step::Next(next),
+        Number::Bad(refusal, place) => Step::Bad(refusal, place),
+    }
+}
+
+// One rate.
+fn read_rate(s: &[u8], cursor: Cursor) -> Step
+    ensures { λ r. ⌜ stepOf r ≡ ending (rate (now (s .entry)) (cursor .at)) ⌝ }
+{
+    match cursor.rate(s) {
+        Number::Value(_, next) => Step::Next(next),
+        Number::Bad(refusal, place) => Step::Bad(refusal, place),
+    }
+}
