@@ -1,6 +1,6 @@
 -- Laws of readings of which only a part of the value is told.
 use Prim.{Unit, tt}
-use Prim.Native.Nat.{ℕ, zero, suc, _+_, _*_, _≤_}
+use Prim.Native.Nat.{ℕ, zero, suc, _+_, _*_, _-_, _≤_, _<_}
 use mathlib.Core.Bool.{Bool, true, false}
 use mathlib.Core.Path.{_≡_, refl, sym, ap, _∙_}
 use mathlib.Core.List.{List, [], _∷_}
@@ -140,3 +140,22 @@ module _ {A : Type 0} where
   ending-repeat read n at =
       ending-then (read at) _ (λ x next. ending (repeat read n next)) (λ x next. ending-keeps (repeat read n next) (λ xs. x ∷ xs))
       ∙ then-ending (read at) _ (λ next. ending (repeat read n next)) (λ x next. refl)
+
+  -- the turns of a loop that reads n values one by one: the one that reads number i, and the end
+  pub repeat-next : (read : ℕ → Read A) (n i at : ℕ) {u : Unit {0}} {next : ℕ} → i < n → ending (read at) ≡ got u next
+      → ending (repeat read (n - i) at) ≡ ending (repeat read (n - (i + 1)) next)
+  repeat-next read n i at h e =
+      let more : n - i ≡ suc (n - (i + 1)) = omega arith in
+      rw more (ending-repeat read (n - (i + 1)) at ∙ then-got (λ u next. ending (repeat read (n - (i + 1)) next)) e)
+
+  pub repeat-bad : (read : ℕ → Read A) (n i at : ℕ) {q : Refusal} {place : ℕ} → i < n → ending (read at) ≡ bad q place
+      → ending (repeat read (n - i) at) ≡ bad q place
+  repeat-bad read n i at h e =
+      let more : n - i ≡ suc (n - (i + 1)) = omega arith in
+      rw more (ending-repeat read (n - (i + 1)) at ∙ then-bad (λ u next. ending (repeat read (n - (i + 1)) next)) e)
+
+  pub repeat-done : (read : ℕ → Read A) (n i at : ℕ) → n ≤ i → ending (repeat read (n - i) at) ≡ got tt at
+  unfolding repeat
+  repeat-done read n i at h =
+      let none : n - i ≡ 0 = omega arith in
+      rw none

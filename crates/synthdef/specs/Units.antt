@@ -11,13 +11,15 @@ use native.Mathlib.Numerals.{add-one}
 use lib.ListN.{length, getD, length-append, List·getD-append}
 use lib.Seq.{getD-at}
 use lib.Dec.{ltb, leb, eqb}
+use borrow.Author.Tests.{eq-eqb, ne-eqb, lt-ltb, le-ltb}
 use Rattle.words.specs.Choice.{pick}
+use Rattle.words.specs.declared.Refusal.{Refusal}
 use Rattle.words.specs.declared.Refusal.the-variants.{BadIndex, BadRate, BadCount, BadName, Truncated}
 use Rattle.synthdef.specs.Read.{Read, got, bad, andThen, checked, repeat, ending}
 use Rattle.synthdef.specs.Fields.{int8, int16, int32, name, count, rate, integer, indexBelow, pstring, stringAt, whole, nameBytes, highest32, highestRate}
 use Rattle.synthdef.specs.Definition.{Input, constant, output, UnitSpec}
 use Rattle.synthdef.specs.Reader.{input, readUnit, readUnits, minusOne, sizeLimit}
-use Rattle.synthdef.specs.Endings.{told, Told, told-got, told-then, told-ending, ending-told, ending-keeps, parts, checked-got, whole-got, pick-got, pick-some, Sized, Repeated, repeat-got}
+use Rattle.synthdef.specs.Endings.{told, then-got, then-bad, Told, told-got, told-then, told-ending, ending-told, ending-keeps, parts, checked-got, whole-got, pick-got, pick-some, Sized, Repeated, repeat-got}
 
 -- the number of four bytes at a place
 abbrev pub word32 : List ℕ → ℕ → ℕ
@@ -184,3 +186,20 @@ remembered = (sizeLimit - 20) / 12 + 1
 pub record Remembered (s : List ℕ) (start units : ℕ) (outs : List ℕ) : Type 0 where
   pub within : 0 < units → unitPlace s start units ≤ length s
   pub known : (u : ℕ) → u < units → u < remembered → getD outs u 0 ≡ unitOutputs s (unitPlace s start u)
+
+-- the ways through an input
+pub input-cut : (k : ℕ) (outs s : List ℕ) (at : ℕ) {q : Refusal} {place : ℕ} → integer s at ≡ bad q place → ending (input k outs s at) ≡ bad q place
+input-cut k outs s at e = ap ending (then-bad _ e)
+
+pub input-constant : (k : ℕ) (outs s : List ℕ) (at : ℕ) {u next : ℕ} → integer s at ≡ got u next → u ≡ minusOne
+    → ending (input k outs s at) ≡ ending (indexBelow k s next)
+input-constant k outs s at {u} {next} e h = rw (e, eq-eqb u minusOne h) (ending-keeps (indexBelow k s next) constant)
+
+pub input-output : (k : ℕ) (outs s : List ℕ) (at : ℕ) {u next : ℕ} → integer s at ≡ got u next → (u ≡ minusOne → ⊥) → u < length outs
+    → ending (input k outs s at) ≡ ending (indexBelow (getD outs u 0) s next)
+input-output k outs s at {u} {next} e h l =
+    rw (e, ne-eqb u minusOne h, lt-ltb u (length outs) l) (ending-keeps (indexBelow (getD outs u 0) s next) (output u))
+
+pub input-bad : (k : ℕ) (outs s : List ℕ) (at : ℕ) {u next : ℕ} → integer s at ≡ got u next → (u ≡ minusOne → ⊥) → length outs ≤ u
+    → ending (input k outs s at) ≡ bad BadIndex at
+input-bad k outs s at {u} {next} e h l = rw (e, ne-eqb u minusOne h, le-ltb u (length outs) l)

@@ -24,6 +24,9 @@ const SIZE_LIMIT: usize = 2048;
 // walk from the first unit, in time that is linear in the unit's number.
 const REMEMBERED: usize = (SIZE_LIMIT - 20) / 12 + 1;
 
+// An input's unit where it names a constant.
+const MINUS_ONE: u32 = 0xFFFF_FFFF;
+
 // The number of four bytes at a place.
 fn word_at(s: &[u8], at: usize) -> u32
     requires { ⌜ at + 4 ≤ length (now s) ⌝ }
@@ -93,4 +96,84 @@ fn read_rate(s: &[u8], cursor: Cursor) -> Step
         Number::Value(_, next) => Step::Next(next),
         Number::Bad(refusal, place) => Step::Bad(refusal, place),
     }
+}
+
+// One input of the unit behind so many others, whose outputs `outs` holds as far as they are remembered.
+fn read_input(
+    s: &[u8],
+    cursor: Cursor,
+    constants: u32,
+    start: usize,
+    units: u32,
+    outs: &[u32; REMEMBERED],
+) -> Step
+    requires { ⌜ Remembered (now s) start units (now outs) ⌝ }
+    ensures { λ r. ⌜ stepOf r ≡ ending (input constants (outsFrom (now (s .entry)) start units) (now (s .entry)) (cursor .at)) ⌝ }
+{
+    let at = cursor.at;
+    match cursor.int32(s) {
+        Number::Value(unit, next) => {
+            if unit == MINUS_ONE {
+                return read_index(s, next, constants);
+            }
+            if units <= unit {
+                return Step::Bad(Refusal::BadIndex, at);
+            }
+            let index = unit as usize;
+            if index < REMEMBERED {
+                return read_index(s, next, outs[index]);
+            }
+            read_index(s, next, far_outputs(s, start, unit))
+        }
+        Number::Bad(refusal, place) => Step::Bad(refusal, place),
+    }
+}
+
+// So many inputs.
+fn read_inputs(
+    s: &[u8],
+    cursor: Cursor,
+    count: u32,
+    constants: u32,
+    start: usize,
+    units: u32,
+    outs: &[u32; REMEMBERED],
+) -> Step
+    requires { ⌜ Remembered (now s) start units (now outs) ⌝ }
+    ensures { λ r. ⌜ stepOf r ≡ ending (repeat (input constants (outsFrom (now (s .entry)) start units) (now (s .entry))) count (cursor .at)) ⌝ }
+{
+    let mut at = cursor.at;
+    let mut i = 0;
+    while i < count {
+        match read_input(s, Cursor { at: at }, constants, start, units, outs) {
+            Step::Next(next) => {
+                at = next.at;
+            }
+            Step::Bad(refusal, place) => {
+                return Step::Bad(refusal, place);
+            }
+        }
+        i += 1;
+    }
+    Step::Next(Cursor { at: at })
+}
+
+// So many rates.
+fn read_rates(s: &[u8], cursor: Cursor, count: u32) -> Step
+    ensures { λ r. ⌜ stepOf r ≡ ending (repeat (rate (now (s .entry))) count (cursor .at)) ⌝ }
+{
+    let mut at = cursor.at;
+    let mut i = 0;
+    while i < count {
+        match read_rate(s, Cursor { at: at }) {
+            Step::Next(next) => {
+                at = next.at;
+            }
+            Step::Bad(refusal, place) => {
+                return Step::Bad(refusal, place);
+            }
+        }
+        i += 1;
+    }
+    Step::Next(Cursor { at: at })
 }
