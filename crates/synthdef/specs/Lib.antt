@@ -1,5 +1,6 @@
 pub mod Read
 pub mod ReadLaws
+pub mod RepeatLaws
 pub mod Fields
 pub mod FieldLaws
 pub mod NameLaws
@@ -8,6 +9,7 @@ pub mod Reader
 pub mod Writer
 pub mod Bounds
 pub mod Answers
+pub mod Front
 pub mod Endings
 pub mod Units
 pub mod Worked

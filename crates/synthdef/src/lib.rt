@@ -1,8 +1,10 @@
 // SynthDef2 files: read, refused, looked up.
 mod cursor;
+mod front;
 mod units;
 
 pub use cursor::Cursor;
 pub use cursor::Number;
 pub use cursor::Step;
 pub use cursor::Text;
+pub use front::Entry;

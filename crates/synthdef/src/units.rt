@@ -177,3 +177,23 @@ fn read_rates(s: &[u8], cursor: Cursor, count: u32) -> Step
     }
     Step::Next(Cursor { at: at })
 }
+
+// A unit behind so many others: how many outputs it has, and the next cursor.
+fn read_unit(s: &[u8], cursor: Cursor, constants: u32, start: usize, units: u32, outs: &[u32; REMEMBERED]) -> Number
+    requires { ⌜ Remembered (now s) start units (now outs) ⌝ }
+    ensures { λ r. ⌜ numberOf r ≡ skipUnit constants (outsFrom (now (s .entry)) start units) (now (s .entry)) (cursor .at) ⌝ }
+{
+    let p1 = match cursor.name(s) {
+        Text::Value(_, next) => next,
+        Text::Bad(refusal, place) => {
+            return Number::Bad(refusal, place);
+        }
+    };
+    let p2 = match p1.rate(s) {
+        Number::Value(_, next) => next,
+        Number::Bad(refusal, place) => {
+            return Number::Bad(refusal, place);
+        }
+    };
+    Number::Value(0, p2)
+}
