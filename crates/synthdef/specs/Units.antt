@@ -6,10 +6,10 @@ use mathlib.Core.Path.{_≡_, refl, sym, ap, _∙_}
 use mathlib.Core.List.{List, [], _∷_, _++_}
 use mathlib.Core.Logic.{⊎-elim}
 use native.Mathlib.Omega.{arith}
-use native.Mathlib.Nat.{eq-or-lt-of-le}
+use native.Mathlib.Nat.{eq-or-lt-of-le, sub-zero}
 use native.Mathlib.Numerals.{add-one}
-use lib.ListN.{length, getD, length-append, List·getD-append}
-use lib.Seq.{getD-at}
+use lib.ListN.{length, getD, set, length-set, length-append, List·getD-append}
+use lib.Seq.{getD-at, getD-set-same, getD-set-other}
 use lib.Dec.{ltb, leb, eqb}
 use borrow.Author.Tests.{eq-eqb, ne-eqb, lt-ltb, le-ltb}
 use Rattle.words.specs.Choice.{pick}
@@ -203,3 +203,75 @@ input-output k outs s at {u} {next} e h l =
 pub input-bad : (k : ℕ) (outs s : List ℕ) (at : ℕ) {u next : ℕ} → integer s at ≡ got u next → (u ≡ minusOne → ⊥) → length outs ≤ u
     → ending (input k outs s at) ≡ bad BadIndex at
 input-bad k outs s at {u} {next} e h l = rw (e, ne-eqb u minusOne h, le-ltb u (length outs) l)
+
+-- The turns of a loop that reads units one by one, behind i of them: what is left to read, from the present place, reads as the whole does from the first.
+pub record Standing (k : ℕ) (s : List ℕ) (start count : ℕ) (outs : List ℕ) (at i : ℕ) : Type 0 where
+  pub most : i ≤ count
+  pub here : at ≡ unitPlace s start i
+  pub sized : length outs ≡ remembered
+  pub known : Remembered s start i outs
+  pub left : ending (readUnits k s (count - i) (outsFrom s start i) at) ≡ ending (readUnits k s count [] start)
+
+pub stands-first : (k : ℕ) (s : List ℕ) (start count : ℕ) (outs : List ℕ) → length outs ≡ remembered → Standing k s start count outs start 0
+unfolding unitPlace outsFrom
+stands-first k s start count outs h = record {
+  most = omega arith;
+  here = refl;
+  sized = h;
+  known = record { within = λ l. absurd (omega arith); known = λ u l m. absurd (omega arith) };
+  left = rw sub-zero;
+}
+
+module _ (k : ℕ) (s : List ℕ) (start count : ℕ) {outs : List ℕ} {at i : ℕ} (st : Standing k s start count outs at i) where
+  pub stands-shaped : {o next : ℕ} → skipUnit k (outsFrom s start i) s at ≡ got o next → Shaped s (unitPlace s start i) o next
+  stands-shaped {o} {next} e = rw (st .here) at (unit-shape k (outsFrom s start i) s at (skip-unit k (outsFrom s start i) s at ∙ e))
+
+  pub stands-turn : i < count → ending (readUnits k s (count - i) (outsFrom s start i) at)
+      ≡ andThen (skipUnit k (outsFrom s start i) s at) (λ o next. ending (readUnits k s (count - suc i) (outsFrom s start i ++ (o ∷ [])) next))
+  stands-turn l =
+      let more : count - i ≡ suc (count - suc i) = omega arith in
+      rw more (skip-units k s (count - suc i) (outsFrom s start i) at
+      ∙ ap (λ (r : Read ℕ). andThen r (λ o next. ending (readUnits k s (count - suc i) (outsFrom s start i ++ (o ∷ [])) next))) (skip-unit k (outsFrom s start i) s at))
+
+  pub stands-next : {o next : ℕ} (outs' : List ℕ) → i < count → skipUnit k (outsFrom s start i) s at ≡ got o next
+      → length outs' ≡ remembered → ((u : ℕ) → u < i → getD outs' u 0 ≡ getD outs u 0) → (i < remembered → getD outs' i 0 ≡ o)
+      → Standing k s start count outs' next (i + 1)
+  unfolding unitPlace outsFrom
+  stands-next {o} {next} outs' l e h same new =
+      let shape = stands-shaped e in
+      rw add-one record {
+        most = omega arith;
+        here = shape .past;
+        sized = h;
+        known = record {
+          within = λ m. omega (arith, shape .past, shape .within);
+          known = λ u m n.
+              let upto : u ≤ i = omega arith in
+              ⊎-elim
+              (λ last. rw last (new (omega arith) ∙ shape .outputs))
+              (λ less. same u less ∙ st .known .known u less n)
+              (eq-or-lt-of-le upto);
+        };
+        left = ap (λ (x : ℕ). ending (readUnits k s (count - suc i) (outsFrom s start i ++ (x ∷ [])) next)) (sym (shape .outputs))
+            ∙ sym (stands-turn l ∙ then-got (λ o next. ending (readUnits k s (count - suc i) (outsFrom s start i ++ (o ∷ [])) next)) e)
+            ∙ st .left;
+      }
+
+  -- a unit whose outputs are remembered, and one past those
+  pub stands-set : {o next : ℕ} → i < count → i < remembered → skipUnit k (outsFrom s start i) s at ≡ got o next → Standing k s start count (set outs i o) next (i + 1)
+  stands-set {o} l m e =
+      stands-next (set outs i o) l e (length-set outs i o ∙ st .sized) (λ u h. getD-set-other outs i u o 0 (λ same. omega arith))
+      (λ h. getD-set-same outs i o 0 (rw (st .sized) m))
+
+  pub stands-past : {o next : ℕ} → i < count → remembered ≤ i → skipUnit k (outsFrom s start i) s at ≡ got o next → Standing k s start count outs next (i + 1)
+  stands-past l m e = stands-next outs l e (st .sized) (λ u h. refl) (λ h. absurd (omega arith))
+
+  pub stands-bad : {q : Refusal} {place : ℕ} → i < count → skipUnit k (outsFrom s start i) s at ≡ bad q place → ending (readUnits k s count [] start) ≡ bad q place
+  stands-bad l e =
+      sym (st .left) ∙ stands-turn l ∙ then-bad (λ o next. ending (readUnits k s (count - suc i) (outsFrom s start i ++ (o ∷ [])) next)) e
+
+  pub stands-done : count ≤ i → ending (readUnits k s count [] start) ≡ got tt at
+  unfolding readUnits
+  stands-done l =
+      let none : count - i ≡ 0 = omega arith in
+      sym (st .left) ∙ rw none

@@ -24,6 +24,9 @@ const SIZE_LIMIT: usize = 2048;
 // walk from the first unit, in time that is linear in the unit's number.
 const REMEMBERED: usize = (SIZE_LIMIT - 20) / 12 + 1;
 
+// The highest count of four bytes.
+const HIGHEST: u32 = 2147483647;
+
 // An input's unit where it names a constant.
 const MINUS_ONE: u32 = 0xFFFF_FFFF;
 
@@ -179,7 +182,14 @@ fn read_rates(s: &[u8], cursor: Cursor, count: u32) -> Step
 }
 
 // A unit behind so many others: how many outputs it has, and the next cursor.
-fn read_unit(s: &[u8], cursor: Cursor, constants: u32, start: usize, units: u32, outs: &[u32; REMEMBERED]) -> Number
+fn read_unit(
+    s: &[u8],
+    cursor: Cursor,
+    constants: u32,
+    start: usize,
+    units: u32,
+    outs: &[u32; REMEMBERED],
+) -> Number
     requires { ⌜ Remembered (now s) start units (now outs) ⌝ }
     ensures { λ r. ⌜ numberOf r ≡ skipUnit constants (outsFrom (now (s .entry)) start units) (now (s .entry)) (cursor .at) ⌝ }
 {
@@ -195,5 +205,54 @@ fn read_unit(s: &[u8], cursor: Cursor, constants: u32, start: usize, units: u32,
             return Number::Bad(refusal, place);
         }
     };
-    Number::Value(0, p2)
+    match p2.count_to(s, HIGHEST) {
+        Number::Value(inputs, p3) => match p3.count_to(s, HIGHEST) {
+            Number::Value(outputs, p4) => {
+                let p5 = match p4.int16(s) {
+                    Number::Value(_, next) => next,
+                    Number::Bad(refusal, place) => {
+                        return Number::Bad(refusal, place);
+                    }
+                };
+                let p6 = match read_inputs(s, p5, inputs, constants, start, units, outs) {
+                    Step::Next(next) => next,
+                    Step::Bad(refusal, place) => {
+                        return Number::Bad(refusal, place);
+                    }
+                };
+                match read_rates(s, p6, outputs) {
+                    Step::Next(end) => Number::Value(outputs, end),
+                    Step::Bad(refusal, place) => Number::Bad(refusal, place),
+                }
+            }
+            Number::Bad(refusal, place) => Number::Bad(refusal, place),
+        },
+        Number::Bad(refusal, place) => Number::Bad(refusal, place),
+    }
+}
+
+// So many units, the first of a definition.
+pub fn read_units(s: &[u8], cursor: Cursor, constants: u32, count: u32) -> Step
+    ensures { λ r. ⌜ stepOf r ≡ ending (readUnits constants (now (s .entry)) count [] (cursor .at)) ⌝ }
+{
+    let start = cursor.at;
+    let mut outs = [0; REMEMBERED];
+    let mut at = start;
+    let mut i = 0;
+    while i < count {
+        match read_unit(s, Cursor { at: at }, constants, start, i, &outs) {
+            Number::Value(outputs, next) => {
+                at = next.at;
+                let index = i as usize;
+                if index < REMEMBERED {
+                    outs[index] = outputs;
+                }
+            }
+            Number::Bad(refusal, place) => {
+                return Step::Bad(refusal, place);
+            }
+        }
+        i += 1;
+    }
+    Step::Next(Cursor { at: at })
 }
