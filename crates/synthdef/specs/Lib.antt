@@ -10,4 +10,5 @@ pub mod Writer
 pub mod Bounds
 pub mod Answers
 pub mod Front
+pub mod FrontLaws
 pub mod Worked
