@@ -13,20 +13,16 @@ use Rattle.words.specs.Choice.{pick}
 use Rattle.words.specs.declared.Refusal.{Refusal}
 use Rattle.synthdef.specs.Read.{Read, got, bad, andThen, checked, repeat, ending}
 use Rattle.synthdef.specs.Fields.{whole}
+use Rattle.synthdef.specs.Front.{mapRead}
 
 module _ {A B : Type 0} where
-  -- a reading of which something about the value is told
-  abbrev pub told : (A → B) → Read A → Read B
-  told f (got x next) = got (f x) next
-  told f (bad r at) = bad r at
-
   -- what was told was read
   pub record Told (f : A → B) (r : Read A) (y : B) (end : ℕ) : Type 0 where
     pub value : A
     pub read : r ≡ got value end
     pub same : f value ≡ y
 
-  pub told-got : (f : A → B) (r : Read A) {y : B} {end : ℕ} → told f r ≡ got y end → Told f r y end
+  pub told-got : (f : A → B) (r : Read A) {y : B} {end : ℕ} → mapRead f r ≡ got y end → Told f r y end
   told-got f (got x n) h = record { value = x; read = cc; same = cc }
   told-got f (bad q at) h = absurd (let z : _≡_ {A = ℕ} 0 1 = cc in omega arith)
 
@@ -54,19 +50,19 @@ module _ {A B : Type 0} where
   ending-then (bad q at) f g h = refl
 
   pub told-then : {C : Type 0} (t : B → C) (r : Read A) (f : A → ℕ → Read B) (g : A → ℕ → Read C)
-      → ((x : A) (n : ℕ) → told t (f x n) ≡ g x n) → told t (andThen r f) ≡ andThen r g
+      → ((x : A) (n : ℕ) → mapRead t (f x n) ≡ g x n) → mapRead t (andThen r f) ≡ andThen r g
   told-then t (got x n) f g h = h x n
   told-then t (bad q at) f g h = refl
 
   -- the rest takes only the place, and something about the value that is known of all that is read
   pub told-ending : {C : Type 0} (t : B → C) (r : Read A) (f : A → ℕ → Read B) (g : ℕ → Read C)
-      → ((x : A) (n : ℕ) → r ≡ got x n → told t (f x n) ≡ g n) → told t (andThen r f) ≡ andThen (ending r) (λ u n. g n)
+      → ((x : A) (n : ℕ) → r ≡ got x n → mapRead t (f x n) ≡ g n) → mapRead t (andThen r f) ≡ andThen (ending r) (λ u n. g n)
   told-ending t (got x n) f g h = h x n refl
   told-ending t (bad q at) f g h = refl
 
   -- the rest takes only what is told of the first
   pub ending-told : {C : Type 0} (t : A → C) (r : Read A) (f : A → ℕ → Read B) (g : C → ℕ → Read (Unit {0}))
-      → ((x : A) (n : ℕ) → ending (f x n) ≡ g (t x) n) → ending (andThen r f) ≡ andThen (told t r) g
+      → ((x : A) (n : ℕ) → ending (f x n) ≡ g (t x) n) → ending (andThen r f) ≡ andThen (mapRead t r) g
   ending-told t (got x n) f g h = h x n
   ending-told t (bad q at) f g h = refl
 

@@ -10,6 +10,8 @@ pub mod Writer
 pub mod Bounds
 pub mod Answers
 pub mod Front
+pub mod FrontLaws
 pub mod Endings
 pub mod Units
+pub mod Skips
 pub mod Worked

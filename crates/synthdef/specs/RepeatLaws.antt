@@ -13,6 +13,7 @@ use Rattle.words.specs.declared.Refusal.{Refusal}
 use Rattle.words.specs.declared.Refusal.the-variants.{Truncated}
 use Rattle.synthdef.specs.Read.{Read, got, bad, andThen, repeat, ending}
 use Rattle.synthdef.specs.Fields.{float32}
+use Rattle.synthdef.specs.FieldLaws.{word, whole-got}
 
 module _ {A B : Type 0} where
   -- two readings that go on alike from what the first one got
@@ -100,3 +101,35 @@ floats-cut s (suc k) (suc n) at m h l =
     let first : at + 4 ≤ length s = omega arith in
     let end : at + 4 + 4 * k ≡ at + 4 * suc k = omega arith in
     ending-suc (float32 s) n at ∙ rw (le-leb (at + 4) (length s) first, floats-cut s k n (at + 4) (omega arith) (omega arith) (omega arith), end)
+
+-- where floats end that were read
+pub floats-end : (s : List ℕ) (n at : ℕ) {xs : List ℕ} {end : ℕ} → repeat (float32 s) n at ≡ got xs end → end ≡ at + 4 * n
+unfolding repeat
+floats-end s zero at {xs} {end} t = let e : at ≡ end = cc in omega arith
+floats-end s (suc n) at {xs} {end} t =
+    let w = went (float32 s at) (λ x next. andThen (repeat (float32 s) n next) (λ ys e. got (x ∷ ys) e)) t in
+    let v = went (repeat (float32 s) n (w .place)) (λ ys e. got (w .value ∷ ys) e) (w .rest) in
+    let p : v .place ≡ end = cc in
+    omega (arith, floats-end s n (w .place) (v .first), whole-got 4 s at (word s at) (w .first) .1 .1)
+
+float-more : (s : List ℕ) (at next i x : ℕ) (ys xs : List ℕ) → xs ≡ x ∷ ys → at + 4 ≡ next
+    → float32 s (next + 4 * i) ≡ got (getD ys i 0) (next + 4 * i + 4)
+    → float32 s (at + 4 * suc i) ≡ got (getD xs (suc i) 0) (at + 4 * suc i + 4)
+float-more s at next i x ys xs e p h = let q : at + 4 * suc i ≡ next + 4 * i = omega arith in rw (q, e) h
+
+-- each of them
+pub floats-at : (s : List ℕ) (n at i : ℕ) {xs : List ℕ} {end : ℕ} → repeat (float32 s) n at ≡ got xs end → i < n
+    → float32 s (at + 4 * i) ≡ got (getD xs i 0) (at + 4 * i + 4)
+unfolding repeat
+floats-at s zero at i t h = let z : _≡_ {A = ℕ} 0 1 = omega arith in cc
+floats-at s (suc n) at zero {xs} {end} t h =
+    let w = went (float32 s at) (λ x next. andThen (repeat (float32 s) n next) (λ ys e. got (x ∷ ys) e)) t in
+    let v = went (repeat (float32 s) n (w .place)) (λ ys e. got (w .value ∷ ys) e) (w .rest) in
+    let x : xs ≡ w .value ∷ v .value = cc in
+    let p : w .place ≡ at + 4 = sym (whole-got 4 s at (word s at) (w .first) .1 .1) in
+    rw (add-zero, x) (w .first ∙ ap (λ q. got (w .value) q) p)
+floats-at s (suc n) at (suc i) {xs} {end} t h =
+    let w = went (float32 s at) (λ x next. andThen (repeat (float32 s) n next) (λ ys e. got (x ∷ ys) e)) t in
+    let v = went (repeat (float32 s) n (w .place)) (λ ys e. got (w .value ∷ ys) e) (w .rest) in
+    float-more s at (w .place) i (w .value) (v .value) xs (cc) (whole-got 4 s at (word s at) (w .first) .1 .1)
+    (floats-at s n (w .place) i (v .first) (omega arith))

@@ -19,7 +19,8 @@ use Rattle.synthdef.specs.Read.{Read, got, bad, andThen, checked, repeat
 use Rattle.synthdef.specs.Fields.{int8, int16, int32, name, count, rate, integer, indexBelow, pstring, stringAt, whole, nameBytes, highest32, highestRate}
 use Rattle.synthdef.specs.Definition.{Input, constant, output, UnitSpec}
 use Rattle.synthdef.specs.Reader.{input, readUnit, readUnits, minusOne, sizeLimit}
-use Rattle.synthdef.specs.Endings.{told, then-got, then-bad, Told, told-got, told-then, told-ending, ending-told, ending-keeps, parts, checked-got, whole-got, pick-got, pick-some, Sized, Repeated, repeat-got}
+use Rattle.synthdef.specs.Front.{mapRead}
+use Rattle.synthdef.specs.Endings.{then-got, then-bad, Told, told-got, told-then, told-ending, ending-told, ending-keeps, parts, checked-got, whole-got, pick-got, pick-some, Sized, Repeated, repeat-got}
 
 -- the number of four bytes at a place
 abbrev pub word32 : List ℕ → ℕ → ℕ
@@ -117,7 +118,7 @@ pub record Shaped (s : List ℕ) (at out end : ℕ) : Type 0 where
   pub past : end ≡ unitEnd s at
   pub within : end ≤ length s
 
-pub unit-shape : (k : ℕ) (outs s : List ℕ) (at : ℕ) {out end : ℕ} → told (λ (u : UnitSpec). length (u .outputs)) (readUnit k outs s at) ≡ got out end → Shaped s at out end
+pub unit-shape : (k : ℕ) (outs s : List ℕ) (at : ℕ) {out end : ℕ} → mapRead (λ (u : UnitSpec). length (u .outputs)) (readUnit k outs s at) ≡ got out end → Shaped s at out end
 unfolding readUnit unitCounts unitOutputs unitEnd
 unit-shape k outs s at {out} {end} h =
     let t = told-got _ (readUnit k outs s at) h in
@@ -135,7 +136,7 @@ unit-shape k outs s at {out} {end} h =
     let e = whole-got 2 s p4 _ e5 in
     let f = repeat-got (input k outs s) 8 (length s) (input-sized k outs s) many p5 e6 in
     let g = repeat-got (rate s) 1 (length s) (rate-sized s) o p6 e7 in
-    let l : got (length outputs) p7 ≡ got (length (t .value .outputs)) end = ap (told (λ (u : UnitSpec). length (u .outputs))) r7 in
+    let l : got (length outputs) p7 ≡ got (length (t .value .outputs)) end = ap (mapRead (λ (u : UnitSpec). length (u .outputs))) r7 in
     let m : length outputs ≡ length (t .value .outputs) = cc in
     let n : p7 ≡ end = cc in
     let o1 : out ≡ o = sym (t .same) ∙ sym m ∙ g .many in
@@ -157,7 +158,7 @@ skipUnit k outs s at =
     andThen (ending (repeat (rate s) out p6)) (λ v end.
     got out end)))))))
 
-pub skip-unit : (k : ℕ) (outs s : List ℕ) (at : ℕ) → told (λ (u : UnitSpec). length (u .outputs)) (readUnit k outs s at) ≡ skipUnit k outs s at
+pub skip-unit : (k : ℕ) (outs s : List ℕ) (at : ℕ) → mapRead (λ (u : UnitSpec). length (u .outputs)) (readUnit k outs s at) ≡ skipUnit k outs s at
 unfolding readUnit skipUnit
 skip-unit k outs s at =
     told-then _ (name s at) _ _ (λ class p1.
@@ -172,7 +173,7 @@ skip-unit k outs s at =
 
 -- one unit of several
 pub skip-units : (k : ℕ) (s : List ℕ) (n : ℕ) (outs : List ℕ) (at : ℕ)
-    → ending (readUnits k s (suc n) outs at) ≡ andThen (told (λ (u : UnitSpec). length (u .outputs)) (readUnit k outs s at)) (λ o next. ending (readUnits k s n (outs ++ (o ∷ [])) next))
+    → ending (readUnits k s (suc n) outs at) ≡ andThen (mapRead (λ (u : UnitSpec). length (u .outputs)) (readUnit k outs s at)) (λ o next. ending (readUnits k s n (outs ++ (o ∷ [])) next))
 unfolding readUnits
 skip-units k s n outs at =
     ending-told _ (readUnit k outs s at) _ _ (λ u next. ending-keeps (readUnits k s n (outs ++ (length (u .outputs) ∷ [])) next) (λ us. u ∷ us))

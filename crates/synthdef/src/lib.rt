@@ -7,4 +7,6 @@ pub use cursor::Cursor;
 pub use cursor::Number;
 pub use cursor::Step;
 pub use cursor::Text;
+pub use front::Counts;
 pub use front::Entry;
+pub use front::FrontRead;

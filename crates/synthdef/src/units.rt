@@ -10,7 +10,6 @@ ghost use mathlib.Core.Path.{_≡_};
 ghost use mathlib.Core.List.{[]};
 ghost use lib.ListN.{length};
 ghost use Rattle.synthdef.specs.Answers.{numberOf, stepOf};
-ghost use Rattle.synthdef.specs.Endings.{told};
 ghost use Rattle.synthdef.specs.Fields.{rate, indexBelow};
 ghost use Rattle.synthdef.specs.Read.{ending, repeat};
 ghost use Rattle.synthdef.specs.Reader.{input, readUnits};
