@@ -56,7 +56,7 @@ view-tree slots controls d (node x b a) =
     (view-append slots controls (flatten (d + 1) b) (flatten d a)
     ∙ ap₂ (λ (l m : List Row). l ++ m) (view-tree slots controls (d + 1) b) (view-tree slots controls d a))
 
-group-kind : (slots : List Slot) (controls : List ℕ) (x : Node) → isGroupKind (kindIn slots controls x) ≡ isGroup x
+pub group-kind : (slots : List Slot) (controls : List ℕ) (x : Node) → isGroupKind (kindIn slots controls x) ≡ isGroup x
 group-kind slots controls x = go (isGroup x)
   where
     go : (b : Bool) → isGroupKind (pick b group (synth (definitionOf slots x) (controlsOf slots controls x))) ≡ b
