@@ -2,3 +2,4 @@ pub mod Kept
 pub mod TreeReplay
 pub mod Names
 pub mod SlotNames
+pub mod Load
