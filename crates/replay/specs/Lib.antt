@@ -3,3 +3,4 @@ pub mod TreeReplay
 pub mod Names
 pub mod SlotNames
 pub mod Load
+pub mod DefinitionsReplay
