@@ -1,1 +1,4 @@
 pub mod Assemble
+pub mod Passed
+pub mod Parameters
+pub mod Rows
