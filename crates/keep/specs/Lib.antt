@@ -5,3 +5,5 @@ pub mod Rows
 pub mod Every
 pub mod Nodes
 pub mod Adds
+pub mod Slots
+pub mod ControlRows
