@@ -7,3 +7,5 @@ pub mod Nodes
 pub mod Adds
 pub mod Slots
 pub mod ControlRows
+pub mod Numbers
+pub mod TreeSteps
