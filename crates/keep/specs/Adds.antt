@@ -1,22 +1,22 @@
 -- Each add action brings in one new node; with action 4 a subtree is freed first.
-use Prim.Native.Nat.{ℕ, zero, suc, _+_, _≤_, _<_}
+use Prim.Native.Nat.{ℕ, zero, suc, _≤_, _<_}
 use mathlib.Core.Bool.{Bool, true, false, not}
-use mathlib.Core.Path.{_≡_, refl, sym, ap, _∙_}
+use mathlib.Core.Path.{_≡_, refl}
 use mathlib.Core.List.{List, [], _∷_}
 use native.Mathlib.Omega.{arith}
 use lib.ListN.{length}
 use lib.Dec.{ltb, leb, eqb}
-use borrow.Author.Tests.{ltb-false, leb-false, ltb-true}
+use borrow.Author.Tests.{ltb-false, leb-false}
 use Rattle.words.specs.Choice.{pick, both}
 use Rattle.nodes.specs.declared.Node.{Node}
 use Rattle.nodes.specs.Place.{lives}
 use Rattle.nodes.specs.Edit.{sink, takeDeeper, runOf, cut}
 use Rattle.nodes.specs.Forest.{single}
 use Rattle.nodes.specs.Formed.{mostNodes, rooted, synthLives}
-use Rattle.bridge.specs.Tally.{tally, tally-length, tally-cut, Within, Grown, cut-within, addHead-grown, addTail-grown, addBefore-grown, addAfter-grown, addOver-grown}
+use Rattle.bridge.specs.Tally.{tally-length, tally-cut, Within, cut-within, addHead-grown, addTail-grown, addBefore-grown, addAfter-grown, addOver-grown}
 use Rattle.bridge.specs.Leaves.{leaves-single}
 use Rattle.bridge.specs.Rooted.{single-flatten, rooted-addHead, rooted-addTail, rooted-addBefore, rooted-addAfter, rooted-addOver}
-use Rattle.model.specs.Checks.{badAction, full}
+use Rattle.model.specs.Checks.{badAction}
 use Rattle.model.specs.Effects.{addBy, stayingNodes}
 use Rattle.keep.specs.Nodes.{Added}
 

@@ -1,14 +1,14 @@
 -- The rule on controls is kept by edits of the nodes, and by a new synth's row of initial values.
 use Prim.Native.Nat.{ℕ, zero, suc, _+_, _*_, _≤_, _<_}
-use mathlib.Core.Bool.{Bool, true, false, not}
+use mathlib.Core.Bool.{Bool, true, false}
 use mathlib.Core.Path.{_≡_, refl, sym, ap, ap₂, _∙_}
 use mathlib.Core.List.{List, [], _∷_, _++_, append-assoc}
 use native.Mathlib.Omega.{arith}
-use lib.ListN.{length, take, drop, getD}
+use lib.ListN.{length, take, drop}
 use lib.Seq.{drop-drop, drop-at, length-take-le}
 use lib.Dec.{ltb, leb, eqb}
 use borrow.Author.Tests.{ltb-true, ltb-false, eqb-false}
-use Rattle.words.specs.Choice.{pick, both, both-true, either, either-false}
+use Rattle.words.specs.Choice.{pick, both, both-true, either-false}
 use Rattle.words.specs.Parts.{region, put}
 use Rattle.synthdef.specs.Bounds.{every}
 use Rattle.nodes.specs.declared.Node.{Node}

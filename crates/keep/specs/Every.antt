@@ -1,10 +1,10 @@
 -- Tests that every record of a table passes, and that look at neither depths nor run flags: kept where there is no more of anything.
-use Prim.Native.Nat.{ℕ, _+_, _≤_}
+use Prim.Native.Nat.{ℕ, _≤_}
 use mathlib.Core.Bool.{Bool, true, false, not}
-use mathlib.Core.Path.{_≡_, refl, sym, ap, ap₂, _∙_}
+use mathlib.Core.Path.{_≡_, refl, ap}
 use mathlib.Core.List.{List, [], _∷_}
 use native.Mathlib.Omega.{arith}
-use Rattle.words.specs.Choice.{pick, both, both-true}
+use Rattle.words.specs.Choice.{both, both-true}
 use Rattle.synthdef.specs.Bounds.{every}
 use Rattle.nodes.specs.declared.Node.{Node}
 use Rattle.nodes.specs.Edit.{withRun, setRun}

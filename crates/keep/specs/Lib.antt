@@ -9,3 +9,4 @@ pub mod Slots
 pub mod ControlRows
 pub mod Numbers
 pub mod TreeSteps
+pub mod TreeKept

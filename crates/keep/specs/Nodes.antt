@@ -1,21 +1,21 @@
 -- The rules on nodes are kept by an edit that leaves no more of anything, by a run flag, and by one new node.
-use Prim.Native.Nat.{ℕ, suc, _+_, _-_, _≤_, _<_}
-use mathlib.Core.Bool.{Bool, true, false, not}
-use mathlib.Core.Path.{_≡_, refl, sym, ap, ap₂, _∙_}
+use Prim.Native.Nat.{ℕ, _≤_, _<_}
+use mathlib.Core.Bool.{Bool, true, false}
+use mathlib.Core.Path.{_≡_, refl, sym, ap, _∙_}
 use mathlib.Core.List.{List, [], _∷_}
 use native.Mathlib.Omega.{arith}
 use lib.ListN.{length}
-use lib.Dec.{ltb, leb, eqb}
-use borrow.Author.Tests.{lt-ltb, le-ltb, ltb-true, ltb-false, eqb-true, eq-eqb, ne-eqb}
-use Rattle.words.specs.Choice.{pick, both, both-true, either}
+use lib.Dec.{eqb}
+use borrow.Author.Tests.{le-ltb, ltb-false, eqb-true, eq-eqb}
+use Rattle.words.specs.Choice.{pick, either}
 use Rattle.nodes.specs.declared.Node.{Node}
 use Rattle.nodes.specs.Place.{isGroup, lives}
 use Rattle.nodes.specs.Edit.{setRun}
-use Rattle.nodes.specs.Formed.{mostNodes, lastGiven, firstGiven, rooted, apart, numberFormed, fieldsFormed, allFormed, rowTaken, rowsApart, nextFormed, synthLives, latestFormed}
+use Rattle.nodes.specs.Formed.{mostNodes, rooted, fieldsFormed, rowTaken, nextFormed, synthLives, latestFormed}
 use Rattle.bridge.specs.Tally.{tally, Within, Grown}
 use Rattle.bridge.specs.Keep.{numbered, synthNumbered, lives-some, synthLives-some, within-lives, grown-lives, grown-synthLives, within-length, grown-length, within-apart, within-rows, within-formed, grown-apart, grown-rows, grown-formed, formed-next, setRun-apart, setRun-rows, setRun-formed, setRun-synthLives, setRun-length}
 use Rattle.bridge.specs.Rooted.{rooted-setRun}
-use Rattle.bridge.specs.Latest.{groupNumbered, kinds, latest-within, latest-grown}
+use Rattle.bridge.specs.Latest.{kinds, latest-within, latest-grown}
 use Rattle.state.specs.Known.{Tree}
 use Rattle.model.specs.Effects.{latestAmong}
 use Rattle.keep.specs.Rows.{order-short}

@@ -1,15 +1,15 @@
 -- The number of a new synth: given, or the next one, which falls.
-use Prim.Native.Nat.{ℕ, _+_, _-_, _≤_, _<_}
+use Prim.Native.Nat.{ℕ, _-_, _≤_, _<_}
 use mathlib.Core.Bool.{Bool, true, false, not}
-use mathlib.Core.Path.{_≡_, refl, sym, ap, ap₂, _∙_}
+use mathlib.Core.Path.{_≡_, refl, sym}
 use mathlib.Core.List.{List, [], _∷_}
 use native.Mathlib.Omega.{arith}
 use lib.Dec.{ltb, leb, eqb}
-use borrow.Author.Tests.{lt-ltb, le-ltb, ltb-true, le-leb, leb-true, leb-false, eqb-true, eqb-false, eq-eqb, ne-eqb}
+use borrow.Author.Tests.{lt-ltb, le-ltb, le-leb, leb-true, leb-false, eqb-true, eqb-false, ne-eqb}
 use Rattle.words.specs.Choice.{pick, both, both-true, either}
 use Rattle.nodes.specs.declared.Node.{Node}
-use Rattle.nodes.specs.Place.{groupSlot, isGroup, lives}
-use Rattle.nodes.specs.Formed.{firstGiven, lastGiven, noneLeft, mostRows, numberFormed, rowFormed, fieldsFormed, allFormed, nextFormed}
+use Rattle.nodes.specs.Place.{groupSlot, lives}
+use Rattle.nodes.specs.Formed.{firstGiven, lastGiven, noneLeft, mostRows, numberFormed, fieldsFormed, allFormed, nextFormed}
 use Rattle.model.specs.Layout.{slotCount}
 use Rattle.model.specs.Meaning.{minusOne, isNegative}
 use Rattle.model.specs.Effects.{newSynth, newGroup, numberFor, nextAfter}

@@ -1,7 +1,6 @@
 -- A definition that is read has at most 32 parameters.
 use Prim.{Unit, tt}
 use Prim.Native.Nat.{ℕ, _≤_}
-use mathlib.Core.Bool.{Bool, true}
 use mathlib.Core.Path.{_≡_, refl}
 use mathlib.Core.List.{List, []}
 use native.Mathlib.Omega.{arith}

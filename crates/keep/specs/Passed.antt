@@ -1,12 +1,10 @@
 -- What an accepted command of the tree kind tells: each of its checks passed.
-use Prim.Native.Nat.{ℕ, _<_, _≤_}
+use Prim.Native.Nat.{ℕ}
 use mathlib.Core.Bool.{Bool, true, false, not}
-use mathlib.Core.Path.{_≡_, refl, sym, ap, _∙_}
+use mathlib.Core.Path.{_≡_, refl, _∙_}
 use mathlib.Core.List.{List, [], _∷_}
-use native.Mathlib.Omega.{arith}
 use lib.Dec.{eqb}
-use lib.ListN.{length}
-use borrow.Author.Tests.{not-false, leb-false}
+use borrow.Author.Tests.{not-false}
 use Rattle.words.specs.Choice.{pick, both-true}
 use Rattle.words.specs.declared.Refusal.{Refusal}
 use Rattle.nodes.specs.declared.Node.{Node}
@@ -16,7 +14,6 @@ use Rattle.bridge.specs.Latest.{groupNamed, group-nosynth}
 use Rattle.values.specs.declared.Target.{Target}
 use Rattle.values.specs.declared.Target.the-variants.{Latest, Number, Reserved}
 use Rattle.values.specs.Targets.{targetOf}
-use Rattle.model.specs.declared.Answer.{Answer}
 use Rattle.model.specs.declared.Answer.the-variants.{Done}
 use Rattle.model.specs.Engine.{Engine}
 use Rattle.model.specs.Meaning.{meantBy, knownBy, meant, known, nodeNamed, node}

@@ -1,17 +1,17 @@
 -- Among fewer than 256 nodes a row of controls is free; and the running order is shorter than the table.
 use Prim.Native.Nat.{ℕ, zero, suc, _+_, _≤_, _<_}
 use mathlib.Core.Bool.{Bool, true, false}
-use mathlib.Core.Path.{_≡_, refl, sym, ap, ap₂, _∙_}
+use mathlib.Core.Path.{_≡_, refl, sym, _∙_}
 use mathlib.Core.List.{List, [], _∷_}
 use native.Mathlib.Omega.{arith}
 use lib.ListN.{length}
 use lib.Dec.{ltb, leb, eqb}
-use borrow.Author.Tests.{lt-ltb, le-ltb, ltb-true, ltb-false, le-leb, lt-leb, eq-eqb, ne-eqb}
+use borrow.Author.Tests.{lt-ltb, ltb-true, ltb-false, le-leb, lt-leb, eq-eqb, ne-eqb}
 use Rattle.words.specs.Choice.{pick, both, both-true}
 use Rattle.nodes.specs.declared.Node.{Node}
 use Rattle.nodes.specs.Place.{isGroup}
 use Rattle.nodes.specs.Order.{isOn, orderFrom, order}
-use Rattle.nodes.specs.Formed.{mostNodes, mostRows, rooted, steps, rowTaken}
+use Rattle.nodes.specs.Formed.{mostNodes, mostRows, rooted, rowTaken}
 use Rattle.bridge.specs.Tally.{one, tally}
 use Rattle.bridge.specs.Keep.{inRow, rowTaken-some}
 use Rattle.model.specs.Effects.{freeRowFrom, freeRow}

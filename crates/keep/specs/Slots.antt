@@ -4,15 +4,13 @@ use mathlib.Core.Bool.{Bool, true, false, not}
 use mathlib.Core.Path.{_≡_, refl, sym, ap, ap₂, _∙_}
 use mathlib.Core.List.{List, [], _∷_}
 use native.Mathlib.Omega.{arith}
-use native.Mathlib.Nat.{add-zero}
 use lib.ListN.{length, drop, getD}
 use lib.Dec.{leb, eqb}
-use borrow.Author.Tests.{leb-false, eqb-true, ne-eqb, not-true, not-false}
+use borrow.Author.Tests.{leb-false, eqb-true, not-true}
 use Rattle.words.specs.Choice.{pick, both, both-true, either}
 use Rattle.synthdef.specs.Reader.{readDefinition, sizeLimit, sameName}
 use Rattle.synthdef.specs.Bounds.{every}
 use Rattle.nodes.specs.declared.Node.{Node}
-use Rattle.nodes.specs.Place.{groupSlot, isGroup}
 use Rattle.bridge.specs.Tally.{Grown}
 use Rattle.model.specs.Layout.{slotCount}
 use Rattle.model.specs.Engine.{Slot, nameIn, slotAt, held, slotTaken, residentFrom, residentOf}

@@ -1,16 +1,16 @@
 -- Each accepted command of the tree kind keeps the rules, of the engine as decoded.
-use Prim.Native.Nat.{ℕ, _+_, _*_, _≤_, _<_}
-use mathlib.Core.Bool.{Bool, true, false, not}
-use mathlib.Core.Path.{_≡_, refl, sym, ap, ap₂, _∙_}
-use mathlib.Core.List.{List, [], _∷_}
+use Prim.Native.Nat.{ℕ, _≤_, _<_}
+use mathlib.Core.Bool.{true, false, not}
+use mathlib.Core.Path.{_≡_, refl, sym, _∙_}
+use mathlib.Core.List.{List}
 use native.Mathlib.Omega.{arith}
 use lib.ListN.{length}
-use lib.Dec.{ltb, leb, eqb}
+use lib.Dec.{ltb, eqb}
 use borrow.Author.Tests.{lt-ltb, ltb-true, ltb-false, leb-false, ne-eqb}
-use Rattle.words.specs.Choice.{pick, both}
+use Rattle.words.specs.Choice.{both}
 use Rattle.words.specs.declared.Refusal.the-variants.{BadFlag, BadNumber, NumberLive, NoDefinition, NoNode, WrongKind, InsideItself, NodesFull, NoNumber}
 use Rattle.nodes.specs.declared.Node.{Node}
-use Rattle.nodes.specs.Place.{groupSlot, isGroup, lives}
+use Rattle.nodes.specs.Place.{groupSlot, lives}
 use Rattle.nodes.specs.Edit.{runOf, isBelow, cut, cutBelow, deepFree, setRun, moveBefore, moveAfter, moveHead, moveTail}
 use Rattle.nodes.specs.Formed.{mostRows, noneLeft, rooted, rowTaken}
 use Rattle.bridge.specs.Tally.{tally, tally-cut, Within, same-within, cut-within, cutBelow-within, deepFree-within, moveHead-same, moveTail-same, moveBefore-same, moveAfter-same}
@@ -19,10 +19,10 @@ use Rattle.bridge.specs.Rooted.{rooted-cut, rooted-cutBelow, rooted-deepFree, r
 use Rattle.model.specs.declared.TreeCommand.{TreeCommand}
 use Rattle.model.specs.declared.TreeCommand.the-variants as tree
 use Rattle.model.specs.declared.Answer.the-variants.{Done}
-use Rattle.model.specs.Layout.{slotCount, controlsWords, rowWords}
+use Rattle.model.specs.Layout.{slotCount, controlsWords}
 use Rattle.model.specs.Engine.{Engine, slotAt, residentOf}
 use Rattle.model.specs.Meaning.{minusOne, isNegative, meant, known}
-use Rattle.model.specs.Checks.{firstOf, check, treeChecks, noResident, badAction, isRoot, notGroup, badTarget, full, inside}
+use Rattle.model.specs.Checks.{firstOf, treeChecks, noResident, badAction, isRoot, notGroup, badTarget, full, inside}
 use Rattle.model.specs.Effects.{latestAmong, withNodes, addBy, stayingNodes, freeRow, newGroup, newSynth, numberFor, nextAfter, synthMade, treeEffect}
 use Rattle.model.specs.Formed.{slotsFormed, controlsFormed}
 use Rattle.state.specs.Known.{Tree}
