@@ -1,13 +1,13 @@
 -- Loads and `/d_free`: the engine and the plain tree after them are the same again.
 use Prim.{Unit, tt}
-use Prim.Native.Nat.{ℕ, zero, suc, _+_, _-_, _≤_, _<_}
+use Prim.Native.Nat.{ℕ, zero, suc, _+_, _-_, _*_, _≤_, _<_}
 use mathlib.Core.Bool.{Bool, true, false, not}
 use mathlib.Core.Path.{_≡_, refl, sym, ap, ap₂, _∙_}
 use mathlib.Core.List.{List, [], _∷_, _++_}
 use mathlib.Core.Option.{Option, none, some}
 use native.Mathlib.Omega.{arith}
 use borrow.Author.Tests.{not-true, ltb-false, leb-false, eq-eqb}
-use lib.ListN.{length, getD, set}
+use lib.ListN.{length, drop, getD, set}
 use lib.Seq.{getD-set-same, getD-set-other}
 use lib.Dec.{ltb, leb, eqb}
 use Rattle.words.specs.Choice.{pick, both, either, both-true, either-false}
@@ -22,11 +22,10 @@ use Rattle.nodes.specs.declared.Node.{Node}
 use Rattle.nodes.specs.Place.{isGroup}
 use Rattle.nodes.specs.Forest.{Forest, node, flatten, mapForest}
 use Rattle.nodes.specs.Forest as forest
-use Rattle.bridge.specs.MapForest.{map-each}
-use Rattle.bridge.specs.Leaves.{Each}
-use Rattle.model.specs.Layout.{slotCount}
-use Rattle.model.specs.Engine.{Slot, Engine, nameIn, definitionIn, slotAt, definitionOf, controlsOf, held, slotTaken, residentFrom, residentOf, residents}
-use Rattle.model.specs.View.{PlainNode, viewOf}
+use Rattle.bridge.specs.MapForest.{Each, map-each}
+use Rattle.model.specs.Layout.{slotCount, rowWords}
+use Rattle.model.specs.Engine.{Slot, Engine, nameIn, definitionIn, slotAt, definitionOf, controlsFrom, held, slotTaken, residentFrom, residentOf, residents}
+use Rattle.model.specs.View.{group, synth, PlainNode, viewOf}
 use Rattle.model.specs.Formed.{namesApart}
 use Rattle.model.specs.Checks.{definitionsOf, namesOf, staying, noSlot, noResident}
 use Rattle.model.specs.Effects.{retired, loaded, retire, withSlots}
@@ -69,7 +68,7 @@ names-apart names (d ∷ ds) h =
       bounded = (a .0, ih .bounded);
       differ = (ih .apart (d .front .name) (among-append (d .front .name) (d .front .name) names ∙ last (among (d .front .name) names) (sameName (d .front .name) (d .front .name)) (same-self (d .front .name))), ih .differ);
       apart = λ m e.
-          let other : sameName (d .front .name) m ≡ false = unlike (sameName (d .front .name) m) refl m e new in
+          let other : sameName (d .front .name) m ≡ false = unlike m e new (sameName (d .front .name) m) refl in
           ap₂ (λ (p q : Bool). either p q) other (ih .apart m (among-append m (d .front .name) names ∙ ap (λ (p : Bool). either p (sameName (d .front .name) m)) e));
     }
   where
@@ -77,5 +76,111 @@ names-apart names (d ∷ ds) h =
     last true q e = refl
     last false q e = e
 
-    unlike : (b : Bool) {m′ : List ℕ} → sameName (d .front .name) m′ ≡ b → (m : List ℕ) → among m names ≡ true → among (d .front .name) names ≡ false → sameName (d .front .name) m ≡ false
-    unlike b e m f g = ?
+    unlike : (m : List ℕ) → among m names ≡ true → among (d .front .name) names ≡ false → (b : Bool) → sameName (d .front .name) m ≡ b → b ≡ false
+    unlike m f g true e = sym f ∙ ap (λ (x : List ℕ). among x names) (sym (same-equal (d .front .name) m e)) ∙ g
+    unlike m f g false e = refl
+
+-- of a tree of records, each item's slot is held where the tree's are
+held-append : (k : ℕ) (a b : List Node) → held k (a ++ b) ≡ either (held k a) (held k b)
+unfolding held
+held-append k [] b = refl
+held-append k (r ∷ a) b = go (eqb (r .slot) k) (held-append k a b)
+  where
+    go : (p : Bool) → held k (a ++ b) ≡ either (held k a) (held k b) → either p (held k (a ++ b)) ≡ either (either p (held k a)) (held k b)
+    go true ih = refl
+    go false ih = ih
+
+pub each-held : (d : ℕ) (f : Forest Node) (t : List Node) → ((k : ℕ) → held k (flatten d f) ≡ true → held k t ≡ true) → Each (λ (x : Node). held (x .slot) t ≡ true) f
+unfolding Each flatten held
+each-held d forest.none t h = tt
+each-held d (node x b a) t h = (
+  h (x .slot) (ap (λ (p : Bool). either p (held (x .slot) (flatten (d + 1) b ++ flatten d a))) (eq-eqb (x .slot) (x .slot) refl)),
+  each-held (d + 1) b t (λ k e. h k (in-right (eqb (x .slot) k) (held k (flatten (d + 1) b ++ flatten d a)) (held-append k (flatten (d + 1) b) (flatten d a) ∙ ap (λ (p : Bool). either p (held k (flatten d a))) e))),
+  each-held d a t (λ k e. h k (in-right (eqb (x .slot) k) (held k (flatten (d + 1) b ++ flatten d a)) (held-append k (flatten (d + 1) b) (flatten d a) ∙ in-right (held k (flatten (d + 1) b)) (held k (flatten d a)) e))),
+)
+  where
+    in-right : (p q : Bool) → q ≡ true → either p q ≡ true
+    in-right true q e = refl
+    in-right false q e = e
+
+-- a property of every item that gives another
+pub each-more : {P Q : Node → Type 0} → ((x : Node) → P x → Q x) → (f : Forest Node) → Each P f → Each Q f
+unfolding Each
+each-more g forest.none e = tt
+each-more g (node x b a) e = (g x (e .0), each-more g b (e .1), each-more g a (e .2))
+
+-- slots whose held bytes are as they were are seen alike
+pub seen-alike : (before after : List Slot) (controls : List ℕ) (f : Forest Node) (t : List Node) → t ≡ flatten 0 f
+    → ((k : ℕ) → held k t ≡ true → slotAt after k .bytes ≡ slotAt before k .bytes) → seenTree before controls f ≡ seenTree after controls f
+seen-alike before after controls f t laid same =
+    map-each (viewOf before controls) (viewOf after controls) f
+    (each-more (λ x e. alike x (same (x .slot) e)) f (each-held 0 f t (λ k e. ap (λ (l : List Node). held k l) laid ∙ e)))
+  where
+    alike : (x : Node) → slotAt after (x .slot) .bytes ≡ slotAt before (x .slot) .bytes → viewOf before controls x ≡ viewOf after controls x
+    alike x e =
+        let d : definitionOf before x ≡ definitionOf after x = ap (λ (l : List ℕ). definitionIn (record { bytes = l; resident = true })) (sym e) in
+        ap (λ (y : Definition). viewAs y) d
+      where
+        viewAs : Definition → PlainNode
+        viewAs y = record { number = x .number; run = x .run; kind = pick (isGroup x) group (synth y (controlsFrom (length (y .front .values)) (drop (rowWords * x .row) controls))) }
+
+-- a load's retirement leaves the bytes
+retired-bytes : (names : List (List ℕ)) (slots : List Slot) (k : ℕ) → slotAt (retired names slots) k .bytes ≡ slotAt slots k .bytes
+unfolding retired
+retired-bytes names [] k = refl
+retired-bytes names (s ∷ more) zero = refl
+retired-bytes names (s ∷ more) (suc k) = retired-bytes names more k
+
+-- as many of the file's names mean something on both sides
+meant-known : (names : List (List ℕ)) (slots : List Slot) (ms : List Named) → ((m : List ℕ) → means m slots ≡ meaning m ms) → meant names slots ≡ known ms names
+unfolding meant known
+meant-known [] slots ms h = refl
+meant-known (n ∷ names) slots ms h = ap₂ (λ (o : Option Definition) (j : ℕ). there o + j) (h n) (meant-known names slots ms h)
+
+module _ (e : Engine) (p : Plain) (k : Kept e p) (apart : namesApart (e .slots) ≡ true) where
+  meanings : (m : List ℕ) → means m (e .slots) ≡ meaning m (p .names)
+  meanings m = sym (meaning-means m (e .slots)) ∙ k .names m
+
+  -- before the definitions of an accepted file go in
+  pub loading : (ds : List Definition) → areDefinitions [] ds ≡ true → noSlot ds e ≡ false → length (e .slots) ≡ slotCount
+      → Loading ds (retired (namesOf ds) (e .slots)) (e .nodes) (p .names)
+  loading ds h slot many =
+      let a = names-apart [] ds h in
+      let staysFree = free-staying 0 (namesOf ds) (e .slots) (e .nodes) in
+      let fits : length ds ≤ slotCount - staying 0 (namesOf ds) (e .slots) (e .nodes) = ltb-false (slotCount - staying 0 (namesOf ds) (e .slots) (e .nodes)) (length ds) slot in
+      record {
+        bounded = a .bounded;
+        differ = a .differ;
+        room = omega arith;
+        once = k .once;
+        meanings = λ m. means-retired m (namesOf ds) (e .slots) ∙ ap (λ (o : Option Definition). pick (among m (namesOf ds)) none o) (meanings m);
+        counts =
+            let r = residents-retired (namesOf ds) (e .slots) (a .differ) apart in
+            let q = meant-known (namesOf ds) (e .slots) (p .names) meanings in
+            let c = k .nameCount in
+            omega arith;
+      }
+
+  -- "`/d_recv` gives each name in the file its definition there .. Synths keep theirs."
+  pub load-replayed : (ds : List Definition) → areDefinitions [] ds ≡ true → noSlot ds e ≡ false → length (e .slots) ≡ slotCount
+      → Kept (withSlots (loaded ds (retired (namesOf ds) (e .slots)) (e .nodes)) e) (withNames (learn ds (p .names)) p)
+  unfolding namesOf known among
+  load-replayed ds h slot many =
+      let l = loading ds h slot many in
+      let done = loaded-all ds (retired (namesOf ds) (e .slots)) (e .nodes) (p .names) l in
+      let slots = loaded ds (retired (namesOf ds) (e .slots)) (e .nodes) in
+      record {
+        forest = k .forest;
+        laid = k .laid;
+        leaves = k .leaves;
+        tree = k .tree
+            ∙ seen-alike (e .slots) slots (e .controls) (k .forest) (e .nodes) (k .laid)
+            (λ j held-j. ap (λ (s : Slot). s .bytes) (held-loaded ds (retired (namesOf ds) (e .slots)) (e .nodes) (p .names) l j held-j) ∙ retired-bytes (namesOf ds) (e .slots) j);
+        names = λ m. meaning-means m slots ∙ done .meanings m;
+        nameCount = let c = done .counts in omega arith;
+        once = done .once;
+        next = k .next;
+        latest = k .latest;
+        buses = k .buses;
+        ordered = k .ordered;
+      }
