@@ -15,7 +15,7 @@ use Rattle.synthdef.specs.Definition.{ParameterName, Front}
 use Rattle.synthdef.specs.Reader.{mostParameters, parameterName, readFront}
 use Rattle.synthdef.specs.Front.{mapRead, countedFloats, readCounts, readNames, nameEnd, valuesAt, namesAt, told}
 use Rattle.synthdef.specs.FieldLaws.{name-length, count-end}
-use Rattle.synthdef.specs.RepeatLaws.{got-value, got-place, went-on, repeat-length, floats-end}
+use Rattle.synthdef.specs.RepeatLaws.{got-value, got-place, went-on, repeat-length, floats-end, floats-at}
 
 module _ {A B E D : Type 0} (tell : E → D) (g : B → ℕ → Read D) where
   -- two readings that begin alike, of the second of which something is told
@@ -119,3 +119,8 @@ front-got s at e =
     went-on (count s p3) _ r5 (λ many p4 e4 r6.
     went-on (repeat (parameterName p s) many p4) _ r6 (λ names last e5 r7.
     front-parts s at e1 f3 e5 (places s at e1 e2 f2 e3 f3 e4 e5) r7)))))))
+
+-- each of its initial values, by its place
+pub front-value : (s : List ℕ) (at i : ℕ) {f : Front} {end : ℕ} → readFront s at ≡ got f end → i < length (f .values)
+    → float32 s (valuesAt at f + 4 * i) ≡ got (getD (f .values) i 0) (valuesAt at f + 4 * i + 4)
+front-value s at i {f} e h = floats-at s (length (f .values)) (valuesAt at f) i (front-got s at e .values) h

@@ -14,4 +14,5 @@ pub mod FrontLaws
 pub mod SameLaws
 pub mod Lookup
 pub mod LookupLaws
+pub mod LookupOf
 pub mod Worked

@@ -20,14 +20,21 @@ use Rattle.synthdef.specs.Reader.{mostParameters, parameterName, readFro
 use Rattle.synthdef.specs.Front.{mapRead, readCounts, told, valuesAt}
 use Rattle.synthdef.specs.Lookup.{onRead, firstOf, nothing, nameIn, valueIn}
 use Rattle.synthdef.specs.FieldLaws.{word, whole-got, name-part}
-use Rattle.synthdef.specs.RepeatLaws.{got-value, got-place, floats-at}
-use Rattle.synthdef.specs.FrontLaws.{front-got}
+use Rattle.synthdef.specs.RepeatLaws.{got-value, got-place}
+use Rattle.synthdef.specs.FrontLaws.{front-got, front-value}
 
 module _ {A B : Type 0} where
   -- two questions that have the same answer of what was read
   pub on-same : (r : Read A) (none : B) {f g : A → ℕ → B} → ((x : A) (p : ℕ) → r ≡ got x p → f x p ≡ g x p) → onRead r none f ≡ onRead r none g
   on-same (got x p) none h = h x p refl
   on-same (bad q place) none h = refl
+
+  -- the answer by what was read, and where nothing was
+  pub on-got : (r : Read A) (none : B) (ask : A → ℕ → B) {x : A} {p : ℕ} → got x p ≡ r → ask x p ≡ onRead r none ask
+  on-got r none ask e = rw (sym e)
+
+  pub on-bad : (r : Read A) (none : B) (ask : A → ℕ → B) {q : Refusal} {place : ℕ} → bad q place ≡ r → none ≡ onRead r none ask
+  on-bad r none ask e = rw (sym e)
 
   -- an answer that asks only whether there is a value
   pub on-ending : (r : Read A) (none some : B) → onRead (ending r) none (λ t p. some) ≡ onRead r none (λ x p. some)
@@ -41,11 +48,6 @@ module _ {A B : Type 0} where
   pub on-false : (r : Read A) (none some : B) → onRead r false (λ x p. true) ≡ false → onRead r none (λ x p. some) ≡ none
   on-false (got x p) none some h = cc
   on-false (bad q place) none some h = refl
-
--- what is asked of what is told
-pub on-told : {A B D : Type 0} (tell : A → D) (r : Read A) (none : B) (ask : D → ℕ → B) → onRead (mapRead tell r) none ask ≡ onRead r none (λ x p. ask (tell x) p)
-on-told tell (got x p) none ask = refl
-on-told tell (bad q place) none ask = refl
 
 module _ {A B : Type 0} (read : ℕ → Read A) (test : A → Bool) (ask : A → B) (none : B) where
   abbrev pub First : ℕ → ℕ → B
@@ -117,7 +119,7 @@ module _ {B : Type 0} (s : List ℕ) (none : B) (ask : List ParameterName → B)
   abbrev onFrontNames : Front → ℕ → B
   onFrontNames f p = ask (f .names)
 
-  pub on-names : (at : ℕ) → onRead (readCounts s at) none onNames ≡ onRead (readFront s at) none (λ f p. ask (f .names))
+  on-names : (at : ℕ) → onRead (readCounts s at) none onNames ≡ onRead (readFront s at) none (λ f p. ask (f .names))
   unfolding readFront
   on-names at =
       on-first none onNames onFrontNames (definitionName s at) _ _ (λ n p1.
@@ -126,11 +128,22 @@ module _ {B : Type 0} (s : List ℕ) (none : B) (ask : List ParameterName → B)
       on-first none onNames onFrontNames (count s p3) _ _ (λ many p4.
       on-last none onNames onFrontNames (repeat (parameterName p s) many p4) _ _ (λ names end. refl)))))
 
+  pub names-got : (at : ℕ) {answer : B} {c : Counts} {p : ℕ} → answer ≡ onNames c p → got c p ≡ readCounts s at → answer ≡ onRead (readFront s at) none (λ f q. ask (f .names))
+  names-got at h e = h ∙ on-got (readCounts s at) none onNames e ∙ on-names at
+
+  pub names-bad : (at : ℕ) {q : Refusal} {place : ℕ} → bad q place ≡ readCounts s at → none ≡ onRead (readFront s at) none (λ f p. ask (f .names))
+  names-bad at e = on-bad (readCounts s at) none onNames e ∙ on-names at
+
 -- a front that was told
 module _ {A D : Type 0} (tell : A → D) where
   pub told-on : {E : Type 0} (r : Read A) {c : D} {p : ℕ} → got c p ≡ mapRead tell r → ((x : A) → r ≡ got x p → tell x ≡ c → E) → E
   told-on (got x q) e k = k x (ap (λ n. got x n) (sym (got-place e))) (sym (got-value e))
   told-on (bad q place) e k = let z : _≡_ {A = ℕ} 0 1 = cc in absurd (omega arith)
+
+  -- the answer by what was told, and where nothing was
+  pub told-got : {B : Type 0} (r : Read A) (none : B) (ask : D → ℕ → B) {c : D} {p : ℕ} → got c p ≡ mapRead tell r → ask c p ≡ onRead r none (λ x q. ask (tell x) q)
+  told-got (got x q) none ask e = cc
+  told-got (bad q place) none ask e = let z : _≡_ {A = ℕ} 0 1 = cc in absurd (omega arith)
 
   pub told-bad : {B : Type 0} (r : Read A) (none : B) (ask : A → ℕ → B) {q : Refusal} {place : ℕ} → bad q place ≡ mapRead tell r → none ≡ onRead r none ask
   told-bad (got x p) none ask e = cc
@@ -145,14 +158,13 @@ module _ (s : List ℕ) (i : ℕ) {c : Counts} {p : ℕ} (e : got c p ≡ mapRea
   pub value-place : i < c .parameters → c .values + 4 * i + 4 ≤ length s
   value-place h =
       told-on (told 0) (readFront s 0) e (λ f r t.
-      rw (sym t) (whole-got 4 s (told 0 f .values + 4 * i) (word s (told 0 f .values + 4 * i))
-      (floats-at s (length (f .values)) (valuesAt 0 f) i (front-got s 0 r .values) (rw (sym t) at h)) .0))
+      rw (sym t) (whole-got 4 s (valuesAt 0 f + 4 * i) (word s (valuesAt 0 f + 4 * i)) (front-value s 0 i r (rw (sym t) at h)) .0))
 
   pub value-told : i < c .parameters → valueIn i s ≡ onRead (float32 s (c .values + 4 * i)) nothing (λ n end. found.At n)
   value-told h =
       told-on (told 0) (readFront s 0) e (λ f r t.
       let l : i < length (f .values) = rw (sym t) at h in
-      rw (r, lt-ltb i (length (f .values)) l, sym t, floats-at s (length (f .values)) (valuesAt 0 f) i (front-got s 0 r .values) l))
+      rw (r, lt-ltb i (length (f .values)) l, sym t, front-value s 0 i r l))
 
   pub value-past : c .parameters ≤ i → valueIn i s ≡ nothing
   value-past h =

@@ -11,8 +11,7 @@ use borrow.Author.Needs.{needs}
 use Rattle.synthdef.specs.declared.lookup.Found.the-variants.{At, Nothing}
 use Rattle.synthdef.specs.Reader.{readFront}
 use Rattle.synthdef.specs.Front.{told}
-use Rattle.synthdef.specs.Lookup.{onRead}
-use Rattle.synthdef.specs.LookupLaws.{on-told}
+use Rattle.synthdef.specs.LookupLaws.{told-got, told-bad}
 use Rattle.synthdef.proofs.lookup.parameters_in.Statement.{statement}
 use Rattle.synthdef.proofs.lookup.parameters_in.Tie as tie
 use Rattle.synthdef.proofs.lookup.parameters_in.Reads as reads
@@ -30,15 +29,15 @@ enum-known-refusal c = search needs
 
 returns : tie.Need-returns
 returns c =
-    let a = c .before .before .before .before .before .args in
+    let s = c .before .before .before .before .before .args .s .now in
     let e = rw (c .before .counts .given .1) at (c .before .before .before .read-front .ensures) in
-    ap (λ r. onRead r Nothing (λ k p. At (k .parameters))) e ∙ on-told (told 0) (readFront (a .s .now) 0) Nothing (λ k p. At (k .parameters))
+    told-got (told 0) (readFront s 0) Nothing (λ k p. At (k .parameters)) e
 
 returns-2 : tie.Need-returns-2
 returns-2 c =
-    let a = c .before .before .before .before .before .args in
+    let s = c .before .before .before .before .before .args .s .now in
     let e = rw (c .before .refusal .given .1) at (c .before .before .before .read-front .ensures) in
-    ap (λ r. onRead r Nothing (λ k p. At (k .parameters))) e ∙ on-told (told 0) (readFront (a .s .now) 0) Nothing (λ k p. At (k .parameters))
+    told-bad (told 0) (readFront s 0) Nothing _ e
 
 pub parameters-in-spec : {M : Type 1} → statement M
 parameters-in-spec =
