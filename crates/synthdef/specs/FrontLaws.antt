@@ -1,19 +1,15 @@
 -- Laws of a definition's front: what is told of it, and where its parts stand.
-use Prim.{Unit, tt}
-use Prim.Native.Nat.{ℕ, zero, suc, _+_, _*_, _-_, _≤_, _<_}
-use mathlib.Core.Bool.{Bool, true, false}
-use mathlib.Core.Path.{_≡_, refl, sym, ap, _∙_}
-use mathlib.Core.List.{List, [], _∷_}
+use Prim.Native.Nat.{ℕ, _+_, _*_, _<_}
+use mathlib.Core.Path.{_≡_, refl, sym, ap}
+use mathlib.Core.List.{List}
 use native.Mathlib.Omega.{arith}
-use native.Mathlib.Nat.{add-zero}
 use lib.ListN.{length, getD}
-use Rattle.synthdef.specs.declared.front.Counts.{Counts}
 use Rattle.synthdef.specs.declared.front.Floats.{Floats}
 use Rattle.synthdef.specs.Read.{Read, got, bad, andThen, repeat, ending}
-use Rattle.synthdef.specs.Fields.{float32, definitionName, integer, count, countTo, highest32}
+use Rattle.synthdef.specs.Fields.{float32, definitionName, count, countTo, highest32}
 use Rattle.synthdef.specs.Definition.{ParameterName, Front}
 use Rattle.synthdef.specs.Reader.{mostParameters, parameterName, readFront}
-use Rattle.synthdef.specs.Front.{mapRead, countedFloats, readCounts, readNames, nameEnd, valuesAt, namesAt, told}
+use Rattle.synthdef.specs.Front.{mapRead, readCounts, readNames, nameEnd, valuesAt, namesAt, told}
 use Rattle.synthdef.specs.FieldLaws.{name-length, count-end}
 use Rattle.synthdef.specs.RepeatLaws.{got-value, got-place, went-on, repeat-length, floats-end, floats-at}
 

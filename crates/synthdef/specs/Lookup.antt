@@ -1,5 +1,5 @@
 -- Lookups in one encoded definition, which starts at the first byte. They read its front, and answer none where that can't be read.
-use Prim.Native.Nat.{ℕ, _+_, _*_, _-_}
+use Prim.Native.Nat.{ℕ, _-_}
 use mathlib.Core.Bool.{Bool}
 use mathlib.Core.List.{List, [], _∷_}
 use mathlib.Core.Option.{Option, none, some}
@@ -15,7 +15,7 @@ use Rattle.synthdef.specs.declared.lookup.ValuesFound.{ValuesFound}
 use Rattle.synthdef.specs.declared.lookup.ValuesFound.the-variants as values
 use Rattle.synthdef.specs.Read.{Read, got, bad}
 use Rattle.synthdef.specs.Fields.{count}
-use Rattle.synthdef.specs.Definition.{ParameterName, Front}
+use Rattle.synthdef.specs.Definition.{ParameterName}
 use Rattle.synthdef.specs.Reader.{readFront, sameName}
 use Rattle.synthdef.specs.Front.{valuesAt}
 

@@ -1,12 +1,11 @@
 -- Laws of lookups: what the walk along the parameter names finds, and what each lookup answers of a definition that was read.
-use Prim.{Unit, tt}
-use Prim.Native.Nat.{ℕ, zero, suc, _+_, _*_, _-_, _≤_, _<_}
+use Prim.Native.Nat.{ℕ, suc, _+_, _*_, _-_, _≤_, _<_}
 use mathlib.Core.Bool.{Bool, true, false}
 use mathlib.Core.Path.{_≡_, refl, sym, ap, _∙_}
-use mathlib.Core.List.{List, [], _∷_}
+use mathlib.Core.List.{List, _∷_}
 use native.Mathlib.Omega.{arith}
 use borrow.Author.Tests.{lt-ltb, le-ltb}
-use lib.ListN.{length, getD}
+use lib.ListN.{length}
 use Rattle.words.specs.Choice.{pick}
 use Rattle.words.specs.Parts.{region}
 use Rattle.words.specs.declared.Refusal.{Refusal}
@@ -14,7 +13,7 @@ use Rattle.synthdef.specs.declared.lookup.Found.the-variants as found
 use Rattle.synthdef.specs.declared.front.Counts.{Counts}
 use Rattle.synthdef.specs.declared.front.Floats.{Floats}
 use Rattle.synthdef.specs.Read.{Read, got, bad, andThen, repeat, ending}
-use Rattle.synthdef.specs.Fields.{float32, definitionName, count, countTo, highest32}
+use Rattle.synthdef.specs.Fields.{float32, definitionName, count, countTo}
 use Rattle.synthdef.specs.Definition.{ParameterName, Front}
 use Rattle.synthdef.specs.Reader.{mostParameters, parameterName, readFront}
 use Rattle.synthdef.specs.Front.{mapRead, readCounts, told, valuesAt}

@@ -1,14 +1,13 @@
 -- What each lookup answers where the bytes are a definition: the same as its record says.
-use Prim.Native.Nat.{ℕ, zero, suc, _+_}
-use mathlib.Core.Option.{Option}
-use mathlib.Core.Path.{_≡_, refl, sym, ap, _∙_}
+use Prim.Native.Nat.{ℕ, zero, suc}
+use mathlib.Core.Path.{_≡_, sym}
 use mathlib.Core.List.{List, [], _∷_, _++_}
 use lib.ListN.{length, getD}
 use lib.Dec.{ltb}
 use Rattle.words.specs.Choice.{pick}
 use Rattle.synthdef.specs.declared.lookup.Found.the-variants as found
 use Rattle.synthdef.specs.declared.lookup.ValuesFound.the-variants as values
-use Rattle.synthdef.specs.Read.{Read, got, bad, andThen, repeat}
+use Rattle.synthdef.specs.Read.{got, repeat}
 use Rattle.synthdef.specs.Fields.{count, shortCountTo, highest16}
 use Rattle.synthdef.specs.Definition.{UnitSpec, Definition}
 use Rattle.synthdef.specs.Reader.{readFront, readUnit, readUnits, readDefinition, variant}

@@ -1,12 +1,10 @@
-use Prim.Native.Nat.{ℕ, zero, suc, _+_, _*_, _-_, _≤_, _<_}
-use mathlib.Core.Bool.{Bool, true, false, not}
-use mathlib.Core.Path.{_≡_, refl, sym, ap, _∙_}
-use mathlib.Core.List.{List, [], _∷_, _++_, append-assoc}
+use Prim.Native.Nat.{ℕ, _+_, _-_, _≤_}
+use mathlib.Core.Bool.{Bool}
+use mathlib.Core.Path.{_≡_, sym, _∙_}
+use mathlib.Core.List.{List}
 use native.Mathlib.Omega.{arith}
-use native.Mathlib.Numerals.{add-one}
 use borrow.Author.Needs.{needs}
-use borrow.Author.Tests.{lt-ltb, le-ltb, le-leb, lt-leb, eq-eqb, ne-eqb}
-use lib.ListN.{length, take, drop, getD, set, length-set, length-drop}
+use borrow.Author.Tests.{eq-eqb, ne-eqb}
 use native.Mathlib.Nat.{sub-zero}
 use lib.Dec.{eqb}
 use mathlib.Core.Option.{Option, none, some}
@@ -17,10 +15,6 @@ use Rattle.synthdef.specs.Reader.{parameterName}
 use Rattle.synthdef.specs.LookupLaws.{First, first-turn, first-none, on-true, on-false}
 use Rattle.synthdef.proofs.lookup.find_index.Statement.{statement}
 use Rattle.synthdef.proofs.lookup.find_index.Tie as tie
-use Rattle.synthdef.proofs.lookup.find_index.Reads as reads
-use Rattle.synthdef.proofs.lookup.find_index.Lts as lts
-use Rattle.synthdef.proofs.front.parameter_name.Reads as parameter-name-reads
-use Rattle.synthdef.proofs.lookup.names_follow.Reads as names-follow-reads
 
 abbrev test : ℕ → ParameterName → Bool
 test wanted p = eqb (p .index) wanted

@@ -1,12 +1,9 @@
-use Prim.Native.Nat.{ℕ, zero, suc, _+_, _*_, _-_, _≤_, _<_}
-use mathlib.Core.Bool.{Bool, true, false, not}
-use mathlib.Core.Path.{_≡_, refl, sym, ap, _∙_}
-use mathlib.Core.List.{List, [], _∷_, _++_, append-assoc}
+use Prim.Native.Nat.{ℕ, _+_, _-_, _≤_}
+use mathlib.Core.Bool.{Bool}
+use mathlib.Core.Path.{_≡_, sym, ap, _∙_}
+use mathlib.Core.List.{List}
 use native.Mathlib.Omega.{arith}
-use native.Mathlib.Numerals.{add-one}
 use borrow.Author.Needs.{needs}
-use borrow.Author.Tests.{lt-ltb, le-ltb, le-leb, lt-leb, eq-eqb, ne-eqb}
-use lib.ListN.{length, take, drop, getD, set, length-set, length-drop}
 use native.Mathlib.Nat.{sub-zero}
 use Rattle.synthdef.specs.declared.lookup.Found.{Found}
 use Rattle.synthdef.specs.declared.lookup.Found.the-variants.{At, Nothing}
@@ -16,12 +13,6 @@ use Rattle.synthdef.specs.Reader.{parameterName, sameName}
 use Rattle.synthdef.specs.LookupLaws.{First, first-turn, first-none, on-true, on-false}
 use Rattle.synthdef.proofs.lookup.find_name.Statement.{statement}
 use Rattle.synthdef.proofs.lookup.find_name.Tie as tie
-use Rattle.synthdef.proofs.lookup.find_name.Reads as reads
-use Rattle.synthdef.proofs.lookup.find_name.Lts as lts
-use Rattle.synthdef.proofs.front.parameter_name.Reads as parameter-name-reads
-use Rattle.synthdef.proofs.lookup.names_follow.Reads as names-follow-reads
-use Rattle.synthdef.proofs.lookup.part.Reads as part-reads
-use Rattle.synthdef.proofs.lookup.same_name.Reads as same-name-reads
 
 abbrev test : List ℕ → ParameterName → Bool
 test name p = sameName (p .name) name

@@ -1,12 +1,6 @@
-use Prim.Native.Nat.{ℕ, zero, suc, _+_, _*_, _-_, _≤_, _<_}
-use mathlib.Core.Bool.{Bool, true, false, not}
-use mathlib.Core.Path.{_≡_, refl, sym, ap, _∙_}
-use mathlib.Core.List.{List, [], _∷_, _++_, append-assoc}
+use Prim.Native.Nat.{_+_, _*_}
+use mathlib.Core.Path.{sym, _∙_}
 use native.Mathlib.Omega.{arith}
-use native.Mathlib.Numerals.{add-one}
-use borrow.Author.Needs.{needs}
-use borrow.Author.Tests.{lt-ltb, le-ltb, le-leb, lt-leb, eq-eqb, ne-eqb}
-use lib.ListN.{length, take, drop, getD, set, length-set, length-drop}
 use borrow.Author.Needs.{needs}
 use Rattle.synthdef.specs.declared.lookup.Found.the-variants.{At, Nothing}
 use Rattle.synthdef.specs.Reader.{readFront}
@@ -15,11 +9,6 @@ use Rattle.synthdef.specs.Fields.{float32}
 use Rattle.synthdef.specs.LookupLaws.{value-place, value-told, value-past, on-got, on-bad, told-bad}
 use Rattle.synthdef.proofs.lookup.initial_value.Statement.{statement}
 use Rattle.synthdef.proofs.lookup.initial_value.Tie as tie
-use Rattle.synthdef.proofs.lookup.initial_value.Reads as reads
-use Rattle.synthdef.proofs.lookup.initial_value.Lts as lts
-use Rattle.synthdef.proofs.cursor.Cursor.float32.Reads as float32-reads
-use Rattle.synthdef.proofs.front.read_front.Reads as read-front-reads
-use Rattle.words.proofs.wide.Reads as wide-reads
 
 read-front-requires : tie.Need-read-front-requires
 read-front-requires c κs = search needs

@@ -1,22 +1,9 @@
-use Prim.Native.Nat.{ℕ, zero, suc, _+_, _*_, _-_, _≤_, _<_}
-use mathlib.Core.Bool.{Bool, true, false, not}
-use mathlib.Core.Path.{_≡_, refl, sym, ap, _∙_}
-use mathlib.Core.List.{List, [], _∷_, _++_, append-assoc}
-use native.Mathlib.Omega.{arith}
-use native.Mathlib.Numerals.{add-one}
-use borrow.Author.Needs.{needs}
-use borrow.Author.Tests.{lt-ltb, le-ltb, le-leb, lt-leb, eq-eqb, ne-eqb}
-use lib.ListN.{length, take, drop, getD, set, length-set, length-drop}
 use borrow.Author.Needs.{needs}
 use mathlib.Core.Option.{none}
 use Rattle.synthdef.specs.Lookup.{firstName}
 use Rattle.synthdef.specs.LookupLaws.{names-got, names-bad}
 use Rattle.synthdef.proofs.lookup.name_of_index.Statement.{statement}
 use Rattle.synthdef.proofs.lookup.name_of_index.Tie as tie
-use Rattle.synthdef.proofs.lookup.name_of_index.Reads as reads
-use Rattle.synthdef.proofs.lookup.name_of_index.Lts as lts
-use Rattle.synthdef.proofs.front.read_counts.Reads as read-counts-reads
-use Rattle.synthdef.proofs.lookup.find_index.Reads as find-index-reads
 
 read-counts-requires : tie.Need-read-counts-requires
 read-counts-requires c κs = search needs

@@ -1,12 +1,5 @@
-use Prim.Native.Nat.{ℕ, zero, suc, _+_, _*_, _-_, _≤_, _<_}
-use mathlib.Core.Bool.{Bool, true, false, not}
-use mathlib.Core.Path.{_≡_, refl, sym, ap, _∙_}
-use mathlib.Core.List.{List, [], _∷_, _++_, append-assoc}
-use native.Mathlib.Omega.{arith}
-use native.Mathlib.Numerals.{add-one}
-use borrow.Author.Needs.{needs}
-use borrow.Author.Tests.{lt-ltb, le-ltb, le-leb, lt-leb, eq-eqb, ne-eqb}
-use lib.ListN.{length, take, drop, getD, set, length-set, length-drop}
+use mathlib.Core.Bool.{true, false}
+use mathlib.Core.Path.{ap, _∙_}
 use borrow.Author.Needs.{needs}
 use Rattle.synthdef.specs.Read.{repeat}
 use Rattle.synthdef.specs.Reader.{parameterName}
@@ -14,9 +7,6 @@ use Rattle.synthdef.specs.Lookup.{onRead}
 use Rattle.synthdef.specs.LookupLaws.{on-ending}
 use Rattle.synthdef.proofs.lookup.names_follow.Statement.{statement}
 use Rattle.synthdef.proofs.lookup.names_follow.Tie as tie
-use Rattle.synthdef.proofs.lookup.names_follow.Reads as reads
-use Rattle.synthdef.proofs.lookup.names_follow.Lts as lts
-use Rattle.synthdef.proofs.front.skip_parameter_names.Reads as skip-parameter-names-reads
 
 skip-parameter-names-requires : tie.Need-skip-parameter-names-requires
 skip-parameter-names-requires c κs = search needs

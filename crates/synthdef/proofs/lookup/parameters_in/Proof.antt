@@ -1,12 +1,3 @@
-use Prim.Native.Nat.{ℕ, zero, suc, _+_, _*_, _-_, _≤_, _<_}
-use mathlib.Core.Bool.{Bool, true, false, not}
-use mathlib.Core.Path.{_≡_, refl, sym, ap, _∙_}
-use mathlib.Core.List.{List, [], _∷_, _++_, append-assoc}
-use native.Mathlib.Omega.{arith}
-use native.Mathlib.Numerals.{add-one}
-use borrow.Author.Needs.{needs}
-use borrow.Author.Tests.{lt-ltb, le-ltb, le-leb, lt-leb, eq-eqb, ne-eqb}
-use lib.ListN.{length, take, drop, getD, set, length-set, length-drop}
 use borrow.Author.Needs.{needs}
 use Rattle.synthdef.specs.declared.lookup.Found.the-variants.{At, Nothing}
 use Rattle.synthdef.specs.Reader.{readFront}
@@ -14,9 +5,6 @@ use Rattle.synthdef.specs.Front.{told}
 use Rattle.synthdef.specs.LookupLaws.{told-got, told-bad}
 use Rattle.synthdef.proofs.lookup.parameters_in.Statement.{statement}
 use Rattle.synthdef.proofs.lookup.parameters_in.Tie as tie
-use Rattle.synthdef.proofs.lookup.parameters_in.Reads as reads
-use Rattle.synthdef.proofs.lookup.parameters_in.Lts as lts
-use Rattle.synthdef.proofs.front.read_front.Reads as read-front-reads
 
 read-front-requires : tie.Need-read-front-requires
 read-front-requires c κs = search needs

@@ -1,12 +1,5 @@
-use Prim.Native.Nat.{ℕ, zero, suc, _+_, _*_, _-_, _≤_, _<_}
-use mathlib.Core.Bool.{Bool, true, false, not}
-use mathlib.Core.Path.{_≡_, refl, sym, ap, _∙_}
-use mathlib.Core.List.{List, [], _∷_, _++_, append-assoc}
-use native.Mathlib.Omega.{arith}
-use native.Mathlib.Numerals.{add-one}
-use borrow.Author.Needs.{needs}
-use borrow.Author.Tests.{lt-ltb, le-ltb, le-leb, lt-leb, eq-eqb, ne-eqb}
-use lib.ListN.{length, take, drop, getD, set, length-set, length-drop}
+use Prim.Native.Nat.{ℕ}
+use mathlib.Core.Path.{_∙_}
 use borrow.Author.Needs.{needs}
 use Rattle.synthdef.specs.declared.lookup.Found.{Found}
 use Rattle.synthdef.specs.declared.lookup.Found.the-variants.{At, Nothing}
@@ -17,10 +10,6 @@ use Rattle.synthdef.specs.Lookup.{onRead}
 use Rattle.synthdef.specs.LookupLaws.{on-got, on-bad, told-got, told-bad}
 use Rattle.synthdef.proofs.lookup.units_in.Statement.{statement}
 use Rattle.synthdef.proofs.lookup.units_in.Tie as tie
-use Rattle.synthdef.proofs.lookup.units_in.Reads as reads
-use Rattle.synthdef.proofs.lookup.units_in.Lts as lts
-use Rattle.synthdef.proofs.cursor.Cursor.count_to.Reads as count-to-reads
-use Rattle.synthdef.proofs.front.read_front.Reads as read-front-reads
 
 abbrev units : ℕ → ℕ → Found
 units u end = At u
