@@ -23,11 +23,6 @@ use Rattle.synthdef.specs.RepeatLaws.{got-value, got-place}
 use Rattle.synthdef.specs.FrontLaws.{front-got, front-value}
 
 module _ {A B : Type 0} where
-  -- two questions that have the same answer of what was read
-  pub on-same : (r : Read A) (none : B) {f g : A → ℕ → B} → ((x : A) (p : ℕ) → r ≡ got x p → f x p ≡ g x p) → onRead r none f ≡ onRead r none g
-  on-same (got x p) none h = h x p refl
-  on-same (bad q place) none h = refl
-
   -- the answer by what was read, and where nothing was
   pub on-got : (r : Read A) (none : B) (ask : A → ℕ → B) {x : A} {p : ℕ} → got x p ≡ r → ask x p ≡ onRead r none ask
   on-got r none ask e = rw (sym e)
