@@ -14,4 +14,6 @@ pub mod FrontLaws
 pub mod Endings
 pub mod Units
 pub mod Skips
+pub mod Forward
+pub mod File
 pub mod Worked
