@@ -16,4 +16,5 @@ pub mod Units
 pub mod Skips
 pub mod Forward
 pub mod File
+pub mod FileLaws
 pub mod Worked

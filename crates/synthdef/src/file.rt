@@ -64,3 +64,23 @@ fn read_header(s: &[u8]) -> Number
         Number::Bad(refusal, place) => Number::Bad(refusal, place),
     }
 }
+
+// So many definitions, one after the other, whatever their sizes and names.
+fn skip_definitions(s: &[u8], cursor: Cursor, count: u32) -> Step
+    ensures { λ r. ⌜ stepOf r ≡ ending (repeat (readDefinition (now (s .entry))) count (cursor .at)) ⌝ }
+{
+    let mut at = cursor.at;
+    let mut i = 0;
+    while i < count {
+        match read_definition(s, Cursor { at: at }) {
+            Step::Next(next) => {
+                at = next.at;
+            }
+            Step::Bad(refusal, place) => {
+                return Step::Bad(refusal, place);
+            }
+        }
+        i += 1;
+    }
+    Step::Next(Cursor { at: at })
+}
