@@ -3,6 +3,7 @@ use crate::cursor::Cursor;
 use crate::cursor::Number;
 use crate::cursor::Step;
 use crate::definition::read_definition;
+use crate::lookup::same_name;
 use words::Refusal;
 use words::refusal_number;
 ghost use mathlib.Core.Path.{_≡_};
@@ -13,7 +14,7 @@ ghost use Rattle.synthdef.specs.Answers.{numberOf, stepOf};
 ghost use Rattle.synthdef.specs.Fields.{stringAt};
 ghost use Rattle.synthdef.specs.Read.{ending, repeat};
 ghost use Rattle.synthdef.specs.Reader.{among, readDefinition, readHeader, readDefinitions, readFile};
-ghost use Rattle.synthdef.specs.File.{verdict, namesFrom, skipFitting, definitionSpan, refusalNumber, refusalPlace, definitionCount, nameStart, nameEnd};
+ghost use Rattle.synthdef.specs.File.{Begun, verdict, namesFrom, skipFitting, definitionSpan, refusalNumber, refusalPlace, definitionCount, nameStart, nameEnd};
 
 // A file is accepted, and has so many definitions; or it is refused, at a place.
 pub enum Checked {
@@ -63,6 +64,37 @@ fn read_header(s: &[u8]) -> Number
         }
         Number::Bad(refusal, place) => Number::Bad(refusal, place),
     }
+}
+
+// The name of the definition at a place, as a part of the lent file.
+pub fn name_at(s: &[u8], at: usize) -> &[u8]
+    ensures { λ r. ⌜ now r ≡ stringAt (now (s .entry)) at ⌝ }
+{
+    if s.len() <= at {
+        return &s[..0];
+    }
+    let size = s[at] as usize;
+    let body = at + 1;
+    let rest = &s[body..];
+    if rest.len() <= size {
+        return rest;
+    }
+    &rest[..size]
+}
+
+// The name of the definition at a place is that of one of those that start at the first so many of `starts`.
+fn name_among(s: &[u8], at: usize, starts: &[usize; MOST_DEFINITIONS], count: usize) -> bool
+    requires { ⌜ Begun (now starts) count ⌝ }
+    ensures { λ r. ⌜ r ≡ among (stringAt (now (s .entry)) at) (namesFrom (now (s .entry)) (take count (now (starts .entry)))) ⌝ }
+{
+    let mut i = 0;
+    while i < count {
+        if same_name(name_at(s, starts[i]), name_at(s, at)) {
+            return true;
+        }
+        i += 1;
+    }
+    false
 }
 
 // So many definitions, one after the other, whatever their sizes and names.
