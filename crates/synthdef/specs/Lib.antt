@@ -11,6 +11,10 @@ pub mod Bounds
 pub mod Answers
 pub mod Front
 pub mod FrontLaws
+pub mod SameLaws
+pub mod Lookup
+pub mod LookupLaws
+pub mod LookupOf
 pub mod Endings
 pub mod Units
 pub mod Skips
