@@ -180,3 +180,7 @@ module _ (s : List ℕ) where
     file-accepted d l =
         let t = ending-got (readDefinitions s n [] first) d in
         rw (e, t .read, le-ltb _ _ l) (ap Accepted (definitions-length s n [] first (t .read)))
+
+-- a definition ends behind its start
+pub end-forward : (s : List ℕ) (at : ℕ) {u : Unit {0}} {end : ℕ} → ending (readDefinition s at) ≡ got u end → at < end
+end-forward s at e = omega (arith, definition-whole s at (ending-got (readDefinition s at) e .read) .forward)

@@ -6,6 +6,7 @@ use crate::definition::read_definition;
 use crate::lookup::same_name;
 use words::Refusal;
 use words::refusal_number;
+use words::wide;
 ghost use mathlib.Core.Path.{_≡_};
 ghost use Prim.Native.Nat.{_≤_};
 ghost use mathlib.Core.List.{[]};
@@ -13,7 +14,7 @@ ghost use lib.ListN.{take, length};
 ghost use Rattle.synthdef.specs.Answers.{numberOf, stepOf};
 ghost use Rattle.synthdef.specs.Fields.{stringAt};
 ghost use Rattle.synthdef.specs.Read.{ending, repeat};
-ghost use Rattle.synthdef.specs.Reader.{among, readDefinition, readHeader, readDefinitions, readFile};
+ghost use Rattle.synthdef.specs.Reader.{mostDefinitions, among, readDefinition, readHeader, readDefinitions, readFile};
 ghost use Rattle.synthdef.specs.File.{Begun, verdict, namesFrom, skipFitting, definitionSpan, refusalNumber, refusalPlace, definitionCount, nameStart, nameEnd};
 
 // A file is accepted, and has so many definitions; or it is refused, at a place.
@@ -95,6 +96,70 @@ fn name_among(s: &[u8], at: usize, starts: &[usize; MOST_DEFINITIONS], count: us
         i += 1;
     }
     false
+}
+
+// The next definition, no longer than the limit, and named as none of those that start at the first so many of `starts`.
+fn read_fitting(s: &[u8], cursor: Cursor, starts: &[usize; MOST_DEFINITIONS], count: usize) -> Step
+    requires { ⌜ Begun (now starts) count ⌝ }
+    ensures { λ r. ⌜ stepOf r ≡ skipFitting (now (s .entry)) (namesFrom (now (s .entry)) (take count (now (starts .entry)))) (cursor .at) ⌝ }
+{
+    let at = cursor.at;
+    match read_definition(s, cursor) {
+        Step::Next(next) => {
+            let end = next.at;
+            if SIZE_LIMIT < end - at {
+                return Step::Bad(Refusal::TooLong, at);
+            }
+            if name_among(s, at, starts, count) {
+                return Step::Bad(Refusal::NameTwice, at);
+            }
+            Step::Next(next)
+        }
+        Step::Bad(refusal, place) => Step::Bad(refusal, place),
+    }
+}
+
+// A file's definitions.
+fn read_definitions(s: &[u8], cursor: Cursor, count: u32) -> Step
+    requires { ⌜ count ≤ mostDefinitions ⌝ }
+    ensures { λ r. ⌜ stepOf r ≡ ending (readDefinitions (now (s .entry)) count [] (cursor .at)) ⌝ }
+{
+    let many = wide(count);
+    let mut starts = [0; MOST_DEFINITIONS];
+    let mut at = cursor.at;
+    let mut i = 0;
+    while i < many {
+        match read_fitting(s, Cursor { at: at }, &starts, i) {
+            Step::Next(next) => {
+                starts[i] = at;
+                at = next.at;
+            }
+            Step::Bad(refusal, place) => {
+                return Step::Bad(refusal, place);
+            }
+        }
+        i += 1;
+    }
+    Step::Next(Cursor { at: at })
+}
+
+// Whether a file is accepted.
+pub fn check_file(s: &[u8]) -> Checked
+    ensures { λ r. ⌜ r ≡ verdict (readFile (now (s .entry))) ⌝ }
+{
+    match read_header(s) {
+        Number::Value(count, first) => match read_definitions(s, first, count) {
+            Step::Next(next) => {
+                let end = next.at;
+                if end < s.len() {
+                    return Checked::Refused(Refusal::BytesLeft, end);
+                }
+                Checked::Accepted(count)
+            }
+            Step::Bad(refusal, place) => Checked::Refused(refusal, place),
+        },
+        Number::Bad(refusal, place) => Checked::Refused(refusal, place),
+    }
 }
 
 // So many definitions, one after the other, whatever their sizes and names.
