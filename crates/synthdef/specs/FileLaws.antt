@@ -130,7 +130,7 @@ among-done n s starts count i l b =
     rw (drop-of-length-le (take count starts) most)
 
 -- as many definitions are read as are counted
-definitions-length : (s : List ℕ) (n : ℕ) (names : List (List ℕ)) (at : ℕ) {ds : List Definition} {end : ℕ} → readDefinitions s n names at ≡ got ds end → length ds ≡ n
+pub definitions-length : (s : List ℕ) (n : ℕ) (names : List (List ℕ)) (at : ℕ) {ds : List Definition} {end : ℕ} → readDefinitions s n names at ≡ got ds end → length ds ≡ n
 unfolding readDefinitions
 definitions-length s zero names at {ds} h =
     let e : ds ≡ [] = cc in

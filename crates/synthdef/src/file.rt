@@ -181,3 +181,27 @@ fn skip_definitions(s: &[u8], cursor: Cursor, count: u32) -> Step
     }
     Step::Next(Cursor { at: at })
 }
+
+// Where the definition of a number starts and ends in a file that is accepted and has as many.
+pub fn definition_at(s: &[u8], index: u32) -> Span
+    ensures { λ r. ⌜ r ≡ definitionSpan (now (s .entry)) index ⌝ }
+{
+    match check_file(s) {
+        Checked::Accepted(count) => {
+            if count <= index {
+                return Span::Nowhere;
+            }
+            match skip_definitions(s, Cursor { at: FIRST_PLACE }, index) {
+                Step::Next(here) => {
+                    let start = here.at;
+                    match read_definition(s, here) {
+                        Step::Next(next) => Span::Between(start, next.at),
+                        Step::Bad(refusal, place) => Span::Nowhere,
+                    }
+                }
+                Step::Bad(refusal, place) => Span::Nowhere,
+            }
+        }
+        Checked::Refused(refusal, place) => Span::Nowhere,
+    }
+}
