@@ -38,7 +38,7 @@ fn number16(a: u8, b: u8) -> u32
 }
 
 // Four bytes as a number, the first one the highest.
-fn number32(a: u8, b: u8, c: u8, d: u8) -> u32
+pub(crate) fn number32(a: u8, b: u8, c: u8, d: u8) -> u32
     ensures { λ r. ⌜ r ≡ 16777216 * a + 65536 * b + 256 * c + d ⌝ }
 {
     let n3 = a as u32;
