@@ -1,68 +1,23 @@
--- The running order as it is kept: 255 words, and one record's part in it.
-use Prim.Native.Nat.{ℕ, zero, suc, _+_, _*_, _-_, _≤_, _<_}
-use mathlib.Core.Bool.{Bool, true, false}
+-- The running order as it is kept, and one record's part in it.
+use Prim.Native.Nat.{ℕ, suc, _+_, _*_, _≤_, _<_}
 use mathlib.Core.Path.{_≡_, refl, sym, ap, ap₂, _∙_}
 use mathlib.Core.List.{List, [], _∷_, _++_, append-assoc, append-nil}
 use native.Mathlib.Omega.{arith}
-use native.Mathlib.Nat.{add-zero}
-use lib.ListN.{length, take, drop, getD, set, replicate, length-append, length-replicate, replicate-append-replicate}
-use lib.Seq.{take-all, take-append-le, take-append-add, take-at, set-at}
+use lib.ListN.{length, drop, getD, set, length-append}
 use lib.Dec.{leb, eqb}
 use borrow.Author.Tests.{le-leb, lt-leb, eq-eqb, ne-eqb}
-use Rattle.words.specs.Choice.{pick}
 use Rattle.nodes.specs.declared.Node.{Node}
-use Rattle.nodes.specs.Table.{width, nodeFrom, rows, rows-length, rows-end, row-from}
-use Rattle.nodes.specs.Place.{isGroup}
-use Rattle.nodes.specs.Order.{isOn, orderFrom, order}
+use Rattle.nodes.specs.Table.{width, nodeFrom, rows, row-from}
+use Rattle.nodes.specs.Order.{orderFrom, order}
+use Rattle.order.specs.Pad.{padTo, zeros, pad-none, pad-full, pad-more}
 
 -- "it is kept in the state after each command and never exceeds 255 numbers"
 abbrev pub mostOrder : ℕ
 mostOrder = 255
 
--- numbers in n words: zeros past them, and no more than n are kept
-unfoldable pub padTo : ℕ → List ℕ → List ℕ
-padTo n l = take n (l ++ replicate n 0)
-
 -- the words of the running order
 abbrev pub orderWords : List Node → List ℕ
 orderWords t = padTo mostOrder (order t)
-
-abbrev zeros : ℕ → List ℕ
-zeros n = replicate n 0
-
-module _ (n : ℕ) where
-  pub pad-none : zeros n ≡ padTo n []
-  unfolding padTo
-  pad-none = sym (take-all n (zeros n) (rw length-replicate (omega arith)))
-
-  -- at most n numbers, and the zeros that follow them
-  pub pad-few : (l : List ℕ) → length l ≤ n → padTo n l ≡ l ++ zeros (n - length l)
-  unfolding padTo
-  pad-few l h =
-      let m = n - length l in
-      let whole : n ≡ length l + m = omega arith in
-      let back : m + length l ≡ n = omega arith in
-      ap₂ (λ (k : ℕ) (z : List ℕ). take k (l ++ z)) whole (ap zeros (sym back) ∙ sym (replicate-append-replicate m (length l) 0))
-      ∙ take-append-add l (zeros m ++ zeros (length l)) m
-      ∙ ap (λ (z : List ℕ). l ++ z) (take-at (zeros m) (zeros (length l)) m (length-replicate m 0))
-
-  -- past n numbers nothing is kept
-  pub pad-full : (l : List ℕ) (x : ℕ) → n ≤ length l → padTo n (l ++ x ∷ []) ≡ padTo n l
-  unfolding padTo
-  pad-full l x h =
-      ap (λ (k : List ℕ). take n k) (append-assoc l (x ∷ []) (zeros n))
-      ∙ take-append-le n l (x ∷ zeros n) h
-      ∙ sym (take-append-le n l (zeros n) h)
-
-  -- one number more
-  pub pad-more : (l : List ℕ) (x : ℕ) → length l < n → set (padTo n l) (length l) x ≡ padTo n (l ++ x ∷ [])
-  pad-more l x h =
-      let m = n - (length l + 1) in
-      let size : length (l ++ x ∷ []) ≡ length l + 1 = length-append l (x ∷ []) in
-      let one : n - length l ≡ suc m = omega arith in
-      ap (λ (k : List ℕ). set k (length l) x) (pad-few l (omega arith) ∙ ap (λ (k : ℕ). l ++ zeros k) one)
-      ∙ set-at l 0 (zeros m) x (length l) refl
-      ∙ sym (pad-few (l ++ x ∷ []) (omega arith) ∙ ap (λ (k : ℕ). (l ++ x ∷ []) ++ zeros (n - k)) size ∙ append-assoc l (x ∷ []) (zeros m))
 
 -- the order so far: of the numbers found, and those that the rest gives, the order is made
 pub record So (t : List Node) (rest : List Node) (limit n : ℕ) (numbers : List ℕ) : Type 0 where

@@ -3,10 +3,8 @@ ghost use mathlib.Core.Path.{_≡_};
 ghost use Prim.Native.Nat.{ℕ, _+_, _-_, _*_, _≤_, _<_};
 ghost use lib.ListN.{length, take, drop, getD};
 ghost use Rattle.nodes.specs.Table.{rows};
-ghost use Rattle.nodes.specs.Order.{order};
 ghost use Rattle.order.specs.Sizes.{Sized};
-ghost use Rattle.order.specs.Order.{orderWords};
-ghost use Rattle.order.specs.Marks.{rowsHold};
+ghost use Rattle.order.specs.Same.{sameOrder};
 ghost use Rattle.order.specs.Kept.{Kept};
 
 // The running order: its numbers, with zeros past them, and how many they are; and whether each synth has a row
@@ -63,4 +61,40 @@ pub fn running_order(nodes: &[u32], count: usize) -> Order
         length: length,
         distinct: distinct,
     }
+}
+
+// The order region written whole.
+pub fn write_order(order: &mut [u32], from: Order)
+    requires { ⌜ length (now order) ≡ 255 ⌝ }
+    ensures { λ r. ⌜ now (order .exit) ≡ from .numbers ⌝ }
+{
+    let numbers = from.numbers;
+    let mut i = 0;
+    while i < 255 {
+        order[i] = numbers[i];
+        i += 1;
+    }
+}
+
+// The order kept, of this length, is the one worked out afresh.
+pub fn same_order(kept: &[u32], many: usize, nodes: &[u32], count: usize) -> bool
+    requires { ⌜ (length (now kept) ≡ 255) × Sized (now nodes) count ⌝ }
+    ensures { λ r. ⌜ r ≡ sameOrder (now (kept .entry)) many (rows count (now (nodes .entry))) ⌝ }
+{
+    let fresh = running_order(nodes, count);
+    if many != fresh.length {
+        return false;
+    }
+    if 255 < many {
+        return false;
+    }
+    let numbers = fresh.numbers;
+    let mut i = 0;
+    while i < many {
+        if kept[i] != numbers[i] {
+            return false;
+        }
+        i += 1;
+    }
+    true
 }
