@@ -244,3 +244,39 @@ fn root_holds(nodes: &[u32], count: usize) -> bool
     }
     steps_hold(nodes, count)
 }
+
+// The state check's part on nodes: the table of `count` records, the next number to give and the latest synth.
+pub fn nodes_formed(nodes: &[u32], count: usize, next: u32, latest: u32) -> bool
+    requires { ⌜ length (now nodes) ≡ 1280 ⌝ }
+    ensures { λ r. ⌜ r ≡ formed next latest (rows count (now (nodes .entry))) ⌝ }
+{
+    if count < 1 {
+        return false;
+    }
+    if 256 < count {
+        return false;
+    }
+    if !root_holds(nodes, count) {
+        return false;
+    }
+    if !numbers_apart(nodes, count) {
+        return false;
+    }
+    if !records_hold(nodes, count, next) {
+        return false;
+    }
+    let fresh = running_order(nodes, count);
+    if !fresh.distinct {
+        return false;
+    }
+    if next < 2147483647 {
+        return false;
+    }
+    if 4294967288 < next {
+        return false;
+    }
+    if latest == 0 {
+        return true;
+    }
+    synth_lives(nodes, count, latest)
+}
