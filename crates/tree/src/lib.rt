@@ -1,8 +1,11 @@
 // The node table in the lent node region: looking at it and changing it, with the count by value in and out.
+mod add;
 mod change;
 mod runs;
 mod search;
 
+pub use add::Place;
+pub use add::add_place;
 pub use change::cut;
 pub use change::cut_below;
 pub use change::insert;
