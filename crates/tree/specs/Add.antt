@@ -4,14 +4,16 @@ use mathlib.Core.Bool.{Bool, true, false}
 use mathlib.Core.Path.{_≡_, refl, sym, ap, ap₂, _∙_}
 use mathlib.Core.List.{List, [], _∷_, _++_}
 use native.Mathlib.Omega.{arith}
+use native.Mathlib.Nat.{zero-add}
 use lib.ListN.{length, take, drop, getD}
 use lib.Dec.{eqb}
 use Rattle.words.specs.Choice.{pick}
+use Rattle.words.specs.declared.Refusal.{Refusal}
 use Rattle.words.specs.declared.Refusal.the-variants.{BadFlag}
 use Rattle.nodes.specs.declared.Node.{Node}
 use Rattle.nodes.specs.Table.{width, rows}
 use Rattle.nodes.specs.Place.{place, deeper}
-use Rattle.nodes.specs.Edit.{lift, addHead, addTail, addBefore, addAfter, addOver}
+use Rattle.nodes.specs.Edit.{level, lift, addHead, addTail, addBefore, addAfter, addOver}
 use Rattle.nodes.specs.Split.{addHead-at, addTail-at, addBefore-at, addAfter-at}
 use Rattle.tree.specs.declared.add.Place.{Place}
 use Rattle.tree.specs.declared.add.Place.the-variants.{At, Refused}
@@ -88,17 +90,17 @@ module _ (c : ℕ) (us : List ℕ) (n at : ℕ) (here : at ≡ place n (rows c u
   unfolding addBy
   addBy-over xs = refl
 
-  pub addBy-refused : (action : ℕ) (xs : List Node) → addPlace action at d e ≡ Refused BadFlag → addBy action xs n (rows c us) ≡ rows c us
+  pub addBy-refused : (action : ℕ) (why : Refusal) (xs : List Node) → addPlace action at d e ≡ Refused why → addBy action xs n (rows c us) ≡ rows c us
   unfolding addPlace addBy
-  addBy-refused action xs h = go (eqb action 0) (eqb action 1) (eqb action 2) (eqb action 3) (eqb action 4) h
+  addBy-refused action why xs h = go (eqb action 0) (eqb action 1) (eqb action 2) (eqb action 3) (eqb action 4) h
     where
       t : List Node
       t = rows c us
 
-      none : {A : Type 0} {x y : A} (p k : ℕ) → At p k ≡ Refused BadFlag → x ≡ y
+      none : {A : Type 0} {x y : A} (p k : ℕ) → At p k ≡ Refused why → x ≡ y
       none p k q = let z : _≡_ {A = ℕ} 0 1 = cc in absurd (omega arith)
 
-      go : (b₀ b₁ b₂ b₃ b₄ : Bool) → pick b₀ (At (at + 1) (d + 1)) (pick b₁ (At e (d + 1)) (pick b₂ (At at d) (pick b₃ (At e d) (pick b₄ (At at d) (Refused BadFlag))))) ≡ Refused BadFlag
+      go : (b₀ b₁ b₂ b₃ b₄ : Bool) → pick b₀ (At (at + 1) (d + 1)) (pick b₁ (At e (d + 1)) (pick b₂ (At at d) (pick b₃ (At e d) (pick b₄ (At at d) (Refused BadFlag))))) ≡ Refused why
           → pick b₀ (addHead xs n t) (pick b₁ (addTail xs n t) (pick b₂ (addBefore xs n t) (pick b₃ (addAfter xs n t) (pick b₄ (addOver xs n t) t)))) ≡ t
       go true b₁ b₂ b₃ b₄ q = none (at + 1) (d + 1) q
       go false true b₂ b₃ b₄ q = none e (d + 1) q
@@ -106,3 +108,8 @@ module _ (c : ℕ) (us : List ℕ) (n at : ℕ) (here : at ≡ place n (rows c u
       go false false false true b₄ q = none e d q
       go false false false false true q = none at d q
       go false false false false false q = refl
+
+-- one record, given at depth 0
+pub lift-one : (d : ℕ) (r : Node) → lift d (level 0 r ∷ []) ≡ level d r ∷ []
+unfolding lift
+lift-one d r = rw zero-add

@@ -1,12 +1,13 @@
 -- The words of a table: its front, its back, and other records over a part of it.
-use Prim.Native.Nat.{ℕ, _+_, _*_, _≤_, _<_}
+use Prim.Native.Nat.{ℕ, _+_, _*_, _-_, _≤_, _<_}
 use mathlib.Core.Path.{_≡_, refl, sym, ap, ap₂, _∙_}
 use mathlib.Core.List.{List, [], _∷_, _++_, append-assoc}
 use native.Mathlib.Omega.{arith}
 use lib.ListN.{length, take, drop, take-append-drop, length-append, length-take, length-drop}
-use lib.Seq.{take-at, drop-at, length-take-le}
+use lib.Seq.{take-at, drop-at, drop-drop, drop-append-add, length-take-le}
 use Rattle.nodes.specs.declared.Node.{Node}
-use Rattle.nodes.specs.Table.{width, rows, wordsOf, encode, over, fill, rows-length, encode-rows, encode-length, encode-append}
+use Rattle.nodes.specs.Table.{width, rows, wordsOf, encode, over, fill, rows-length, rows-fill, encode-rows, encode-length, encode-append}
+use Rattle.tree.specs.Sizes.{Leaves}
 
 -- a table's words, and what is past them
 pub whole : (n : ℕ) (us : List ℕ) → width * n ≤ length us → us ≡ encode (rows n us) ++ drop (width * n) us
@@ -52,3 +53,29 @@ pub put-words : (us : List ℕ) (n at : ℕ) (r : Node) → at < n → width * n
     → over (width * at) (wordsOf r) us ≡ fill us (take at (rows n us) ++ r ∷ drop (at + 1) (rows n us))
 unfolding encode
 put-words us n at r h long = over-words us n at (r ∷ []) (omega arith) long
+
+-- a table filled in over another that is no longer
+pub fill-fill : (us : List ℕ) (s l : List Node) → length s ≤ length l → fill (fill us s) l ≡ fill us l
+fill-fill us s l h =
+    let more : width * length l ≡ length (encode s) + width * (length l - length s) = omega (arith, encode-length s) in
+    let ends : width * length s + width * (length l - length s) ≡ width * length l = omega arith in
+    ap (λ (w : List ℕ). encode l ++ w)
+    (ap (λ (k : ℕ). drop k (fill us s)) more
+    ∙ drop-append-add (encode s) (drop (width * length s) us) (width * (length l - length s))
+    ∙ drop-drop (width * (length l - length s)) (width * length s) us
+    ∙ ap (λ (k : ℕ). drop k us) ends)
+
+-- the table that a change left
+pub leaves-rows : (us : List ℕ) (s : List Node) (after : List ℕ) (k : ℕ) → Leaves us s after k → rows k after ≡ s
+leaves-rows us s after k h = ap₂ (λ (j : ℕ) (w : List ℕ). rows j w) (h .size) (h .words) ∙ rows-fill us s
+
+-- one change after another
+pub leaves-then : (us : List ℕ) (s l : List Node) (mid after : List ℕ) (k j : ℕ) → Leaves us s mid k → Leaves mid l after j → length s ≤ length l → Leaves us l after j
+leaves-then us s l mid after k j h g more = record {
+  words = g .words ∙ ap (λ (w : List ℕ). fill w l) (h .words) ∙ fill-fill us s l more;
+  size = g .size;
+}
+
+-- nothing changed
+pub leaves-same : (us : List ℕ) (n : ℕ) → width * n ≤ length us → Leaves us (rows n us) us n
+leaves-same us n h = record { words = whole n us h ∙ ap (λ (k : ℕ). encode (rows n us) ++ drop (width * k) us) (sym (rows-length n us)); size = sym (rows-length n us) }

@@ -35,3 +35,42 @@ pub fn add_place(nodes: &[u32], count: usize, action: u32, at: usize) -> Place
         5..=4294967295 => Place::Refused(Refusal::BadFlag),
     }
 }
+
+// A record at another depth.
+fn at_depth(node: Node, depth: u32) -> Node
+    ensures { λ r. ⌜ r ≡ level depth node ⌝ }
+{
+    Node {
+        number: node.number,
+        depth: depth,
+        run: node.run,
+        slot: node.slot,
+        row: node.row,
+    }
+}
+
+// Action 4: the target's run taken out, and the new record in its place.
+fn replace(nodes: &mut [u32], count: usize, at: usize, node: Node) -> usize
+    requires { ⌜ Placed (now nodes) count at ⌝ }
+    ensures { λ r. ⌜ ((n : ℕ) → at ≡ place n (rows count (now (nodes .entry))) → Leaves (now (nodes .entry)) (addOver (level 0 node ∷ []) n (rows count (now (nodes .entry)))) (now (nodes .exit)) r) ⌝ }
+{
+    let depth = nodes[5 * at + 1];
+    let end = subtree_end(nodes, count, at);
+    let left = remove(nodes, count, at, end);
+    insert(nodes, left, at, at_depth(node, depth))
+}
+
+// A node put in by an add action; at is the target's place. A number that is no add action changes nothing.
+pub fn add_node(nodes: &mut [u32], count: usize, action: u32, at: usize, node: Node) -> usize
+    requires { ⌜ Room (now nodes) count action at ⌝ }
+    ensures { λ r. ⌜ ((n : ℕ) → at ≡ place n (rows count (now (nodes .entry))) → Leaves (now (nodes .entry)) (addBy action (level 0 node ∷ []) n (rows count (now (nodes .entry)))) (now (nodes .exit)) r) ⌝ }
+{
+    if action == 4 {
+        return replace(nodes, count, at, node);
+    }
+    let put = add_place(nodes, count, action, at);
+    match put {
+        Place::At(place, depth) => insert(nodes, count, place, at_depth(node, depth)),
+        Place::Refused(_why) => count,
+    }
+}

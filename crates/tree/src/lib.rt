@@ -5,6 +5,7 @@ mod runs;
 mod search;
 
 pub use add::Place;
+pub use add::add_node;
 pub use add::add_place;
 pub use change::cut;
 pub use change::cut_below;
