@@ -1,3 +1,5 @@
 pub mod Sizes
 pub mod Words
 pub mod Add
+pub mod Moves
+pub mod Depths

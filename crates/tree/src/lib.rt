@@ -1,6 +1,7 @@
 // The node table in the lent node region: looking at it and changing it, with the count by value in and out.
 mod add;
 mod change;
+mod moves;
 mod runs;
 mod search;
 
