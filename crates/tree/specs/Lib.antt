@@ -3,3 +3,4 @@ pub mod Words
 pub mod Add
 pub mod Moves
 pub mod Depths
+pub mod MoveRun

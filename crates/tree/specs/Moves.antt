@@ -15,6 +15,9 @@ module _ {A : Type 0} where
   abbrev pub putIn : ℕ → List A → List A → List A
   putIn at ys l = take at l ++ (ys ++ drop at l)
 
+  pub putIn-length : (at : ℕ) (ys l : List A) → at ≤ length l → length (putIn at ys l) ≡ length ys + length l
+  putIn-length at ys l h = simp (length-append, length-drop) (omega (arith, length-take-le at l h))
+
   -- a run that has at each side of a place what is left without some items, and room for them between
   pub record Opened (l : List A) (from to at : ℕ) (after : List A) : Type 0 where
     pub front : take at after ≡ take at (without from to l)

@@ -6,6 +6,8 @@ ghost use mathlib.Core.Path.{_≡_};
 ghost use Prim.Native.Nat.{ℕ, _+_, _-_, _*_, _≤_, _<_};
 ghost use lib.ListN.{length, take, drop, getD};
 ghost use Rattle.tree.specs.Depths.{Levels, releveled};
+ghost use Rattle.nodes.specs.Table.{width, rows, fill};
+ghost use Rattle.tree.specs.MoveRun.{Movable, movedRun, landing};
 ghost use Rattle.tree.specs.Moves.{without, putIn, Opened};
 
 // Room made at a place for the words from `from` up to `to`: those between come over them.
@@ -41,5 +43,26 @@ fn set_depths(nodes: &mut [u32], from: usize, to: usize, old: u32, new: u32)
         let at = 5 * i + 1;
         nodes[at] = nodes[at] - old + new;
         i += 1;
+    }
+}
+
+// The records from `from` up to `to` taken out, and put in at a place of those that are left, from the depth `old` to the depth `new`.
+fn move_run(nodes: &mut [u32], from: usize, to: usize, at: usize, old: u32, new: u32)
+    requires { ⌜ Movable (now nodes) from to at old new ⌝ }
+    ensures { λ r. ⌜ ((count : ℕ) → to ≤ count → at + (to - from) ≤ count → width * count ≤ length (now (nodes .entry)) → now (nodes .exit) ≡ fill (now (nodes .entry)) (movedRun from to at old new (rows count (now (nodes .entry))))) ⌝ }
+{
+    set_depths(nodes, from, to, old, new);
+    move_words(nodes, 5 * from, 5 * to, 5 * at);
+}
+
+// A place of the table as it is without the records from `from` up to `to`, which it is not inside of.
+fn place_without(place: usize, from: usize, to: usize) -> usize
+    requires { ⌜ (from ≤ to) × ((from < place) → to ≤ place) ⌝ }
+    ensures { λ r. ⌜ r ≡ landing from to place ⌝ }
+{
+    if place <= from {
+        place
+    } else {
+        place - (to - from)
     }
 }
