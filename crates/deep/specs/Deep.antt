@@ -1,17 +1,17 @@
 -- A deep free in words: what the sweep leaves, with the records behind the run moved down to it.
-use Prim.Native.Nat.{ℕ, _+_, _*_, _-_, _≤_, _<_}
-use mathlib.Core.Path.{_≡_, refl, sym, ap, ap₂, _∙_}
-use mathlib.Core.List.{List, [], _∷_, _++_, append-assoc}
+use Prim.Native.Nat.{ℕ, _+_, _*_, _≤_, _<_}
+use mathlib.Core.Path.{_≡_, sym, ap, ap₂, _∙_}
+use mathlib.Core.List.{List, _++_, append-assoc}
 use native.Mathlib.Omega.{arith}
-use lib.ListN.{length, take, drop, getD, length-append, length-take, length-drop}
+use lib.ListN.{length, take, drop, getD, length-append, length-take}
 use Rattle.nodes.specs.declared.Node.{Node}
-use Rattle.nodes.specs.Table.{width, rows, rows-length, rows-take, encode, encode-rows, encode-length, encode-append, rows-encode, over, fill}
-use Rattle.nodes.specs.Place.{place, deeper, end-most}
-use Rattle.nodes.specs.Edit.{takeDeeper, onlyGroups, deepFree}
+use Rattle.nodes.specs.Table.{width, rows, rows-length, rows-take, encode, encode-rows, encode-length, encode-append, rows-encode, fill}
+use Rattle.nodes.specs.Place.{place, deeper}
+use Rattle.nodes.specs.Edit.{onlyGroups, deepFree}
 use Rattle.nodes.specs.Split.{takeDeeper-at, deepFree-at}
 use Rattle.tree.specs.Sizes.{Leaves}
 use Rattle.deep.specs.Over.{over-past, over-rows}
-use Rattle.deep.specs.Sweep.{groupsBelow, groups-most, Swept, Ends, swept-ends}
+use Rattle.deep.specs.Sweep.{groupsBelow, Swept, Ends, swept-ends}
 
 module _ (us ws : List ℕ) (count from d read write : ℕ) (inside : from ≤ count) (room : width * count ≤ length us) (s : Swept us count from from d ws read write) where
   abbrev kept : List Node

@@ -1,13 +1,12 @@
 -- Words over a run: what lies past them, and more words behind them.
-use Prim.Native.Nat.{ℕ, _+_, _*_, _-_, _≤_, _<_}
-use mathlib.Core.Path.{_≡_, refl, sym, ap, ap₂, _∙_}
-use mathlib.Core.List.{List, [], _∷_, _++_, append-assoc, append-nil}
+use Prim.Native.Nat.{ℕ, _+_, _*_, _-_, _≤_}
+use mathlib.Core.Path.{_≡_, sym, ap, ap₂, _∙_}
+use mathlib.Core.List.{List, [], _++_, append-assoc, append-nil}
 use native.Mathlib.Omega.{arith}
 use native.Mathlib.Nat.{add-zero}
-use lib.ListN.{length, take, drop, getD, length-append, length-take, length-drop, take-append-drop}
-use lib.Seq.{drop-drop, getD-drop, drop-at, take-at, length-take-le, drop-append-add}
-use Rattle.nodes.specs.declared.Node.{Node}
-use Rattle.nodes.specs.Table.{width, nodeAt, nodeFrom, node-from, rows, rows-drop, over}
+use lib.ListN.{length, take, drop, length-append, length-take, length-drop, take-append-drop}
+use lib.Seq.{drop-drop, drop-at, take-at}
+use Rattle.nodes.specs.Table.{width, rows, rows-drop, over}
 
 module _ (at : ℕ) (vs us : List ℕ) (long : at + length vs ≤ length us) where
   over-front : length (take at us ++ vs) ≡ at + length vs

@@ -1,20 +1,20 @@
 -- A sweep over the records below a group, in place: groups are kept, moved down, and synths are passed over.
-use Prim.Native.Nat.{ℕ, suc, _+_, _*_, _-_, _≤_, _<_}
+use Prim.Native.Nat.{ℕ, suc, _+_, _*_, _≤_, _<_}
 use mathlib.Core.Bool.{Bool, true, false}
 use mathlib.Core.Path.{_≡_, refl, sym, ap, ap₂, _∙_}
 use mathlib.Core.List.{List, [], _∷_, _++_, append-assoc}
 use native.Mathlib.Omega.{arith}
-use lib.ListN.{length, take, drop, getD, length-append}
+use lib.ListN.{length, drop, getD, length-append}
 use lib.Seq.{drop-drop}
-use lib.Dec.{ltb, eqb}
+use lib.Dec.{ltb}
 use borrow.Author.Tests.{lt-ltb, le-ltb, ltb-true, eq-eqb, ne-eqb}
 use Rattle.words.specs.Choice.{pick}
 use Rattle.nodes.specs.declared.Node.{Node}
-use Rattle.nodes.specs.Table.{width, nodeFrom, wordsOf, rows, rows-length, row-from, rows-end, encode, encode-length, encode-append, over}
-use Rattle.nodes.specs.Place.{isGroup, deeper, deeper-most, deeper-turn, deeper-end, nested, end-most}
+use Rattle.nodes.specs.Table.{width, nodeFrom, wordsOf, rows, row-from, rows-end, encode, encode-length, encode-append, over}
+use Rattle.nodes.specs.Place.{isGroup, deeper, deeper-turn, deeper-end, nested, end-most}
 use Rattle.nodes.specs.Edit.{takeDeeper, dropDeeper, onlyGroups}
-use Rattle.nodes.specs.Split.{takeDeeper-at, dropDeeper-at}
-use Rattle.deep.specs.Over.{over-length, over-past, over-rows, over-more, over-none}
+use Rattle.nodes.specs.Split.{dropDeeper-at}
+use Rattle.deep.specs.Over.{over-length, over-rows, over-more, over-none}
 
 -- the groups among the records deeper than d
 abbrev pub groupsBelow : ℕ → List Node → List Node

@@ -1,7 +1,7 @@
 -- The state's rules on nodes along the table: one step of each test, and its end.
 use Prim.Native.Nat.{ℕ, _+_, _*_, _≤_, _<_}
 use mathlib.Core.Bool.{Bool, true, false, not}
-use mathlib.Core.Path.{_≡_, refl, sym, ap, _∙_}
+use mathlib.Core.Path.{_≡_, refl, ap}
 use mathlib.Core.List.{List, [], _∷_}
 use native.Mathlib.Omega.{arith}
 use lib.ListN.{length, drop, getD}
@@ -9,9 +9,9 @@ use lib.Dec.{ltb, leb, eqb}
 use borrow.Author.Tests.{le-leb, lt-leb}
 use Rattle.words.specs.Choice.{pick, both, either, both-true}
 use Rattle.nodes.specs.declared.Node.{Node}
-use Rattle.nodes.specs.Table.{width, nodeFrom, rows, rows-length, rows-end, row-from}
-use Rattle.nodes.specs.Place.{groupSlot, isGroup, lives}
-use Rattle.nodes.specs.Formed.{firstGiven, lastGiven, mostRows, mostNodes, countFormed, reach, steps, rooted, apart, numberFormed, fieldsFormed, rowFormed, allFormed, rowsApart, nextFormed, synthLives, latestFormed, formed}
+use Rattle.nodes.specs.Table.{width, nodeFrom, rows, rows-end, row-from}
+use Rattle.nodes.specs.Place.{groupSlot, lives}
+use Rattle.nodes.specs.Formed.{firstGiven, lastGiven, mostRows, mostNodes, reach, steps, rooted, apart, numberFormed, fieldsFormed, rowFormed, allFormed, rowsApart, nextFormed, synthLives, latestFormed, formed}
 use Rattle.order.specs.Marks.{rowsFormed, rowsHold}
 
 -- a record's number, and its other fields, by the words

@@ -1,18 +1,18 @@
 -- The running order of a well-formed table "never exceeds 255 numbers".
 use Prim.Native.Nat.{ℕ, suc, _+_, _-_, _≤_, _<_}
 use mathlib.Core.Bool.{Bool, true, false}
-use mathlib.Core.Path.{_≡_, refl, sym, ap, _∙_}
+use mathlib.Core.Path.{_≡_}
 use mathlib.Core.List.{List, [], _∷_, _++_}
 use native.Mathlib.Omega.{arith}
 use lib.ListN.{length, replicate}
 use lib.Dec.{leb, eqb}
-use borrow.Author.Tests.{leb-true, eqb-true}
-use Rattle.words.specs.Choice.{pick, both, both-true}
+use borrow.Author.Tests.{leb-true}
+use Rattle.words.specs.Choice.{pick, both-true}
 use Rattle.nodes.specs.declared.Node.{Node}
 use Rattle.nodes.specs.Place.{isGroup}
 use Rattle.nodes.specs.Order.{isOn, orderFrom, order}
-use Rattle.nodes.specs.Formed.{countFormed, steps, rooted, mostNodes, formed}
-use Rattle.order.specs.Pad.{padTo, pad-few}
+use Rattle.nodes.specs.Formed.{countFormed, rooted, mostNodes, formed}
+use Rattle.order.specs.Pad.{pad-few}
 use Rattle.order.specs.Order.{mostOrder, orderWords}
 
 pub order-most : (limit : ℕ) (l : List Node) → length (orderFrom limit l) ≤ length l

@@ -84,11 +84,11 @@ pub fn same_order(kept: &[u32], many: usize, nodes: &[u32], count: usize) -> boo
     requires { ⌜ (length (now kept) ≡ 255) × Sized (now nodes) count ⌝ }
     ensures { λ r. ⌜ r ≡ sameOrder (now (kept .entry)) many (rows count (now (nodes .entry))) ⌝ }
 {
-    let fresh = running_order(nodes, count);
-    if many != fresh.length {
+    if 255 < many {
         return false;
     }
-    if 255 < many {
+    let fresh = running_order(nodes, count);
+    if many != fresh.length {
         return false;
     }
     let numbers = fresh.numbers;

@@ -1,16 +1,14 @@
-use Prim.Native.Nat.{ℕ, zero, suc, _+_, _*_, _-_, _≤_, _<_}
-use mathlib.Core.Bool.{Bool, true, false, not}
-use mathlib.Core.Path.{_≡_, refl, sym, ap, _∙_}
-use mathlib.Core.List.{List, [], _∷_, _++_, append-assoc}
+-- `deep::sweep` meets its contract: a cycle of one, whose measure is the number of nodes still allowed. The invariant: a sweep of the rest, from the present places and words, leaves what the whole sweep leaves.
+use Prim.Native.Nat.{ℕ, _+_, _*_, _-_, _≤_, _<_}
+use mathlib.Core.Path.{_≡_, refl}
+use mathlib.Core.List.{List}
 use native.Mathlib.Omega.{arith}
-use native.Mathlib.Numerals.{add-one}
 use borrow.Author.Needs.{needs}
-use borrow.Author.Tests.{lt-ltb, le-ltb, le-leb, lt-leb, eq-eqb, ne-eqb}
-use lib.ListN.{length, take, drop, getD, set, length-set, length-drop}
+use lib.ListN.{length, getD}
 use borrow.Fn.Kinds.{In}
 use borrow.Fn.PlainCycle.{Measures, is, falls, and}
 use Rattle.deep.specs.Sweep.{Swept, swept-end, swept-stop, swept-synth, swept-group, Ends, swept-ends, copied-length}
-use Rattle.nodes.specs.Table.{width, nodeFrom}
+use Rattle.nodes.specs.Table.{nodeFrom}
 use Rattle.deep.proofs.sweep.Reads as sweep
 use Rattle.deep.proofs.sweep.Kinds as sweep-kinds
 use Rattle.deep.proofs.+sweep.Lts-sweep as sweep-lts

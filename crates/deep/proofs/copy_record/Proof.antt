@@ -8,8 +8,6 @@ use lib.Seq.{sets-eq}
 use Rattle.nodes.specs.Table.{nodeFrom, wordsOf}
 use Rattle.deep.proofs.copy_record.Statement.{statement}
 use Rattle.deep.proofs.copy_record.Tie as tie
-use Rattle.deep.proofs.copy_record.Reads as reads
-use Rattle.deep.proofs.copy_record.Lts as lts
 
 mul-a : tie.Need-mul-a
 mul-a c = omega arith

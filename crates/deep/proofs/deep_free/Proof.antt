@@ -1,6 +1,6 @@
 -- `deep::deep_free` meets its contract: what the sweep leaves, then what the removal leaves of it.
-use Prim.Native.Nat.{ℕ, _+_, _*_, _≤_}
-use mathlib.Core.Path.{_≡_, refl}
+use Prim.Native.Nat.{_+_, _*_}
+use mathlib.Core.Path.{refl}
 use native.Mathlib.Omega.{arith}
 use borrow.Author.Needs.{needs}
 use lib.ListN.{getD}
@@ -10,10 +10,6 @@ use Rattle.deep.specs.Sweep.{Ends, swept-ends}
 use Rattle.deep.specs.Deep.{left-leaves, deep-at}
 use Rattle.deep.proofs.deep_free.Statement.{statement}
 use Rattle.deep.proofs.deep_free.Tie as tie
-use Rattle.deep.proofs.deep_free.Reads as reads
-use Rattle.deep.proofs.deep_free.Lts as lts
-use Rattle.deep.proofs.sweep.Reads as sweep-reads
-use Rattle.tree.proofs.remove.Reads as remove-reads
 
 mul-depth : tie.Need-mul-depth
 mul-depth c = omega arith

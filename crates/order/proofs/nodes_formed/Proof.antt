@@ -1,26 +1,15 @@
-use Prim.Native.Nat.{ℕ, zero, suc, _+_, _*_, _-_, _≤_, _<_}
-use mathlib.Core.Bool.{Bool, true, false, not}
-use mathlib.Core.Path.{_≡_, refl, sym, ap, _∙_}
-use mathlib.Core.List.{List, [], _∷_, _++_, append-assoc}
+-- `order::nodes_formed` meets its contract: `formed`, one rule at a time by `formed-some`.
+use mathlib.Core.Bool.{true, false}
+use mathlib.Core.Path.{_≡_, sym, _∙_}
 use native.Mathlib.Omega.{arith}
-use native.Mathlib.Numerals.{add-one}
 use borrow.Author.Needs.{needs}
-use borrow.Author.Tests.{lt-ltb, le-ltb, le-leb, lt-leb, eq-eqb, ne-eqb, not-true, not-false}
-use lib.ListN.{length, take, drop, getD, set, length-set, length-drop}
-use borrow.Author.Needs.{needs}
+use borrow.Author.Tests.{le-leb, lt-leb, eq-eqb, ne-eqb, not-true, not-false}
 use Rattle.nodes.specs.Table.{rows, rows-length}
 use Rattle.nodes.specs.Formed.{rooted, apart, allFormed, noneLeft, firstGiven}
 use Rattle.order.specs.Marks.{rowsHold}
 use Rattle.order.specs.Checks.{formed-none, formed-many, formed-some}
 use Rattle.order.proofs.nodes_formed.Statement.{statement}
 use Rattle.order.proofs.nodes_formed.Tie as tie
-use Rattle.order.proofs.nodes_formed.Reads as reads
-use Rattle.order.proofs.nodes_formed.Lts as lts
-use Rattle.order.proofs.numbers_apart.Reads as numbers-apart-reads
-use Rattle.order.proofs.records_hold.Reads as records-hold-reads
-use Rattle.order.proofs.root_holds.Reads as root-holds-reads
-use Rattle.order.proofs.running_order.Reads as running-order-reads
-use Rattle.order.proofs.synth_lives.Reads as synth-lives-reads
 
 returns : tie.Need-returns
 returns c =

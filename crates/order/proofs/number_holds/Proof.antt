@@ -1,19 +1,13 @@
-use Prim.Native.Nat.{ℕ, zero, suc, _+_, _*_, _-_, _≤_, _<_}
-use mathlib.Core.Bool.{Bool, true, false, not}
-use mathlib.Core.Path.{_≡_, refl, sym, ap, _∙_}
-use mathlib.Core.List.{List, [], _∷_, _++_, append-assoc}
+-- `order::number_holds` meets its contract, one test at a time.
+use Prim.Native.Nat.{_≤_}
+use mathlib.Core.Path.{sym}
 use native.Mathlib.Omega.{arith}
-use native.Mathlib.Numerals.{add-one}
-use borrow.Author.Needs.{needs}
-use borrow.Author.Tests.{lt-ltb, le-ltb, le-leb, lt-leb, eq-eqb, ne-eqb}
-use lib.ListN.{length, take, drop, getD, set, length-set, length-drop}
+use borrow.Author.Tests.{lt-ltb, le-ltb, le-leb, lt-leb}
 use lib.Dec.{eqb}
 use Rattle.order.specs.Checks.{not-pick}
 use Rattle.nodes.specs.Formed.{firstGiven, lastGiven}
 use Rattle.order.proofs.number_holds.Statement.{statement}
 use Rattle.order.proofs.number_holds.Tie as tie
-use Rattle.order.proofs.number_holds.Reads as reads
-use Rattle.order.proofs.number_holds.Lts as lts
 
 returns : tie.Need-returns
 returns c =

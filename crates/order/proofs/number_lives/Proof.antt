@@ -1,18 +1,13 @@
-use Prim.Native.Nat.{ℕ, zero, suc, _+_, _*_, _-_, _≤_, _<_}
-use mathlib.Core.Bool.{Bool, true, false, not}
-use mathlib.Core.Path.{_≡_, refl, sym, ap, _∙_}
-use mathlib.Core.List.{List, [], _∷_, _++_, append-assoc}
+-- `order::number_lives` meets its contract. The invariant: what is left to search is what there was to search.
+use Prim.Native.Nat.{_*_, _-_, _≤_}
+use mathlib.Core.Path.{_≡_, refl, sym, _∙_}
 use native.Mathlib.Omega.{arith}
-use native.Mathlib.Numerals.{add-one}
-use borrow.Author.Needs.{needs}
-use borrow.Author.Tests.{lt-ltb, le-ltb, le-leb, lt-leb, eq-eqb, ne-eqb}
-use lib.ListN.{length, take, drop, getD, set, length-set, length-drop}
+use borrow.Author.Tests.{eq-eqb, ne-eqb}
+use lib.ListN.{drop, getD}
 use Rattle.nodes.specs.Table.{rows}
 use Rattle.nodes.specs.Place.{lives, lives-turn, lives-end}
 use Rattle.order.proofs.number_lives.Statement.{statement}
 use Rattle.order.proofs.number_lives.Tie as tie
-use Rattle.order.proofs.number_lives.Reads as reads
-use Rattle.order.proofs.number_lives.Lts as lts
 
 abbrev Inv-loop : tie.InvT-loop
 Inv-loop nodes count from number i₀ i = (i ≤ count) × (lives number (drop i (rows count nodes)) ≡ lives number (drop from (rows count nodes)))

@@ -1,21 +1,15 @@
-use Prim.Native.Nat.{ℕ, zero, suc, _+_, _*_, _-_, _≤_, _<_}
-use mathlib.Core.Bool.{Bool, true, false, not}
-use mathlib.Core.Path.{_≡_, refl, sym, ap, _∙_}
-use mathlib.Core.List.{List, [], _∷_, _++_, append-assoc}
+-- `order::numbers_apart` meets its contract. The invariant: what is left to check is what there was to check.
+use Prim.Native.Nat.{_+_, _*_, _-_, _≤_}
+use mathlib.Core.Bool.{true, false}
+use mathlib.Core.Path.{_≡_, refl, sym, _∙_}
 use native.Mathlib.Omega.{arith}
-use native.Mathlib.Numerals.{add-one}
-use borrow.Author.Needs.{needs}
-use borrow.Author.Tests.{lt-ltb, le-ltb, le-leb, lt-leb, eq-eqb, ne-eqb}
-use lib.ListN.{length, take, drop, getD, set, length-set, length-drop}
+use lib.ListN.{drop, getD}
 use Rattle.nodes.specs.Table.{rows}
 use Rattle.nodes.specs.Formed.{apart}
 use Rattle.order.specs.Checks.{apart-turn, apart-end}
 use Rattle.nodes.specs.Place.{lives}
 use Rattle.order.proofs.numbers_apart.Statement.{statement}
 use Rattle.order.proofs.numbers_apart.Tie as tie
-use Rattle.order.proofs.numbers_apart.Reads as reads
-use Rattle.order.proofs.numbers_apart.Lts as lts
-use Rattle.order.proofs.number_lives.Reads as number-lives-reads
 
 abbrev Inv-loop : tie.InvT-loop
 Inv-loop nodes count i₀ i = (i ≤ count) × (apart (drop i (rows count nodes)) ≡ apart (rows count nodes))

@@ -1,21 +1,15 @@
-use Prim.Native.Nat.{ℕ, zero, suc, _+_, _*_, _-_, _≤_, _<_}
-use mathlib.Core.Bool.{Bool, true, false, not}
-use mathlib.Core.Path.{_≡_, refl, sym, ap, _∙_}
-use mathlib.Core.List.{List, [], _∷_, _++_, append-assoc}
+-- `order::records_hold` meets its contract. The invariant: what is left to check is what there was to check.
+use Prim.Native.Nat.{_+_, _*_, _-_, _≤_}
+use mathlib.Core.Bool.{true, false}
+use mathlib.Core.Path.{_≡_, refl, sym, _∙_}
 use native.Mathlib.Omega.{arith}
-use native.Mathlib.Numerals.{add-one}
-use borrow.Author.Needs.{needs}
-use borrow.Author.Tests.{lt-ltb, le-ltb, le-leb, lt-leb, eq-eqb, ne-eqb, not-true, not-false}
-use lib.ListN.{length, take, drop, getD, set, length-set, length-drop}
+use borrow.Author.Tests.{not-true, not-false}
+use lib.ListN.{drop, getD}
 use Rattle.nodes.specs.Table.{rows}
 use Rattle.nodes.specs.Formed.{allFormed}
 use Rattle.order.specs.Checks.{numberHolds, fieldsHold, fields-turn, fields-end}
 use Rattle.order.proofs.records_hold.Statement.{statement}
 use Rattle.order.proofs.records_hold.Tie as tie
-use Rattle.order.proofs.records_hold.Reads as reads
-use Rattle.order.proofs.records_hold.Lts as lts
-use Rattle.order.proofs.fields_hold.Reads as fields-hold-reads
-use Rattle.order.proofs.number_holds.Reads as number-holds-reads
 
 abbrev Inv-loop : tie.InvT-loop
 Inv-loop nodes count next i₀ i = (i ≤ count) × (allFormed next (drop i (rows count nodes)) ≡ allFormed next (rows count nodes))

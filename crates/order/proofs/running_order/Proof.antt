@@ -1,12 +1,10 @@
-use Prim.Native.Nat.{ℕ, zero, suc, _+_, _*_, _-_, _≤_, _<_}
-use mathlib.Core.Bool.{Bool, true, false, not}
-use mathlib.Core.Path.{_≡_, refl, sym, ap, ap₂, _∙_}
-use mathlib.Core.List.{List, [], _∷_, _++_, append-assoc}
+-- `order::running_order` meets its contract. The invariant: the numbers found so far with those of the rest are the order (`So`), and what the marks tell so far with what they tell of the rest is the test of the rows (`pass`).
+use Prim.Native.Nat.{ℕ, _+_, _*_, _-_, _≤_, _<_}
+use mathlib.Core.Bool.{Bool, true, false}
+use mathlib.Core.Path.{_≡_, sym, ap, ap₂, _∙_}
+use mathlib.Core.List.{List}
 use native.Mathlib.Omega.{arith}
-use native.Mathlib.Numerals.{add-one}
-use borrow.Author.Needs.{needs}
-use borrow.Author.Tests.{lt-ltb, le-ltb, le-leb, lt-leb, eq-eqb, ne-eqb}
-use lib.ListN.{length, take, drop, getD, set, length-set, length-drop}
+use lib.ListN.{length, drop, getD, set}
 use mathlib.Core.Logic.{⊎-elim}
 use Rattle.words.specs.Choice.{pick, both}
 use Rattle.nodes.specs.Table.{rows, rows-end}
@@ -14,9 +12,6 @@ use Rattle.order.specs.Order.{So, so-none, so-all, so-under, so-off, so-
 use Rattle.order.specs.Marks.{rowsHold, pass, pass-none, pass-group, pass-past, pass-mark, pass-end, marked, unmarked}
 use Rattle.order.proofs.running_order.Statement.{statement}
 use Rattle.order.proofs.running_order.Tie as tie
-use Rattle.order.proofs.running_order.Reads as reads
-use Rattle.order.proofs.running_order.Lts as lts
-use Rattle.words.proofs.wide.Reads as wide-reads
 
 abbrev Inv-loop : tie.InvT-loop
 Inv-loop nodes count numbers₀ seen₀ length₀ distinct₀ limit₀ i₀ numbers seen length distinct limit i =

@@ -1,49 +1,41 @@
-use Prim.Native.Nat.{ℕ, zero, suc, _+_, _*_, _-_, _≤_, _<_}
-use mathlib.Core.Bool.{Bool, true, false, not}
+-- `order::same_order` meets its contract. The invariant: what is left to compare is what there was to compare.
+use Prim.Native.Nat.{ℕ, _-_, _≤_}
 use mathlib.Core.Path.{_≡_, refl, sym, ap, _∙_}
-use mathlib.Core.List.{List, [], _∷_, _++_, append-assoc}
 use native.Mathlib.Omega.{arith}
-use native.Mathlib.Numerals.{add-one}
-use borrow.Author.Needs.{needs}
-use borrow.Author.Tests.{lt-ltb, le-ltb, le-leb, lt-leb, eq-eqb, ne-eqb}
-use lib.ListN.{length, take, drop, getD, set, length-set, length-drop}
+use borrow.Author.Tests.{eq-eqb, ne-eqb}
+use lib.ListN.{length, take, drop, getD}
 use Rattle.nodes.specs.Table.{rows}
 use Rattle.nodes.specs.Order.{order}
 use Rattle.order.specs.Order.{orderWords}
-use Rattle.order.specs.Same.{sameList, order-other, order-whole, order-past, order-turn, order-end}
+use Rattle.synthdef.specs.Reader.{sameName}
+use Rattle.order.specs.Same.{order-other, order-whole, order-past, order-turn, order-end}
 use Rattle.order.proofs.same_order.Statement.{statement}
 use Rattle.order.proofs.same_order.Tie as tie
-use Rattle.order.proofs.same_order.Reads as reads
-use Rattle.order.proofs.same_order.Lts as lts
-use Rattle.order.proofs.running_order.Reads as running-order-reads
 
 abbrev Inv-loop : tie.InvT-loop
 Inv-loop kept many nodes count numbers i₀ i =
-    (i ≤ many) × (many ≤ 255) × (numbers ≡ orderWords (rows count nodes)) × (many ≡ length (order (rows count nodes))) × (sameList (drop i (take many kept)) (drop i (order (rows count nodes))) ≡ sameList (take many kept) (order (rows count nodes)))
+    (i ≤ many) × (many ≤ 255) × (numbers ≡ orderWords (rows count nodes)) × (many ≡ length (order (rows count nodes))) × (sameName (drop i (take many kept)) (drop i (order (rows count nodes))) ≡ sameName (take many kept) (order (rows count nodes)))
 
 abbrev μ-loop : tie.MeasureT-loop
 μ-loop kept many nodes count numbers i₀ i = many - i
 
 running-order-requires : tie.Need-running-order-requires Inv-loop μ-loop
-running-order-requires c κs = c .before .before .pre .1
+running-order-requires c κs = c .before .before .before .pre .1
 
 returns : tie.Need-returns Inv-loop μ-loop
 returns c =
-    let b = c .before .before .before .before .before in
-    let t = rows (b .args .count) (b .args .nodes .now) in
-    let e = c .before .before .running-order .ensures .many in
-    sym (order-other (b .args .kept .now) (b .args .many) t (λ same. c .if1 .taken (same ∙ sym e)))
+    let a = c .before .before .before .args in
+    sym (order-past (a .kept .now) (a .many) (rows (a .count) (a .nodes .now)) (c .if1 .taken))
 
 returns-2 : tie.Need-returns-2 Inv-loop μ-loop
 returns-2 c =
-    let b = c .before .before .before .before .before .before in
-    let t = rows (b .args .count) (b .args .nodes .now) in
-    let e = c .before .before .before .running-order .ensures .many in
-    sym (order-past (b .args .kept .now) (b .args .many) t (omega arith) (omega arith))
+    let a = c .before .before .before .before .before .before .args in
+    let e = c .before .before .running-order .ensures .many in
+    sym (order-other (a .kept .now) (a .many) (rows (a .count) (a .nodes .now)) (omega arith) (omega arith) (λ same. c .if2 .taken (same ∙ sym e)))
 
 loop-holds : tie.Need-loop-holds Inv-loop μ-loop
 loop-holds c =
-    let b = c .before .before .before .before in
+    let b = c .before .before .before in
     let e = b .running-order .ensures in
     (omega arith, omega arith, e .numbers, (let m = e .many in omega arith), refl)
 
@@ -64,11 +56,11 @@ returns-3 c =
     let b = c .before .before .before in
     let a = b .before .before .before .before .before .before .before .before .args in
     let t = rows (a .count) (a .nodes .now) in
-    let numbers = b .before .before .before .before .before .running-order .result .numbers in
+    let numbers = b .before .before .before .before .running-order .result .numbers in
     let i = b .loop .i in
     let inv = b .loop .inv in
     sym
-    (order-whole (a .kept .now) (a .many) t (inv .3)
+    (order-whole (a .kept .now) (a .many) t (inv .1)
     ∙ sym (inv .4)
     ∙ (rw (ne-eqb (getD (a .kept .now) i 0) (getD numbers i 0) (c .if3 .taken)) at (order-turn (a .kept .now) (a .many) t numbers i (inv .2) (inv .3) (inv .1) (omega arith) (omega arith))))
 
@@ -83,7 +75,7 @@ loop-again c =
     let b = c .before .before .before in
     let a = b .before .before .before .before .before .before .before .before .args in
     let t = rows (a .count) (a .nodes .now) in
-    let numbers = b .before .before .before .before .before .running-order .result .numbers in
+    let numbers = b .before .before .before .before .running-order .result .numbers in
     let i = b .loop .i in
     let inv = b .loop .inv in (
       omega arith,
@@ -100,8 +92,8 @@ returns-4 c =
     let t = rows (a .count) (a .nodes .now) in
     let inv = b .loop .inv in
     let e : b .loop .i ≡ a .many = omega arith in
-    sym (order-whole (a .kept .now) (a .many) t (inv .3) ∙ sym (inv .4)
-    ∙ ap (λ (k : ℕ). sameList (drop k (take (a .many) (a .kept .now))) (drop k (order t))) e
+    sym (order-whole (a .kept .now) (a .many) t (inv .1) ∙ sym (inv .4)
+    ∙ ap (λ (k : ℕ). sameName (drop k (take (a .many) (a .kept .now))) (drop k (order t))) e
     ∙ order-end (a .kept .now) (a .many) t (inv .3) (omega arith))
 
 pub same-order-spec : {M : Type 1} → statement M
@@ -110,8 +102,8 @@ same-order-spec =
     (tie.spec
     Inv-loop
     μ-loop
-    running-order-requires
     returns
+    running-order-requires
     returns-2
     loop-holds
     mul-if3

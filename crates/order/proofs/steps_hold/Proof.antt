@@ -1,12 +1,10 @@
-use Prim.Native.Nat.{ℕ, zero, suc, _+_, _*_, _-_, _≤_, _<_}
-use mathlib.Core.Bool.{Bool, true, false, not}
+-- `order::steps_hold` meets its contract. The invariant: what is left to check, with how deep the next record may be, is what there was to check.
+use Prim.Native.Nat.{ℕ, _+_, _*_, _-_, _≤_, _<_}
+use mathlib.Core.Bool.{Bool}
 use mathlib.Core.Path.{_≡_, refl, sym, ap, _∙_}
-use mathlib.Core.List.{List, [], _∷_, _++_, append-assoc}
 use native.Mathlib.Omega.{arith}
-use native.Mathlib.Numerals.{add-one}
-use borrow.Author.Needs.{needs}
 use borrow.Author.Tests.{lt-ltb, le-ltb, le-leb, lt-leb, eq-eqb, ne-eqb}
-use lib.ListN.{length, take, drop, getD, set, length-set, length-drop}
+use lib.ListN.{drop, getD}
 use mathlib.Core.Logic.{⊎-elim}
 use Rattle.words.specs.Choice.{pick}
 use Rattle.nodes.specs.Table.{nodeFrom, rows}
@@ -14,8 +12,6 @@ use Rattle.nodes.specs.Formed.{reach, steps}
 use Rattle.order.specs.Checks.{steps-turn, steps-end}
 use Rattle.order.proofs.steps_hold.Statement.{statement}
 use Rattle.order.proofs.steps_hold.Tie as tie
-use Rattle.order.proofs.steps_hold.Reads as reads
-use Rattle.order.proofs.steps_hold.Lts as lts
 
 abbrev Inv-loop : tie.InvT-loop
 Inv-loop nodes count most₀ i₀ most i =

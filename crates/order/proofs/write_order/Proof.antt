@@ -1,17 +1,14 @@
-use Prim.Native.Nat.{ℕ, zero, suc, _+_, _*_, _-_, _≤_, _<_}
-use mathlib.Core.Bool.{Bool, true, false, not}
-use mathlib.Core.Path.{_≡_, refl, sym, ap, ap₂, _∙_}
-use mathlib.Core.List.{List, [], _∷_, _++_, append-nil}
+-- `order::write_order` meets its contract: the first i words are the order's, by `paste`.
+use Prim.Native.Nat.{ℕ, _+_, _-_, _≤_}
+use mathlib.Core.Path.{_≡_, refl, ap, ap₂, _∙_}
+use mathlib.Core.List.{List, _++_, append-nil}
 use native.Mathlib.Omega.{arith}
 use native.Mathlib.Numerals.{add-one}
 use borrow.Author.Needs.{needs}
-use borrow.Author.Tests.{lt-ltb, le-ltb, le-leb, lt-leb, eq-eqb, ne-eqb}
-use lib.ListN.{length, take, drop, getD, set, length-set, drop-of-length-le}
+use lib.ListN.{length, getD, set, length-set, drop-of-length-le}
 use lib.Seq.{paste, paste-zero, paste-suc, take-all}
 use Rattle.order.proofs.write_order.Statement.{statement}
 use Rattle.order.proofs.write_order.Tie as tie
-use Rattle.order.proofs.write_order.Reads as reads
-use Rattle.order.proofs.write_order.Lts as lts
 
 abbrev Inv-loop : tie.InvT-loop
 Inv-loop order₀ numbers i₀ order i = (i ≤ 255) × (order ≡ paste order₀ 0 numbers i) × (length order ≡ length order₀) × (length numbers ≡ 255)
