@@ -14,6 +14,10 @@ abbrev pub zeros : ℕ → List ℕ
 zeros n = replicate n 0
 
 module _ (n : ℕ) where
+  pub pad-is : (l : List ℕ) → padTo n l ≡ take n (l ++ replicate n 0)
+  unfolding padTo
+  pad-is l = refl
+
   pub pad-none : zeros n ≡ padTo n []
   unfolding padTo
   pad-none = sym (take-all n (zeros n) (rw length-replicate (omega arith)))
