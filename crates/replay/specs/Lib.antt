@@ -4,3 +4,4 @@ pub mod Names
 pub mod SlotNames
 pub mod Load
 pub mod DefinitionsReplay
+pub mod SynthReplay
