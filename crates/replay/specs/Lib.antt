@@ -5,3 +5,4 @@ pub mod SlotNames
 pub mod Load
 pub mod DefinitionsReplay
 pub mod SynthReplay
+pub mod RowChange
