@@ -6,3 +6,4 @@ pub mod Load
 pub mod DefinitionsReplay
 pub mod SynthReplay
 pub mod RowChange
+pub mod ControlsReplay

@@ -50,7 +50,7 @@ each-tally q blind d (node x b a) h =
     go false e = refl
 
 -- the controls of a row are told by its words
-controls-front : (n m : ℕ) (us : List ℕ) → n + n ≤ m → controlsFrom n (take m us) ≡ controlsFrom n us
+pub controls-front : (n m : ℕ) (us : List ℕ) → n + n ≤ m → controlsFrom n (take m us) ≡ controlsFrom n us
 unfolding controlsFrom
 controls-front zero m us h = refl
 controls-front (suc n) zero us h = absurd (omega arith)
