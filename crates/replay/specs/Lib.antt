@@ -7,3 +7,4 @@ pub mod DefinitionsReplay
 pub mod SynthReplay
 pub mod RowChange
 pub mod ControlsReplay
+pub mod Replay
