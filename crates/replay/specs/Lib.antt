@@ -8,3 +8,4 @@ pub mod SynthReplay
 pub mod RowChange
 pub mod ControlsReplay
 pub mod Replay
+pub mod Voices
