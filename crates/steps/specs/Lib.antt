@@ -1,2 +1,4 @@
 pub mod Beside
 pub mod BusesKept
+pub mod Mappings
+pub mod ControlsKept
