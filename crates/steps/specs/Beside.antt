@@ -1,17 +1,16 @@
 -- A state whose nodes, running order, next number and latest synth are those of a well-formed one.
-use Prim.Native.Nat.{ℕ, _≤_}
+use Prim.Native.Nat.{ℕ}
 use mathlib.Core.Bool.{true}
 use mathlib.Core.Path.{_≡_}
 use mathlib.Core.List.{List}
 use native.Mathlib.Omega.{arith}
 use lib.ListN.{length}
-use Rattle.nodes.specs.declared.Node.{Node}
 use Rattle.nodes.specs.Order.{order}
 use Rattle.model.specs.Layout.{wordsLength, shelfLength, countIn, orderLengthIn, nextIn, latestIn, lengthsIn, residentIn, nodesIn, orderIn}
 use Rattle.model.specs.Engine.{Slot, Engine, decode}
 use Rattle.model.specs.Formed.{formed, flagsFormed, slotsFormed, namesApart, controlsFormed}
 use Rattle.state.specs.Known.{Known}
-use Rattle.keep.specs.Assemble.{Whole, whole-formed}
+use Rattle.keep.specs.Assemble.{whole-formed}
 use Rattle.replay.specs.Names.{same-equal}
 
 -- the engine of the words with other slots, controls and buses

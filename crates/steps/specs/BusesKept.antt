@@ -1,29 +1,29 @@
 -- An accepted command of buses leaves a well-formed state, which decodes to the command's effect.
 use Prim.Native.Nat.{ℕ, _+_, _≤_, _<_}
-use mathlib.Core.Bool.{Bool, true, false, not}
-use mathlib.Core.Path.{_≡_, refl, sym, ap, _∙_}
+use mathlib.Core.Bool.{true, not}
+use mathlib.Core.Path.{_≡_, ap, _∙_}
 use mathlib.Core.List.{List}
 use native.Mathlib.Omega.{arith}
-use lib.ListN.{length, getD, set, replicate, length-set, length-replicate}
+use lib.ListN.{length, getD, replicate, length-set, length-replicate}
 use lib.Dec.{leb}
 use borrow.Author.Tests.{leb-true, not-false}
 use Rattle.words.specs.Choice.{both-true}
-use Rattle.words.specs.Parts.{region, put, put-length, region-length}
-use Rattle.words.specs.declared.Refusal.the-variants.{NoBus, BadValue}
-use Rattle.values.specs.Values.{inBounds, pattern}
+use Rattle.words.specs.Parts.{region, put-length, region-length}
+use Rattle.words.specs.declared.Refusal.the-variants.{NoBus}
+use Rattle.values.specs.Values.{pattern}
 use Rattle.model.specs.declared.BusCommand.{BusCommand}
 use Rattle.model.specs.declared.BusCommand.the-variants as buses
 use Rattle.model.specs.declared.Command.the-variants as command
 use Rattle.model.specs.declared.Answer.the-variants.{Done}
 use Rattle.model.specs.Layout.{busesPlace, busCount, lengthsPlace, residentPlace, slotCount, nodesIn, controlsIn, busesIn, putBuses}
 use Rattle.model.specs.Engine.{Engine, decode}
-use Rattle.model.specs.Meaning.{isNegative, isBus, isBusRange}
-use Rattle.model.specs.Checks.{check, firstOf, busChecks}
+use Rattle.model.specs.Meaning.{isNegative, isBusRange}
+use Rattle.model.specs.Checks.{firstOf, busChecks}
 use Rattle.model.specs.Effects.{busEffect, withBuses, effect}
 use Rattle.model.specs.After.{wordsAfter}
 use Rattle.model.specs.Door.{answerIn}
 use Rattle.model.specs.Formed.{formed, flagsFormed, slotsFormed}
-use Rattle.state.specs.Known.{Known, known}
+use Rattle.state.specs.Known.{known}
 use Rattle.state.specs.Regions.{region-before, word-before}
 use Rattle.state.specs.Decoded.{buses-size, buses-decoded}
 use Rattle.keep.specs.Passed.{passed}

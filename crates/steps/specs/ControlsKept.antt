@@ -1,5 +1,5 @@
 -- An accepted command of controls leaves a well-formed state, which decodes to the command's effect.
-use Prim.Native.Nat.{ℕ, _+_, _≤_, _<_, min}
+use Prim.Native.Nat.{ℕ, _+_, _≤_, _<_}
 use mathlib.Core.Bool.{Bool, true, false, not}
 use mathlib.Core.Path.{_≡_, refl, sym, ap, _∙_}
 use mathlib.Core.List.{List, [], _∷_}
@@ -17,8 +17,8 @@ use Rattle.nodes.specs.Edit.{runOf}
 use Rattle.nodes.specs.Formed.{numberFormed, rowFormed, fieldsFormed, allFormed}
 use Rattle.bridge.specs.Tally.{tally-cut}
 use Rattle.values.specs.declared.Mapping.the-variants.{Unmapped, Bus}
-use Rattle.values.specs.Controls.{ControlValue, mappingWord, setTo, mapTo}
-use Rattle.values.specs.Values.{inBounds, pattern}
+use Rattle.values.specs.Controls.{mappingWord, setTo, mapTo}
+use Rattle.values.specs.Values.{pattern}
 use Rattle.model.specs.declared.ControlCommand.{ControlCommand}
 use Rattle.model.specs.declared.ControlCommand.the-variants as controls
 use Rattle.model.specs.declared.Command.the-variants as command
@@ -35,7 +35,7 @@ use Rattle.state.specs.Known.{Known}
 use Rattle.state.specs.Known as state
 use Rattle.state.specs.Regions.{region-before, word-before}
 use Rattle.state.specs.Decoded.{controls-size, controls-decoded}
-use Rattle.keep.specs.Every.{Fewer, within-fewer, every-fewer}
+use Rattle.keep.specs.Every.{Fewer, every-fewer}
 use Rattle.keep.specs.Passed.{passed}
 use Rattle.steps.specs.Beside.{beside-formed}
 use Rattle.steps.specs.Mappings.{Mild, Right, all-changed, controls-mild}

@@ -1,6 +1,6 @@
 -- Slots after a command of definitions against those before it: each stays, maybe retired, or has a new definition. Such slots can be put in, and keep the rule on slots.
 use Prim.{Unit, tt}
-use Prim.Native.Nat.{ℕ, zero, suc, _+_, _-_, _*_, _≤_, _<_, min}
+use Prim.Native.Nat.{ℕ, zero, suc, _+_, _-_, _*_, _≤_, min}
 use mathlib.Core.Bool.{Bool, true, false, not}
 use mathlib.Core.Path.{_≡_, refl, sym, ap, ap₂, _∙_}
 use mathlib.Core.List.{List, [], _∷_, _++_}
@@ -14,7 +14,7 @@ use Rattle.synthdef.specs.Reader.{readDefinition, sizeLimit, among}
 use Rattle.nodes.specs.declared.Node.{Node}
 use Rattle.nodes.specs.Place.{isGroup}
 use Rattle.model.specs.Layout.{slotRoom, rowWords}
-use Rattle.model.specs.Engine.{Slot, noDefinition, valueOr, nameIn, slotAt, held, slotTaken, slotsFrom, definitionOf}
+use Rattle.model.specs.Engine.{Slot, noDefinition, valueOr, nameIn, slotAt, held, slotsFrom}
 use Rattle.model.specs.Effects.{retired, retire}
 use Rattle.model.specs.After.{flagsOf, lengthsOf, shelfOf}
 use Rattle.model.specs.Formed.{isWhole, slotFormed, slotsFormed, flagsFormed, mappingsFormed, controlsFormed}

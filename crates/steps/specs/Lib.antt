@@ -6,3 +6,4 @@ pub mod Follow
 pub mod SlotsApart
 pub mod LoadKept
 pub mod DefinitionsKept
+pub mod Kept

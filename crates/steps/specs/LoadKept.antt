@@ -1,21 +1,21 @@
 -- The slots after an accepted command of definitions: each follows the one before it, residents' names differ, and the slots that synths hold have the bytes that they had.
 use Prim.{Unit, tt}
-use Prim.Native.Nat.{ℕ, suc, _+_, _-_, _≤_, _<_}
+use Prim.Native.Nat.{ℕ, _+_, _-_, _≤_}
 use mathlib.Core.Bool.{Bool, true, false, not}
 use mathlib.Core.Path.{_≡_, refl, sym, ap, ap₂, _∙_}
 use mathlib.Core.List.{List, [], _∷_, _++_, append-nil}
 use native.Mathlib.Omega.{arith}
 use lib.ListN.{length}
-use lib.Dec.{leb, eqb}
+use lib.Dec.{leb}
 use borrow.Author.Tests.{leb-true, ltb-false, eq-eqb}
-use Rattle.words.specs.Choice.{pick, both, either, both-true, either-false}
+use Rattle.words.specs.Choice.{either, both-true}
 use Rattle.words.specs.declared.Refusal.the-variants.{NoSlot}
 use Rattle.synthdef.specs.Read.{Read, got, bad}
 use Rattle.synthdef.specs.Definition.{Definition}
 use Rattle.synthdef.specs.Reader.{readDefinition, readFile, sizeLimit, mostDefinitions, sameName, among}
 use Rattle.synthdef.specs.Writer.{writeDefinition}
 use Rattle.synthdef.specs.Bounds.{isDefinition, areDefinitions}
-use Rattle.roundtrip.specs.Stands.{Bytes, bytes-of-every}
+use Rattle.roundtrip.specs.Stands.{bytes-of-every}
 use Rattle.roundtrip.specs.Back.{definition-back}
 use Rattle.roundtrip.specs.Forth.{file-forth}
 use Rattle.nodes.specs.declared.Node.{Node}
@@ -24,7 +24,7 @@ use Rattle.model.specs.declared.DefinitionCommand.the-variants as definitions
 use Rattle.model.specs.declared.Answer.the-variants.{Done}
 use Rattle.model.specs.Layout.{slotCount}
 use Rattle.model.specs.Engine.{Slot, Engine, nameIn, slotAt, held, residentOf}
-use Rattle.model.specs.Checks.{Check, check, firstOf, faultOf, definitionsOf, namesOf, staying, noSlot, definitionChecks}
+use Rattle.model.specs.Checks.{check, firstOf, faultOf, definitionsOf, namesOf, staying, noSlot, definitionChecks}
 use Rattle.model.specs.Effects.{retired, freeFrom, placed, loaded, retire, definitionEffect}
 use Rattle.model.specs.Formed.{isWhole, nameResident, namesApart}
 use Rattle.model.specs.Demands.{AreBytes}
@@ -33,7 +33,7 @@ use Rattle.replay.specs.Names.{same-equal, same-self}
 use Rattle.replay.specs.SlotNames.{Differ}
 use Rattle.replay.specs.Load.{newSlot, written-read, freeCount, spot-slot, spot-resident, placed-count, held-placed, free-staying}
 use Rattle.replay.specs.DefinitionsReplay.{names-apart}
-use Rattle.steps.specs.Follow.{Follows, comes, Follow, AllLess, follow-set, less-follow, less-bytes, retired-less, retire-less}
+use Rattle.steps.specs.Follow.{comes, Follow, AllLess, follow-set, less-follow, less-bytes, retired-less, retire-less}
 use Rattle.steps.specs.SlotsApart.{less-apart, retired-named, named-set, apart-set}
 
 -- slots after, of those before
