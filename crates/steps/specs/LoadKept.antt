@@ -3,7 +3,7 @@ use Prim.{Unit, tt}
 use Prim.Native.Nat.{ℕ, _+_, _-_, _≤_}
 use mathlib.Core.Bool.{Bool, true, false, not}
 use mathlib.Core.Path.{_≡_, refl, sym, ap, ap₂, _∙_}
-use mathlib.Core.List.{List, [], _∷_, _++_, append-nil}
+use mathlib.Core.List.{List, [], _∷_, _++_}
 use native.Mathlib.Omega.{arith}
 use lib.ListN.{length}
 use lib.Dec.{leb}
@@ -16,7 +16,6 @@ use Rattle.synthdef.specs.Reader.{readDefinition, readFile, sizeLimit, mostDefi
 use Rattle.synthdef.specs.Writer.{writeDefinition}
 use Rattle.synthdef.specs.Bounds.{isDefinition, areDefinitions}
 use Rattle.roundtrip.specs.Stands.{bytes-of-every}
-use Rattle.roundtrip.specs.Back.{definition-back}
 use Rattle.roundtrip.specs.Forth.{file-forth}
 use Rattle.nodes.specs.declared.Node.{Node}
 use Rattle.model.specs.declared.DefinitionCommand.{DefinitionCommand}
@@ -31,7 +30,7 @@ use Rattle.model.specs.Demands.{AreBytes}
 use Rattle.keep.specs.Passed.{passed}
 use Rattle.replay.specs.Names.{same-equal, same-self}
 use Rattle.replay.specs.SlotNames.{Differ}
-use Rattle.replay.specs.Load.{newSlot, written-read, freeCount, spot-slot, spot-resident, placed-count, held-placed, free-staying}
+use Rattle.replay.specs.Load.{newSlot, written-back, written-read, freeCount, spot-slot, spot-resident, placed-count, held-placed, free-staying}
 use Rattle.replay.specs.DefinitionsReplay.{names-apart}
 use Rattle.steps.specs.Follow.{comes, Follow, AllLess, follow-set, less-follow, less-bytes, retired-less, retire-less}
 use Rattle.steps.specs.SlotsApart.{less-apart, retired-named, named-set, apart-set}
@@ -62,9 +61,8 @@ all-fine names (d ∷ ds) h =
 -- a definition's writing is read back whole
 written-whole : (d : Definition) → isDefinition d ≡ true → isWhole (length (writeDefinition d)) (readDefinition (writeDefinition d) 0) ≡ true
 written-whole d h =
-    let e : readDefinition (writeDefinition d) 0 ≡ got d (0 + length (writeDefinition d)) =
-    ap (λ (l : List ℕ). readDefinition l 0) (sym (append-nil (writeDefinition d))) ∙ definition-back d h [] [] in
-    ap (λ (r : Read Definition). isWhole (length (writeDefinition d)) r) e ∙ eq-eqb (0 + length (writeDefinition d)) (length (writeDefinition d)) (omega arith)
+    ap (λ (r : Read Definition). isWhole (length (writeDefinition d)) r) (written-back d h)
+    ∙ eq-eqb (0 + length (writeDefinition d)) (length (writeDefinition d)) (omega arith)
 
 -- before the definitions ds go in: their names differ, no resident has one of them, and there is room
 record Ready (ds : List Definition) (slots old : List Slot) (t : List Node) : Type 0 where
