@@ -4,3 +4,7 @@ pub mod Names
 pub mod SlotNames
 pub mod Load
 pub mod DefinitionsReplay
+pub mod SynthReplay
+pub mod RowChange
+pub mod ControlsReplay
+pub mod Replay
