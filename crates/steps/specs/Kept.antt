@@ -28,18 +28,19 @@ use Rattle.model.specs.After.{wordsAfter, shelfAfter}
 use Rattle.model.specs.Door.{answerIn, isAccepted}
 use Rattle.model.specs.Demands.{AreBytes}
 use Rattle.keep.specs.TreeKept.{tree-kept, tree-effect}
+use Rattle.replay.specs.Replay.{isDone}
 use Rattle.steps.specs.BusesKept.{buses-kept, buses-effect}
 use Rattle.steps.specs.ControlsKept.{controls-kept, controls-effect}
 use Rattle.steps.specs.DefinitionsKept.{definitions-kept, definitions-effect}
 
 -- no check but a query's answers with a reply, so that what they accept is done
-abbrev pub plainAnswer : Answer → Bool
+abbrev plainAnswer : Answer → Bool
 plainAnswer Done = true
 plainAnswer (Replied n) = false
 plainAnswer (Refused r) = true
 plainAnswer (RefusedAt r at) = true
 
-abbrev pub plainCheck : Check → Bool
+abbrev plainCheck : Check → Bool
 plainCheck c = plainAnswer (c .answer)
 
 accepted-done : (a : Answer) → plainAnswer a ≡ true → isAccepted a ≡ true → a ≡ Done
@@ -59,19 +60,19 @@ plain-first (c ∷ cs) h =
     go true p ih = p
     go false p ih = ih
 
-pub done-by : (cs : List Check) → every plainCheck cs ≡ true → isAccepted (firstOf cs Done) ≡ true → firstOf cs Done ≡ Done
+done-by : (cs : List Check) → every plainCheck cs ≡ true → isAccepted (firstOf cs Done) ≡ true → firstOf cs Done ≡ Done
 done-by cs p h = accepted-done (firstOf cs Done) (plain-first cs p) h
 
 plain-file : (r : Read (List Definition)) → plainCheck (faultOf r) ≡ true
 plain-file (got ds end) = refl
 plain-file (bad r at) = refl
 
-pub plain-definitions : (c : DefinitionCommand) (bytes : List ℕ) (e : Engine) → every plainCheck (definitionChecks c bytes e) ≡ true
+plain-definitions : (c : DefinitionCommand) (bytes : List ℕ) (e : Engine) → every plainCheck (definitionChecks c bytes e) ≡ true
 unfolding every
 plain-definitions definitions.Receive bytes e = rw (plain-file (readFile bytes))
 plain-definitions definitions.Free bytes e = refl
 
-pub plain-tree : (c : TreeCommand) (bytes : List ℕ) (e : Engine) → every plainCheck (treeChecks c bytes e) ≡ true
+plain-tree : (c : TreeCommand) (bytes : List ℕ) (e : Engine) → every plainCheck (treeChecks c bytes e) ≡ true
 unfolding every
 plain-tree (tree.NewSynth number action target) bytes e = refl
 plain-tree (tree.NewGroup number action target) bytes e = refl
@@ -84,16 +85,24 @@ plain-tree (tree.Head g a) bytes e = refl
 plain-tree (tree.Tail g a) bytes e = refl
 plain-tree (tree.Run n flag) bytes e = refl
 
-pub plain-controls : (c : ControlCommand) (bytes : List ℕ) (e : Engine) → every plainCheck (controlChecks c bytes e) ≡ true
+plain-controls : (c : ControlCommand) (bytes : List ℕ) (e : Engine) → every plainCheck (controlChecks c bytes e) ≡ true
 unfolding every
 plain-controls (controls.Set n key value) bytes e = refl
 plain-controls (controls.Fill n key count value) bytes e = refl
 plain-controls (controls.Map n key bus) bytes e = refl
 
-pub plain-buses : (c : BusCommand) (e : Engine) → every plainCheck (busChecks c e) ≡ true
+plain-buses : (c : BusCommand) (e : Engine) → every plainCheck (busChecks c e) ≡ true
 unfolding every
 plain-buses (buses.Set bus value) e = refl
 plain-buses (buses.Fill start count value) e = refl
+
+pub accepted-is-done : (c : Command) (bytes : List ℕ) (e : Engine) (room : ℕ) → isAccepted (answerIn c bytes e room) ≡ true → isDone c (answerIn c bytes e room)
+unfolding answerIn
+accepted-is-done (command.Definitions c) bytes e room a = done-by (definitionChecks c bytes e) (plain-definitions c bytes e) a
+accepted-is-done (command.Tree c) bytes e room a = done-by (treeChecks c bytes e) (plain-tree c bytes e) a
+accepted-is-done (command.Controls c) bytes e room a = done-by (controlChecks c bytes e) (plain-controls c bytes e) a
+accepted-is-done (command.Buses c) bytes e room a = done-by (busChecks c e) (plain-buses c e) a
+accepted-is-done (command.Query q) bytes e room a = a
 
 -- what both laws are of
 pub record Stepped (c : Command) (bytes ws bs : List ℕ) : Type 0 where
@@ -103,16 +112,16 @@ pub record Stepped (c : Command) (bytes ws bs : List ℕ) : Type 0 where
 pub stepped : (c : Command) (bytes ws bs : List ℕ) → AreBytes bytes → formed ws bs ≡ true → (room : ℕ) → isAccepted (answerIn c bytes (decode ws bs) room) ≡ true → Stepped c bytes ws bs
 unfolding answerIn wordsAfter shelfAfter effect
 stepped (command.Definitions c) bytes ws bs b h room a =
-    let d = done-by (definitionChecks c bytes (decode ws bs)) (plain-definitions c bytes (decode ws bs)) a in
+    let d = accepted-is-done (command.Definitions c) bytes (decode ws bs) room a in
     record { kept = definitions-kept c bytes ws bs b h d; effected = definitions-effect c bytes ws bs b h d }
 stepped (command.Tree c) bytes ws bs b h room a =
-    let d = done-by (treeChecks c bytes (decode ws bs)) (plain-tree c bytes (decode ws bs)) a in
+    let d = accepted-is-done (command.Tree c) bytes (decode ws bs) room a in
     record { kept = tree-kept c bytes ws bs h d; effected = tree-effect c bytes ws bs h d }
 stepped (command.Controls c) bytes ws bs b h room a =
-    let d = done-by (controlChecks c bytes (decode ws bs)) (plain-controls c bytes (decode ws bs)) a in
+    let d = accepted-is-done (command.Controls c) bytes (decode ws bs) room a in
     record { kept = controls-kept c bytes ws bs h d; effected = controls-effect c bytes ws bs h d }
 stepped (command.Buses c) bytes ws bs b h room a =
-    let d = done-by (busChecks c (decode ws bs)) (plain-buses c (decode ws bs)) a in
+    let d = accepted-is-done (command.Buses c) bytes (decode ws bs) room a in
     record { kept = buses-kept c bytes ws bs h d; effected = buses-effect c bytes ws bs h d }
 stepped (command.Query q) bytes ws bs b h room a = record { kept = h; effected = refl }
 
