@@ -29,7 +29,7 @@ slots-many zero sizes flags shelf = refl
 slots-many (suc n) sizes flags shelf = ap suc (slots-many n (drop 1 sizes) (drop 1 flags) (drop slotRoom shelf))
 
 -- what the state check tells of the engine
-known-sound : (ws bs : List ℕ) → Known ws bs → Sound (lengthsIn ws) (decode ws bs)
+pub known-sound : (ws bs : List ℕ) → Known ws bs → Sound (lengthsIn ws) (decode ws bs)
 unfolding decode
 known-sound ws bs k = record {
   tree = k .tree;
