@@ -194,7 +194,7 @@ unfolding AllRows Each flatten
 each-rows d forest.none h = tt
 each-rows d (node x b a) h = (h .0, rows-append (flatten (d + 1) b) (flatten d a) (each-rows (d + 1) b (h .1)) (each-rows d a (h .2)))
 
-formed-rows : (next : ℕ) (t : List Node) → allFormed next t ≡ true → AllRows t
+pub formed-rows : (next : ℕ) (t : List Node) → allFormed next t ≡ true → AllRows t
 unfolding allFormed AllRows
 formed-rows next [] h = tt
 formed-rows next (r ∷ l) h =

@@ -1,1 +1,5 @@
 pub mod Tree
+pub mod Accepted
+pub mod Seen
+pub mod TreeUntouched
+pub mod Ordered
