@@ -211,7 +211,7 @@ module _ (e : Engine) (p : Plain) (k : Kept e p) (apart : namesApart (e .slots) 
         leaves = k .leaves;
         tree = k .tree
             ∙ seen-alike (e .slots) slots (e .controls) (k .forest) (e .nodes) (k .laid)
-            (λ j held-j. ap (λ (s : Slot). s .bytes) (held-loaded ds (retired (namesOf ds) (e .slots)) (e .nodes) (p .names) l j held-j) ∙ retired-bytes (namesOf ds) (e .slots) j);
+            (λ j held-j. ap (λ (s : Slot). s .bytes) (held-loaded ds (retired (namesOf ds) (e .slots)) (e .nodes) (l .room) j held-j) ∙ retired-bytes (namesOf ds) (e .slots) j);
         names = λ m. meaning-means m slots ∙ done .meanings m;
         nameCount = let c = done .counts in omega arith;
         once = done .once;

@@ -3,3 +3,5 @@ pub mod Accepted
 pub mod Seen
 pub mod TreeUntouched
 pub mod Ordered
+pub mod Alike
+pub mod Untouched
