@@ -7,3 +7,5 @@ pub mod DefinitionsReplay
 pub mod SynthReplay
 pub mod RowChange
 pub mod ControlsReplay
+pub mod Replay
+pub mod Voices

@@ -29,11 +29,11 @@ use Rattle.replay.specs.SlotNames.{means-set, residents-set, meant, Diff
 abbrev pub newSlot : Definition → Slot
 newSlot d = record { bytes = writeDefinition d; resident = true }
 
+pub written-back : (d : Definition) → isDefinition d ≡ true → readDefinition (writeDefinition d) 0 ≡ got d (0 + length (writeDefinition d))
+written-back d h = ap (λ (l : List ℕ). readDefinition l 0) (sym (append-nil (writeDefinition d))) ∙ definition-back d h [] []
+
 pub written-read : (d : Definition) → isDefinition d ≡ true → definitionIn (newSlot d) ≡ d
-written-read d h =
-    let e : readDefinition (writeDefinition d) 0 ≡ got d (0 + length (writeDefinition d)) =
-    ap (λ (l : List ℕ). readDefinition l 0) (sym (append-nil (writeDefinition d))) ∙ definition-back d h [] [] in
-    ap (λ (r : Read Definition). valueOr noDefinition r) e
+written-read d h = ap (λ (r : Read Definition). valueOr noDefinition r) (written-back d h)
 
 -- how many slots are free, from the slot k on
 unfoldable pub freeCount : ℕ → List Slot → List Node → ℕ

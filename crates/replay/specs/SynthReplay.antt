@@ -90,7 +90,7 @@ none-strange number slot row next (r ∷ l) h g f =
     go true u v = refl
     go false u v = ap₂ (λ (x y : Bool). either x (not y)) u v
 
-absent-tally : (number : ℕ) (t : List Node) → lives number t ≡ false → tally (λ (y : Node). eqb (y .number) number) t ≡ 0
+pub absent-tally : (number : ℕ) (t : List Node) → lives number t ≡ false → tally (λ (y : Node). eqb (y .number) number) t ≡ 0
 unfolding tally lives
 absent-tally number [] h = refl
 absent-tally number (r ∷ l) h =
