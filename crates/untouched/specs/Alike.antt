@@ -1,7 +1,7 @@
 -- Records of nodes that a command does not touch are seen alike before and after it.
 use Prim.{tt}
 use Prim.Native.Nat.{ℕ, _*_, _≤_, _<_}
-use mathlib.Core.Bool.{Bool, true, false, not}
+use mathlib.Core.Bool.{Bool, true, false}
 use mathlib.Core.Path.{_≡_, refl, sym, ap, subst, _∙_}
 use mathlib.Core.List.{List, [], _∷_}
 use native.Mathlib.Omega.{arith}
@@ -15,7 +15,7 @@ use Rattle.synthdef.specs.Read.{Read, got, bad}
 use Rattle.synthdef.specs.Definition.{Definition}
 use Rattle.synthdef.specs.Reader.{readFile}
 use Rattle.nodes.specs.declared.Node.{Node}
-use Rattle.nodes.specs.Place.{isGroup, lives}
+use Rattle.nodes.specs.Place.{isGroup}
 use Rattle.nodes.specs.Edit.{runOf, isBelow, cut}
 use Rattle.nodes.specs.Formed.{mostRows, rowFormed, allFormed, rowTaken, rowsApart}
 use Rattle.bridge.specs.Tally.{tally, tally-cut, Within, cut-within}
@@ -28,16 +28,16 @@ use Rattle.model.specs.declared.DefinitionCommand.{DefinitionCommand}
 use Rattle.model.specs.declared.DefinitionCommand.the-variants as definitions
 use Rattle.model.specs.declared.Answer.the-variants.{Done}
 use Rattle.model.specs.Layout.{slotCount, rowWords, controlsWords}
-use Rattle.model.specs.Engine.{Slot, Engine, held, slotAt, residentOf}
-use Rattle.model.specs.View.{Kind, kindIn, viewOf}
-use Rattle.model.specs.Checks.{Check, firstOf, faultOf, definitionsOf, namesOf, staying, noSlot, definitionChecks}
+use Rattle.model.specs.Engine.{Slot, Engine, held, residentOf}
+use Rattle.model.specs.View.{Kind, viewOf}
+use Rattle.model.specs.Checks.{Check, firstOf, faultOf, definitionsOf, namesOf, noSlot, definitionChecks}
 use Rattle.model.specs.Effects.{retired, loaded, retire, definitionEffect, changeAll}
 use Rattle.keep.specs.Passed.{passed}
 use Rattle.keep.specs.ControlRows.{started, other-row}
 use Rattle.replay.specs.Load.{freeCount, free-staying, held-loaded}
 use Rattle.replay.specs.DefinitionsReplay.{bytes-alike, retired-bytes, set-bytes}
 use Rattle.replay.specs.RowChange.{Tame}
-use Rattle.replay.specs.ControlsReplay.{AllOf, AllRows, both-of, rows-of, formed-rows, kind-same, all-other}
+use Rattle.replay.specs.ControlsReplay.{AllOf, both-of, rows-of, formed-rows, kind-same, all-other}
 use Rattle.untouched.specs.Seen.{all-more, all-left, all-of, Among, all-among}
 
 -- a node whose row's words are the same

@@ -25,7 +25,6 @@ use Rattle.model.specs.Formed.{formed}
 use Rattle.model.specs.Door.{answerIn, isAccepted}
 use Rattle.model.specs.Demands.{AreBytes, displacedBy, turnedBy, displaced, numbersLeft}
 use Rattle.state.specs.Known.{known}
-use Rattle.keep.specs.TreeSteps.{Sound}
 use Rattle.keep.specs.TreeKept.{known-sound}
 use Rattle.untouched.specs.Accepted.{tree-done}
 use Rattle.untouched.specs.Seen.{numbers-view}

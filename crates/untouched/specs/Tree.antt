@@ -12,7 +12,6 @@ use Rattle.model.specs.Formed.{formed}
 use Rattle.model.specs.Demands.{holds, TreeHolds}
 use Rattle.state.specs.Known.{known}
 use Rattle.keep.specs.Passed.{group-named}
-use Rattle.keep.specs.TreeSteps.{Sound}
 use Rattle.keep.specs.TreeKept.{known-sound}
 
 -- a number among numbers, by the name that the demands use

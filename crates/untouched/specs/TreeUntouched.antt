@@ -14,7 +14,7 @@ use Rattle.nodes.specs.Edit.{sink, takeDeeper, runOf, isBelow}
 use Rattle.nodes.specs.Forest.{single}
 use Rattle.nodes.specs.Formed.{rooted, apart, synthLives}
 use Rattle.bridge.specs.Rooted.{single-flatten}
-use Rattle.bridge.specs.Latest.{groupNamed, group-nosynth}
+use Rattle.bridge.specs.Latest.{group-nosynth}
 use Rattle.bridge.specs.Left.{Covers}
 use Rattle.bridge.specs.Untouched.{Untouched, untouched-cut, untouched-cutBelow, untouched-deepFree, untouched-setRun, untouched-addHead, untouched-addTail, untouched-addBefore, untouched-addAfter, untouched-addOver, untouched-moveHead, untouched-moveTail, untouched-moveBefore, untouched-moveAfter}
 use Rattle.model.specs.declared.TreeCommand.{TreeCommand}

@@ -1,10 +1,9 @@
 -- Demand 3, of one accepted command: "a node outside the subtrees that it adds, moves, sets, maps, turns on or off, or frees keeps its kind, parent, definition, run flag and controls".
 use Prim.Native.Nat.{ℕ, _<_}
 use mathlib.Core.Bool.{Bool, true, false, not}
-use mathlib.Core.Path.{_≡_, refl, sym, ap, ap₂, subst, _∙_}
-use mathlib.Core.List.{List, [], _∷_}
+use mathlib.Core.Path.{_≡_, refl, subst}
+use mathlib.Core.List.{List}
 use native.Mathlib.Omega.{arith}
-use lib.ListN.{length}
 use lib.Dec.{eqb}
 use borrow.Author.Tests.{ltb-true, not-false}
 use Rattle.words.specs.Choice.{pick, both, either}
@@ -18,7 +17,7 @@ use Rattle.bridge.specs.Left.{left, left-cut}
 use Rattle.bridge.specs.Untouched.{Untouched}
 use Rattle.values.specs.declared.Mapping.the-variants.{Unmapped, Bus}
 use Rattle.values.specs.Controls.{mappingWord, setTo, mapTo}
-use Rattle.values.specs.Values.{inBounds, pattern}
+use Rattle.values.specs.Values.{pattern}
 use Rattle.model.specs.declared.DefinitionCommand.{DefinitionCommand}
 use Rattle.model.specs.declared.DefinitionCommand.the-variants as definitions
 use Rattle.model.specs.declared.TreeCommand.{TreeCommand}
@@ -36,7 +35,7 @@ use Rattle.model.specs.Checks.{firstOf, noResident, badAction, badTarget, full,
 use Rattle.model.specs.Effects.{stayingNodes, freeRow, newSynth, numberFor, definitionEffect, treeEffect, controlEffect, effect}
 use Rattle.model.specs.Formed.{formed}
 use Rattle.model.specs.Door.{answerIn, isAccepted}
-use Rattle.model.specs.Demands.{AreBytes, displacedBy, turnedBy, touched, entriesLeft}
+use Rattle.model.specs.Demands.{AreBytes, touched, entriesLeft}
 use Rattle.state.specs.Known as state
 use Rattle.keep.specs.Passed.{passed}
 use Rattle.keep.specs.Rows.{free-row}
