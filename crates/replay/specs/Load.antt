@@ -250,9 +250,8 @@ loaded-all [] slots t ms l = l
 loaded-all (d ∷ ds) slots t ms l = loaded-all ds (placed d slots t) t (forget (d .front .name) ms ++ (record { name = d .front .name; definition = d } ∷ [])) (loading-next d ds slots t ms l)
 
 -- the slots that synths hold are as they were
-pub held-loaded : (ds : List Definition) (slots : List Slot) (t : List Node) (ms : List Named) → Loading ds slots t ms → (k : ℕ) → held k t ≡ true → slotAt (loaded ds slots t) k ≡ slotAt slots k
+pub held-loaded : (ds : List Definition) (slots : List Slot) (t : List Node) → length ds ≤ freeCount 0 slots t → (k : ℕ) → held k t ≡ true → slotAt (loaded ds slots t) k ≡ slotAt slots k
 unfolding loaded
-held-loaded [] slots t ms l k h = refl
-held-loaded (d ∷ ds) slots t ms l k h =
-    held-loaded ds (placed d slots t) t (forget (d .front .name) ms ++ (record { name = d .front .name; definition = d } ∷ [])) (loading-next d ds slots t ms l) k h
-    ∙ held-placed slots t d k (let r = l .room in omega arith) h
+held-loaded [] slots t room k h = refl
+held-loaded (d ∷ ds) slots t room k h =
+    held-loaded ds (placed d slots t) t (omega (arith, placed-count slots t (omega arith) d)) k h ∙ held-placed slots t d k (omega arith) h
