@@ -1,0 +1,11 @@
+// Controls and buses in the lent words: set, fill, map, read, and the state check's part on controls.
+mod buses;
+mod control;
+
+pub use buses::fill_buses;
+pub use buses::is_bus;
+pub use buses::is_bus_range;
+pub use buses::read_bus;
+pub use buses::set_bus;
+pub use control::Change;
+pub use control::change_row;
