@@ -10,3 +10,5 @@ pub mod After
 pub mod Door
 pub mod Plain
 pub mod Demands
+pub mod Script
+pub mod Examples
