@@ -1,7 +1,11 @@
 // SynthDef2 files: read, refused, looked up.
 mod cursor;
+mod front;
 
 pub use cursor::Cursor;
 pub use cursor::Number;
 pub use cursor::Step;
 pub use cursor::Text;
+pub use front::Counts;
+pub use front::Entry;
+pub use front::FrontRead;
