@@ -1,3 +1,5 @@
 pub mod Change
 pub mod BusLaws
 pub mod Kept
+pub mod Encoded
+pub mod Ready

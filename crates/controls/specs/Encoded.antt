@@ -1,0 +1,78 @@
+-- What a definition in its encoded bytes tells of its controls: by its front, which the lookups read.
+use Prim.Native.Nat.{ℕ, _+_, _≤_, _<_}
+use mathlib.Core.Bool.{Bool, true, false}
+use mathlib.Core.Path.{_≡_, refl, sym, ap, _∙_}
+use mathlib.Core.List.{List, [], _∷_}
+use mathlib.Core.Option.{Option, none, some}
+use native.Mathlib.Omega.{arith}
+use borrow.Author.Tests.{leb-true}
+use lib.ListN.{length, getD}
+use lib.Dec.{leb}
+use Rattle.synthdef.specs.Read.{Read, got, bad, andThen, repeat}
+use Rattle.synthdef.specs.Fields.{integer, float32, definitionName, count, countTo, highest16, shortCountTo}
+use Rattle.synthdef.specs.FieldLaws.{checked-got}
+use Rattle.synthdef.specs.RepeatLaws.{repeat-length}
+use Rattle.synthdef.specs.Definition.{Front, Definition}
+use Rattle.synthdef.specs.Reader.{mostParameters, parameterName, readFront, readUnits, variant, readDefinition}
+use Rattle.words.specs.declared.Refusal.the-variants.{BadCount}
+use Rattle.values.specs.declared.Key.{Key}
+use Rattle.values.specs.declared.Key.the-variants.{Index, Name}
+use Rattle.model.specs.Engine.{valueOr, firstIndex}
+use Rattle.model.specs.Meaning.{startOf}
+
+-- a front with nothing in it, for bytes that have none
+abbrev pub noFront : Front
+noFront = record { name = []; constants = []; values = []; names = [] }
+
+unfoldable pub frontIn : List ℕ → Front
+frontIn s = valueOr noFront (readFront s 0)
+
+-- the definition as far as its front tells
+abbrev pub frontOnly : List ℕ → Definition
+frontOnly s = record { front = frontIn s; units = []; variants = [] }
+
+module _ {A B D : Type 0} where
+  through : (r : Read A) (f : A → ℕ → Read B) {y : B} {end : ℕ} → andThen r f ≡ got y end
+      → ((x : A) (p : ℕ) → r ≡ got x p → f x p ≡ got y end → D) → D
+  through (got x p) f e k = k x p refl e
+  through (bad q place) f e k = let z : _≡_ {A = ℕ} 0 1 = cc in absurd (omega arith)
+
+-- the front of a definition that was read
+pub front-read : (s : List ℕ) {d : Definition} {next : ℕ} → readDefinition s 0 ≡ got d next → frontIn s ≡ d .front
+unfolding frontIn readDefinition
+front-read s {d} {next} h =
+    through (readFront s 0) _ h (λ f p1 e1 h1.
+    through (count s p1) _ h1 (λ many p2 e2 h2.
+    through (readUnits (length (f .constants)) s many [] p2) _ h2 (λ units p3 e3 h3.
+    through (shortCountTo highest16 s p3) _ h3 (λ v p4 e4 h4.
+    through (repeat (variant (length (f .values)) s) v p4) _ h4 (λ variants p5 e5 h5.
+    ap (valueOr noFront) e1 ∙ ap (λ (r : Read Definition). valueOr (frontOnly s) r .front) h5)))))
+
+-- "P at most 32"
+few-read : (s : List ℕ) {f : Front} {next : ℕ} → readFront s 0 ≡ got f next → length (f .values) ≤ mostParameters
+unfolding readFront
+few-read s {f} {next} h =
+    through (definitionName s 0) _ h (λ n p1 e1 h1.
+    through (count s p1) _ h1 (λ k p2 e2 h2.
+    through (repeat (float32 s) k p2) _ h2 (λ constants p3 e3 h3.
+    through (countTo mostParameters s p3) _ h3 (λ p p4 e4 h4.
+    through (repeat (float32 s) p p4) _ h4 (λ values p5 e5 h5.
+    through (count s p5) _ h5 (λ many p6 e6 h6.
+    through (repeat (parameterName p s) many p6) _ h6 (λ names p7 e7 h7.
+    let same : values ≡ f .values = ap (λ (r : Read Front). valueOr noFront r .values) h7 in
+    let size : length values ≡ p = repeat-length (float32 s) p p4 e5 in
+    let low : p ≤ mostParameters = leb-true p mostParameters (checked-got BadCount (λ m. leb m mostParameters) p3 (integer s p3) e4 .1) in
+    rw (sym same, size) low)))))))
+
+few-or : (r : Read Front) → ((f : Front) (p : ℕ) → r ≡ got f p → length (f .values) ≤ mostParameters) → length (valueOr noFront r .values) ≤ mostParameters
+few-or (got f p) h = h f p refl
+few-or (bad q place) h = omega arith
+
+pub values-few : (s : List ℕ) → length (frontIn s .values) ≤ mostParameters
+unfolding frontIn
+values-few s = few-or (readFront s 0) (λ f p e. few-read s e)
+
+-- where a key starts, by the front alone
+pub start-front : (key : Key) (name : List ℕ) (d e : Definition) → d .front ≡ e .front → startOf key name d ≡ startOf key name e
+start-front (Index i) name d e h = refl
+start-front Name name d e h = ap (λ (f : Front). firstIndex name (f .names)) h
