@@ -11,4 +11,7 @@ pub mod Bounds
 pub mod Answers
 pub mod Front
 pub mod FrontLaws
+pub mod SameLaws
+pub mod Lookup
+pub mod LookupLaws
 pub mod Worked
