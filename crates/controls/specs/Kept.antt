@@ -1,15 +1,14 @@
 -- What a change of controls or of buses leaves as it was: every other part of the words.
 use Prim.Native.Nat.{ℕ, _+_, _≤_, _<_}
-use mathlib.Core.Path.{_≡_, refl, sym, ap, ap₂, _∙_}
+use mathlib.Core.Path.{_≡_, sym, ap, ap₂, _∙_}
 use mathlib.Core.List.{List, _++_}
 use native.Mathlib.Omega.{arith}
 use lib.ListN.{length, take, drop, getD}
 use lib.Seq.{take-add, drop-at, drop-drop, length-take-le, getD-take}
 use Rattle.words.specs.Parts.{region, put, put-length, region-put, past-put, before-put}
-use Rattle.nodes.specs.declared.Node.{Node}
 use Rattle.nodes.specs.Table.{rows}
-use Rattle.model.specs.Layout.{slotCount, nodesPlace, nodesWords, controlsPlace, controlsWords, busesPlace, busCount, wordsLength, countIn, orderLengthIn, nextIn, latestIn, lengthsIn, residentIn, nodesIn, orderIn, controlsIn, busesIn, putControls, putBuses}
-use Rattle.model.specs.Engine.{Slot, Engine, slotsFrom, decode}
+use Rattle.model.specs.Layout.{slotCount, nodesPlace, nodesWords, controlsPlace, controlsWords, busesPlace, busCount, wordsLength, countIn, lengthsIn, residentIn, nodesIn, orderIn, controlsIn, busesIn, putControls, putBuses}
+use Rattle.model.specs.Engine.{slotsFrom, decode}
 use Rattle.model.specs.Effects.{withControls, withBuses}
 
 -- a part put over another put at the same place

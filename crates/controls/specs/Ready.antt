@@ -2,24 +2,24 @@
 use Prim.Native.Nat.{ℕ, zero, suc, _+_, _*_, _≤_, _<_}
 use mathlib.Core.Bool.{Bool, true, false}
 use mathlib.Core.Path.{_≡_, refl, sym, ap, ap₂, _∙_}
-use mathlib.Core.List.{List, [], _∷_, nil≢cons, head-eq-of-cons-eq, tail-eq-of-cons-eq}
+use mathlib.Core.List.{List, [], _∷_, nil≢cons, head-eq-of-cons-eq}
 use native.Mathlib.Omega.{arith}
 use native.Mathlib.Nat.{add-zero, zero-add}
-use borrow.Author.Tests.{leb-true, ltb-true, eqb-true, eq-eqb, eqb-false}
+use borrow.Author.Tests.{leb-true, ltb-true, eq-eqb, eqb-false}
 use lib.ListN.{length, take, drop, getD}
 use lib.Seq.{drop-drop, getD-take, getD-drop}
 use lib.Dec.{leb, ltb, eqb}
-use Rattle.words.specs.Choice.{pick, both, either, both-true}
+use Rattle.words.specs.Choice.{both, either, both-true}
 use Rattle.words.specs.Parts.{region}
 use Rattle.synthdef.specs.Read.{Read, got, bad}
-use Rattle.synthdef.specs.Definition.{Front, Definition}
+use Rattle.synthdef.specs.Definition.{Definition}
 use Rattle.synthdef.specs.Reader.{sizeLimit, readDefinition}
 use Rattle.nodes.specs.declared.Node.{Node}
-use Rattle.nodes.specs.Table.{width, rows, nodeFrom, row-from}
+use Rattle.nodes.specs.Table.{width, nodeFrom, row-from}
 use Rattle.nodes.specs.Place.{groupSlot, isGroup}
 use Rattle.nodes.specs.Formed.{mostNodes, mostRows, numberFormed, rowFormed, fieldsFormed, allFormed}
 use Rattle.model.specs.Layout.{slotCount, slotRoom, lengthsPlace, nodesPlace, nodesWords, wordsLength, shelfLength, countIn, nextIn, lengthsIn, residentIn, nodesIn}
-use Rattle.model.specs.Engine.{Slot, Engine, slotsFrom, decode, noDefinition, valueOr, definitionIn, slotAt, definitionOf, held, slotTaken}
+use Rattle.model.specs.Engine.{Slot, slotsFrom, decode, noDefinition, valueOr, definitionIn, slotAt, definitionOf, held, slotTaken}
 use Rattle.model.specs.Formed.{isWhole, slotFormed, slotsFormed}
 use Rattle.controls.specs.Encoded.{frontIn, front-read}
 

@@ -1,6 +1,7 @@
 // Controls and buses in the lent words: set, fill, map, read, and the state check's part on controls.
 mod buses;
 mod control;
+mod definition;
 
 pub use buses::fill_buses;
 pub use buses::is_bus;
@@ -9,3 +10,7 @@ pub use buses::read_bus;
 pub use buses::set_bus;
 pub use control::Change;
 pub use control::change_row;
+pub use definition::control_start;
+pub use definition::has_controls;
+pub use definition::initial_row;
+pub use definition::parameter_count;
