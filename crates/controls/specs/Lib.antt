@@ -4,3 +4,4 @@ pub mod Kept
 pub mod Encoded
 pub mod Initial
 pub mod Ready
+pub mod Synth

@@ -2,6 +2,7 @@
 mod buses;
 mod control;
 mod definition;
+mod synth;
 
 pub use buses::fill_buses;
 pub use buses::is_bus;
@@ -14,3 +15,4 @@ pub use definition::control_start;
 pub use definition::has_controls;
 pub use definition::initial_row;
 pub use definition::parameter_count;
+pub use synth::slot_bytes;
