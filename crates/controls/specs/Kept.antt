@@ -40,10 +40,10 @@ part-past a k b m ys ws h e far = ap (λ (l : List ℕ). take m l) (past-put a k
 
 -- the words with other parts from the controls on: the parts before them
 module _ (a k : ℕ) (ys ws : List ℕ) (size : length ws ≡ wordsLength) (same : length (put a k ys ws) ≡ wordsLength) (inside : controlsPlace ≤ a) (short : a ≤ wordsLength) where
-  kept-part : (b m : ℕ) → b + m ≤ controlsPlace → region b m (put a k ys ws) ≡ region b m ws
+  pub kept-part : (b m : ℕ) → b + m ≤ controlsPlace → region b m (put a k ys ws) ≡ region b m ws
   kept-part b m near = part-before a k b m ys ws (omega arith) (omega arith) (omega arith)
 
-  kept-word : (i : ℕ) → i < controlsPlace → getD (put a k ys ws) i 0 ≡ getD ws i 0
+  pub kept-word : (i : ℕ) → i < controlsPlace → getD (put a k ys ws) i 0 ≡ getD ws i 0
   kept-word i near = word-before a k i ys ws (omega arith) (omega arith)
 
   pub kept-nodes : nodesIn (put a k ys ws) ≡ nodesIn ws

@@ -5,3 +5,4 @@ pub mod Encoded
 pub mod Initial
 pub mod Ready
 pub mod Synth
+pub mod All

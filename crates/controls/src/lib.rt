@@ -3,6 +3,7 @@ mod buses;
 mod control;
 mod definition;
 mod synth;
+mod table;
 
 pub use buses::fill_buses;
 pub use buses::is_bus;
@@ -16,3 +17,4 @@ pub use definition::has_controls;
 pub use definition::initial_row;
 pub use definition::parameter_count;
 pub use synth::slot_bytes;
+pub use table::change_all;
