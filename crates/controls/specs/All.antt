@@ -2,15 +2,17 @@
 use Prim.Native.Nat.{ℕ, suc, _+_, _-_, _*_, _≤_, _<_}
 use mathlib.Core.Bool.{Bool, true, false}
 use mathlib.Core.Path.{_≡_, refl, sym, ap, ap₂, _∙_, subst}
-use mathlib.Core.List.{List}
+use mathlib.Core.List.{List, [], _∷_}
 use native.Mathlib.Omega.{arith}
-use lib.ListN.{length, take, drop, length-append, length-take, length-drop}
+use lib.ListN.{length, take, drop, getD, length-append, length-take, length-drop}
 use Rattle.words.specs.Choice.{pick}
 use Rattle.words.specs.Parts.{region, put, region-length}
 use Rattle.synthdef.specs.Definition.{Front}
 use Rattle.nodes.specs.declared.Node.{Node}
-use Rattle.nodes.specs.Table.{width, nodeFrom, row-from}
-use Rattle.nodes.specs.Place.{isGroup, place}
+use Rattle.nodes.specs.Table.{width, rows, nodeFrom, row-from}
+use Rattle.nodes.specs.Place.{isGroup, place, deeper}
+use Rattle.nodes.specs.Edit.{sink, runOf}
+use Rattle.nodes.specs.Split.{runOf-at}
 use Rattle.nodes.specs.Formed.{mostRows}
 use Rattle.values.specs.declared.Key.{Key}
 use Rattle.values.specs.Controls.{ControlValue}
@@ -119,3 +121,20 @@ turned f key name count ws₀ shelf to i ws ws′ ready h k size rest long told 
           ap (changeAll f key name count (decode ws₀ shelf .slots) (take (to - (i + 1)) (drop (i + 1) (nodesIn ws₀)))) (here ∙ step)
           ∙ sym (all-turn f key name count (decode ws₀ shelf .slots) ws₀ to i cs h k);
     }
+
+-- a change looks at no depth
+module _ (f : ControlValue → ControlValue) (key : Key) (name : List ℕ) (count : ℕ) (slots : List Slot) where
+  pub all-sink : (k : ℕ) (l : List Node) (xs : List ℕ) → changeAll f key name count slots (sink k l) xs ≡ changeAll f key name count slots l xs
+  unfolding changeAll sink
+  all-sink k [] xs = refl
+  all-sink k (r ∷ l) xs = all-sink k l (changeOne f key name count slots r xs)
+
+  -- the node n and all below it are the records from its place to the end of its run
+  pub all-run : (c : ℕ) (us : List ℕ) (n at : ℕ) → at ≡ place n (rows c us) → at < c → (d e : ℕ) → d ≡ getD us (width * at + 1) 0 → e ≡ at + 1 + deeper d (drop (at + 1) (rows c us))
+      → (xs : List ℕ) → changeAll f key name count slots (runOf n (rows c us)) xs ≡ changeAll f key name count slots (take (e - at) (drop at (rows c us))) xs
+  all-run c us n at here live d e deep end xs =
+      let t = rows c us in
+      let many : e - at ≡ suc (deeper d (drop (at + 1) t)) = omega arith in
+      ap (λ (l : List Node). changeAll f key name count slots l xs) (runOf-at c us n at here live d e deep end)
+      ∙ all-sink d (nodeFrom us (width * at) ∷ take (deeper d (drop (at + 1) t)) (drop (at + 1) t)) xs
+      ∙ sym (ap₂ (λ (k : ℕ) (l : List Node). changeAll f key name count slots (take k l) xs) many (row-from c us at live))

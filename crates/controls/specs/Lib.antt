@@ -6,3 +6,4 @@ pub mod Initial
 pub mod Ready
 pub mod Synth
 pub mod All
+pub mod Formed

@@ -18,3 +18,4 @@ pub use definition::initial_row;
 pub use definition::parameter_count;
 pub use synth::slot_bytes;
 pub use table::change_all;
+pub use table::controls_formed;
