@@ -7,3 +7,4 @@ pub mod Ready
 pub mod Synth
 pub mod All
 pub mod Formed
+pub mod Asked
