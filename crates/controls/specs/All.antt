@@ -35,12 +35,12 @@ module _ (cs ws : List ℕ) (size : length ws ≡ wordsLength) (many : length cs
   node-kept : (i : ℕ) → nodeIn (putControls cs ws) i ≡ nodeIn ws i
   node-kept i =
       ap (λ (us : List ℕ). nodeFrom us (width * i))
-      (kept-part controlsPlace controlsWords cs ws size (length-controls cs ws size many) (omega arith) (omega arith) nodesPlace nodesWords (omega arith))
+      (kept-part controlsPlace controlsWords cs ws size (omega arith) (omega arith) nodesPlace nodesWords (omega arith))
 
   bytes-kept : (shelf : List ℕ) (k : ℕ) → k < 32 → slotBytes (putControls cs ws) shelf k ≡ slotBytes ws shelf k
   bytes-kept shelf k h =
       ap (λ (n : ℕ). take n (take slotRoom (drop (slotRoom * k) shelf)))
-      (kept-word controlsPlace controlsWords cs ws size (length-controls cs ws size many) (omega arith) (omega arith) (lengthsPlace + k) (omega arith))
+      (kept-word controlsPlace controlsWords cs ws size (omega arith) (omega arith) (lengthsPlace + k) (omega arith))
 
   -- the node at a place of them
   module _ (shelf : List ℕ) (ready : Ready ws shelf) (i : ℕ) (few : i < countIn ws) where

@@ -1,10 +1,11 @@
 -- What a change of controls or of buses leaves as it was: every other part of the words.
-use Prim.Native.Nat.{ℕ, _+_, _≤_, _<_}
+use Prim.Native.Nat.{ℕ, zero, suc, _+_, _≤_, _<_}
 use mathlib.Core.Path.{_≡_, sym, ap, ap₂, _∙_}
-use mathlib.Core.List.{List, _++_}
+use mathlib.Core.List.{List, [], _∷_, _++_}
 use native.Mathlib.Omega.{arith}
 use lib.ListN.{length, take, drop, getD}
-use lib.Seq.{take-add, drop-at, drop-drop, length-take-le, getD-take}
+use native.Mathlib.Nat.{zero-add}
+use lib.Seq.{drop-drop, take-nil, getD-take}
 use Rattle.words.specs.Parts.{region, put, put-length, region-put, past-put, before-put}
 use Rattle.nodes.specs.Table.{rows}
 use Rattle.model.specs.Layout.{slotCount, nodesPlace, nodesWords, controlsPlace, controlsWords, busesPlace, busCount, wordsLength, countIn, lengthsIn, residentIn, nodesIn, orderIn, controlsIn, busesIn, putControls, putBuses}
@@ -17,17 +18,20 @@ put-put a k xs ys ws h e =
     ap₂ (λ (p q : List ℕ). p ++ (ys ++ q)) (before-put a k a xs ws h (omega arith))
     (drop-drop k a (put a k xs ws) ∙ past-put a k (a + k) xs ws h e (omega arith) ∙ sym (drop-drop k a ws))
 
--- a part, as the end of a front
-part-of-front : (b m : ℕ) (ws : List ℕ) → b ≤ length ws → drop b (take (b + m) ws) ≡ region b m ws
-part-of-front b m ws h =
-    ap (λ (l : List ℕ). drop b l) (take-add b m ws) ∙ drop-at (take b ws) (region b m ws) b (length-take-le b ws h)
+-- a part is the end of a front
+pub drop-take : (n m : ℕ) (l : List ℕ) → drop n (take (n + m) l) ≡ take m (drop n l)
+drop-take zero m l = rw zero-add
+drop-take (suc n) m [] = rw (take-nil {A = ℕ} (suc n + m), take-nil {A = ℕ} m)
+drop-take (suc n) m (x ∷ l) =
+    let more : suc n + m ≡ suc (n + m) = omega arith in
+    rw more (drop-take n m l)
 
 -- parts and words before what was put, and parts past it
-pub part-before : (a k b m : ℕ) (ys ws : List ℕ) → a ≤ length ws → a ≤ length (put a k ys ws) → b + m ≤ a → region b m (put a k ys ws) ≡ region b m ws
-part-before a k b m ys ws h g near =
-    sym (part-of-front b m (put a k ys ws) (omega arith))
+pub part-before : (a k b m : ℕ) (ys ws : List ℕ) → a ≤ length ws → b + m ≤ a → region b m (put a k ys ws) ≡ region b m ws
+part-before a k b m ys ws h near =
+    sym (drop-take b m (put a k ys ws))
     ∙ ap (λ (l : List ℕ). drop b l) (before-put a k (b + m) ys ws h near)
-    ∙ part-of-front b m ws (omega arith)
+    ∙ drop-take b m ws
 
 pub word-before : (a k i : ℕ) (ys ws : List ℕ) → a ≤ length ws → i < a → getD (put a k ys ws) i 0 ≡ getD ws i 0
 word-before a k i ys ws h near =
@@ -39,9 +43,9 @@ pub part-past : (a k b m : ℕ) (ys ws : List ℕ) → a ≤ length ws → lengt
 part-past a k b m ys ws h e far = ap (λ (l : List ℕ). take m l) (past-put a k b ys ws h e far)
 
 -- the words with other parts from the controls on: the parts before them
-module _ (a k : ℕ) (ys ws : List ℕ) (size : length ws ≡ wordsLength) (same : length (put a k ys ws) ≡ wordsLength) (inside : controlsPlace ≤ a) (short : a ≤ wordsLength) where
+module _ (a k : ℕ) (ys ws : List ℕ) (size : length ws ≡ wordsLength) (inside : controlsPlace ≤ a) (short : a ≤ wordsLength) where
   pub kept-part : (b m : ℕ) → b + m ≤ controlsPlace → region b m (put a k ys ws) ≡ region b m ws
-  kept-part b m near = part-before a k b m ys ws (omega arith) (omega arith) (omega arith)
+  kept-part b m near = part-before a k b m ys ws (omega arith) (omega arith)
 
   pub kept-word : (i : ℕ) → i < controlsPlace → getD (put a k ys ws) i 0 ≡ getD ws i 0
   kept-word i near = word-before a k i ys ws (omega arith) (omega arith)
@@ -76,18 +80,18 @@ module _ (cs ws : List ℕ) (size : length ws ≡ wordsLength) (many : length cs
   controls-controls = region-put controlsPlace controlsWords cs ws (omega arith) many
 
   pub nodes-controls : nodesIn (putControls cs ws) ≡ nodesIn ws
-  nodes-controls = kept-nodes controlsPlace controlsWords cs ws size length-controls (omega arith) (omega arith)
+  nodes-controls = kept-nodes controlsPlace controlsWords cs ws size (omega arith) (omega arith)
 
   pub count-controls : countIn (putControls cs ws) ≡ countIn ws
-  count-controls = kept-word controlsPlace controlsWords cs ws size length-controls (omega arith) (omega arith) 0 (omega arith)
+  count-controls = kept-word controlsPlace controlsWords cs ws size (omega arith) (omega arith) 0 (omega arith)
 
   pub slots-controls : (shelf : List ℕ) → decode (putControls cs ws) shelf .slots ≡ decode ws shelf .slots
-  slots-controls shelf = kept-slots controlsPlace controlsWords cs ws size length-controls (omega arith) (omega arith) shelf
+  slots-controls shelf = kept-slots controlsPlace controlsWords cs ws size (omega arith) (omega arith) shelf
 
   pub decode-controls : (shelf : List ℕ) → decode (putControls cs ws) shelf ≡ withControls cs (decode ws shelf)
   unfolding decode
   decode-controls shelf =
-      kept-rest controlsPlace controlsWords cs ws size length-controls (omega arith) (omega arith) shelf
+      kept-rest controlsPlace controlsWords cs ws size (omega arith) (omega arith) shelf
       ∙ ap₂ (λ (b c : List ℕ). withBuses b (withControls c (decode ws shelf)))
       (part-past controlsPlace controlsWords busesPlace busCount cs ws (omega arith) many (omega arith)) controls-controls
 
@@ -102,6 +106,6 @@ module _ (bs ws : List ℕ) (size : length ws ≡ wordsLength) (many : length bs
   pub decode-buses : (shelf : List ℕ) → decode (putBuses bs ws) shelf ≡ withBuses bs (decode ws shelf)
   unfolding decode
   decode-buses shelf =
-      kept-rest busesPlace busCount bs ws size length-buses (omega arith) (omega arith) shelf
+      kept-rest busesPlace busCount bs ws size (omega arith) (omega arith) shelf
       ∙ ap₂ (λ (b c : List ℕ). withBuses b (withControls c (decode ws shelf))) buses-buses
-      (part-before busesPlace busCount controlsPlace controlsWords bs ws (omega arith) (omega (arith, length-buses)) (omega arith))
+      (part-before busesPlace busCount controlsPlace controlsWords bs ws (omega arith) (omega arith))

@@ -8,3 +8,4 @@ pub mod Synth
 pub mod All
 pub mod Formed
 pub mod Asked
+pub mod Rows
