@@ -8,4 +8,3 @@ pub mod Synth
 pub mod All
 pub mod Formed
 pub mod Asked
-pub mod Rows
