@@ -13,7 +13,8 @@ use Rattle.synthdef.specs.Read.{Read, got, andThen, checked}
 use Rattle.synthdef.specs.Definition.{Definition}
 use Rattle.synthdef.specs.Fields.{int32, shortCountTo}
 use Rattle.synthdef.specs.Reader.{mostDefinitions, sizeLimit, fileType, fileVersion, among, fits, readDefinition, readDefinitions, readHeader, readFile}
-use Rattle.synthdef.specs.Writer.{bytes16, bytes32, writeAll, writeDefinition, writeFile}
+use Rattle.words.specs.Bytes.{bytes16, bytes32}
+use Rattle.synthdef.specs.Writer.{writeAll, writeDefinition, writeFile}
 use Rattle.synthdef.specs.Bounds.{isDefinition, areDefinitions, isFile}
 use Rattle.roundtrip.specs.Stands.{Stands, stands-in, stands-all, stands-left, stands-right}
 use Rattle.roundtrip.specs.Codec.{Reads, Back, then-reads, last-reads, none-reads, checked-reads}

@@ -4,7 +4,7 @@ use mathlib.Core.Path.{_≡_, sym}
 use mathlib.Core.List.{[], _∷_}
 use native.Mathlib.Nat.{div-div-eq-div-mul, mod-eq-of-lt}
 use native.Mathlib.Omega.{arith}
-use Rattle.synthdef.specs.Writer.{bytes16, bytes32}
+use Rattle.words.specs.Bytes.{bytes16, bytes32}
 
 -- a number from its bytes
 abbrev pub two : ℕ → ℕ → ℕ

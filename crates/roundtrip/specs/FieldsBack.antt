@@ -11,7 +11,8 @@ use Rattle.words.specs.Choice.{both, both-true}
 use Rattle.words.specs.declared.Refusal.the-variants.{BadCount, BadName, BadRate, BadIndex}
 use Rattle.synthdef.specs.Read.{got}
 use Rattle.synthdef.specs.Fields.{whole, int8, int16, int32, float32, nameBytes, pstring, name, definitionName, highestRate, countTo, shortCountTo, rate, indexBelow}
-use Rattle.synthdef.specs.Writer.{bytes8, bytes16, bytes32, writeInteger, writeName}
+use Rattle.words.specs.Bytes.{bytes8, bytes16, bytes32}
+use Rattle.synthdef.specs.Writer.{writeInteger, writeName}
 use Rattle.synthdef.specs.Bounds.{isName, isFloat, isRate}
 use Rattle.roundtrip.specs.Stands.{Stands, stands-right, stands-getD}
 use Rattle.roundtrip.specs.BigEndian.{two-of-bytes, four-of-bytes}

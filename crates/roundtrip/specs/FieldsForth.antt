@@ -14,7 +14,8 @@ use Rattle.words.specs.Parts.{region, region-length}
 use Rattle.words.specs.declared.Refusal.the-variants.{Truncated, BadCount, BadName, BadRate, BadIndex}
 use Rattle.synthdef.specs.Read.{got, bad}
 use Rattle.synthdef.specs.Fields.{whole, int8, int16, int32, float32, nameBytes, stringAt, pstring, name, definitionName, highestRate, countTo, shortCountTo, rate, indexBelow}
-use Rattle.synthdef.specs.Writer.{bytes8, bytes16, bytes32, writeInteger, writeName}
+use Rattle.words.specs.Bytes.{bytes8, bytes16, bytes32}
+use Rattle.synthdef.specs.Writer.{writeInteger, writeName}
 use Rattle.synthdef.specs.Bounds.{isName, isFloat, isRate}
 use Rattle.roundtrip.specs.Stands.{Bytes}
 use Rattle.roundtrip.specs.BigEndian.{two, four, bytes-of-two, bytes-of-four}

@@ -12,7 +12,8 @@ use Rattle.synthdef.specs.Read.{repeat}
 use Rattle.synthdef.specs.Definition.{constant, output, UnitSpec, Front}
 use Rattle.synthdef.specs.Fields.{float32, rate, highest16, highest32}
 use Rattle.synthdef.specs.Reader.{mostParameters, minusOne, parameterName, readFront, input, readUnit, readUnits, variant, readDefinition}
-use Rattle.synthdef.specs.Writer.{bytes8, bytes32, writeAll, writeParameterName, writeInput, writeUnit, writeVariant, writeFront, writeDefinition}
+use Rattle.words.specs.Bytes.{bytes8, bytes32}
+use Rattle.synthdef.specs.Writer.{writeAll, writeParameterName, writeInput, writeUnit, writeVariant, writeFront, writeDefinition}
 use Rattle.synthdef.specs.Bounds.{every, isName, isFloat, isRate, isParameterName, isInput, isUnit, areUnits, isVariant, isFront, isDefinition}
 use Rattle.roundtrip.specs.Codec.{Reads, Back, onward-reads, then-reads, last-reads, none-reads, repeat-reads}
 use Rattle.roundtrip.specs.FieldsBack.{int16-reads, int32-reads, float-reads, name-reads, definition-name-reads, count-reads, short-count-reads, index-reads, rate-reads}

@@ -14,4 +14,12 @@ pub mod FrontLaws
 pub mod SameLaws
 pub mod Lookup
 pub mod LookupLaws
+pub mod LookupOf
+pub mod Endings
+pub mod Units
+pub mod Skips
+pub mod Forward
+pub mod File
+pub mod FileLaws
+pub mod Spans
 pub mod Worked

@@ -38,7 +38,7 @@ fn number16(a: u8, b: u8) -> u32
 }
 
 // Four bytes as a number, the first one the highest.
-fn number32(a: u8, b: u8, c: u8, d: u8) -> u32
+pub(crate) fn number32(a: u8, b: u8, c: u8, d: u8) -> u32
     ensures { λ r. ⌜ r ≡ 16777216 * a + 65536 * b + 256 * c + d ⌝ }
 {
     let n3 = a as u32;
@@ -188,10 +188,10 @@ impl Cursor {
         }
         let size = s[at] as usize;
         let start = at + 1;
-        if s.len() - start < size {
-            return Text::Bad(Refusal::Truncated, at);
+        if size <= s.len() - start {
+            return Text::Value(start, Cursor { at: start + size });
         }
-        Text::Value(start, Cursor { at: start + size })
+        Text::Bad(Refusal::Truncated, at)
     }
 
     pub fn name(self, s: &[u8]) -> Text
