@@ -2,11 +2,12 @@
 use Prim.Native.Nat.{ℕ, suc, _+_, _-_, _*_, _≤_, _<_}
 use mathlib.Core.Bool.{Bool, true, false}
 use mathlib.Core.Path.{_≡_, refl, sym, ap, ap₂, _∙_, subst}
-use mathlib.Core.List.{List, [], _∷_}
+use mathlib.Core.List.{List, [], _∷_, _++_}
 use native.Mathlib.Omega.{arith}
 use lib.ListN.{length, take, drop, getD, length-append, length-take, length-drop}
+use lib.Seq.{drop-drop}
 use Rattle.words.specs.Choice.{pick}
-use Rattle.words.specs.Parts.{region, put, region-length}
+use Rattle.words.specs.Parts.{region, put, region-length, region-put, past-put, before-put}
 use Rattle.synthdef.specs.Definition.{Front}
 use Rattle.nodes.specs.declared.Node.{Node}
 use Rattle.nodes.specs.Table.{width, rows, nodeFrom, row-from}
@@ -20,10 +21,17 @@ use Rattle.model.specs.Layout.{slotCount, lengthsPlace, slotRoom, nodesPlace, n
 use Rattle.model.specs.Engine.{Slot, decode, definitionOf}
 use Rattle.model.specs.Meaning.{startOf}
 use Rattle.model.specs.Effects.{changeStart, changeAll}
-use Rattle.controls.specs.Kept.{put-put, kept-part, kept-word, length-controls, controls-controls}
+use Rattle.state.specs.Regions.{region-before, word-before}
+use Rattle.state.specs.Decoded.{controls-size}
 use Rattle.controls.specs.Encoded.{frontIn, frontOnly, start-front}
 use Rattle.controls.specs.Ready.{Ready, nodeIn, slotBytes, synth-ready}
 use Rattle.controls.specs.Synth.{changeSynth, changeNode, Bounds}
+
+-- a part put over another put at the same place
+pub put-put : (a k : ℕ) (xs ys ws : List ℕ) → a ≤ length ws → length xs ≡ k → put a k ys (put a k xs ws) ≡ put a k ys ws
+put-put a k xs ys ws h e =
+    ap₂ (λ (p q : List ℕ). p ++ (ys ++ q)) (before-put a k a xs ws h (omega arith))
+    (drop-drop k a (put a k xs ws) ∙ past-put a k (a + k) xs ws h e (omega arith) ∙ sym (drop-drop k a ws))
 
 -- what a change does to the controls of one node
 abbrev pub changeOne : (ControlValue → ControlValue) → Key → List ℕ → ℕ → List Slot → Node → List ℕ → List ℕ
@@ -35,19 +43,19 @@ module _ (cs ws : List ℕ) (size : length ws ≡ wordsLength) (many : length cs
   node-kept : (i : ℕ) → nodeIn (putControls cs ws) i ≡ nodeIn ws i
   node-kept i =
       ap (λ (us : List ℕ). nodeFrom us (width * i))
-      (kept-part controlsPlace controlsWords cs ws size (omega arith) (omega arith) nodesPlace nodesWords (omega arith))
+      (region-before controlsPlace controlsWords cs ws (omega arith) many nodesPlace nodesWords (omega arith))
 
   bytes-kept : (shelf : List ℕ) (k : ℕ) → k < 32 → slotBytes (putControls cs ws) shelf k ≡ slotBytes ws shelf k
   bytes-kept shelf k h =
       ap (λ (n : ℕ). take n (take slotRoom (drop (slotRoom * k) shelf)))
-      (kept-word controlsPlace controlsWords cs ws size (omega arith) (omega arith) (lengthsPlace + k) (omega arith))
+      (word-before controlsPlace controlsWords cs ws (omega arith) many (lengthsPlace + k) (omega arith))
 
   -- the node at a place of them
   module _ (shelf : List ℕ) (ready : Ready ws shelf) (i : ℕ) (few : i < countIn ws) where
     pub bounds-kept : Bounds (putControls cs ws) shelf i
     bounds-kept =
         record {
-          size = length-controls cs ws size many;
+          size = controls-size cs ws shelf size many;
           shelfSize = ready .shelfSize;
           place = omega (arith, ready .few);
           slot = λ e. subst (λ (r : Node). r .slot < slotCount) (sym (node-kept i)) (synth-ready ws shelf ready i few (ap isGroup (sym (node-kept i)) ∙ e) .slot);
@@ -107,7 +115,7 @@ turned f key name count ws₀ shelf to i ws ws′ ready h k size rest long told 
     let next : List ℕ = changeNode f key name count ws shelf i cs in
     let many : length cs ≡ controlsWords = region-length controlsPlace controlsWords ws (omega arith) in
     let many′ : length next ≡ controlsWords = put-size controlsPlace controlsWords next ws (omega arith) (sym (ap length told) ∙ long) in
-    let here : controlsIn ws′ ≡ next = ap controlsIn told ∙ controls-controls next ws size many′ in
+    let here : controlsIn ws′ ≡ next = ap controlsIn told ∙ region-put controlsPlace controlsWords next ws (omega arith) many′ in
     let step : next ≡ changeOne f key name count (decode ws₀ shelf .slots) (nodeIn ws₀ i) cs =
     ap (λ (w : List ℕ). changeNode f key name count w shelf i cs) rest ∙ change-kept cs ws₀ (ready .size) many shelf ready i (omega arith) f key name count cs in
     record {

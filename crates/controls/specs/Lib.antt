@@ -1,6 +1,5 @@
 pub mod Change
 pub mod BusLaws
-pub mod Kept
 pub mod Encoded
 pub mod Initial
 pub mod Ready
