@@ -1,3 +1,4 @@
 pub mod Lists
 pub mod Holders
 pub mod Slots
+pub mod Files
