@@ -2,3 +2,4 @@ pub mod Lists
 pub mod Holders
 pub mod Slots
 pub mod Files
+pub mod Storing

@@ -4,7 +4,7 @@ use mathlib.Core.Path.{_≡_, refl, sym, ap, _∙_}
 use mathlib.Core.List.{List, [], _∷_, _++_}
 use native.Mathlib.Omega.{arith}
 use native.Mathlib.Nat.{zero-add}
-use lib.ListN.{length, take, drop}
+use lib.ListN.{length, take, drop, set}
 use lib.Seq.{take-nil}
 
 module _ {A : Type 0} where
@@ -15,3 +15,9 @@ module _ {A : Type 0} where
   drop-take (suc n) m (x ∷ l) =
       let more : suc n + m ≡ suc (n + m) = omega arith in
       rw more (drop-take n m l)
+
+  pub set-append-add : (xs ys : List A) (n : ℕ) (a : A) → set (xs ++ ys) (length xs + n) a ≡ xs ++ set ys n a
+  set-append-add [] ys n a = rw zero-add
+  set-append-add (x ∷ xs) ys n a =
+      let more : suc (length xs) + n ≡ suc (length xs + n) = omega arith in
+      rw more (ap (λ (l : List A). x ∷ l) (set-append-add xs ys n a))
