@@ -14,4 +14,7 @@ pub mod FrontLaws
 pub mod Endings
 pub mod Units
 pub mod Skips
+pub mod Forward
+pub mod File
+pub mod FileLaws
 pub mod Worked

@@ -1,6 +1,7 @@
 // SynthDef2 files: read, refused, looked up.
 mod cursor;
 mod definition;
+mod file;
 mod front;
 mod units;
 
