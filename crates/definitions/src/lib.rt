@@ -3,11 +3,14 @@ use words::wide;
 ghost use Prim.Native.Nat.{ℕ, _+_, _-_, _*_, _≤_, _<_};
 ghost use mathlib.Core.Path.{_≡_};
 ghost use mathlib.Core.List.{List};
-ghost use lib.ListN.{length, take, drop, getD};
+ghost use lib.ListN.{length, take, drop, getD, set};
+ghost use Rattle.words.specs.Parts.{put};
+ghost use Rattle.synthdef.specs.Fields.{stringAt};
+ghost use Rattle.model.specs.Layout.{slotCount, slotRoom};
 ghost use Rattle.nodes.specs.Table.{width, rows};
 ghost use Rattle.model.specs.Effects.{freeFrom};
 ghost use Rattle.definitions.specs.Holders.{HeldBy, holders};
-ghost use Rattle.definitions.specs.Slots.{tableWords, slotsOn};
+ghost use Rattle.definitions.specs.Slots.{Sized, tableWords, slotsOn};
 
 // For each slot, whether a live synth holds it.
 pub fn held_slots(nodes: &[u32], count: usize) -> [bool; 32]
@@ -41,4 +44,37 @@ fn lowest_free(table: &[u32], held: [bool; 32]) -> usize
         k += 1;
     }
     k
+}
+
+// The bytes of `from` at a place.
+fn copy_in(to: &mut [u8], at: usize, from: &[u8])
+    requires { ⌜ at + length (now from) ≤ length (now to) ⌝ }
+    ensures { λ r. ⌜ now (to .exit) ≡ put at (length (now (from .entry))) (now (from .entry)) (now (to .entry)) ⌝ }
+{
+    let mut i = 0;
+    while i < from.len() {
+        to[at + i] = from[i];
+        i += 1;
+    }
+}
+
+// A definition put into a slot, resident.
+fn place(table: &mut [u32], shelf: &mut [u8], k: usize, from: &[u8])
+    requires { ⌜ Sized (now table) (now shelf) × ((k < slotCount) × (length (now from) ≤ slotRoom)) ⌝ }
+    ensures { λ r. ⌜ (now (table .exit) ≡ set (set (now (table .entry)) k (length (now (from .entry)))) (slotCount + k) 1) × (now (shelf .exit) ≡ put (slotRoom * k) (length (now (from .entry))) (now (from .entry)) (now (shelf .entry))) ⌝ }
+{
+    copy_in(shelf, 2048 * k, from);
+    table[k] = from.len() as u32;
+    table[32 + k] = 1;
+}
+
+// The name of a definition that starts at a place: a part of the lent bytes.
+fn name_at(s: &[u8], at: usize) -> &[u8]
+    requires { ⌜ at + (1 + getD (now s) at 0) ≤ length (now s) ⌝ }
+    ensures { λ r. ⌜ now r ≡ stringAt (now (s .entry)) at ⌝ }
+{
+    let size = s[at] as usize;
+    let start = at + 1;
+    let end = start + size;
+    &s[start..end]
 }

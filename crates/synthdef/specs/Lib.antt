@@ -17,4 +17,7 @@ pub mod Skips
 pub mod Forward
 pub mod File
 pub mod FileLaws
+pub mod SameLaws
+pub mod Lookup
+pub mod LookupLaws
 pub mod Worked

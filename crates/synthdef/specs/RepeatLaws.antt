@@ -15,6 +15,13 @@ use Rattle.synthdef.specs.Read.{Read, got, bad, andThen, repeat, ending}
 use Rattle.synthdef.specs.Fields.{float32}
 use Rattle.synthdef.specs.FieldLaws.{word, whole-got}
 
+module _ {A : Type 0} where
+  pub got-value : {x y : A} {p q : ℕ} → got x p ≡ got y q → x ≡ y
+  got-value e = cc
+
+  pub got-place : {x y : A} {p q : ℕ} → got x p ≡ got y q → p ≡ q
+  got-place e = cc
+
 module _ {A B : Type 0} where
   -- two readings that go on alike from what the first one got
   pub andThen-same : (r : Read A) {f g : A → ℕ → Read B} → ((x : A) (next : ℕ) → r ≡ got x next → f x next ≡ g x next) → andThen r f ≡ andThen r g
@@ -31,6 +38,12 @@ module _ {A B : Type 0} where
   pub went : (r : Read A) (f : A → ℕ → Read B) {y : B} {end : ℕ} → andThen r f ≡ got y end → Went r f y end
   went (got x next) f e = record { value = x; place = next; first = refl; rest = e }
   went (bad q place) f e = let z : _≡_ {A = ℕ} 0 1 = cc in absurd (omega arith)
+
+  -- the same, for whatever follows from it
+  pub went-on : {D : Type 0} (r : Read A) (f : A → ℕ → Read B) {y : B} {end : ℕ} → andThen r f ≡ got y end
+      → ((x : A) (p : ℕ) → r ≡ got x p → f x p ≡ got y end → D) → D
+  went-on (got x p) f e k = k x p refl e
+  went-on (bad q place) f e k = let z : _≡_ {A = ℕ} 0 1 = cc in absurd (omega arith)
 
   -- where a reading ends that leaves no value out
   pub ending-andThen : (r : Read A) (f : A → ℕ → Read B) → ending (andThen r f) ≡ andThen r (λ x next. ending (f x next))
