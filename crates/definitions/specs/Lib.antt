@@ -3,3 +3,4 @@ pub mod Holders
 pub mod Slots
 pub mod Files
 pub mod Storing
+pub mod Names

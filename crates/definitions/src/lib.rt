@@ -1,4 +1,5 @@
 // Definition slots in the lent state: 64 words, the slots' lengths and then their resident flags, and the shelf with 2,048 bytes for each slot.
+use synthdef::same_name;
 use words::wide;
 ghost use Prim.Native.Nat.{ℕ, _+_, _-_, _*_, _≤_, _<_};
 ghost use mathlib.Core.Path.{_≡_};
@@ -10,7 +11,9 @@ ghost use Rattle.model.specs.Layout.{slotCount, slotRoom};
 ghost use Rattle.nodes.specs.Table.{width, rows};
 ghost use Rattle.model.specs.Effects.{freeFrom};
 ghost use Rattle.definitions.specs.Holders.{HeldBy, holders};
-ghost use Rattle.definitions.specs.Slots.{Sized, tableWords, slotsOn};
+ghost use Rattle.model.specs.Engine.{residentOf};
+ghost use Rattle.definitions.specs.Names.{MarkedMore, namedOn};
+ghost use Rattle.definitions.specs.Slots.{Formed, Sized, tableWords, slotsOn};
 
 // For each slot, whether a live synth holds it.
 pub fn held_slots(nodes: &[u32], count: usize) -> [bool; 32]
@@ -77,4 +80,46 @@ fn name_at(s: &[u8], at: usize) -> &[u8]
     let start = at + 1;
     let end = start + size;
     &s[start..end]
+}
+
+// A slot's definition is resident under a name.
+fn slot_named(table: &[u32], shelf: &[u8], k: usize, name: &[u8]) -> bool
+    requires { ⌜ Formed (now table) (now shelf) × (k < slotCount) ⌝ }
+    ensures { λ r. ⌜ r ≡ namedOn (now (table .entry)) (now (shelf .entry)) (now (name .entry)) k ⌝ }
+{
+    if table[32 + k] != 1 {
+        return false;
+    }
+    same_name(name_at(shelf, 2048 * k), name)
+}
+
+// The resident of a name; 32 where there is none.
+pub fn find_resident(table: &[u32], shelf: &[u8], name: &[u8]) -> u32
+    requires { ⌜ Formed (now table) (now shelf) ⌝ }
+    ensures { λ r. ⌜ r ≡ residentOf (now (name .entry)) (slotsOn (now (table .entry)) (now (shelf .entry))) ⌝ }
+{
+    let mut k: u32 = 0;
+    while k < 32 {
+        if slot_named(table, shelf, wide(k), name) {
+            return k;
+        }
+        k += 1;
+    }
+    32
+}
+
+// The marks with those of residents that have a name.
+fn mark_named(table: &[u32], shelf: &[u8], name: &[u8], marks: [bool; 32]) -> [bool; 32]
+    requires { ⌜ Formed (now table) (now shelf) × (length marks ≡ slotCount) ⌝ }
+    ensures { λ r. ⌜ MarkedMore (now (table .entry)) (now (shelf .entry)) (now (name .entry)) marks r ⌝ }
+{
+    let mut named = marks;
+    let mut k = 0;
+    while k < 32 {
+        if slot_named(table, shelf, k, name) {
+            named[k] = true;
+        }
+        k += 1;
+    }
+    named
 }
