@@ -4,3 +4,5 @@ pub mod Slots
 pub mod Files
 pub mod Storing
 pub mod Names
+pub mod Naming
+pub mod Retiring
