@@ -6,3 +6,4 @@ pub mod Storing
 pub mod Names
 pub mod Naming
 pub mod Retiring
+pub mod Loading

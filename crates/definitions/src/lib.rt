@@ -19,11 +19,12 @@ ghost use Rattle.synthdef.specs.Fields.{stringAt};
 ghost use Rattle.model.specs.Layout.{slotCount, slotRoom};
 ghost use Rattle.nodes.specs.Table.{width, rows};
 ghost use Rattle.model.specs.Checks.{namesOf, staying};
-ghost use Rattle.model.specs.Effects.{freeFrom, retired};
+ghost use Rattle.model.specs.Effects.{freeFrom, retired, loaded};
 ghost use Rattle.model.specs.Effects as effects;
 ghost use Rattle.definitions.specs.Holders.{HeldBy, holders};
 ghost use Rattle.model.specs.Engine.{residentOf};
 ghost use Rattle.definitions.specs.Files.{Accepted, definitionsOn};
+ghost use Rattle.definitions.specs.Loading.{Loaded};
 ghost use Rattle.definitions.specs.Naming.{NamedBy};
 ghost use Rattle.definitions.specs.Storing.{tableOf};
 ghost use Rattle.definitions.specs.Names.{MarkedMore, namedOn};
@@ -230,4 +231,20 @@ pub fn retire(table: &mut [u32], k: u32)
 {
     let at = wide(k);
     table[32 + at] = 0;
+}
+
+// The definitions of an accepted file in the lowest free slots, in file order.
+fn place_all(table: &mut [u32], shelf: &mut [u8], held: [bool; 32], file: &[u8])
+    requires { ⌜ Formed (now table) (now shelf) × Accepted (now file) ⌝ }
+    ensures { λ r. ⌜ Loaded (now (table .entry)) (now (shelf .entry)) (now (table .exit)) (now (shelf .exit)) (loaded (definitionsOn (now (file .entry))) (slotsOn (now (table .entry)) (now (shelf .entry))) (holders held)) ⌝ }
+{
+    let mut at = 10;
+    while at < file.len() {
+        let next = definition_end(file, at);
+        let k = lowest_free(table, held);
+        if k < 32 {
+            place(table, shelf, k, &file[at..next]);
+        }
+        at = next;
+    }
 }
