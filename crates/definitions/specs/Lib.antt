@@ -6,4 +6,5 @@ pub mod Storing
 pub mod Names
 pub mod Naming
 pub mod Retiring
+pub mod Retired
 pub mod Loading

@@ -153,7 +153,7 @@ module _ (table : List ℕ) (marks : List Bool) (k : ℕ) (now : List ℕ) (m : 
 
 module _ (table shelf : List ℕ) (names : List (List ℕ)) (f : Formed table shelf) where
   -- retired slots keep their lengths
-  retired-size : (k : ℕ) → k < slotCount
+  pub retired-size : (k : ℕ) → k < slotCount
       → getD table k 0 ≡ pick (slotAt (retired names (slotsOn table shelf)) k .resident) (length (slotAt (retired names (slotsOn table shelf)) k .bytes)) (getD table k 0)
   retired-size k h = rw (retired-is table shelf names k h) (by (residentOn table k) refl (not (among (nameOn table shelf k) names)))
     where

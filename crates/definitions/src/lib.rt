@@ -24,7 +24,7 @@ ghost use Rattle.model.specs.Effects as effects;
 ghost use Rattle.definitions.specs.Holders.{HeldBy, holders};
 ghost use Rattle.model.specs.Engine.{residentOf};
 ghost use Rattle.definitions.specs.Files.{Accepted, definitionsOn};
-ghost use Rattle.definitions.specs.Loading.{Loaded};
+ghost use Rattle.definitions.specs.Loading.{Loaded, loadedOn};
 ghost use Rattle.definitions.specs.Naming.{NamedBy};
 ghost use Rattle.definitions.specs.Storing.{tableOf};
 ghost use Rattle.definitions.specs.Names.{MarkedMore, namedOn};
@@ -247,4 +247,13 @@ fn place_all(table: &mut [u32], shelf: &mut [u8], held: [bool; 32], file: &[u8])
         }
         at = next;
     }
+}
+
+// An accepted file loaded: residents under its names retired, then its definitions in the lowest free slots.
+pub fn load(table: &mut [u32], shelf: &mut [u8], held: [bool; 32], file: &[u8])
+    requires { ⌜ Formed (now table) (now shelf) × Accepted (now file) ⌝ }
+    ensures { λ r. ⌜ Loaded (now (table .entry)) (now (shelf .entry)) (now (table .exit)) (now (shelf .exit)) (loadedOn (now (table .entry)) (now (shelf .entry)) held (now (file .entry))) ⌝ }
+{
+    retire_named(table, shelf, file);
+    place_all(table, shelf, held, file);
 }
