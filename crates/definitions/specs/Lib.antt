@@ -8,3 +8,4 @@ pub mod Naming
 pub mod Retiring
 pub mod Retired
 pub mod Loading
+pub mod Checking
