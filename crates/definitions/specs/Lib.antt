@@ -9,3 +9,4 @@ pub mod Retiring
 pub mod Retired
 pub mod Loading
 pub mod Checking
+pub mod Exporting
