@@ -21,7 +21,7 @@ use Rattle.model.specs.Engine.{Slot, residents, definitionIn, noDefinition, val
 use Rattle.model.specs.Replies.{definitionsIn, exportFile}
 use Rattle.roundtrip.specs.Stands.{Bytes}
 use Rattle.roundtrip.specs.Forth.{definition-forth}
-use Rattle.definitions.specs.Slots.{tableWords, slotsOn, slotOn, bytesOn, residentOn, slot-at, slots-end, Sized, Whole, Formed}
+use Rattle.definitions.specs.Slots.{tableWords, lengthsOn, flagsOn, slots-length, slotsOn, slotOn, bytesOn, residentOn, slot-at, slots-end, Sized, Whole, Formed}
 use Rattle.definitions.specs.Retiring.{whole-size}
 
 -- parts of bytes are bytes
@@ -96,6 +96,31 @@ module _ (table shelf : List ℕ) where
   unfolding residents definitionsIn writeAll
   body-end k h = ap (λ (l : List Slot). writeAll writeDefinition (definitionsIn (residents l))) (slots-end table shelf k h)
 
+-- there are at most as many residents as slots
+residents-most : (slots : List Slot) → length (residents slots) ≤ length slots
+unfolding residents
+residents-most [] = omega arith
+residents-most (s ∷ more) = by (s .resident) (residents-most more)
+  where
+    by : (b : Bool) → length (residents more) ≤ length more → length (pick b (s ∷ residents more) (residents more)) ≤ suc (length more)
+    by true h = omega arith
+    by false h = omega arith
+
+pub count-few : (table shelf : List ℕ) → countFrom table shelf 0 ≤ slotCount
+count-few table shelf = omega (arith, residents-most (slotsOn table shelf), slots-length slotCount (lengthsOn table) (flagsOn table) shelf)
+
+-- the length of the bytes: one step
+pub size-turn : (table shelf : List ℕ) → Bytes shelf → Formed table shelf → (k : ℕ) → k < slotCount
+    → length (bodyFrom table shelf k) ≡ pick (residentOn table k) (getD table k 0) 0 + length (bodyFrom table shelf (k + 1))
+size-turn table shelf b f k h = ap length (body-turn table shelf b f k h) ∙ by (residentOn table k) refl
+  where
+    rest : List ℕ
+    rest = bodyFrom table shelf (k + 1)
+
+    by : (r : Bool) → residentOn table k ≡ r → length (pick r (bytesOn table shelf k ++ rest) rest) ≡ pick r (getD table k 0) 0 + length rest
+    by true e = length-append (bytesOn table shelf k) rest ∙ ap (λ (n : ℕ). n + length rest) (whole-size table shelf k (f .sized) h (f .resident k h e))
+    by false e = omega arith
+
 definitions-length : (slots : List Slot) → length (definitionsIn slots) ≡ length slots
 unfolding definitionsIn
 definitions-length [] = refl
@@ -105,31 +130,38 @@ definitions-length (s ∷ more) = ap suc (definitions-length more)
 abbrev pub headOf : ℕ → List ℕ
 headOf n = 83 ∷ (67 ∷ (103 ∷ (102 ∷ (0 ∷ (0 ∷ (0 ∷ (2 ∷ (0 ∷ (n ∷ [])))))))))
 
-pub export-parts : (table shelf : List ℕ) → countFrom table shelf 0 ≤ slotCount → exportFile (slotsOn table shelf) ≡ headOf (countFrom table shelf 0) ++ bodyFrom table shelf 0
+pub export-parts : (table shelf : List ℕ) → exportFile (slotsOn table shelf) ≡ headOf (countFrom table shelf 0) ++ bodyFrom table shelf 0
 unfolding writeFile
-export-parts table shelf few =
+export-parts table shelf =
     let n = countFrom table shelf 0 in
+    let few = count-few table shelf in
     let many : length (definitionsIn (residents (slotsOn table shelf))) ≡ n = definitions-length (residents (slotsOn table shelf)) in
     let high : n / 256 % 256 ≡ 0 = omega arith in
     let low : n % 256 ≡ n = omega arith in
     rw (many, high, low)
 
+-- the length of the whole
+pub export-size : (table shelf : List ℕ) → length (exportFile (slotsOn table shelf)) ≡ 10 + length (bodyFrom table shelf 0)
+export-size table shelf = ap length (export-parts table shelf) ∙ length-append (headOf (countFrom table shelf 0)) (bodyFrom table shelf 0)
+
 -- what is written of an export before the slot k is looked at
 pub record Exporting (table shelf start : List ℕ) (k at : ℕ) (out : List ℕ) : Type 0 where
   pub most : k ≤ slotCount
   pub size : length out ≡ length start
+  pub room : length (exportFile (slotsOn table shelf)) ≤ length out
   pub inside : at + length (bodyFrom table shelf k) ≡ length (exportFile (slotsOn table shelf))
   pub front : take at out ++ bodyFrom table shelf k ≡ exportFile (slotsOn table shelf)
   pub back : drop at out ≡ drop at start
 
 module _ (table shelf start : List ℕ) (k at : ℕ) (out : List ℕ) (b : Bytes shelf) (f : Formed table shelf)
-    (room : length (exportFile (slotsOn table shelf)) ≤ length start) (m : Exporting table shelf start k at out) (less : k < slotCount) where
+    (m : Exporting table shelf start k at out) (less : k < slotCount) where
   pub exporting-skip : residentOn table k ≡ false → Exporting table shelf start (k + 1) at out
   exporting-skip e =
       let same : bodyFrom table shelf k ≡ bodyFrom table shelf (k + 1) = rw e at (body-turn table shelf b f k less) in
       record {
         most = omega arith;
         size = m .size;
+        room = m .room;
         inside = rw same at (m .inside);
         front = rw same at (m .front);
         back = m .back;
@@ -140,16 +172,13 @@ module _ (table shelf start : List ℕ) (k at : ℕ) (out : List ℕ) (b : Bytes
     body-here = rw e at (body-turn table shelf b f k less)
 
     body-sum : length (bodyFrom table shelf k) ≡ getD table k 0 + length (bodyFrom table shelf (k + 1))
-    body-sum =
-        ap length body-here
-        ∙ length-append (bytesOn table shelf k) (bodyFrom table shelf (k + 1))
-        ∙ ap (λ (n : ℕ). n + length (bodyFrom table shelf (k + 1))) (whole-size table shelf k (f .sized) less (f .resident k less e))
+    body-sum = rw e at (size-turn table shelf b f k less)
+
+    pub exporting-within : at + getD table k 0 ≤ length (exportFile (slotsOn table shelf))
+    exporting-within = let i = m .inside in omega (arith, body-sum)
 
     pub exporting-room : at + getD table k 0 ≤ length out
-    exporting-room =
-        let i = m .inside in
-        let z = m .size in
-        omega (arith, body-sum)
+    exporting-room = let r = m .room in omega (arith, exporting-within)
 
     pub exporting-next : (from : List ℕ) → from ≡ bytesOn table shelf k
         → Exporting table shelf start (k + 1) (at + getD table k 0) (put at (length from) from out)
@@ -165,6 +194,7 @@ module _ (table shelf start : List ℕ) (k at : ℕ) (out : List ℕ) (b : Bytes
         record {
           most = omega arith;
           size = put-length at (length from) from out (omega arith) refl ∙ m .size;
+          room = rw (put-length at (length from) from out (omega arith) refl) (m .room);
           inside = omega (arith, body-sum);
           front = ap (λ (l : List ℕ). l ++ bodyFrom table shelf (k + 1))
               (ap (λ (l : List ℕ). take (at + n) l) (sym (append-assoc (take at out) from rest)) ∙ take-at (take at out ++ from) rest (at + n) both-parts)
@@ -186,13 +216,30 @@ exporting-done table shelf start k at out m h =
     let end : at ≡ length (exportFile (slotsOn table shelf)) = omega (arith, ap length none) in
     sym (take-append-drop at out) ∙ ap₂ (λ (x y : List ℕ). x ++ y) whole (m .back ∙ ap (λ (n : ℕ). drop n start) end)
 
-pub exporting-first : (table shelf start out : List ℕ) → countFrom table shelf 0 ≤ slotCount → 10 ≤ length start
-    → out ≡ put 0 10 (headOf (countFrom table shelf 0)) start
-    → Exporting table shelf start 0 10 out
-exporting-first table shelf start out few room e = record {
+pub exporting-first : (table shelf start out : List ℕ) → length (exportFile (slotsOn table shelf)) ≤ length start → out ≡ put 0 10 (headOf (countFrom table shelf 0)) start
+    → Exporting table shelf out 0 10 out
+exporting-first table shelf start out room e = record {
   most = omega arith;
-  size = ap length e ∙ put-length 0 10 (headOf (countFrom table shelf 0)) start (omega arith) refl;
-  inside = sym (ap length (export-parts table shelf few) ∙ length-append (headOf (countFrom table shelf 0)) (bodyFrom table shelf 0));
-  front = rw e (sym (export-parts table shelf few));
-  back = rw e;
+  size = refl;
+  room = rw (ap length e ∙ put-length 0 10 (headOf (countFrom table shelf 0)) start (omega (arith, export-size table shelf)) refl) room;
+  inside = sym (export-size table shelf);
+  front = rw e (sym (export-parts table shelf));
+  back = refl;
 }
+
+-- the head and then the definitions
+pub exporting-whole : (table shelf start mid out : List ℕ) (k at : ℕ) → length (exportFile (slotsOn table shelf)) ≤ length start → mid ≡ put 0 10 (headOf (countFrom table shelf 0)) start
+    → Exporting table shelf mid k at out → slotCount ≤ k
+    → out ≡ exportFile (slotsOn table shelf) ++ drop (length (exportFile (slotsOn table shelf))) start
+exporting-whole table shelf start mid out k at room e m h =
+    let n = length (exportFile (slotsOn table shelf)) in
+    exporting-done table shelf mid k at out m h
+    ∙ ap (λ (l : List ℕ). exportFile (slotsOn table shelf) ++ l) (ap (λ (l : List ℕ). drop n l) e ∙ past-put 0 10 n (headOf (countFrom table shelf 0)) start (omega arith) refl (omega (arith, export-size table shelf)))
+
+-- a resident's part of the shelf
+pub resident-part : (table shelf : List ℕ) (k size : ℕ) → size ≡ getD table k 0 → size ≤ slotRoom
+    → take (slotRoom * k + size - slotRoom * k) (drop (slotRoom * k) shelf) ≡ bytesOn table shelf k
+resident-part table shelf k size e small =
+    let n : slotRoom * k + size - slotRoom * k ≡ size = omega arith in
+    let room = drop (slotRoom * k) shelf in
+    ap (λ (m : ℕ). take m room) n ∙ sym (take-take size slotRoom room small) ∙ ap (λ (m : ℕ). take m (take slotRoom room)) e

@@ -7,7 +7,7 @@ use words::wide;
 ghost use Prim.Native.Nat.{ℕ, _+_, _-_, _*_, _≤_, _<_};
 ghost use mathlib.Core.Bool.{not};
 ghost use mathlib.Core.Path.{_≡_};
-ghost use mathlib.Core.List.{List};
+ghost use mathlib.Core.List.{List, _++_};
 ghost use lib.ListN.{length, take, drop, getD, set};
 ghost use lib.Dec.{leb, eqb};
 ghost use Rattle.words.specs.Choice.{both, either};
@@ -23,9 +23,11 @@ ghost use Rattle.model.specs.Checks.{namesOf, staying};
 ghost use Rattle.model.specs.Effects.{freeFrom, retired, loaded};
 ghost use Rattle.model.specs.Effects as effects;
 ghost use Rattle.definitions.specs.Holders.{HeldBy, holders};
-ghost use Rattle.model.specs.Engine.{residentOf};
+ghost use Rattle.model.specs.Engine.{residents, residentOf};
 ghost use Rattle.model.specs.Engine as engine;
 ghost use Rattle.model.specs.Formed.{flagsFormed, isWhole, slotsFormed, nameResident, namesApart};
+ghost use Rattle.model.specs.Replies.{exportFile};
+ghost use Rattle.definitions.specs.Exporting.{headOf};
 ghost use Rattle.definitions.specs.Checking.{formedOn};
 ghost use Rattle.definitions.specs.Files.{Accepted, definitionsOn};
 ghost use Rattle.definitions.specs.Loading.{Loaded, loadedOn};
@@ -365,4 +367,65 @@ pub fn slots_formed(table: &[u32], shelf: &[u8], held: [bool; 32]) -> bool
         return false;
     }
     names_apart(table, shelf)
+}
+
+// How many definitions are resident.
+pub fn resident_count(table: &[u32]) -> u32
+    requires { ⌜ length (now table) ≡ tableWords ⌝ }
+    ensures { λ r. ⌜ ((shelf : List ℕ) → r ≡ length (residents (slotsOn (now (table .entry)) shelf))) ⌝ }
+{
+    let mut n: u32 = 0;
+    let mut k = 0;
+    while k < 32 {
+        if table[32 + k] == 1 {
+            n += 1;
+        }
+        k += 1;
+    }
+    n
+}
+
+// The length of the export.
+pub fn export_length(table: &[u32], shelf: &[u8]) -> usize
+    requires { ⌜ Formed (now table) (now shelf) ⌝ }
+    ensures { λ r. ⌜ r ≡ length (exportFile (slotsOn (now (table .entry)) (now (shelf .entry)))) ⌝ }
+{
+    let mut n = 10;
+    let mut k = 0;
+    while k < 32 {
+        if table[32 + k] == 1 {
+            n += wide(table[k]);
+        }
+        k += 1;
+    }
+    n
+}
+
+// The head of a file of so many definitions.
+fn write_head(out: &mut [u8], count: u8)
+    requires { ⌜ 10 ≤ length (now out) ⌝ }
+    ensures { λ r. ⌜ now (out .exit) ≡ put 0 10 (headOf count) (now (out .entry)) ⌝ }
+{
+    let head: [u8; 10] = [83, 67, 103, 102, 0, 0, 0, 2, 0, count];
+    copy_in(out, 0, &head);
+}
+
+// A version 2 file of all residents in slot order, from the buffer's first byte; bytes past it stay.
+pub fn export(table: &[u32], shelf: &[u8], out: &mut [u8])
+    requires { ⌜ Formed (now table) (now shelf) × (length (exportFile (slotsOn (now table) (now shelf))) ≤ length (now out)) ⌝ }
+    ensures { λ r. ⌜ now (out .exit) ≡ exportFile (slotsOn (now (table .entry)) (now (shelf .entry))) ++ drop (length (exportFile (slotsOn (now (table .entry)) (now (shelf .entry))))) (now (out .entry)) ⌝ }
+{
+    write_head(out, resident_count(table) as u8);
+    let mut at = 10;
+    let mut k = 0;
+    while k < 32 {
+        if table[32 + k] == 1 {
+            let size = wide(table[k]);
+            let start = 2048 * k;
+            let end = start + size;
+            copy_in(out, at, &shelf[start..end]);
+            at += size;
+        }
+        k += 1;
+    }
 }
