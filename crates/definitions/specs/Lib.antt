@@ -10,3 +10,5 @@ pub mod Retired
 pub mod Loading
 pub mod Checking
 pub mod Exporting
+pub mod Lent
+pub mod Exported

@@ -55,6 +55,10 @@ free-slot j (s ∷ more) t i e h = by (slotTaken j s t) refl i e h (λ n. free-s
     by false q zero e h ih = first q
     by false q (suc i) e h ih = absurd (omega arith)
 
+-- a definition placed leaves as many slots
+pub placed-many : (d : Definition) (slots : List Slot) (t : List Node) → length slots ≡ slotCount → length (placed d slots t) ≡ slotCount
+placed-many d slots t many = length-set slots (freeFrom 0 slots t) (record { bytes = writeDefinition d; resident = true }) ∙ many
+
 -- the flags in a table of slots
 flags-in : (slots : List Slot) (table shelf : List ℕ) → length slots ≡ slotCount → flagsOf (slotsOn (tableOf slots table) shelf) ≡ flagsOf slots
 flags-in slots table shelf many =
