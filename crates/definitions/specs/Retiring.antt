@@ -86,7 +86,7 @@ module _ (table shelf : List ℕ) (f : Formed table shelf) where
       (λ k h. rw (slot-is table shelf k h) (size-told k h))
       (λ k h. rw (slot-is table shelf k h) (flag-told (getD table (slotCount + k) 0) (f .flag k h))))
 
-retired-length : (names : List (List ℕ)) (slots : List Slot) → length (retired names slots) ≡ length slots
+pub retired-length : (names : List (List ℕ)) (slots : List Slot) → length (retired names slots) ≡ length slots
 unfolding retired
 retired-length names [] = refl
 retired-length names (s ∷ more) = ap suc (retired-length names more)
