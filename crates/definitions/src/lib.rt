@@ -419,7 +419,8 @@ pub fn export(table: &[u32], shelf: &[u8], out: &mut [u8])
     let mut at = 10;
     let mut k = 0;
     while k < 32 {
-        if table[32 + k] == 1 {
+        let flag = table[32 + k];
+        if flag == 1 {
             let size = wide(table[k]);
             let start = 2048 * k;
             let end = start + size;

@@ -47,14 +47,14 @@ loop-holds c = let a = c .before .before .before .before .before .before .before
     let count = c .before .before .before .resident-count .ensures (a .shelf .now) in
     exporting-first (a .table .now) (a .shelf .now) (a .out .now) (c .before .before .write-head .last .0) (c .before .before .before .before .before .before .before .before .pre .1) (c .before .before .write-head .ensures ∙ ap (λ (n : ℕ). put 0 10 (headOf n) (a .out .now)) count)
 
-add-if1 : tie.Need-add-if1 Inv-loop μ-loop
-add-if1 c = omega arith
+add-flag : tie.Need-add-flag Inv-loop μ-loop
+add-flag c = omega arith
 
-mul-if1 : tie.Need-mul-if1 Inv-loop μ-loop
-mul-if1 c = omega arith
+mul-flag : tie.Need-mul-flag Inv-loop μ-loop
+mul-flag c = omega arith
 
-shared-slice-read-if1 : tie.Need-shared-slice-read-if1 Inv-loop μ-loop
-shared-slice-read-if1 c = omega arith
+shared-slice-read-flag : tie.Need-shared-slice-read-flag Inv-loop μ-loop
+shared-slice-read-flag c = omega arith
 
 mul-wide : tie.Need-mul-wide Inv-loop μ-loop
 mul-wide c = omega arith
@@ -172,9 +172,9 @@ export-spec =
     cast-write-head
     write-head-requires
     loop-holds
-    add-if1
-    mul-if1
-    shared-slice-read-if1
+    add-flag
+    mul-flag
+    shared-slice-read-flag
     mul-wide
     shared-slice-read-wide
     wide-requires
