@@ -4,3 +4,6 @@ pub mod Add
 pub mod Moves
 pub mod Depths
 pub mod MoveRun
+pub mod Places
+pub mod Moved
+pub mod Ends

@@ -23,7 +23,7 @@ module _ {A : Type 0} where
     pub front : take at after ≡ take at (without from to l)
     pub back : drop (at + (to - from)) after ≡ drop at (without from to l)
 
-  drop-take : (a b : ℕ) (l : List A) → a ≤ b → b ≤ length l → drop a (take b l) ≡ take (b - a) (drop a l)
+  pub drop-take : (a b : ℕ) (l : List A) → a ≤ b → b ≤ length l → drop a (take b l) ≡ take (b - a) (drop a l)
   drop-take a b l h g =
       let e : b ≡ a + (b - a) = omega arith in
       ap (λ (k : ℕ). drop a (take k l)) e ∙ ap (λ (m : List A). drop a m) (take-add a (b - a) l) ∙ drop-at (take a l) (take (b - a) (drop a l)) a (length-take-le a l (omega arith))
