@@ -33,7 +33,7 @@ relevel-snoc old new [] r = refl
 relevel-snoc old new (x ∷ l) r = ap (λ (m : List Node). level (x .depth - old + new) x ∷ m) (relevel-snoc old new l r)
 
 -- one record more
-rows-snoc : (k : ℕ) (us : List ℕ) → rows (k + 1) us ≡ rows k us ++ (nodeFrom us (width * k) ∷ [])
+pub rows-snoc : (k : ℕ) (us : List ℕ) → rows (k + 1) us ≡ rows k us ++ (nodeFrom us (width * k) ∷ [])
 rows-snoc k us =
     sym (take-append-drop k (rows (k + 1) us))
     ∙ ap₂ (λ (a b : List Node). a ++ b) (rows-take k (k + 1) us (omega arith)) (row-from (k + 1) us k (omega arith) ∙ ap (λ (m : List Node). nodeFrom us (width * k) ∷ m) (rows-end (k + 1) us (k + 1) (omega arith)))

@@ -7,3 +7,4 @@ pub mod MoveRun
 pub mod Places
 pub mod Moved
 pub mod Ends
+pub mod Around

@@ -4,6 +4,7 @@ mod change;
 mod moves;
 mod runs;
 mod search;
+mod structure;
 
 pub use add::Place;
 pub use add::add_node;
@@ -20,3 +21,9 @@ pub use moves::move_tail;
 pub use runs::node_at;
 pub use search::find;
 pub use search::subtree_end;
+pub use structure::child_count;
+pub use structure::head_of;
+pub use structure::next_of;
+pub use structure::parent_of;
+pub use structure::previous_of;
+pub use structure::tail_of;
