@@ -8,3 +8,5 @@ pub mod Places
 pub mod Moved
 pub mod Ends
 pub mod Around
+pub mod Below
+pub mod FreeRow
