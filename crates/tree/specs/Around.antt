@@ -4,7 +4,7 @@ use mathlib.Core.Bool.{Bool, true, false}
 use mathlib.Core.Path.{_≡_, refl, sym, ap, ap₂, _∙_}
 use mathlib.Core.List.{List, [], _∷_, _++_, nil≢cons, head-eq-of-cons-eq, tail-eq-of-cons-eq}
 use native.Mathlib.Omega.{arith}
-use lib.ListN.{length, take, drop, getD}
+use lib.ListN.{take, drop, getD}
 use lib.Seq.{drop-drop}
 use lib.Dec.{ltb, eqb}
 use borrow.Author.Tests.{lt-ltb, le-ltb, eq-eqb, ne-eqb}
@@ -12,7 +12,7 @@ use Rattle.words.specs.Choice.{pick}
 use Rattle.nodes.specs.declared.Node.{Node}
 use Rattle.nodes.specs.Table.{width, nodeFrom, rows, rows-take, rows-end, row-from}
 use Rattle.nodes.specs.Place.{place, deeper}
-use Rattle.nodes.specs.Edit.{sink, takeDeeper, dropDeeper, runOf}
+use Rattle.nodes.specs.Edit.{sink, dropDeeper}
 use Rattle.nodes.specs.Split.{dropDeeper-at, runOf-at}
 use Rattle.nodes.specs.Structure.{noNode, atDepth, childrenOf, depthOf, lastAbove, parentOf, lastBeside, previousOf, firstBeside, nextOf}
 use Rattle.tree.specs.Sizes.{depthAt, endAt}

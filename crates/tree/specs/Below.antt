@@ -1,17 +1,17 @@
 -- Whether a node lies below another, by their places.
-use Prim.Native.Nat.{ℕ, zero, suc, _+_, _*_, _-_, _≤_, _<_}
+use Prim.Native.Nat.{ℕ, zero, suc, _+_, _*_, _≤_, _<_}
 use mathlib.Core.Bool.{Bool, true, false}
 use mathlib.Core.Path.{_≡_, refl, sym, ap, ap₂, _∙_}
-use mathlib.Core.List.{List, [], _∷_, _++_}
+use mathlib.Core.List.{List, [], _∷_}
 use native.Mathlib.Omega.{arith}
 use lib.ListN.{length, take, drop, length-drop}
-use lib.Dec.{ltb, leb, eqb, leb·suc-suc}
+use lib.Dec.{ltb, eqb, leb·suc-suc}
 use borrow.Author.Tests.{ltb-true, ltb-false, lt-ltb, le-ltb, le-leb, lt-leb, eqb-true}
-use Rattle.words.specs.Choice.{pick, both, either-false}
+use Rattle.words.specs.Choice.{pick, either-false}
 use Rattle.nodes.specs.declared.Node.{Node}
 use Rattle.nodes.specs.Table.{width, nodeFrom, rows, rows-length, row-from}
 use Rattle.nodes.specs.Place.{lives, place, deeper, end-most}
-use Rattle.nodes.specs.Edit.{sink, runOf, isBelow}
+use Rattle.nodes.specs.Edit.{sink, isBelow}
 use Rattle.nodes.specs.Split.{runOf-at}
 use Rattle.nodes.specs.Formed.{apart}
 use Rattle.tree.specs.Sizes.{depthAt, endAt}

@@ -1,13 +1,13 @@
 -- The ends of runs: a record of a run is no less deep than the run's first, and runs nest.
 use Prim.Native.Nat.{ℕ, suc, _+_, _*_, _-_, _≤_, _<_}
 use mathlib.Core.Bool.{Bool, true, false}
-use mathlib.Core.Path.{_≡_, refl, sym, ap, ap₂, _∙_}
+use mathlib.Core.Path.{_≡_, refl, ap, _∙_}
 use mathlib.Core.List.{List, _∷_}
 use native.Mathlib.Omega.{arith}
 use lib.ListN.{length, drop}
 use lib.Seq.{drop-drop}
-use lib.Dec.{ltb, leb, eqb}
-use borrow.Author.Tests.{ltb-true, ltb-false, le-leb, lt-leb, leb-true, leb-false, lt-ltb}
+use lib.Dec.{ltb, leb}
+use borrow.Author.Tests.{ltb-true, ltb-false, le-leb, leb-true, leb-false, lt-ltb}
 use Rattle.words.specs.Choice.{pick, both}
 use Rattle.nodes.specs.declared.Node.{Node}
 use Rattle.nodes.specs.Table.{width, nodeFrom, rows, row-from}
@@ -89,3 +89,22 @@ end-outside c us a b live outside h = go (ltb b a) refl
     go : (q : Bool) → ltb b a ≡ q → endAt c us a ≤ endAt c us b
     go true q = ends-nest c us b live a (ltb-true b a q) h
     go false q = omega (arith, outside (ltb-false b a q))
+
+-- a move's node and the place that it goes to: one that is not inside its run, or the end of the other's run
+module _ (us : List ℕ) (c a b : ℕ) (both : Moving us c a b) where
+  pub aim : (place depth : ℕ) → place ≤ c → (a < place → endAt c us a ≤ place) → depth ≤ depthAt us b + 1 → Aimed us c a place depth
+  aim place depth fits outside deep = record {
+    room = both .room;
+    few = both .few;
+    live = both .live;
+    fits = fits;
+    outside = outside;
+    deep = omega (arith, both .shallow b (both .target));
+    shallow = both .shallow;
+  }
+
+  pub aim-end : (e depth : ℕ) → e ≡ endAt c us b → depth ≤ depthAt us b + 1 → Aimed us c a e depth
+  aim-end e depth same deep =
+      aim e depth (omega (arith, both .target, end-most c us (depthAt us b) (b + 1) (omega (arith, both .target))))
+      (λ h. omega (arith, end-outside c us a b (both .target) (both .outside) (omega arith)))
+      deep

@@ -10,3 +10,4 @@ pub mod Ends
 pub mod Around
 pub mod Below
 pub mod FreeRow
+pub mod Shallow

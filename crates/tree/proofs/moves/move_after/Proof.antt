@@ -1,20 +1,17 @@
 -- `tree::moves::move_after` meets its contract: the law of this move.
-use Prim.Native.Nat.{ℕ, _+_}
+use Prim.Native.Nat.{ℕ}
 use mathlib.Core.Path.{sym, ap, _∙_}
 use mathlib.Core.List.{List}
 use native.Mathlib.Omega.{arith}
 use borrow.Author.Needs.{needs}
+use Rattle.tree.specs.Sizes.{depthAt, endAt}
+use Rattle.tree.specs.Ends.{aim-end}
 use Rattle.nodes.specs.declared.Node.{Node}
 use Rattle.nodes.specs.Table.{rows, fill}
-use Rattle.nodes.specs.Place.{end-most}
-use Rattle.tree.specs.Sizes.{depthAt, endAt}
 use Rattle.tree.specs.MoveRun.{movedRun, landing}
-use Rattle.tree.specs.Ends.{end-outside}
 use Rattle.tree.specs.Moved.{moveAfter-at}
 use Rattle.tree.proofs.moves.move_after.Statement.{statement}
 use Rattle.tree.proofs.moves.move_after.Tie as tie
-use Rattle.tree.proofs.moves.move_to.Reads as move-to-reads
-use Rattle.tree.proofs.search.subtree_end.Reads as subtree-end-reads
 
 mul-depth : tie.Need-mul-depth
 mul-depth c = search needs
@@ -35,16 +32,8 @@ move-to-requires : tie.Need-move-to-requires
 move-to-requires c κs =
     let s = c .before .before .before .before .before in
     let a = s .args in
-    let us = a .nodes .now in
-    let e = c .before .subtree-end .ensures in record {
-      room = s .pre .room;
-      few = s .pre .few;
-      live = s .pre .live;
-      fits = omega (arith, e, end-most (a .count) us (depthAt us (a .b)) (a .b + 1) (omega arith));
-      outside = λ h. omega (arith, e, end-outside (a .count) us (a .a) (a .b) (s .pre .target) (s .pre .outside) (omega (arith, e)));
-      deep = omega (arith, s .pre .shallow (a .b) (s .pre .target));
-      shallow = s .pre .shallow;
-    }
+    let e = c .before .subtree-end in
+    aim-end (a .nodes .now) (a .count) (a .a) (a .b) (s .pre) (e .result) (depthAt (a .nodes .now) (a .b)) (e .ensures) (omega arith)
 
 same-length : tie.Need-same-length
 same-length c = search needs

@@ -3,12 +3,13 @@ use mathlib.Core.Path.{sym, ap, _∙_}
 use mathlib.Core.List.{List}
 use native.Mathlib.Omega.{arith}
 use borrow.Author.Needs.{needs}
+use Rattle.tree.specs.Sizes.{depthAt}
+use Rattle.tree.specs.Ends.{aim}
 use Rattle.nodes.specs.declared.Node.{Node}
 use Rattle.nodes.specs.Table.{fill}
 use Rattle.tree.specs.Moved.{moveBefore-at}
 use Rattle.tree.proofs.moves.move_before.Statement.{statement}
 use Rattle.tree.proofs.moves.move_before.Tie as tie
-use Rattle.tree.proofs.moves.move_to.Reads as move-to-reads
 
 mul-depth : tie.Need-mul-depth
 mul-depth c = search needs
@@ -24,15 +25,9 @@ slice-read-depth c = search needs
 
 move-to-requires : tie.Need-move-to-requires
 move-to-requires c κs =
-    let s = c .before .before .before in record {
-      room = s .pre .room;
-      few = s .pre .few;
-      live = s .pre .live;
-      fits = omega arith;
-      outside = λ h. s .pre .outside (omega arith);
-      deep = omega (arith, s .pre .shallow (s .args .b) (s .pre .target));
-      shallow = s .pre .shallow;
-    }
+    let s = c .before .before .before in
+    let a = s .args in
+    aim (a .nodes .now) (a .count) (a .a) (a .b) (s .pre) (a .b) (depthAt (a .nodes .now) (a .b)) (omega arith) (λ h. s .pre .outside (omega arith)) (omega arith)
 
 same-length : tie.Need-same-length
 same-length c = search needs

@@ -10,9 +10,6 @@ use Rattle.tree.specs.MoveRun.{movedRun, landing}
 use Rattle.tree.specs.Ends.{landing-fits, run-least}
 use Rattle.tree.proofs.moves.move_to.Statement.{statement}
 use Rattle.tree.proofs.moves.move_to.Tie as tie
-use Rattle.tree.proofs.moves.move_run.Reads as move-run-reads
-use Rattle.tree.proofs.moves.place_without.Reads as place-without-reads
-use Rattle.tree.proofs.search.subtree_end.Reads as subtree-end-reads
 
 subtree-end-requires : tie.Need-subtree-end-requires
 subtree-end-requires c κs = search needs

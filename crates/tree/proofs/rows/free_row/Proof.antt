@@ -11,8 +11,6 @@ use Rattle.nodes.specs.Formed.{rowTaken}
 use Rattle.tree.specs.FreeRow.{freeFrom, free-here, free-on, free-end}
 use Rattle.tree.proofs.rows.free_row.Statement.{statement}
 use Rattle.tree.proofs.rows.free_row.Tie as tie
-use Rattle.tree.proofs.rows.taken_rows.Reads as taken-rows-reads
-use Rattle.words.proofs.wide.Reads as wide-reads
 
 abbrev Inv-loop : tie.InvT-loop
 Inv-loop nodes count marks row₀ row = (row ≤ 256) × (freeFrom (256 - row) row (rows count nodes) ≡ freeFrom 256 0 (rows count nodes))

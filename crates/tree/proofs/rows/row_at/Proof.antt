@@ -8,7 +8,6 @@ use borrow.Author.Tests.{eq-eqb, ne-eqb}
 use lib.ListN.{getD}
 use Rattle.tree.proofs.rows.row_at.Statement.{statement}
 use Rattle.tree.proofs.rows.row_at.Tie as tie
-use Rattle.words.proofs.wide.Reads as wide-reads
 
 mul-if1 : tie.Need-mul-if1
 mul-if1 c = search needs

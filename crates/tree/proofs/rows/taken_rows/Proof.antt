@@ -8,7 +8,6 @@ use lib.ListN.{length, set, length-set}
 use Rattle.tree.specs.FreeRow.{Marked, marked-start, marked-end, marked-skip, marked-set}
 use Rattle.tree.proofs.rows.taken_rows.Statement.{statement}
 use Rattle.tree.proofs.rows.taken_rows.Tie as tie
-use Rattle.tree.proofs.rows.row_at.Reads as row-at-reads
 
 abbrev Inv-loop : tie.InvT-loop
 Inv-loop nodes count marks₀ i₀ marks i = (i ≤ count) × (length marks ≡ 256) × Marked marks count nodes i

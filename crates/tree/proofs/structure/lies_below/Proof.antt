@@ -9,7 +9,6 @@ use borrow.Author.Tests.{le-leb, lt-leb}
 use Rattle.tree.specs.Below.{told}
 use Rattle.tree.proofs.structure.lies_below.Statement.{statement}
 use Rattle.tree.proofs.structure.lies_below.Tie as tie
-use Rattle.tree.proofs.search.subtree_end.Reads as subtree-end-reads
 
 returns : tie.Need-returns
 returns c =

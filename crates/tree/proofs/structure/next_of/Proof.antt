@@ -14,7 +14,6 @@ use Rattle.nodes.specs.Place.{place}
 use Rattle.tree.specs.Sizes.{depthAt, endAt}
 use Rattle.tree.proofs.structure.next_of.Statement.{statement}
 use Rattle.tree.proofs.structure.next_of.Tie as tie
-use Rattle.tree.proofs.search.subtree_end.Reads as subtree-end-reads
 
 -- with the end as it was found
 next-at : (c : ℕ) (us : List ℕ) (n at e : ℕ) → at ≡ place n (rows c us) → at < c → e ≡ endAt c us at → nextOf n (rows c us) ≡ firstBeside (depthAt us at) (drop e (rows c us))
