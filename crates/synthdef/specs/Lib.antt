@@ -1,8 +1,17 @@
 pub mod Read
+pub mod ReadLaws
+pub mod RepeatLaws
 pub mod Fields
+pub mod FieldLaws
+pub mod NameLaws
 pub mod Definition
 pub mod Reader
 pub mod Writer
 pub mod Bounds
 pub mod Answers
+pub mod Front
+pub mod FrontLaws
+pub mod Endings
+pub mod Units
+pub mod Skips
 pub mod Worked

@@ -1,18 +1,10 @@
 -- The writing of a definition and of a file, version 2.
-use Prim.Native.Nat.{ℕ, _/_, _%_}
+use Prim.Native.Nat.{ℕ}
 use mathlib.Core.List.{List, [], _∷_, _++_}
 use lib.ListN.{length}
+use Rattle.words.specs.Bytes.{bytes8, bytes16, bytes32}
 use Rattle.synthdef.specs.Definition.{Input, constant, output, UnitSpec, ParameterName, Variant, Front, Definition}
 use Rattle.synthdef.specs.Reader.{minusOne, fileType, fileVersion}
-
-abbrev pub bytes8 : ℕ → List ℕ
-bytes8 n = n ∷ []
-
-abbrev pub bytes16 : ℕ → List ℕ
-bytes16 n = n / 256 % 256 ∷ (n % 256 ∷ [])
-
-abbrev pub bytes32 : ℕ → List ℕ
-bytes32 n = n / 16777216 % 256 ∷ (n / 65536 % 256 ∷ (n / 256 % 256 ∷ (n % 256 ∷ [])))
 
 -- the field of a count or an index, of four bytes in version 2
 abbrev pub writeInteger : ℕ → List ℕ

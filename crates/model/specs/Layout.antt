@@ -1,0 +1,118 @@
+-- Where each part of the engine lies in the lent words and on the lent shelf. docs/LAYOUT.md says the same in words.
+use Prim.Native.Nat.{ℕ, _+_, _*_}
+use mathlib.Core.List.{List, [], _∷_, _++_}
+use lib.ListN.{length, take, drop, getD, set, replicate}
+use Rattle.words.specs.Parts.{region, put}
+use Rattle.nodes.specs.declared.Node.{Node}
+use Rattle.nodes.specs.Table.{width, rows, fill}
+
+-- "256 nodes with the root; 32 definition slots; 32 parameters and 2,048 encoded bytes to a definition"; "4,096 control buses"
+abbrev pub slotCount : ℕ
+slotCount = 32
+
+abbrev pub busCount : ℕ
+busCount = 4096
+
+-- a slot's room on the shelf
+abbrev pub slotRoom : ℕ
+slotRoom = 2048
+
+-- the words of a row of controls: two for each of 32
+abbrev pub rowWords : ℕ
+rowWords = 64
+
+-- the places of the parts, and the length of the words
+abbrev pub lengthsPlace : ℕ
+lengthsPlace = 4
+
+abbrev pub residentPlace : ℕ
+residentPlace = 36
+
+abbrev pub nodesPlace : ℕ
+nodesPlace = 68
+
+abbrev pub nodesWords : ℕ
+nodesWords = 1280
+
+abbrev pub orderPlace : ℕ
+orderPlace = 1348
+
+abbrev pub orderWords : ℕ
+orderWords = 255
+
+abbrev pub controlsPlace : ℕ
+controlsPlace = 1603
+
+abbrev pub controlsWords : ℕ
+controlsWords = 16384
+
+abbrev pub busesPlace : ℕ
+busesPlace = 17987
+
+abbrev pub wordsLength : ℕ
+wordsLength = 22083
+
+abbrev pub shelfLength : ℕ
+shelfLength = 65536
+
+-- the parts in the words
+abbrev pub countIn : List ℕ → ℕ
+countIn ws = getD ws 0 0
+
+abbrev pub orderLengthIn : List ℕ → ℕ
+orderLengthIn ws = getD ws 1 0
+
+abbrev pub nextIn : List ℕ → ℕ
+nextIn ws = getD ws 2 0
+
+abbrev pub latestIn : List ℕ → ℕ
+latestIn ws = getD ws 3 0
+
+abbrev pub lengthsIn : List ℕ → List ℕ
+lengthsIn ws = region lengthsPlace slotCount ws
+
+abbrev pub residentIn : List ℕ → List ℕ
+residentIn ws = region residentPlace slotCount ws
+
+abbrev pub nodesIn : List ℕ → List Node
+nodesIn ws = rows (countIn ws) (region nodesPlace nodesWords ws)
+
+abbrev pub orderIn : List ℕ → List ℕ
+orderIn ws = take (orderLengthIn ws) (region orderPlace orderWords ws)
+
+abbrev pub controlsIn : List ℕ → List ℕ
+controlsIn ws = region controlsPlace controlsWords ws
+
+abbrev pub busesIn : List ℕ → List ℕ
+busesIn ws = region busesPlace busCount ws
+
+-- the bytes of the slot k on the shelf
+abbrev pub slotIn : List ℕ → ℕ → ℕ → List ℕ
+slotIn shelf k size = region (slotRoom * k) size shelf
+
+-- the words with a part put in
+abbrev pub putNodes : List Node → List ℕ → List ℕ
+putNodes t ws = put nodesPlace nodesWords (fill (region nodesPlace nodesWords ws) t) ws
+
+-- the order region is written whole, zeros past its length
+abbrev pub orderRegion : List ℕ → List ℕ
+orderRegion order = take orderWords (order ++ replicate orderWords 0)
+
+abbrev pub putOrder : List ℕ → List ℕ → List ℕ
+putOrder order ws = put orderPlace orderWords (orderRegion order) ws
+
+abbrev pub putControls : List ℕ → List ℕ → List ℕ
+putControls cs ws = put controlsPlace controlsWords cs ws
+
+abbrev pub putBuses : List ℕ → List ℕ → List ℕ
+putBuses bs ws = put busesPlace busCount bs ws
+
+abbrev pub putLengths : List ℕ → List ℕ → List ℕ
+putLengths ls ws = put lengthsPlace slotCount ls ws
+
+abbrev pub putResident : List ℕ → List ℕ → List ℕ
+putResident fs ws = put residentPlace slotCount fs ws
+
+-- the first words: node count, order length, next number, latest synth
+abbrev pub putHeader : ℕ → ℕ → ℕ → ℕ → List ℕ → List ℕ
+putHeader count orderLength next latest ws = count ∷ (orderLength ∷ (next ∷ (latest ∷ drop 4 ws)))

@@ -1,0 +1,14 @@
+pub mod Layout
+pub mod Engine
+pub mod Formed
+pub mod View
+pub mod Meaning
+pub mod Checks
+pub mod Effects
+pub mod Replies
+pub mod After
+pub mod Door
+pub mod Plain
+pub mod Demands
+pub mod Script
+pub mod Examples

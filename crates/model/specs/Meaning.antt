@@ -1,0 +1,86 @@
+-- What a command's arguments mean in the engine: the node, the control, the bus, the value.
+use Prim.Native.Nat.{ℕ, _+_}
+use mathlib.Core.Bool.{Bool, true, false, not}
+use mathlib.Core.List.{List, [], _∷_}
+use mathlib.Core.Option.{Option, none, some}
+use lib.ListN.{length}
+use lib.Dec.{ltb, leb, eqb}
+use Rattle.words.specs.Choice.{pick, both, either}
+use Rattle.synthdef.specs.Definition.{Definition}
+use Rattle.nodes.specs.declared.Node.{Node}
+use Rattle.nodes.specs.Place.{isGroup, lives}
+use Rattle.values.specs.declared.Target.{Target}
+use Rattle.values.specs.declared.Target.the-variants.{Latest, Number, Reserved}
+use Rattle.values.specs.declared.Key.{Key}
+use Rattle.values.specs.declared.Key.the-variants.{Index, Name}
+use Rattle.values.specs.declared.Mapping.{Mapping}
+use Rattle.values.specs.declared.Mapping.the-variants.{Unmapped, Bus}
+use Rattle.values.specs.Targets.{targetOf}
+use Rattle.model.specs.Layout.{busCount}
+use Rattle.model.specs.Engine.{Engine, firstIndex}
+
+-- the pattern of -1, and the first that is negative
+abbrev pub minusOne : ℕ
+minusOne = 4294967295
+
+abbrev pub firstNegative : ℕ
+firstNegative = 2147483648
+
+abbrev pub isNegative : ℕ → Bool
+isNegative n = leb firstNegative n
+
+-- "Where a command names an existing node, -1 means the latest synth made by `/s_new` while that very synth lives, else refusal 17 .. Below -1 no command can name a node (17)."
+abbrev pub meantBy : Target → ℕ → ℕ
+meantBy Latest latest = latest
+meantBy (Number n) latest = n
+meantBy Reserved latest = 0
+
+abbrev pub knownBy : Target → ℕ → List Node → Bool
+knownBy Latest latest t = both (not (eqb latest 0)) (lives latest t)
+knownBy (Number n) latest t = lives n t
+knownBy Reserved latest t = false
+
+-- the number of the node that an argument names, and whether there is such a node
+abbrev pub meant : ℕ → Engine → ℕ
+meant a e = meantBy (targetOf a) (e .latest)
+
+abbrev pub known : ℕ → Engine → Bool
+known a e = knownBy (targetOf a) (e .latest) (e .nodes)
+
+-- a node of the table by its number
+abbrev pub noNode : Node
+noNode = record { number = 0; depth = 0; run = 0; slot = 0; row = 0 }
+
+unfoldable pub nodeNamed : ℕ → List Node → Node
+nodeNamed n [] = noNode
+nodeNamed n (r ∷ l) = pick (eqb (r .number) n) r (nodeNamed n l)
+
+abbrev pub node : ℕ → Engine → Node
+node a e = nodeNamed (meant a e) (e .nodes)
+
+-- the control where a key starts, in a definition: an index as it stands, a name by its first entry
+abbrev pub startOf : Key → List ℕ → Definition → Option ℕ
+startOf (Index i) name d = some i
+startOf Name name d = firstIndex name (d .front .names)
+
+-- "`/n_fill` start, count needs both at least 0 and, on a synth, start plus count at most P": the controls that are asked for are there
+abbrev pub hasControls : Option ℕ → ℕ → Definition → Bool
+hasControls none count d = false
+hasControls (some start) count d = leb (start + count) (length (d .front .values))
+
+-- "Negative indices are always refused."
+abbrev pub negativeKey : Key → Bool
+negativeKey (Index i) = isNegative i
+negativeKey Name = false
+
+-- "no such bus or bus range": 0 to 4,095
+abbrev pub isBus : ℕ → Bool
+isBus b = ltb b busCount
+
+-- "(count 0 allowed up to start 4,096)"; neither is negative
+abbrev pub isBusRange : ℕ → ℕ → Bool
+isBusRange start count = both (not (isNegative count)) (leb (start + count) busCount)
+
+-- "`/n_map` to -1 unmaps"
+abbrev pub mappingTo : ℕ → Mapping
+mappingTo bus = pick (eqb bus minusOne) Unmapped (Bus bus)

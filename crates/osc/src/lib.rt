@@ -1,0 +1,2 @@
+// Reply messages.
+pub fn nothing() {}

@@ -1,0 +1,4 @@
+pub mod Kept
+pub mod TreeReplay
+pub mod Names
+pub mod SlotNames

@@ -1,0 +1,25 @@
+use mathlib.Core.Path.{sym}
+use native.Mathlib.Omega.{arith}
+use borrow.Author.Needs.{needs}
+use lib.ListN.{List·getD-eq-default}
+use Rattle.values.proofs.bus_at.Statement.{statement}
+use Rattle.values.proofs.bus_at.Tie as tie
+
+wide-requires : tie.Need-wide-requires
+wide-requires c κs = search needs
+
+mul-result : tie.Need-mul-result
+mul-result c = search needs
+
+shared-slice-read-result : tie.Need-shared-slice-read-result
+shared-slice-read-result c = search needs
+
+returns : tie.Need-returns
+returns c = rw (c .before .before .wide .ensures)
+
+returns-2 : tie.Need-returns-2
+returns-2 c = sym (List·getD-eq-default (c .before .before .before .args .buses .now) 0 (omega (arith, c .before .wide .ensures)))
+
+pub bus-at-spec : {M : Type 1} → statement M
+bus-at-spec =
+    tie.close (tie.spec wide-requires mul-result shared-slice-read-result returns returns-2)

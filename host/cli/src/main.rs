@@ -1,0 +1,25 @@
+//! The program `limudvek`.
+
+mod check;
+mod show;
+
+use std::env;
+use std::process::ExitCode;
+
+const USAGE: &str = "usage: limudvek check FILE...";
+
+/// The exit status where a file can't be read, where none is named, and for a bad command.
+const UNREADABLE: u8 = 2;
+
+fn main() -> ExitCode {
+    let mut words = env::args_os().skip(1);
+    let command = words.next();
+    let rest: Vec<_> = words.collect();
+    match command.as_ref().and_then(|word| word.to_str()) {
+        Some("check") if !rest.is_empty() => check::run(&rest),
+        _ => {
+            eprintln!("{USAGE}");
+            ExitCode::from(UNREADABLE)
+        }
+    }
+}

@@ -1,0 +1,33 @@
+//! SynthDef2 files as the papers describe them, written without a look at the proved reader:
+//! the two are compared on many files, so neither is to copy the other's mistakes.
+
+mod definition;
+mod random;
+mod read;
+mod write;
+
+pub use definition::{Definition, Input, Unit, Variant};
+pub use random::{Random, Shape};
+pub use read::{check, read};
+pub use write::{write, Field, Rule, Written};
+
+/// Bounds of the paper.
+pub const MOST_DEFINITIONS: usize = 32;
+pub const MOST_PARAMETERS: usize = 32;
+pub const MOST_BYTES: usize = 2048;
+
+/// A refusal: its number, and the first byte of the field at fault.
+#[derive(Clone, Copy, Debug, PartialEq, Eq)]
+pub struct Fault {
+    pub number: u32,
+    pub place: u64,
+}
+
+impl Fault {
+    pub fn new(number: u32, place: usize) -> Fault {
+        Fault {
+            number,
+            place: place as u64,
+        }
+    }
+}

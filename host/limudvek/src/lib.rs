@@ -1,0 +1,3 @@
+//! Safe functions over the proved static library. A module stands for each of its crates.
+
+pub mod synthdef;

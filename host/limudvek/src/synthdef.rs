@@ -1,0 +1,102 @@
+//! SynthDef2 files: accepted, or refused with a number and a place.
+
+use std::fmt;
+
+/// The exported functions of the Rattle crate `synthdef`. A slice passes as pointer and length.
+mod proved {
+    extern "C" {
+        pub fn synthdef_refusal(file: *const u8, length: usize) -> u32;
+        pub fn synthdef_place(file: *const u8, length: usize) -> u64;
+        pub fn synthdef_count(file: *const u8, length: usize) -> u32;
+        pub fn synthdef_name_start(file: *const u8, length: usize, index: u32) -> u64;
+        pub fn synthdef_name_end(file: *const u8, length: usize, index: u32) -> u64;
+    }
+}
+
+/// A refusal of a file: the paper's number, and the place of the first byte at fault.
+#[derive(Clone, Copy, Debug, PartialEq, Eq)]
+pub struct Refused {
+    pub number: u32,
+    pub place: u64,
+}
+
+impl Refused {
+    /// The refusal in plain words.
+    pub fn reason(&self) -> &'static str {
+        match self.number {
+            2 => "the file ends before this field does",
+            3 => "it does not begin with SCgf, so it is no synth definition file",
+            4 => "the version is not 2",
+            5 => "this count is out of bounds",
+            6 => "this is no name: a definition's is empty, or a byte is not from 1 to 127",
+            7 => "this rate is not 0, 1 or 2",
+            8 => "this index names nothing that stands before it",
+            9 => "this definition is longer than 2,048 bytes",
+            10 => "an earlier definition has this name too",
+            11 => "bytes follow the last definition",
+            _ => "the reason has no words yet",
+        }
+    }
+}
+
+impl fmt::Display for Refused {
+    fn fmt(&self, f: &mut fmt::Formatter) -> fmt::Result {
+        write!(
+            f,
+            "refused {} at {}: {}",
+            self.number,
+            self.place,
+            self.reason()
+        )
+    }
+}
+
+/// The refusal's number, or 0 where the file is accepted.
+pub fn refusal(file: &[u8]) -> u32 {
+    // SAFETY: pointer and length are those of one slice, lent until the call returns.
+    unsafe { proved::synthdef_refusal(file.as_ptr(), file.len()) }
+}
+
+/// The refusal's place, or 0 where the file is accepted.
+pub fn place(file: &[u8]) -> u64 {
+    // SAFETY: as above.
+    unsafe { proved::synthdef_place(file.as_ptr(), file.len()) }
+}
+
+/// Whether the file is accepted, and if not, why.
+pub fn check(file: &[u8]) -> Result<(), Refused> {
+    match refusal(file) {
+        0 => Ok(()),
+        number => Err(Refused {
+            number,
+            place: place(file),
+        }),
+    }
+}
+
+/// The number of definitions, 0 where the file is refused.
+pub fn count(file: &[u8]) -> u32 {
+    // SAFETY: as above.
+    unsafe { proved::synthdef_count(file.as_ptr(), file.len()) }
+}
+
+/// The name of a definition, counted from 0, as a part of the file.
+pub fn name(file: &[u8], index: u32) -> Option<&[u8]> {
+    // SAFETY: as above.
+    let (start, end) = unsafe {
+        (
+            proved::synthdef_name_start(file.as_ptr(), file.len(), index),
+            proved::synthdef_name_end(file.as_ptr(), file.len(), index),
+        )
+    };
+    // A file's first bytes are its header, so no name starts at 0.
+    match start {
+        0 => None,
+        _ => file.get(usize::try_from(start).ok()?..usize::try_from(end).ok()?),
+    }
+}
+
+/// The names of the definitions, in file order.
+pub fn names(file: &[u8]) -> impl Iterator<Item = &[u8]> {
+    (0..count(file)).filter_map(move |index| name(file, index))
+}
