@@ -25,6 +25,7 @@ use Rattle.model.specs.Replies.{replyTo, reply}
 use Rattle.model.specs.Plain.{Plain, meaning, meantIn, numberIn, isGroupNode, isOnNode, plainRows, plainOrder}
 use Rattle.model.specs.Formed.{formed}
 use Rattle.model.specs.Demands.{Same, meaningIn, plainReply, isExport}
+use Rattle.replay.specs.Names.{Once}
 
 -- a tree of records, seen with these slots and controls
 abbrev pub seenTree : List Slot → List ℕ → Forest Node → Forest PlainNode
@@ -37,6 +38,7 @@ pub record Kept (e : Engine) (p : Plain) : Type 0 where
   pub tree : p .tree ≡ seenTree (e .slots) (e .controls) forest
   pub names : (name : List ℕ) → meaningIn name e ≡ meaning name (p .names)
   pub nameCount : length (residents (e .slots)) ≡ length (p .names)
+  pub once : Once (p .names)
   pub next : e .next ≡ p .next
   pub latest : e .latest ≡ p .latest
   pub buses : e .buses ≡ p .buses

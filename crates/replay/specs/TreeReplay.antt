@@ -37,6 +37,7 @@ module _ (e : Engine) (p : Plain) (k : Kept e p) where
     tree = seen;
     names = k .names;
     nameCount = k .nameCount;
+    once = k .once;
     next = k .next;
     latest = ap₂ (λ (b : Bool) (l : ℕ). pick b l 0) (here ∙ sym there) (k .latest);
     buses = k .buses;

@@ -66,6 +66,12 @@ module _ (e : Engine) (ws : List ℕ) (size : length ws ≡ wordsLength) (few : 
       ∙ region-before orderPlace orderWords (orderRegion (e .order)) w1 (omega (arith, size1)) (order-region-length (e .order)) b m (omega arith)
       ∙ region-before nodesPlace nodesWords (fill (region nodesPlace nodesWords ws) (e .nodes)) ws (omega arith) filled b m l
 
+  pub tree-lengths : lengthsIn (putTree e ws) ≡ lengthsIn ws
+  tree-lengths = low lengthsPlace slotCount (omega arith) (omega arith)
+
+  pub tree-flags : residentIn (putTree e ws) ≡ residentIn ws
+  tree-flags = low residentPlace slotCount (omega arith) (omega arith)
+
   pub tree-nodes : nodesIn (putTree e ws) ≡ e .nodes
   tree-nodes =
       ap (λ (us : List ℕ). rows (length (e .nodes)) us)
@@ -99,8 +105,8 @@ module _ (e : Engine) (ws : List ℕ) (size : length ws ≡ wordsLength) (few : 
   unfolding decode
   tree-decoded bs short same kept =
       simp (
-        low lengthsPlace slotCount (omega arith) (omega arith),
-        low residentPlace slotCount (omega arith) (omega arith),
+        tree-lengths,
+        tree-flags,
         tree-nodes,
         tree-order short,
         tree-controls,

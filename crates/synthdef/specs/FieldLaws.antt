@@ -1,18 +1,18 @@
 -- Laws of fields: what a field that was read tells.
-use Prim.Native.Nat.{ℕ, _+_, _*_, _-_, _≤_, _<_}
+use Prim.Native.Nat.{ℕ, _+_, _*_, _-_, _≤_}
 use mathlib.Core.Bool.{Bool, true, false}
-use mathlib.Core.Path.{_≡_, refl, sym, ap, _∙_}
-use mathlib.Core.List.{List, [], _∷_}
+use mathlib.Core.Path.{_≡_, refl, sym}
+use mathlib.Core.List.{List}
 use native.Mathlib.Omega.{arith}
 use borrow.Author.Tests.{leb-true}
 use lib.ListN.{length, getD}
 use lib.Dec.{leb, ltb}
 use Rattle.words.specs.Choice.{pick}
-use Rattle.words.specs.Parts.{region-length}
+use Rattle.words.specs.Parts.{region, region-length}
 use Rattle.words.specs.declared.Refusal.{Refusal}
 use Rattle.words.specs.declared.Refusal.the-variants.{Truncated, BadName, BadCount}
 use Rattle.synthdef.specs.NameLaws.{full}
-use Rattle.synthdef.specs.Read.{Read, got, bad, andThen, checked}
+use Rattle.synthdef.specs.Read.{Read, got, bad, checked}
 use Rattle.synthdef.specs.Fields.{whole, pstring, stringAt, definitionName, integer, countTo}
 
 -- the four bytes at a place as a number
@@ -54,12 +54,24 @@ pstring-got s at {x} {next} e =
     let v : x ≡ stringAt s at = sym (w .1 .0) in
     (omega arith, (v, rw v (omega arith)))
 
+-- and its bytes as a part up to that end
+pub pstring-part : (s : List ℕ) (at : ℕ) {x : List ℕ} {next : ℕ} → pstring s at ≡ got x next → x ≡ region (at + 1) (next - (at + 1)) s
+pstring-part s at {x} {next} e =
+    let size = 1 + getD s at 0 in
+    let w = whole-got size s at (stringAt s at) (picked (ltb at (length s)) (whole size s at (stringAt s at)) Truncated at e .1) in
+    let k : next - (at + 1) ≡ getD s at 0 = omega arith in
+    rw k (sym (w .1 .0))
+
 pub pstring-end : (s : List ℕ) (at : ℕ) {x : List ℕ} {next : ℕ} → pstring s at ≡ got x next → next ≤ length s
 pstring-end s at e = pstring-got s at e .0
 
 -- where a definition's name ends
 pub name-length : (s : List ℕ) (at : ℕ) {x : List ℕ} {next : ℕ} → definitionName s at ≡ got x next → next ≡ at + (1 + length x)
 name-length s at e = pstring-got s at (checked-got BadName full at (pstring s at) e .0) .1 .1
+
+-- a definition's name as a part of the file
+pub name-part : (s : List ℕ) (at : ℕ) {x : List ℕ} {next : ℕ} → definitionName s at ≡ got x next → x ≡ region (at + 1) (next - (at + 1)) s
+name-part s at e = pstring-part s at (checked-got BadName full at (pstring s at) e .0)
 
 -- where a count ends
 pub count-end : (most : ℕ) (s : List ℕ) (at : ℕ) {n next : ℕ} → countTo most s at ≡ got n next → next ≡ at + 4

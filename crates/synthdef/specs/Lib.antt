@@ -11,7 +11,15 @@ pub mod Bounds
 pub mod Answers
 pub mod Front
 pub mod FrontLaws
+pub mod SameLaws
+pub mod Lookup
+pub mod LookupLaws
+pub mod LookupOf
 pub mod Endings
 pub mod Units
 pub mod Skips
+pub mod Forward
+pub mod File
+pub mod FileLaws
+pub mod Spans
 pub mod Worked
