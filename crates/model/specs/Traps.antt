@@ -12,6 +12,7 @@ use Rattle.nodes.specs.Place.{lives}
 use Rattle.nodes.specs.Edit.{lift, sink, takeDeeper, dropDeeper, onlyGroups, runOf, editRows}
 use Rattle.nodes.specs.Order.{orderFrom}
 use Rattle.nodes.specs.Formed.{rowTaken}
+use Rattle.words.specs.Choice.{pick}
 use Rattle.osc.specs.Message.{tags, arguments}
 use Rattle.values.specs.declared.Key.the-variants.{Index, Name}
 use Rattle.values.specs.declared.Value.the-variants.{Float, Integer}
@@ -123,8 +124,8 @@ unfoldable pub groups : ℕ → ℕ → List Line
 groups zero n = []
 groups (suc k) n = group n 1 0 ∷ groups k (n + 1)
 
-abbrev pub table : List Example
-table =
+abbrev pub filesAndReplies : List Example
+filesAndReplies =
     -- a file of 3 bytes is truncated at its first field
     example (verdict (readFile (take 3 ping))) (2 ∷ 0 ∷ [])
     -- a pstring is one field: cut anywhere, its place is its length byte
@@ -153,8 +154,12 @@ table =
     ∷ example (length (replied one (line (Query (query.Tree 0 1)) [])) ∷ []) (88 ∷ [])
     -- "Any nonzero flag is 1."
     ∷ example (replied one (line (Query (query.Tree 0 7)) [])) (replied one (line (Query (query.Tree 0 1)) []))
+    ∷ []
+
+abbrev pub making : List Example
+making =
     -- a new number 0 is live
-    ∷ example (last (one ++ (synth 0 1 0 ∷ []))) (15 ∷ [])
+    example (last (one ++ (synth 0 1 0 ∷ []))) (15 ∷ [])
     -- 14 comes before 15: below -1
     ∷ example (last (one ++ (synth minusTwo 1 0 ∷ []))) (14 ∷ [])
     -- -1 for a group
@@ -177,8 +182,12 @@ table =
     ∷ example (last (one ++ (synth 5 1 1000 ∷ []))) (18 ∷ [])
     -- beside the root
     ∷ example (last (one ++ (synth 5 2 0 ∷ []))) (18 ∷ [])
+    ∷ []
+
+abbrev pub numbersAndMoves : List Example
+numbersAndMoves =
     -- over the root
-    ∷ example (last (one ++ (synth 5 4 0 ∷ []))) (18 ∷ [])
+    example (last (one ++ (synth 5 4 0 ∷ []))) (18 ∷ [])
     -- action 4 with a number that it would free
     ∷ example (last (one ++ (synth 1000 4 1 ∷ []))) (15 ∷ [])
     -- action 4 frees the whole subtree
@@ -201,8 +210,12 @@ table =
     ∷ example (last (one ++ (group 2 1 1 ∷ line (Tree (Tail 2 1)) [] ∷ []))) (19 ∷ [])
     -- `/n_set` on a group of a control that no synth has
     ∷ example (last (one ++ (line (Controls (Set 1 Name (Float 0))) noName ∷ []))) (0 ∷ [])
+    ∷ []
+
+abbrev pub controlsAndBuses : List Example
+controlsAndBuses =
     -- .. and on the synth itself
-    ∷ example (last (one ++ (line (Controls (Set 1000 Name (Float 0))) noName ∷ []))) (21 ∷ [])
+    example (last (one ++ (line (Controls (Set 1000 Name (Float 0))) noName ∷ []))) (21 ∷ [])
     -- a negative index on a group
     ∷ example (last (one ++ (line (Controls (Set 1 (Index minusOne) (Float 0))) [] ∷ []))) (21 ∷ [])
     -- 23 comes before 21
@@ -229,8 +242,12 @@ table =
     ∷ example (last (line (Buses (buses.Fill 0 0 (Integer 16777217))) [] ∷ [])) (23 ∷ [])
     -- setting unmaps
     ∷ example (value (one ++ (line (Controls (Map 1000 (Index 0) 7)) [] ∷ line (Controls (Set 1000 (Index 0) (Integer 1))) [] ∷ [])) 1000 0) (63 ∷ 128 ∷ 0 ∷ 0 ∷ [])
+    ∷ []
+
+abbrev pub oldShapes : List Example
+oldShapes =
     -- 22 before 21 in `/n_map`
-    ∷ example (last (one ++ (line (Controls (Map 1000 (Index 9) 4096)) [] ∷ []))) (22 ∷ [])
+    example (last (one ++ (line (Controls (Map 1000 (Index 9) 4096)) [] ∷ []))) (22 ∷ [])
     -- a name means its entry in the synth's own definition: "pan" of the old rain is 1, of the new one 0
     ∷ example (value (rains ++ (line (Controls (Set 0 Name (Integer 9))) panName ∷ [])) 10 1) (65 ∷ 16 ∷ 0 ∷ 0 ∷ [])
     -- .. and the new one
@@ -251,6 +268,40 @@ table =
     ∷ example (drop 255 (answersOf (groups 255 1 ++ (group 256 1 0 ∷ group 256 4 255 ∷ [])))) (20 ∷ 0 ∷ [])
     ∷ []
 
-pub agreed : agrees table ≡ true
+filesAndReplies-agrees : agrees filesAndReplies ≡ true
 unfolding groups residents definitionsIn firstName firstOr lastOr atDepth depthOf lastAbove lastBeside firstBeside nextOf shape subtreeRows rowsBelow rowsAt treeArguments controlArguments unitCount groupCount synthCount repeat nameBytes readFront readUnit readUnits readDefinition readDefinitions readFile sameName among writeAll writeDefinition writeFile lives lift sink takeDeeper dropDeeper onlyGroups runOf editRows orderFrom rowTaken tags arguments targetOf inBounds pattern held residentFrom controlsFrom firstIndex viewRows nodeNamed firstOf namesOf staying retired freeFrom loaded freeRowFrom initialWords changeWords changeAll effect plainNamed replyTo queryAnswer answerIn played told agrees
-agreed = refl
+filesAndReplies-agrees = refl
+
+making-agrees : agrees making ≡ true
+unfolding groups residents definitionsIn firstName firstOr lastOr atDepth depthOf lastAbove lastBeside firstBeside nextOf shape subtreeRows rowsBelow rowsAt treeArguments controlArguments unitCount groupCount synthCount repeat nameBytes readFront readUnit readUnits readDefinition readDefinitions readFile sameName among writeAll writeDefinition writeFile lives lift sink takeDeeper dropDeeper onlyGroups runOf editRows orderFrom rowTaken tags arguments targetOf inBounds pattern held residentFrom controlsFrom firstIndex viewRows nodeNamed firstOf namesOf staying retired freeFrom loaded freeRowFrom initialWords changeWords changeAll effect plainNamed replyTo queryAnswer answerIn played told agrees
+making-agrees = refl
+
+numbersAndMoves-agrees : agrees numbersAndMoves ≡ true
+unfolding groups residents definitionsIn firstName firstOr lastOr atDepth depthOf lastAbove lastBeside firstBeside nextOf shape subtreeRows rowsBelow rowsAt treeArguments controlArguments unitCount groupCount synthCount repeat nameBytes readFront readUnit readUnits readDefinition readDefinitions readFile sameName among writeAll writeDefinition writeFile lives lift sink takeDeeper dropDeeper onlyGroups runOf editRows orderFrom rowTaken tags arguments targetOf inBounds pattern held residentFrom controlsFrom firstIndex viewRows nodeNamed firstOf namesOf staying retired freeFrom loaded freeRowFrom initialWords changeWords changeAll effect plainNamed replyTo queryAnswer answerIn played told agrees
+numbersAndMoves-agrees = refl
+
+controlsAndBuses-agrees : agrees controlsAndBuses ≡ true
+unfolding groups residents definitionsIn firstName firstOr lastOr atDepth depthOf lastAbove lastBeside firstBeside nextOf shape subtreeRows rowsBelow rowsAt treeArguments controlArguments unitCount groupCount synthCount repeat nameBytes readFront readUnit readUnits readDefinition readDefinitions readFile sameName among writeAll writeDefinition writeFile lives lift sink takeDeeper dropDeeper onlyGroups runOf editRows orderFrom rowTaken tags arguments targetOf inBounds pattern held residentFrom controlsFrom firstIndex viewRows nodeNamed firstOf namesOf staying retired freeFrom loaded freeRowFrom initialWords changeWords changeAll effect plainNamed replyTo queryAnswer answerIn played told agrees
+controlsAndBuses-agrees = refl
+
+oldShapes-agrees : agrees oldShapes ≡ true
+unfolding groups residents definitionsIn firstName firstOr lastOr atDepth depthOf lastAbove lastBeside firstBeside nextOf shape subtreeRows rowsBelow rowsAt treeArguments controlArguments unitCount groupCount synthCount repeat nameBytes readFront readUnit readUnits readDefinition readDefinitions readFile sameName among writeAll writeDefinition writeFile lives lift sink takeDeeper dropDeeper onlyGroups runOf editRows orderFrom rowTaken tags arguments targetOf inBounds pattern held residentFrom controlsFrom firstIndex viewRows nodeNamed firstOf namesOf staying retired freeFrom loaded freeRowFrom initialWords changeWords changeAll effect plainNamed replyTo queryAnswer answerIn played told agrees
+oldShapes-agrees = refl
+
+agrees-append : (a b : List Example) → agrees a ≡ true → agrees b ≡ true → agrees (a ++ b) ≡ true
+unfolding agrees
+agrees-append [] b p q = q
+agrees-append (x ∷ a) b p q = go (sameName (x .found) (x .wanted)) p (λ k. agrees-append a b k q)
+  where
+    go : (c : Bool) → pick c (agrees a) false ≡ true → (agrees a ≡ true → agrees (a ++ b) ≡ true) → pick c (agrees (a ++ b)) false ≡ true
+    go true k ih = ih k
+    go false k ih = k
+
+-- one table, one statement
+abbrev pub table : List Example
+table = filesAndReplies ++ (making ++ (numbersAndMoves ++ (controlsAndBuses ++ oldShapes)))
+
+pub agreed : agrees table ≡ true
+agreed =
+    agrees-append filesAndReplies _ filesAndReplies-agrees
+    (agrees-append making _ making-agrees (agrees-append numbersAndMoves _ numbersAndMoves-agrees (agrees-append controlsAndBuses oldShapes controlsAndBuses-agrees oldShapes-agrees)))
