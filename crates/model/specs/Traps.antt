@@ -12,6 +12,7 @@ use Rattle.nodes.specs.Place.{lives}
 use Rattle.nodes.specs.Edit.{lift, sink, takeDeeper, dropDeeper, onlyGroups, runOf, editRows}
 use Rattle.nodes.specs.Order.{orderFrom}
 use Rattle.nodes.specs.Formed.{rowTaken}
+use lib.Ieee.{toBits, ofInt}
 use Rattle.words.specs.Choice.{pick}
 use Rattle.osc.specs.Message.{tags, arguments}
 use Rattle.values.specs.declared.Key.the-variants.{Index, Name}
@@ -269,23 +270,23 @@ oldShapes =
     ∷ []
 
 filesAndReplies-agrees : agrees filesAndReplies ≡ true
-unfolding groups residents definitionsIn firstName firstOr lastOr atDepth depthOf lastAbove lastBeside firstBeside nextOf shape subtreeRows rowsBelow rowsAt treeArguments controlArguments unitCount groupCount synthCount repeat nameBytes readFront readUnit readUnits readDefinition readDefinitions readFile sameName among writeAll writeDefinition writeFile lives lift sink takeDeeper dropDeeper onlyGroups runOf editRows orderFrom rowTaken tags arguments targetOf inBounds pattern held residentFrom controlsFrom firstIndex viewRows nodeNamed firstOf namesOf staying retired freeFrom loaded freeRowFrom initialWords changeWords changeAll effect plainNamed replyTo queryAnswer answerIn played told agrees
+unfolding toBits ofInt groups residents definitionsIn firstName firstOr lastOr atDepth depthOf lastAbove lastBeside firstBeside nextOf shape subtreeRows rowsBelow rowsAt treeArguments controlArguments unitCount groupCount synthCount repeat nameBytes readFront readUnit readUnits readDefinition readDefinitions readFile sameName among writeAll writeDefinition writeFile lives lift sink takeDeeper dropDeeper onlyGroups runOf editRows orderFrom rowTaken tags arguments targetOf inBounds pattern held residentFrom controlsFrom firstIndex viewRows nodeNamed firstOf namesOf staying retired freeFrom loaded freeRowFrom initialWords changeWords changeAll effect plainNamed replyTo queryAnswer answerIn played told agrees
 filesAndReplies-agrees = refl
 
 making-agrees : agrees making ≡ true
-unfolding groups residents definitionsIn firstName firstOr lastOr atDepth depthOf lastAbove lastBeside firstBeside nextOf shape subtreeRows rowsBelow rowsAt treeArguments controlArguments unitCount groupCount synthCount repeat nameBytes readFront readUnit readUnits readDefinition readDefinitions readFile sameName among writeAll writeDefinition writeFile lives lift sink takeDeeper dropDeeper onlyGroups runOf editRows orderFrom rowTaken tags arguments targetOf inBounds pattern held residentFrom controlsFrom firstIndex viewRows nodeNamed firstOf namesOf staying retired freeFrom loaded freeRowFrom initialWords changeWords changeAll effect plainNamed replyTo queryAnswer answerIn played told agrees
+unfolding toBits ofInt groups residents definitionsIn firstName firstOr lastOr atDepth depthOf lastAbove lastBeside firstBeside nextOf shape subtreeRows rowsBelow rowsAt treeArguments controlArguments unitCount groupCount synthCount repeat nameBytes readFront readUnit readUnits readDefinition readDefinitions readFile sameName among writeAll writeDefinition writeFile lives lift sink takeDeeper dropDeeper onlyGroups runOf editRows orderFrom rowTaken tags arguments targetOf inBounds pattern held residentFrom controlsFrom firstIndex viewRows nodeNamed firstOf namesOf staying retired freeFrom loaded freeRowFrom initialWords changeWords changeAll effect plainNamed replyTo queryAnswer answerIn played told agrees
 making-agrees = refl
 
 numbersAndMoves-agrees : agrees numbersAndMoves ≡ true
-unfolding groups residents definitionsIn firstName firstOr lastOr atDepth depthOf lastAbove lastBeside firstBeside nextOf shape subtreeRows rowsBelow rowsAt treeArguments controlArguments unitCount groupCount synthCount repeat nameBytes readFront readUnit readUnits readDefinition readDefinitions readFile sameName among writeAll writeDefinition writeFile lives lift sink takeDeeper dropDeeper onlyGroups runOf editRows orderFrom rowTaken tags arguments targetOf inBounds pattern held residentFrom controlsFrom firstIndex viewRows nodeNamed firstOf namesOf staying retired freeFrom loaded freeRowFrom initialWords changeWords changeAll effect plainNamed replyTo queryAnswer answerIn played told agrees
+unfolding toBits ofInt groups residents definitionsIn firstName firstOr lastOr atDepth depthOf lastAbove lastBeside firstBeside nextOf shape subtreeRows rowsBelow rowsAt treeArguments controlArguments unitCount groupCount synthCount repeat nameBytes readFront readUnit readUnits readDefinition readDefinitions readFile sameName among writeAll writeDefinition writeFile lives lift sink takeDeeper dropDeeper onlyGroups runOf editRows orderFrom rowTaken tags arguments targetOf inBounds pattern held residentFrom controlsFrom firstIndex viewRows nodeNamed firstOf namesOf staying retired freeFrom loaded freeRowFrom initialWords changeWords changeAll effect plainNamed replyTo queryAnswer answerIn played told agrees
 numbersAndMoves-agrees = refl
 
 controlsAndBuses-agrees : agrees controlsAndBuses ≡ true
-unfolding groups residents definitionsIn firstName firstOr lastOr atDepth depthOf lastAbove lastBeside firstBeside nextOf shape subtreeRows rowsBelow rowsAt treeArguments controlArguments unitCount groupCount synthCount repeat nameBytes readFront readUnit readUnits readDefinition readDefinitions readFile sameName among writeAll writeDefinition writeFile lives lift sink takeDeeper dropDeeper onlyGroups runOf editRows orderFrom rowTaken tags arguments targetOf inBounds pattern held residentFrom controlsFrom firstIndex viewRows nodeNamed firstOf namesOf staying retired freeFrom loaded freeRowFrom initialWords changeWords changeAll effect plainNamed replyTo queryAnswer answerIn played told agrees
+unfolding toBits ofInt groups residents definitionsIn firstName firstOr lastOr atDepth depthOf lastAbove lastBeside firstBeside nextOf shape subtreeRows rowsBelow rowsAt treeArguments controlArguments unitCount groupCount synthCount repeat nameBytes readFront readUnit readUnits readDefinition readDefinitions readFile sameName among writeAll writeDefinition writeFile lives lift sink takeDeeper dropDeeper onlyGroups runOf editRows orderFrom rowTaken tags arguments targetOf inBounds pattern held residentFrom controlsFrom firstIndex viewRows nodeNamed firstOf namesOf staying retired freeFrom loaded freeRowFrom initialWords changeWords changeAll effect plainNamed replyTo queryAnswer answerIn played told agrees
 controlsAndBuses-agrees = refl
 
 oldShapes-agrees : agrees oldShapes ≡ true
-unfolding groups residents definitionsIn firstName firstOr lastOr atDepth depthOf lastAbove lastBeside firstBeside nextOf shape subtreeRows rowsBelow rowsAt treeArguments controlArguments unitCount groupCount synthCount repeat nameBytes readFront readUnit readUnits readDefinition readDefinitions readFile sameName among writeAll writeDefinition writeFile lives lift sink takeDeeper dropDeeper onlyGroups runOf editRows orderFrom rowTaken tags arguments targetOf inBounds pattern held residentFrom controlsFrom firstIndex viewRows nodeNamed firstOf namesOf staying retired freeFrom loaded freeRowFrom initialWords changeWords changeAll effect plainNamed replyTo queryAnswer answerIn played told agrees
+unfolding toBits ofInt groups residents definitionsIn firstName firstOr lastOr atDepth depthOf lastAbove lastBeside firstBeside nextOf shape subtreeRows rowsBelow rowsAt treeArguments controlArguments unitCount groupCount synthCount repeat nameBytes readFront readUnit readUnits readDefinition readDefinitions readFile sameName among writeAll writeDefinition writeFile lives lift sink takeDeeper dropDeeper onlyGroups runOf editRows orderFrom rowTaken tags arguments targetOf inBounds pattern held residentFrom controlsFrom firstIndex viewRows nodeNamed firstOf namesOf staying retired freeFrom loaded freeRowFrom initialWords changeWords changeAll effect plainNamed replyTo queryAnswer answerIn played told agrees
 oldShapes-agrees = refl
 
 agrees-append : (a b : List Example) → agrees a ≡ true → agrees b ≡ true → agrees (a ++ b) ≡ true
