@@ -1,7 +1,7 @@
 -- A run of records taken out, and put in at a place of what is left, at its new depths.
 use Prim.Native.Nat.{ℕ, _+_, _*_, _-_, _≤_, _<_}
-use mathlib.Core.Path.{_≡_, refl, sym, ap, ap₂, _∙_}
-use mathlib.Core.List.{List, [], _∷_, _++_, append-assoc}
+use mathlib.Core.Path.{_≡_, sym, ap, ap₂, _∙_}
+use mathlib.Core.List.{List, _++_, append-assoc}
 use native.Mathlib.Omega.{arith}
 use lib.ListN.{length, take, drop, getD, length-append, length-take, length-drop}
 use lib.Seq.{take-at, drop-at, length-take-le}
@@ -98,5 +98,5 @@ module _ (us : List ℕ) (c from to at old new : ℕ) (order : from ≤ to) (end
       ∙ ap₂ (λ (m : List ℕ) (k : ℕ). m ++ drop (width * k) us) (sym (encode-append (take at w) back)) (sym size)
 
 -- a place of the table as it is without the records from one place up to another
-abbrev pub landing : ℕ → ℕ → ℕ → ℕ
-landing from to p = pick (leb p from) p (p - (to - from))
+abbrev pub placeWithout : ℕ → ℕ → ℕ → ℕ
+placeWithout from to p = pick (leb p from) p (p - (to - from))
