@@ -55,19 +55,19 @@ unfoldable pub definitionSpan : List ℕ → ℕ → Span
 definitionSpan s i = spanIn s i (readFile s)
 
 -- 0, or the refusal's number
-abbrev pub refusalNumber : Read (List Definition) → ℕ
-refusalNumber (got ds end) = 0
-refusalNumber (bad r at) = refusals.numberOf r
+abbrev pub refusalNumber : Checked → ℕ
+refusalNumber (Accepted n) = 0
+refusalNumber (Refused r at) = refusals.numberOf r
 
 -- the refusal's place, or 0
-abbrev pub refusalPlace : Read (List Definition) → ℕ
-refusalPlace (got ds end) = 0
-refusalPlace (bad r at) = at
+abbrev pub refusalPlace : Checked → ℕ
+refusalPlace (Accepted n) = 0
+refusalPlace (Refused r at) = at
 
 -- how many definitions are in an accepted file
-abbrev pub definitionCount : Read (List Definition) → ℕ
-definitionCount (got ds end) = length ds
-definitionCount (bad r at) = 0
+abbrev pub definitionCount : Checked → ℕ
+definitionCount (Accepted n) = n
+definitionCount (Refused r at) = 0
 
 -- the place of a definition's name, behind the byte that is its length, and the place past it; or 0
 abbrev pub nameStart : Span → ℕ

@@ -5,7 +5,6 @@ use crate::cursor::Step;
 use crate::definition::read_definition;
 use crate::lookup::same_name;
 use words::Refusal;
-use words::refusal_number;
 use words::wide;
 ghost use mathlib.Core.Path.{_≡_};
 ghost use Prim.Native.Nat.{_≤_};
@@ -15,7 +14,7 @@ ghost use Rattle.synthdef.specs.Answers.{numberOf, stepOf};
 ghost use Rattle.synthdef.specs.Fields.{stringAt};
 ghost use Rattle.synthdef.specs.Read.{ending, repeat};
 ghost use Rattle.synthdef.specs.Reader.{mostDefinitions, among, readDefinition, readHeader, readDefinitions, readFile};
-ghost use Rattle.synthdef.specs.File.{Begun, verdict, namesFrom, skipFitting, definitionSpan, refusalNumber, refusalPlace, definitionCount, nameStart, nameEnd};
+ghost use Rattle.synthdef.specs.File.{Begun, verdict, namesFrom, skipFitting, definitionSpan};
 
 // A file is accepted, and has so many definitions; or it is refused, at a place.
 pub enum Checked {

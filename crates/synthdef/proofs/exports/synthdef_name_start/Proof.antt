@@ -1,0 +1,43 @@
+use Prim.Native.Nat.{ℕ, zero, suc, _+_, _*_, _-_, _≤_, _<_}
+use mathlib.Core.Bool.{Bool, true, false, not}
+use mathlib.Core.Path.{_≡_, refl, sym, ap, _∙_}
+use mathlib.Core.List.{List, [], _∷_, _++_, append-assoc}
+use native.Mathlib.Omega.{arith}
+use native.Mathlib.Numerals.{add-one}
+use borrow.Author.Needs.{needs}
+use borrow.Author.Tests.{lt-ltb, le-ltb, le-leb, lt-leb, eq-eqb, ne-eqb}
+use lib.ListN.{length, take, drop, getD, set, length-set, length-drop}
+use borrow.Author.Needs.{needs}
+use Rattle.synthdef.specs.File.{definitionSpan, nameStart, nameEnd}
+use Rattle.synthdef.specs.Spans.{span-inside}
+use Rattle.synthdef.proofs.exports.synthdef_name_start.Statement.{statement}
+use Rattle.synthdef.proofs.exports.synthdef_name_start.Tie as tie
+use Rattle.synthdef.proofs.exports.synthdef_name_start.Reads as reads
+use Rattle.synthdef.proofs.exports.synthdef_name_start.Lts as lts
+use Rattle.synthdef.proofs.file.definition_at.Reads as definition-at-reads
+
+definition-at-requires : tie.Need-definition-at-requires
+definition-at-requires c κs = search needs
+
+enum-known-start : tie.Need-enum-known-start
+enum-known-start c = search needs
+
+add-result : tie.Need-add-result
+add-result c =
+    let a = c .before .before .before .before .before .args in
+    let inside = span-inside (a .file .now) (a .index) (sym (rw (c .before .start .given .1) at (c .before .before .before .definition-at .ensures))) in
+    omega arith
+
+enum-told : tie.Need-enum-told
+enum-told c = search needs
+
+returns : tie.Need-returns
+returns c = ap nameStart (rw (c .before .start .given .1) at (c .before .before .before .definition-at .ensures))
+
+returns-2 : tie.Need-returns-2
+returns-2 c = ap nameStart (rw (c .enum-told .given .1) at (c .before .before .definition-at .ensures))
+
+pub synthdef-name-start-spec : {M : Type 1} → statement M
+synthdef-name-start-spec =
+    tie.close
+    (tie.spec definition-at-requires enum-known-start add-result enum-told returns returns-2)
