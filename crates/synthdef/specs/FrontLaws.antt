@@ -81,11 +81,6 @@ front-told s at =
     let w = places s at e1 e2 f2 e3 f3 e4 e5 in
     cc)))))
 
--- a reading that goes on from what is told
-pub then-told : {A B D : Type 0} (tell : A → B) (r : Read A) (f : B → ℕ → Read D) → andThen (mapRead tell r) f ≡ andThen r (λ x p. f (tell x) p)
-then-told tell (got x p) f = refl
-then-told tell (bad q place) f = refl
-
 -- a front that was read, by its parts
 pub record FrontGot (s : List ℕ) (at : ℕ) (f : Front) (end : ℕ) : Type 0 where
   pub name : definitionName s at ≡ got (f .name) (nameEnd at f)

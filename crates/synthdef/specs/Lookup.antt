@@ -33,6 +33,28 @@ module _ {A B : Type 0} where
 abbrev pub nothing : Found
 nothing = found.Nothing
 
+abbrev pub atNumber : ℕ → Found
+atNumber n = found.At n
+
+-- the first of two answers, if there is one, else the second
+abbrev pub orNumber : Found → Found → Found
+orNumber (found.At n) other = found.At n
+orNumber found.Nothing other = other
+
+abbrev pub orElse : Option (List ℕ) → Option (List ℕ) → Option (List ℕ)
+orElse (some n) other = some n
+orElse none other = other
+
+abbrev pub noPart : NameFound
+noPart = named.Nothing
+
+abbrev pub atPart : ℕ → ℕ → NameFound
+atPart start end = named.Part start end
+
+abbrev pub orPart : NameFound → NameFound → NameFound
+orPart (named.Part start end) other = named.Part start end
+orPart named.Nothing other = other
+
 -- the definition's name, and no bytes where there is none
 abbrev pub nameIn : List ℕ → List ℕ
 nameIn s = onRead (readFront s 0) [] (λ f next. f .name)

@@ -24,22 +24,22 @@ add-start c = search needs
 sub-if2 : tie.Need-sub-if2
 sub-if2 c = search needs
 
+add-t12 : tie.Need-add-t12
+add-t12 c = search needs
+
 returns-2 : tie.Need-returns-2
 returns-2 c =
-    let a = c .before .before .before .args in
-    let n = getD (a .s .now) (a .self .at) 0 in
-    rw (lt-ltb (a .self .at) (length (a .s .now)) (omega arith), lt-leb (a .self .at + (1 + n)) (length (a .s .now)) (omega arith))
-
-add-t6 : tie.Need-add-t6
-add-t6 c = search needs
-
-returns-3 : tie.Need-returns-3
-returns-3 c =
     let a = c .before .before .before .args in
     let n = getD (a .s .now) (a .self .at) 0 in
     let size : a .self .at + 1 + n - (a .self .at + 1) ≡ n = omega arith in
     let end : a .self .at + 1 + n ≡ a .self .at + (1 + n) = omega arith in
     rw (lt-ltb (a .self .at) (length (a .s .now)) (omega arith), le-leb (a .self .at + (1 + n)) (length (a .s .now)) (omega arith), size, end)
+
+returns-3 : tie.Need-returns-3
+returns-3 c =
+    let a = c .before .before .before .args in
+    let n = getD (a .s .now) (a .self .at) 0 in
+    rw (lt-ltb (a .self .at) (length (a .s .now)) (omega arith), lt-leb (a .self .at + (1 + n)) (length (a .s .now)) (omega arith))
 
 pub pstring-spec : {M : Type 1} → statement M
 pstring-spec =
@@ -50,6 +50,6 @@ pstring-spec =
     cast-size
     add-start
     sub-if2
+    add-t12
     returns-2
-    add-t6
     returns-3)
