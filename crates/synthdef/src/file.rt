@@ -9,7 +9,7 @@ use words::wide;
 ghost use mathlib.Core.Path.{_≡_};
 ghost use Prim.Native.Nat.{_≤_};
 ghost use mathlib.Core.List.{[]};
-ghost use lib.ListN.{take, length};
+ghost use lib.ListN.{take};
 ghost use Rattle.synthdef.specs.Answers.{numberOf, stepOf};
 ghost use Rattle.synthdef.specs.Fields.{stringAt};
 ghost use Rattle.synthdef.specs.Read.{ending, repeat};

@@ -10,10 +10,11 @@ ghost use mathlib.Core.Path.{_≡_};
 ghost use mathlib.Core.List.{[]};
 ghost use lib.ListN.{length};
 ghost use Rattle.synthdef.specs.Answers.{numberOf, stepOf};
+ghost use Rattle.synthdef.specs.FieldLaws.{word};
 ghost use Rattle.synthdef.specs.Fields.{rate, indexBelow};
 ghost use Rattle.synthdef.specs.Read.{ending, repeat};
 ghost use Rattle.synthdef.specs.Reader.{input, readUnits};
-ghost use Rattle.synthdef.specs.Units.{word32, unitCounts, unitOutputs, unitEnd, unitPlace, outsFrom, skipUnit, Remembered};
+ghost use Rattle.synthdef.specs.Units.{unitCounts, unitOutputs, unitEnd, unitPlace, outsFrom, skipUnit, Remembered};
 
 // A definition takes at most so many bytes.
 const SIZE_LIMIT: usize = 2048;
@@ -32,7 +33,7 @@ const MINUS_ONE: u32 = 0xFFFF_FFFF;
 // The number of four bytes at a place.
 fn word_at(s: &[u8], at: usize) -> u32
     requires { ⌜ at + 4 ≤ length (now s) ⌝ }
-    ensures { λ r. ⌜ r ≡ word32 (now (s .entry)) at ⌝ }
+    ensures { λ r. ⌜ r ≡ word (now (s .entry)) at ⌝ }
 {
     number32(s[at], s[at + 1], s[at + 2], s[at + 3])
 }

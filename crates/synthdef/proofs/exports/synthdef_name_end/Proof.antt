@@ -1,20 +1,11 @@
-use Prim.Native.Nat.{ℕ, zero, suc, _+_, _*_, _-_, _≤_, _<_}
-use mathlib.Core.Bool.{Bool, true, false, not}
-use mathlib.Core.Path.{_≡_, refl, sym, ap, _∙_}
-use mathlib.Core.List.{List, [], _∷_, _++_, append-assoc}
+use Prim.Native.Nat.{_-_}
+use mathlib.Core.Path.{sym, ap}
 use native.Mathlib.Omega.{arith}
-use native.Mathlib.Numerals.{add-one}
 use borrow.Author.Needs.{needs}
-use borrow.Author.Tests.{lt-ltb, le-ltb, le-leb, lt-leb, eq-eqb, ne-eqb}
-use lib.ListN.{length, take, drop, getD, set, length-set, length-drop}
-use borrow.Author.Needs.{needs}
-use Rattle.synthdef.specs.File.{definitionSpan, nameStart, nameEnd}
+use Rattle.synthdef.specs.File.{nameEnd}
 use Rattle.synthdef.specs.Spans.{span-inside}
 use Rattle.synthdef.proofs.exports.synthdef_name_end.Statement.{statement}
 use Rattle.synthdef.proofs.exports.synthdef_name_end.Tie as tie
-use Rattle.synthdef.proofs.exports.synthdef_name_end.Reads as reads
-use Rattle.synthdef.proofs.exports.synthdef_name_end.Lts as lts
-use Rattle.synthdef.proofs.file.definition_at.Reads as definition-at-reads
 
 definition-at-requires : tie.Need-definition-at-requires
 definition-at-requires c κs = search needs

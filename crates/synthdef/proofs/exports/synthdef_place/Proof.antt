@@ -1,19 +1,9 @@
-use Prim.Native.Nat.{ℕ, zero, suc, _+_, _*_, _-_, _≤_, _<_}
-use mathlib.Core.Bool.{Bool, true, false, not}
-use mathlib.Core.Path.{_≡_, refl, sym, ap, _∙_}
-use mathlib.Core.List.{List, [], _∷_, _++_, append-assoc}
-use native.Mathlib.Omega.{arith}
-use native.Mathlib.Numerals.{add-one}
-use borrow.Author.Needs.{needs}
-use borrow.Author.Tests.{lt-ltb, le-ltb, le-leb, lt-leb, eq-eqb, ne-eqb}
-use lib.ListN.{length, take, drop, getD, set, length-set, length-drop}
+use Prim.Native.Nat.{_-_}
+use mathlib.Core.Path.{ap}
 use borrow.Author.Needs.{needs}
 use Rattle.synthdef.specs.File.{refusalPlace}
 use Rattle.synthdef.proofs.exports.synthdef_place.Statement.{statement}
 use Rattle.synthdef.proofs.exports.synthdef_place.Tie as tie
-use Rattle.synthdef.proofs.exports.synthdef_place.Reads as reads
-use Rattle.synthdef.proofs.exports.synthdef_place.Lts as lts
-use Rattle.synthdef.proofs.file.check_file.Reads as check-file-reads
 
 check-file-requires : tie.Need-check-file-requires
 check-file-requires c κs = search needs

@@ -1,21 +1,10 @@
-use Prim.Native.Nat.{ℕ, zero, suc, _+_, _*_, _-_, _≤_, _<_}
-use mathlib.Core.Bool.{Bool, true, false, not}
-use mathlib.Core.Path.{_≡_, refl, sym, ap, _∙_}
-use mathlib.Core.List.{List, [], _∷_, _++_, append-assoc}
-use native.Mathlib.Omega.{arith}
-use native.Mathlib.Numerals.{add-one}
+use Prim.Native.Nat.{_-_}
+use mathlib.Core.Path.{sym}
 use borrow.Author.Needs.{needs}
-use borrow.Author.Tests.{lt-ltb, le-ltb, le-leb, lt-leb, eq-eqb, ne-eqb}
-use lib.ListN.{length, take, drop, getD, set, length-set, length-drop}
-use borrow.Author.Needs.{needs}
-use Rattle.synthdef.specs.Answers.{numberOf}
+use borrow.Author.Tests.{eq-eqb, ne-eqb}
 use Rattle.synthdef.specs.Reader.{fileType, fileVersion}
 use Rattle.synthdef.proofs.file.read_header.Statement.{statement}
 use Rattle.synthdef.proofs.file.read_header.Tie as tie
-use Rattle.synthdef.proofs.file.read_header.Reads as reads
-use Rattle.synthdef.proofs.file.read_header.Lts as lts
-use Rattle.synthdef.proofs.cursor.Cursor.int32.Reads as int32-reads
-use Rattle.synthdef.proofs.cursor.Cursor.short_count_to.Reads as short-count-to-reads
 
 int32-requires : tie.Need-int32-requires
 int32-requires c κs = search needs
