@@ -3,6 +3,11 @@ use crate::cursor::Cursor;
 use crate::cursor::Number;
 use crate::cursor::Step;
 use crate::definition::read_definition;
+use crate::limits::FILE_TYPE;
+use crate::limits::FILE_VERSION;
+use crate::limits::FIRST_PLACE;
+use crate::limits::MOST_DEFINITIONS;
+use crate::limits::SIZE_LIMIT;
 use crate::lookup::same_name;
 use words::Refusal;
 use words::wide;
@@ -28,19 +33,6 @@ pub enum Span {
     Nowhere,
 }
 
-// "SCgf" as a number.
-const FILE_TYPE: u32 = 0x5343_6766;
-
-const FILE_VERSION: u32 = 2;
-
-const MOST_DEFINITIONS: usize = 32;
-
-// A definition takes at most so many bytes.
-const SIZE_LIMIT: usize = 2048;
-
-// Where the first definition starts.
-const FIRST_PLACE: usize = 10;
-
 // The file's head: how many definitions there are, and the cursor at the first.
 fn read_header(s: &[u8]) -> Number
     ensures { λ r. ⌜ numberOf r ≡ readHeader (now (s .entry)) ⌝ }
@@ -57,7 +49,7 @@ fn read_header(s: &[u8]) -> Number
                     if version != FILE_VERSION {
                         return Number::Bad(Refusal::BadVersion, at);
                     }
-                    p2.short_count_to(s, 32)
+                    p2.short_count_to(s, MOST_DEFINITIONS as u32)
                 }
                 Number::Bad(refusal, place) => Number::Bad(refusal, place),
             }

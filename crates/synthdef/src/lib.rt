@@ -4,6 +4,7 @@ mod definition;
 mod exports;
 mod file;
 mod front;
+mod limits;
 mod lookup;
 mod units;
 

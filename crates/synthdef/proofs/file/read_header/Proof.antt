@@ -1,3 +1,4 @@
+use native.Mathlib.Omega.{arith}
 use Prim.Native.Nat.{_-_}
 use mathlib.Core.Path.{sym}
 use borrow.Author.Needs.{needs}
@@ -31,6 +32,9 @@ returns-2 c =
     let e2 = sym (rw (c .before .before .version .given .1) at (c .before .before .before .before .int322 .ensures)) in
     let q2 = ne-eqb (c .before .before .version .given .0 .0) fileVersion (c .if2 .taken) in
     rw (e1, q1, e2, q2)
+
+cast-short-count-to : tie.Need-cast-short-count-to
+cast-short-count-to c = omega arith
 
 short-count-to-requires : tie.Need-short-count-to-requires
 short-count-to-requires c κs = search needs
@@ -71,6 +75,7 @@ read-header-spec =
     int32-requires-2
     enum-known-version
     returns-2
+    cast-short-count-to
     short-count-to-requires
     enum-known-refusal
     enum-known-refusal-2
