@@ -77,7 +77,7 @@ map-snoc f [] a = refl
 map-snoc {B = B} f (x ∷ xs) a = ap (λ (l : List B). f x ∷ l) (map-snoc f xs a)
 
 names-more : (s starts : List ℕ) (i at : ℕ) → i < length starts → namesFrom s (take (i + 1) (set starts i at)) ≡ namesFrom s (take i starts) ++ (stringAt s at ∷ [])
-names-more s starts i at h = rw (add-one, take-suc-set starts i at h) (map-snoc (stringAt s) (take i starts) at)
+names-more s starts i at h = rw (add-one i, take-suc-set starts i at h) (map-snoc (stringAt s) (take i starts) at)
 
 -- The turns of a loop that reads definitions one by one, behind i of them, which start at the first i of starts.
 pub record Walked (s : List ℕ) (first count : ℕ) (starts : List ℕ) (at i : ℕ) : Type 0 where

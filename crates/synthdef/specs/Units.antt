@@ -176,8 +176,8 @@ unfolding readUnits
 skip-units k s n outs at =
     ending-told _ (readUnit k outs s at) _ _ (λ u next. ending-keeps (readUnits k s n (outs ++ (length (u .outputs) ∷ [])) next) (λ us. u ∷ us))
 
--- How many units' outputs are remembered while a definition is read. A unit takes at least 12 bytes, and a definition 20 besides: its name, its five counts
--- of four bytes or two. So a definition within the size limit has at most 169.
+-- How many units' outputs are remembered while a definition is read. A unit takes at least 12 bytes, and a definition 20 besides: a name of one byte, four
+-- counts of four bytes and one of two. So a definition within the size limit has fewer units than this (`units-remembered` of Forward).
 abbrev pub remembered : ℕ
 remembered = (sizeLimit - 20) / 12 + 1
 
