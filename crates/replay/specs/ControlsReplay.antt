@@ -45,7 +45,7 @@ unfoldable pub AllRows : List Node → Type 0
 AllRows [] = Unit {0}
 AllRows (r ∷ l) = (rowFormed r ≡ true) × AllRows l
 
-both-of : {P Q R : Node → Type 0} → ((y : Node) → P y → Q y → R y) → (l : List Node) → AllOf P l → AllOf Q l → AllOf R l
+pub both-of : {P Q R : Node → Type 0} → ((y : Node) → P y → Q y → R y) → (l : List Node) → AllOf P l → AllOf Q l → AllOf R l
 unfolding AllOf
 both-of g [] a b = tt
 both-of g (y ∷ l) a b = (g y (a .0) (b .0), both-of g l (a .1) (b .1))
@@ -194,7 +194,7 @@ unfolding AllRows Each flatten
 each-rows d forest.none h = tt
 each-rows d (node x b a) h = (h .0, rows-append (flatten (d + 1) b) (flatten d a) (each-rows (d + 1) b (h .1)) (each-rows d a (h .2)))
 
-formed-rows : (next : ℕ) (t : List Node) → allFormed next t ≡ true → AllRows t
+pub formed-rows : (next : ℕ) (t : List Node) → allFormed next t ≡ true → AllRows t
 unfolding allFormed AllRows
 formed-rows next [] h = tt
 formed-rows next (r ∷ l) h =
@@ -204,7 +204,7 @@ formed-rows next (r ∷ l) h =
     let e = both-true (leb (r .slot) groupSlot) (rowFormed r) (c .1) in
     (e .1, formed-rows next l (a .1))
 
-rows-of : (l : List Node) → AllRows l → AllOf (λ (y : Node). rowFormed y ≡ true) l
+pub rows-of : (l : List Node) → AllRows l → AllOf (λ (y : Node). rowFormed y ≡ true) l
 unfolding AllRows AllOf
 rows-of [] h = tt
 rows-of (r ∷ l) h = (h .0, rows-of l (h .1))

@@ -110,23 +110,24 @@ unfolding Each
 each-more g forest.none e = tt
 each-more g (node x b a) e = (g x (e .0), each-more g b (e .1), each-more g a (e .2))
 
+-- a record whose slot's bytes are as they were is seen alike
+pub bytes-alike : (before after : List Slot) (controls : List ℕ) (x : Node) → slotAt after (x .slot) .bytes ≡ slotAt before (x .slot) .bytes → viewOf before controls x ≡ viewOf after controls x
+bytes-alike before after controls x e =
+    let d : definitionOf before x ≡ definitionOf after x = ap (λ (l : List ℕ). definitionIn (record { bytes = l; resident = true })) (sym e) in
+    ap (λ (y : Definition). viewAs y) d
+  where
+    viewAs : Definition → PlainNode
+    viewAs y = record { number = x .number; run = x .run; kind = pick (isGroup x) group (synth y (controlsFrom (length (y .front .values)) (drop (rowWords * x .row) controls))) }
+
 -- slots whose held bytes are as they were are seen alike
 pub seen-alike : (before after : List Slot) (controls : List ℕ) (f : Forest Node) (t : List Node) → t ≡ flatten 0 f
     → ((k : ℕ) → held k t ≡ true → slotAt after k .bytes ≡ slotAt before k .bytes) → seenTree before controls f ≡ seenTree after controls f
 seen-alike before after controls f t laid same =
     map-each (viewOf before controls) (viewOf after controls) f
-    (each-more (λ x e. alike x (same (x .slot) e)) f (each-held 0 f t (λ k e. ap (λ (l : List Node). held k l) laid ∙ e)))
-  where
-    alike : (x : Node) → slotAt after (x .slot) .bytes ≡ slotAt before (x .slot) .bytes → viewOf before controls x ≡ viewOf after controls x
-    alike x e =
-        let d : definitionOf before x ≡ definitionOf after x = ap (λ (l : List ℕ). definitionIn (record { bytes = l; resident = true })) (sym e) in
-        ap (λ (y : Definition). viewAs y) d
-      where
-        viewAs : Definition → PlainNode
-        viewAs y = record { number = x .number; run = x .run; kind = pick (isGroup x) group (synth y (controlsFrom (length (y .front .values)) (drop (rowWords * x .row) controls))) }
+    (each-more (λ x e. bytes-alike before after controls x (same (x .slot) e)) f (each-held 0 f t (λ k e. ap (λ (l : List Node). held k l) laid ∙ e)))
 
 -- a load's retirement leaves the bytes
-retired-bytes : (names : List (List ℕ)) (slots : List Slot) (k : ℕ) → slotAt (retired names slots) k .bytes ≡ slotAt slots k .bytes
+pub retired-bytes : (names : List (List ℕ)) (slots : List Slot) (k : ℕ) → slotAt (retired names slots) k .bytes ≡ slotAt slots k .bytes
 unfolding retired
 retired-bytes names [] k = refl
 retired-bytes names (s ∷ more) zero = refl
@@ -165,7 +166,7 @@ means-there name (s ∷ more) (suc j) h r n = go (both (s .resident) (sameName (
     go false ih = ih
 
 -- a retired slot's bytes stay
-set-bytes : (slots : List Slot) (j i : ℕ) → slotAt (retire j slots) i .bytes ≡ slotAt slots i .bytes
+pub set-bytes : (slots : List Slot) (j i : ℕ) → slotAt (retire j slots) i .bytes ≡ slotAt slots i .bytes
 set-bytes [] j i = refl
 set-bytes (s ∷ more) zero zero = refl
 set-bytes (s ∷ more) zero (suc i) = refl
@@ -210,7 +211,7 @@ module _ (e : Engine) (p : Plain) (k : Kept e p) (apart : namesApart (e .slots) 
         leaves = k .leaves;
         tree = k .tree
             ∙ seen-alike (e .slots) slots (e .controls) (k .forest) (e .nodes) (k .laid)
-            (λ j held-j. ap (λ (s : Slot). s .bytes) (held-loaded ds (retired (namesOf ds) (e .slots)) (e .nodes) (p .names) l j held-j) ∙ retired-bytes (namesOf ds) (e .slots) j);
+            (λ j held-j. ap (λ (s : Slot). s .bytes) (held-loaded ds (retired (namesOf ds) (e .slots)) (e .nodes) (l .room) j held-j) ∙ retired-bytes (namesOf ds) (e .slots) j);
         names = λ m. meaning-means m slots ∙ done .meanings m;
         nameCount = let c = done .counts in omega arith;
         once = done .once;

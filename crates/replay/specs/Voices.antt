@@ -125,3 +125,17 @@ new-voice slots d x {after} {before} g h v =
     go : (s : ℕ) → definitionIn (slotAt slots s) ≡ d → (q : Bool) → eqb (x .slot) s ≡ q → 1 ≤ one (sits (x .number) s x) → definitionIn (slotAt slots (x .slot)) ≡ d
     go s e true f a = ap (λ (y : ℕ). definitionIn (slotAt slots y)) (eqb-true (x .slot) s f) ∙ e
     go s e false f a = let own : one (sits (x .number) s x) ≡ 0 = ap₂ (λ (u v : Bool). one (both u v)) (eq-eqb (x .number) (x .number) refl) f in absurd (omega arith)
+
+-- a group more is no voice
+pub group-voice : (slots : List Slot) (n : ℕ) (d : Definition) (x : Node) {after before : List Node} → Grown (x ∷ []) after before → isGroup x ≡ true → apart before ≡ true
+    → voiceAt slots n after ≡ some d → voiceAt slots n before ≡ some d
+unfolding tally
+group-voice slots n d x {after} {before} g e h v =
+    let w = voice-sits slots n d after v in
+    let apart-slot : eqb (x .slot) (w .slot) ≡ false = ne-eqb (x .slot) (w .slot) (λ q. eqb-false (w .slot) 32 (w .voice) (sym q ∙ eqb-true (x .slot) 32 e)) in
+    let own : one (sits n (w .slot) x) ≡ 0 = ap (λ (b : Bool). one (both (eqb (x .number) n) b)) apart-slot ∙ never (eqb (x .number) n) in
+    sits-voice slots n d before h (record { slot = w .slot; there = omega (arith, w .there, g .sum (sits n (w .slot)) (λ e r. refl)); definition = w .definition; voice = w .voice })
+  where
+    never : (b : Bool) → one (both b false) ≡ 0
+    never true = refl
+    never false = refl
