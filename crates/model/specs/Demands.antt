@@ -21,20 +21,21 @@ use Rattle.model.specs.declared.TreeCommand.{TreeCommand}
 use Rattle.model.specs.declared.TreeCommand.the-variants as tree
 use Rattle.model.specs.declared.ControlCommand.{ControlCommand}
 use Rattle.model.specs.declared.ControlCommand.the-variants as controls
+use Rattle.model.specs.declared.Query.{Query}
 use Rattle.model.specs.declared.Query.the-variants as query
 use Rattle.model.specs.declared.Command.{Command}
 use Rattle.model.specs.declared.Command.the-variants as command
 use Rattle.model.specs.declared.Answer.{Answer}
 use Rattle.model.specs.declared.Answer.the-variants.{Done, Replied, Refused, RefusedAt}
-use Rattle.model.specs.Engine.{Slot, Engine, decode, slotAt, definitionIn, residentOf}
+use Rattle.model.specs.Engine.{Slot, Engine, decode, slotAt, definitionIn, residentOf, residents}
 use Rattle.model.specs.Formed.{formed}
 use Rattle.model.specs.View.{Kind, group, synth, PlainNode, Row, shape, view}
 use Rattle.model.specs.Meaning.{meant, nodeNamed}
 use Rattle.model.specs.Effects.{numberFor}
-use Rattle.model.specs.Replies.{reply}
+use Rattle.model.specs.Replies.{replyTo, reply}
 use Rattle.model.specs.After.{wordsAfter, shelfAfter, freshState, freshShelf}
 use Rattle.model.specs.Door.{answerIn, answer, isAccepted, Does}
-use Rattle.model.specs.Plain.{Plain, atFirst, meaning, fed, plainRows, plainOrder}
+use Rattle.model.specs.Plain.{Plain, atFirst, meaning, meantIn, fed, plainRows, plainOrder}
 
 -- Demand 1: "A refusal changes nothing in the state or the reply buffer": of whatever a call does
 abbrev pub Demand1 : Type 0
@@ -230,17 +231,36 @@ pub record TreeHolds (t : List Node) : Type 0 where
       → (lives (parentOf n t) t ≡ true) × ((isGroup (nodeNamed (parentOf n t) t) ≡ true) × (holds n (childrenOf (parentOf n t) t) ≡ true))
   pub oneParent : (n g : ℕ) → lives n t ≡ true → holds n (childrenOf g t) ≡ true → g ≡ parentOf n t
 
+-- "One reply for all queries breaks it by the replay model": the reply to a query, of what the plain tree holds; all but export's
+abbrev pub plainReply : Query → List ℕ → Plain → List ℕ
+plainReply q bytes p = replyTo q (λ a. meantIn a p) bytes (plainRows 0 (p .tree)) (p .buses) (length (p .names)) []
+
+abbrev pub isExport : Query → Bool
+isExport (query.Node n) = false
+isExport (query.Control n key) = false
+isExport (query.Bus b) = false
+isExport (query.Tree g flag) = false
+isExport query.Status = false
+isExport query.Export = true
+
 -- of the state after a sequence and the plain tree that was fed the same: "afterwards everything equals paper 01's plain tree, the kept running order equals the one worked
 -- out afresh". "All that the plain tree holds is compared: definitions, each synth's and each name's, as read, not by slot; controls by own float and mapping; every float by its bits."
 pub record Same (e : Engine) (p : Plain) : Type 0 where
   pub nodes : view e ≡ plainRows 0 (p .tree)
   pub names : (name : List ℕ) → meaningIn name e ≡ meaning name (p .names)
+  pub nameCount : length (residents (e .slots)) ≡ length (p .names)
   pub next : e .next ≡ p .next
   pub latest : e .latest ≡ p .latest
   pub buses : e .buses ≡ p .buses
   pub order : e .order ≡ plainOrder p
+  pub replies : (q : Query) (bytes : List ℕ) → isExport q ≡ false → reply q bytes e ≡ plainReply q bytes p
 
--- Demand 3, of one sequence
+-- every call's bytes are bytes
+unfoldable pub AllBytes : List Call → Type 0
+AllBytes [] = Unit {0}
+AllBytes (c ∷ cs) = AreBytes (c .bytes) × AllBytes cs
+
+-- Demand 3, of one sequence; it is claimed of every one whose bytes are bytes: `(cs : List Call) → AllBytes cs → Demand3 cs`
 pub record Demand3 (cs : List Call) : Type 0 where
   pub each : EachHolds cs freshEngine
   pub same : Same (engineIn (run cs freshEngine)) (replay cs freshEngine atFirst)

@@ -1,1 +1,4 @@
-pub mod Good
+pub mod Known
+pub mod Does
+pub mod Regions
+pub mod Decoded

@@ -1,8 +1,8 @@
 -- Laws of fields: what a field that was read tells.
-use Prim.Native.Nat.{ℕ, _+_, _*_, _-_, _≤_, _<_}
+use Prim.Native.Nat.{ℕ, _+_, _*_, _-_, _≤_}
 use mathlib.Core.Bool.{Bool, true, false}
-use mathlib.Core.Path.{_≡_, refl, sym, ap, _∙_}
-use mathlib.Core.List.{List, [], _∷_}
+use mathlib.Core.Path.{_≡_, refl, sym}
+use mathlib.Core.List.{List}
 use native.Mathlib.Omega.{arith}
 use borrow.Author.Tests.{leb-true}
 use lib.ListN.{length, getD}
@@ -12,7 +12,7 @@ use Rattle.words.specs.Parts.{region, region-length}
 use Rattle.words.specs.declared.Refusal.{Refusal}
 use Rattle.words.specs.declared.Refusal.the-variants.{Truncated, BadName, BadCount}
 use Rattle.synthdef.specs.NameLaws.{full}
-use Rattle.synthdef.specs.Read.{Read, got, bad, andThen, checked}
+use Rattle.synthdef.specs.Read.{Read, got, bad, checked}
 use Rattle.synthdef.specs.Fields.{whole, pstring, stringAt, definitionName, integer, countTo}
 
 -- the four bytes at a place as a number

@@ -1,6 +1,7 @@
 -- What the functions on a whole file answer.
 use Prim.{Unit, tt}
-use Prim.Native.Nat.{ℕ, zero, suc, _+_, _-_}
+use Prim.Native.Nat.{ℕ, zero, suc, _+_, _-_, _≤_}
+use mathlib.Core.Path.{_≡_}
 use mathlib.Core.Bool.{Bool, true, false}
 use mathlib.Core.List.{List, [], _∷_, map}
 use lib.ListN.{length, getD}
@@ -16,7 +17,7 @@ use Rattle.synthdef.specs.declared.file.Span.the-variants.{Between, Nowh
 use Rattle.synthdef.specs.Read.{Read, got, bad, andThen, repeat, ending}
 use Rattle.synthdef.specs.Fields.{stringAt}
 use Rattle.synthdef.specs.Definition.{Definition}
-use Rattle.synthdef.specs.Reader.{sizeLimit, among, fits, readDefinition, readFile}
+use Rattle.synthdef.specs.Reader.{mostDefinitions, sizeLimit, among, fits, readDefinition, readFile}
 
 -- how many definitions a file has, or why it is refused and at which place
 abbrev pub verdict : Read (List Definition) → Checked
@@ -76,3 +77,8 @@ nameStart Nowhere = 0
 abbrev pub nameEnd : List ℕ → Span → ℕ
 nameEnd s (Between start end) = start + 1 + getD s start 0
 nameEnd s Nowhere = 0
+
+-- where the definitions of a file start, as far as they are known: the first so many of starts
+pub record Begun (starts : List ℕ) (count : ℕ) : Type 0 where
+  pub few : count ≤ mostDefinitions
+  pub sized : length starts ≡ mostDefinitions

@@ -7,20 +7,20 @@ use mathlib.Core.List.{List, [], _∷_, _++_, map}
 use native.Mathlib.Omega.{arith}
 use native.Mathlib.Nat.{sub-zero}
 use native.Mathlib.Numerals.{add-one}
-use lib.Seq.{take-suc-set}
-use lib.ListN.{length, getD, take, set, length-set}
+use lib.Seq.{take-suc-set, length-take-le, drop-cons, getD-take}
+use lib.ListN.{length, getD, take, drop, set, length-set, drop-of-length-le}
 use lib.Dec.{ltb, leb, eqb}
 use borrow.Author.Tests.{lt-ltb, le-ltb, leb-true}
-use Rattle.words.specs.Choice.{pick}
+use Rattle.words.specs.Choice.{pick, either}
 use Rattle.words.specs.declared.Refusal.{Refusal}
 use Rattle.words.specs.declared.Refusal.the-variants.{NotSynthDef, BadVersion, BadCount, TooLong, NameTwice, BytesLeft}
 use Rattle.synthdef.specs.Read.{Read, got, bad, andThen, checked, repeat, ending}
 use Rattle.synthdef.specs.Fields.{int16, int32, stringAt}
 use Rattle.synthdef.specs.Definition.{Definition}
-use Rattle.synthdef.specs.Reader.{fileType, fileVersion, sizeLimit, mostDefinitions, among, fits, readDefinition, readDefinitions, readHeader, readFile}
+use Rattle.synthdef.specs.Reader.{fileType, fileVersion, sizeLimit, mostDefinitions, sameName, among, fits, readDefinition, readDefinitions, readHeader, readFile}
 use Rattle.synthdef.specs.Endings.{parts, checked-got, whole-got, then-got, then-bad, ending-then, then-ending, ending-keeps, ending-got}
 use Rattle.synthdef.specs.Forward.{Whole, definition-whole}
-use Rattle.synthdef.specs.File.{namesFrom, skipFitting, verdict, firstPlace}
+use Rattle.synthdef.specs.File.{Begun, namesFrom, skipFitting, verdict, firstPlace}
 use Rattle.synthdef.specs.declared.file.Checked.the-variants.{Accepted, Refused}
 
 -- what is asked at a definition's end, of its start, its end and its name
@@ -113,8 +113,24 @@ module _ (s : List ℕ) (first count : ℕ) {starts : List ℕ} {at i : ℕ} (w 
       let none : count - i ≡ 0 = omega arith in
       sym (w .left) ∙ rw none
 
+-- a name among those of the definitions that start at some places: one more place, and no more
+pub among-turn : (n s starts : List ℕ) (count i : ℕ) → i < count → Begun starts count
+    → among n (namesFrom s (drop i (take count starts)))
+    ≡ either (sameName (stringAt s (getD starts i 0)) n) (among n (namesFrom s (drop (i + 1) (take count starts))))
+unfolding among
+among-turn n s starts count i l b =
+    let size : length (take count starts) ≡ count = length-take-le count starts (omega (arith, b .few, b .sized)) in
+    rw (drop-cons (take count starts) i 0 (omega arith), getD-take count starts i 0 l, add-one i)
+
+pub among-done : (n s starts : List ℕ) (count i : ℕ) → count ≤ i → Begun starts count → among n (namesFrom s (drop i (take count starts))) ≡ false
+unfolding among
+among-done n s starts count i l b =
+    let size : length (take count starts) ≡ count = length-take-le count starts (omega (arith, b .few, b .sized)) in
+    let most : length (take count starts) ≤ i = omega arith in
+    rw (drop-of-length-le (take count starts) most)
+
 -- as many definitions are read as are counted
-definitions-length : (s : List ℕ) (n : ℕ) (names : List (List ℕ)) (at : ℕ) {ds : List Definition} {end : ℕ} → readDefinitions s n names at ≡ got ds end → length ds ≡ n
+pub definitions-length : (s : List ℕ) (n : ℕ) (names : List (List ℕ)) (at : ℕ) {ds : List Definition} {end : ℕ} → readDefinitions s n names at ≡ got ds end → length ds ≡ n
 unfolding readDefinitions
 definitions-length s zero names at {ds} h =
     let e : ds ≡ [] = cc in
@@ -164,3 +180,7 @@ module _ (s : List ℕ) where
     file-accepted d l =
         let t = ending-got (readDefinitions s n [] first) d in
         rw (e, t .read, le-ltb _ _ l) (ap Accepted (definitions-length s n [] first (t .read)))
+
+-- a definition ends behind its start
+pub end-forward : (s : List ℕ) (at : ℕ) {u : Unit {0}} {end : ℕ} → ending (readDefinition s at) ≡ got u end → at < end
+end-forward s at e = omega (arith, definition-whole s at (ending-got (readDefinition s at) e .read) .forward)

@@ -1,21 +1,17 @@
 -- Laws of a definition's front: what is told of it, and where its parts stand.
-use Prim.{Unit, tt}
-use Prim.Native.Nat.{ℕ, zero, suc, _+_, _*_, _-_, _≤_, _<_}
-use mathlib.Core.Bool.{Bool, true, false}
-use mathlib.Core.Path.{_≡_, refl, sym, ap, _∙_}
-use mathlib.Core.List.{List, [], _∷_}
+use Prim.Native.Nat.{ℕ, _+_, _*_, _<_}
+use mathlib.Core.Path.{_≡_, refl, sym, ap}
+use mathlib.Core.List.{List}
 use native.Mathlib.Omega.{arith}
-use native.Mathlib.Nat.{add-zero}
 use lib.ListN.{length, getD}
-use Rattle.synthdef.specs.declared.front.Counts.{Counts}
 use Rattle.synthdef.specs.declared.front.Floats.{Floats}
 use Rattle.synthdef.specs.Read.{Read, got, bad, andThen, repeat, ending}
-use Rattle.synthdef.specs.Fields.{float32, definitionName, integer, count, countTo, highest32}
+use Rattle.synthdef.specs.Fields.{float32, definitionName, count, countTo, highest32}
 use Rattle.synthdef.specs.Definition.{ParameterName, Front}
 use Rattle.synthdef.specs.Reader.{mostParameters, parameterName, readFront}
-use Rattle.synthdef.specs.Front.{mapRead, countedFloats, readCounts, readNames, nameEnd, valuesAt, namesAt, told}
+use Rattle.synthdef.specs.Front.{mapRead, readCounts, readNames, nameEnd, valuesAt, namesAt, told}
 use Rattle.synthdef.specs.FieldLaws.{name-length, count-end}
-use Rattle.synthdef.specs.RepeatLaws.{got-value, got-place, went-on, repeat-length, floats-end}
+use Rattle.synthdef.specs.RepeatLaws.{got-value, got-place, went-on, repeat-length, floats-end, floats-at}
 
 module _ {A B E D : Type 0} (tell : E → D) (g : B → ℕ → Read D) where
   -- two readings that begin alike, of the second of which something is told
@@ -85,11 +81,6 @@ front-told s at =
     let w = places s at e1 e2 f2 e3 f3 e4 e5 in
     cc)))))
 
--- a reading that goes on from what is told
-pub then-told : {A B D : Type 0} (tell : A → B) (r : Read A) (f : B → ℕ → Read D) → andThen (mapRead tell r) f ≡ andThen r (λ x p. f (tell x) p)
-then-told tell (got x p) f = refl
-then-told tell (bad q place) f = refl
-
 -- a front that was read, by its parts
 pub record FrontGot (s : List ℕ) (at : ℕ) (f : Front) (end : ℕ) : Type 0 where
   pub name : definitionName s at ≡ got (f .name) (nameEnd at f)
@@ -119,3 +110,8 @@ front-got s at e =
     went-on (count s p3) _ r5 (λ many p4 e4 r6.
     went-on (repeat (parameterName p s) many p4) _ r6 (λ names last e5 r7.
     front-parts s at e1 f3 e5 (places s at e1 e2 f2 e3 f3 e4 e5) r7)))))))
+
+-- each of its initial values, by its place
+pub front-value : (s : List ℕ) (at i : ℕ) {f : Front} {end : ℕ} → readFront s at ≡ got f end → i < length (f .values)
+    → float32 s (valuesAt at f + 4 * i) ≡ got (getD (f .values) i 0) (valuesAt at f + 4 * i + 4)
+front-value s at i {f} e h = floats-at s (length (f .values)) (valuesAt at f) i (front-got s at e .values) h

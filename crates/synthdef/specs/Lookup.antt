@@ -1,5 +1,5 @@
 -- Lookups in one encoded definition, which starts at the first byte. They read its front, and answer none where that can't be read.
-use Prim.Native.Nat.{ℕ, _+_, _*_, _-_}
+use Prim.Native.Nat.{ℕ, _-_}
 use mathlib.Core.Bool.{Bool}
 use mathlib.Core.List.{List, [], _∷_}
 use mathlib.Core.Option.{Option, none, some}
@@ -15,7 +15,7 @@ use Rattle.synthdef.specs.declared.lookup.ValuesFound.{ValuesFound}
 use Rattle.synthdef.specs.declared.lookup.ValuesFound.the-variants as values
 use Rattle.synthdef.specs.Read.{Read, got, bad}
 use Rattle.synthdef.specs.Fields.{count}
-use Rattle.synthdef.specs.Definition.{ParameterName, Front}
+use Rattle.synthdef.specs.Definition.{ParameterName}
 use Rattle.synthdef.specs.Reader.{readFront, sameName}
 use Rattle.synthdef.specs.Front.{valuesAt}
 
@@ -32,6 +32,28 @@ module _ {A B : Type 0} where
 
 abbrev pub nothing : Found
 nothing = found.Nothing
+
+abbrev pub atNumber : ℕ → Found
+atNumber n = found.At n
+
+-- the first of two answers, if there is one, else the second
+abbrev pub orNumber : Found → Found → Found
+orNumber (found.At n) other = found.At n
+orNumber found.Nothing other = other
+
+abbrev pub orElse : Option (List ℕ) → Option (List ℕ) → Option (List ℕ)
+orElse (some n) other = some n
+orElse none other = other
+
+abbrev pub noPart : NameFound
+noPart = named.Nothing
+
+abbrev pub atPart : ℕ → ℕ → NameFound
+atPart start end = named.Part start end
+
+abbrev pub orPart : NameFound → NameFound → NameFound
+orPart (named.Part start end) other = named.Part start end
+orPart named.Nothing other = other
 
 -- the definition's name, and no bytes where there is none
 abbrev pub nameIn : List ℕ → List ℕ

@@ -1,10 +1,9 @@
 -- Laws of readings.
 use Prim.Native.Nat.{ℕ}
 use mathlib.Core.Bool.{Bool, true, false}
-use mathlib.Core.Path.{_≡_, refl, sym, ap}
-use Rattle.words.specs.Choice.{pick}
+use mathlib.Core.Path.{_≡_, sym}
 use Rattle.words.specs.declared.Refusal.{Refusal}
-use Rattle.synthdef.specs.Read.{Read, got, bad, andThen, checked}
+use Rattle.synthdef.specs.Read.{Read, got, bad, checked}
 
 module _ {A : Type 0} where
   -- a value that passes its test, one that does not, and one that was not read

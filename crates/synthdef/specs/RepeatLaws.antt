@@ -1,15 +1,12 @@
 -- Laws of values that are read one after the other.
-use Prim.{Unit, tt}
+use Prim.{tt}
 use Prim.Native.Nat.{ℕ, zero, suc, _+_, _*_, _-_, _≤_, _<_}
-use mathlib.Core.Bool.{Bool, true, false}
 use mathlib.Core.Path.{_≡_, refl, sym, ap, _∙_}
-use mathlib.Core.List.{List, [], _∷_}
+use mathlib.Core.List.{List, _∷_}
 use native.Mathlib.Omega.{arith}
-use native.Mathlib.Nat.{sub-zero, add-zero}
+use native.Mathlib.Nat.{add-zero}
 use borrow.Author.Tests.{le-leb, lt-leb}
 use lib.ListN.{length, getD}
-use lib.Dec.{leb}
-use Rattle.words.specs.declared.Refusal.{Refusal}
 use Rattle.words.specs.declared.Refusal.the-variants.{Truncated}
 use Rattle.synthdef.specs.Read.{Read, got, bad, andThen, repeat, ending}
 use Rattle.synthdef.specs.Fields.{float32}
@@ -23,36 +20,11 @@ module _ {A : Type 0} where
   got-place e = cc
 
 module _ {A B : Type 0} where
-  -- two readings that go on alike from what the first one got
-  pub andThen-same : (r : Read A) {f g : A → ℕ → Read B} → ((x : A) (next : ℕ) → r ≡ got x next → f x next ≡ g x next) → andThen r f ≡ andThen r g
-  andThen-same (got x next) h = h x next refl
-  andThen-same (bad q place) h = refl
-
-  -- a reading that went on to its end: what its first part got, and the rest
-  pub record Went (r : Read A) (f : A → ℕ → Read B) (y : B) (end : ℕ) : Type 0 where
-    pub value : A
-    pub place : ℕ
-    pub first : r ≡ got value place
-    pub rest : f value place ≡ got y end
-
-  pub went : (r : Read A) (f : A → ℕ → Read B) {y : B} {end : ℕ} → andThen r f ≡ got y end → Went r f y end
-  went (got x next) f e = record { value = x; place = next; first = refl; rest = e }
-  went (bad q place) f e = let z : _≡_ {A = ℕ} 0 1 = cc in absurd (omega arith)
-
-  -- the same, for whatever follows from it
+  -- a reading that went on to its end, for whatever follows from what its first part got and from the rest
   pub went-on : {D : Type 0} (r : Read A) (f : A → ℕ → Read B) {y : B} {end : ℕ} → andThen r f ≡ got y end
       → ((x : A) (p : ℕ) → r ≡ got x p → f x p ≡ got y end → D) → D
   went-on (got x p) f e k = k x p refl e
   went-on (bad q place) f e k = let z : _≡_ {A = ℕ} 0 1 = cc in absurd (omega arith)
-
-  -- where a reading ends that leaves no value out
-  pub ending-andThen : (r : Read A) (f : A → ℕ → Read B) → ending (andThen r f) ≡ andThen r (λ x next. ending (f x next))
-  ending-andThen (got x next) f = refl
-  ending-andThen (bad q place) f = refl
-
-  pub andThen-ending : (r : Read A) (f : ℕ → Read B) → andThen (ending r) (λ t next. f next) ≡ andThen r (λ x next. f next)
-  andThen-ending (got x next) f = refl
-  andThen-ending (bad q place) f = refl
 
 module _ {A : Type 0} (read : ℕ → Read A) where
   ending-more : (x : A) (r : Read (List A)) → ending (andThen r (λ xs end. got (x ∷ xs) end)) ≡ ending r
@@ -83,13 +55,11 @@ module _ {A : Type 0} (read : ℕ → Read A) where
   -- as many values are read as were asked for
   pub repeat-length : (n at : ℕ) {xs : List A} {end : ℕ} → repeat read n at ≡ got xs end → length xs ≡ n
   unfolding repeat
-  repeat-length zero at {xs} t = let c : _≡_ {A = List A} [] xs = cc in rw (sym c)
-  repeat-length (suc n) at {xs} t =
-      let w = went (read at) (λ x next. andThen (repeat read n next) (λ xs end. got (x ∷ xs) end)) t in
-      let v = went (repeat read n (w .place)) (λ xs end. got (w .value ∷ xs) end) (w .rest) in
-      let l : length (v .value) ≡ n = repeat-length n (w .place) (v .first) in
-      let c : w .value ∷ v .value ≡ xs = cc in
-      rw (sym c, l)
+  repeat-length zero at e = rw (sym (got-value e))
+  repeat-length (suc n) at e =
+      went-on (read at) _ e (λ x p1 e1 r1.
+      went-on (repeat read n p1) _ r1 (λ xs p2 e2 r2.
+      rw (sym (got-value r2), repeat-length n p1 e2)))
 
 -- floats that are all there
 pub floats-whole : (s : List ℕ) (n at : ℕ) → at + 4 * n ≤ length s → ending (repeat (float32 s) n at) ≡ got tt (at + 4 * n)
@@ -118,31 +88,31 @@ floats-cut s (suc k) (suc n) at m h l =
 -- where floats end that were read
 pub floats-end : (s : List ℕ) (n at : ℕ) {xs : List ℕ} {end : ℕ} → repeat (float32 s) n at ≡ got xs end → end ≡ at + 4 * n
 unfolding repeat
-floats-end s zero at {xs} {end} t = let e : at ≡ end = cc in omega arith
-floats-end s (suc n) at {xs} {end} t =
-    let w = went (float32 s at) (λ x next. andThen (repeat (float32 s) n next) (λ ys e. got (x ∷ ys) e)) t in
-    let v = went (repeat (float32 s) n (w .place)) (λ ys e. got (w .value ∷ ys) e) (w .rest) in
-    let p : v .place ≡ end = cc in
-    omega (arith, floats-end s n (w .place) (v .first), whole-got 4 s at (word s at) (w .first) .1 .1)
+floats-end s zero at e = rw (sym (got-place e), add-zero)
+floats-end s (suc n) at e =
+    went-on (float32 s at) _ e (λ x p1 e1 r1.
+    went-on (repeat (float32 s) n p1) _ r1 (λ xs p2 e2 r2.
+    omega (arith, floats-end s n p1 e2, whole-got 4 s at (word s at) e1 .1 .1, got-place r2)))
 
-float-more : (s : List ℕ) (at next i x : ℕ) (ys xs : List ℕ) → xs ≡ x ∷ ys → at + 4 ≡ next
+float-more : (s : List ℕ) (at next i x : ℕ) {ys xs : List ℕ} → x ∷ ys ≡ xs → at + 4 ≡ next
     → float32 s (next + 4 * i) ≡ got (getD ys i 0) (next + 4 * i + 4)
     → float32 s (at + 4 * suc i) ≡ got (getD xs (suc i) 0) (at + 4 * suc i + 4)
-float-more s at next i x ys xs e p h = let q : at + 4 * suc i ≡ next + 4 * i = omega arith in rw (q, e) h
+float-more s at next i x e p h = let q : at + 4 * suc i ≡ next + 4 * i = omega arith in rw (q, sym e) h
+
+float-first : (s : List ℕ) (at next x : ℕ) {ys xs : List ℕ} → x ∷ ys ≡ xs → at + 4 ≡ next → float32 s at ≡ got x next
+    → float32 s (at + 4 * 0) ≡ got (getD xs 0 0) (at + 4 * 0 + 4)
+float-first s at next x e p h = rw (add-zero, sym e) (h ∙ ap (λ q. got x q) (sym p))
 
 -- each of them
 pub floats-at : (s : List ℕ) (n at i : ℕ) {xs : List ℕ} {end : ℕ} → repeat (float32 s) n at ≡ got xs end → i < n
     → float32 s (at + 4 * i) ≡ got (getD xs i 0) (at + 4 * i + 4)
 unfolding repeat
-floats-at s zero at i t h = let z : _≡_ {A = ℕ} 0 1 = omega arith in cc
-floats-at s (suc n) at zero {xs} {end} t h =
-    let w = went (float32 s at) (λ x next. andThen (repeat (float32 s) n next) (λ ys e. got (x ∷ ys) e)) t in
-    let v = went (repeat (float32 s) n (w .place)) (λ ys e. got (w .value ∷ ys) e) (w .rest) in
-    let x : xs ≡ w .value ∷ v .value = cc in
-    let p : w .place ≡ at + 4 = sym (whole-got 4 s at (word s at) (w .first) .1 .1) in
-    rw (add-zero, x) (w .first ∙ ap (λ q. got (w .value) q) p)
-floats-at s (suc n) at (suc i) {xs} {end} t h =
-    let w = went (float32 s at) (λ x next. andThen (repeat (float32 s) n next) (λ ys e. got (x ∷ ys) e)) t in
-    let v = went (repeat (float32 s) n (w .place)) (λ ys e. got (w .value ∷ ys) e) (w .rest) in
-    float-more s at (w .place) i (w .value) (v .value) xs (cc) (whole-got 4 s at (word s at) (w .first) .1 .1)
-    (floats-at s n (w .place) i (v .first) (omega arith))
+floats-at s zero at i e h = let z : _≡_ {A = ℕ} 0 1 = omega arith in cc
+floats-at s (suc n) at zero e h =
+    went-on (float32 s at) _ e (λ x p1 e1 r1.
+    went-on (repeat (float32 s) n p1) _ r1 (λ xs p2 e2 r2.
+    float-first s at p1 x (got-value r2) (whole-got 4 s at (word s at) e1 .1 .1) e1))
+floats-at s (suc n) at (suc i) e h =
+    went-on (float32 s at) _ e (λ x p1 e1 r1.
+    went-on (repeat (float32 s) n p1) _ r1 (λ xs p2 e2 r2.
+    float-more s at p1 i x (got-value r2) (whole-got 4 s at (word s at) e1 .1 .1) (floats-at s n p1 i e2 (omega arith))))

@@ -188,10 +188,10 @@ impl Cursor {
         }
         let size = s[at] as usize;
         let start = at + 1;
-        if s.len() - start < size {
-            return Text::Bad(Refusal::Truncated, at);
+        if size <= s.len() - start {
+            return Text::Value(start, Cursor { at: start + size });
         }
-        Text::Value(start, Cursor { at: start + size })
+        Text::Bad(Refusal::Truncated, at)
     }
 
     pub fn name(self, s: &[u8]) -> Text

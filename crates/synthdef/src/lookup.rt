@@ -1,22 +1,20 @@
 // Lookups in one encoded definition, which starts at the first byte. They read its front; where that can't be read, they answer none.
 use crate::cursor::Cursor;
 use crate::cursor::Number;
-use crate::cursor::Step;
 use crate::front::Entry;
 use crate::front::FrontRead;
 use crate::front::parameter_name;
 use crate::front::read_counts;
 use crate::front::read_front;
-use crate::front::skip_parameter_names;
 use words::wide;
 ghost use Prim.Native.Nat.{_-_};
-ghost use mathlib.Core.Bool.{true, false};
 ghost use mathlib.Core.Option.{none};
 ghost use mathlib.Core.Path.{_≡_};
+ghost use Rattle.words.specs.Choice.{pick};
 ghost use Rattle.words.specs.Parts.{region};
 ghost use Rattle.synthdef.specs.Read.{repeat};
 ghost use Rattle.synthdef.specs.Reader.{parameterName, sameName};
-ghost use Rattle.synthdef.specs.Lookup.{onRead, nothing, partOf, nameIn, parametersIn, unitsIn, valuesIn, valueIn, firstNamed, indexIn, firstName, nameOfIn};
+ghost use Rattle.synthdef.specs.Lookup.{onRead, nothing, atNumber, orNumber, noPart, atPart, orPart, partOf, nameIn, parametersIn, unitsIn, valuesIn, valueIn, firstNamed, indexIn, firstName, nameOfIn};
 
 // A number, or none.
 pub enum Found {
@@ -138,13 +136,17 @@ pub fn initial_value(s: &[u8], index: u32) -> Found
     }
 }
 
-// So many parameter names can be read.
-fn names_follow(s: &[u8], cursor: Cursor, parameters: u32, count: u32) -> bool
-    ensures { λ r. ⌜ r ≡ onRead (repeat (parameterName parameters (now (s .entry))) count (cursor .at)) false (λ names end. true) ⌝ }
+// What is found: the number of this entry, if its name is the same, and none was found before it.
+fn first_number(found: Found, same: bool, number: u32) -> Found
+    ensures { λ r. ⌜ r ≡ orNumber found (pick same (atNumber number) nothing) ⌝ }
 {
-    match skip_parameter_names(s, cursor, parameters, count) {
-        Step::Next(past) => true,
-        Step::Bad(refusal, place) => false,
+    if same {
+        match found {
+            Found::At(first) => Found::At(first),
+            Found::Nothing => Found::At(number),
+        }
+    } else {
+        found
     }
 }
 
@@ -153,16 +155,12 @@ fn find_name(s: &[u8], cursor: Cursor, parameters: u32, count: u32, name: &[u8])
     ensures { λ r. ⌜ r ≡ onRead (repeat (parameterName parameters (now (s .entry))) count (cursor .at)) nothing (λ names end. firstNamed (now (name .entry)) names) ⌝ }
 {
     let mut at = cursor.at;
+    let mut found = Found::Nothing;
     let mut i = 0;
     while i < count {
         match parameter_name(s, Cursor { at: at }, parameters) {
             Entry::Value(start, end, index, next) => {
-                if same_name(part(s, start, end), name) {
-                    if names_follow(s, next, parameters, count - (i + 1)) {
-                        return Found::At(index);
-                    }
-                    return Found::Nothing;
-                }
+                found = first_number(found, same_name(part(s, start, end), name), index);
                 at = next.at;
             }
             Entry::Bad(refusal, place) => {
@@ -171,7 +169,21 @@ fn find_name(s: &[u8], cursor: Cursor, parameters: u32, count: u32, name: &[u8])
         }
         i += 1;
     }
-    Found::Nothing
+    found
+}
+
+// What is found: the name of this entry, if its index is the same, and none was found before it.
+fn first_part(found: NameFound, same: bool, start: usize, end: usize) -> NameFound
+    ensures { λ r. ⌜ r ≡ orPart found (pick same (atPart start end) noPart) ⌝ }
+{
+    if same {
+        match found {
+            NameFound::Part(from, to) => NameFound::Part(from, to),
+            NameFound::Nothing => NameFound::Part(start, end),
+        }
+    } else {
+        found
+    }
 }
 
 // The name of an index among so many parameter names.
@@ -179,16 +191,12 @@ fn find_index(s: &[u8], cursor: Cursor, parameters: u32, count: u32, wanted: u32
     ensures { λ r. ⌜ partOf (now (s .entry)) r ≡ onRead (repeat (parameterName parameters (now (s .entry))) count (cursor .at)) none (λ names end. firstName wanted names) ⌝ }
 {
     let mut at = cursor.at;
+    let mut found = NameFound::Nothing;
     let mut i = 0;
     while i < count {
         match parameter_name(s, Cursor { at: at }, parameters) {
             Entry::Value(start, end, index, next) => {
-                if index == wanted {
-                    if names_follow(s, next, parameters, count - (i + 1)) {
-                        return NameFound::Part(start, end);
-                    }
-                    return NameFound::Nothing;
-                }
+                found = first_part(found, index == wanted, start, end);
                 at = next.at;
             }
             Entry::Bad(refusal, place) => {
@@ -197,7 +205,7 @@ fn find_index(s: &[u8], cursor: Cursor, parameters: u32, count: u32, wanted: u32
         }
         i += 1;
     }
-    NameFound::Nothing
+    found
 }
 
 // The index of a parameter name: a name means its first entry.

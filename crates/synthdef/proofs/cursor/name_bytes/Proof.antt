@@ -1,20 +1,13 @@
-use Prim.Native.Nat.{ℕ, zero, suc, _+_, _*_, _-_, _≤_, _<_}
-use mathlib.Core.Bool.{Bool, true, false, not}
-use mathlib.Core.Path.{_≡_, refl, sym, ap, _∙_}
-use mathlib.Core.List.{List, [], _∷_, _++_, append-assoc}
+use Prim.Native.Nat.{_-_}
+use mathlib.Core.Path.{_≡_, refl, sym, _∙_}
 use native.Mathlib.Omega.{arith}
-use native.Mathlib.Numerals.{add-one}
-use borrow.Author.Needs.{needs}
-use borrow.Author.Tests.{lt-ltb, le-ltb, le-leb, lt-leb, eq-eqb, ne-eqb}
-use lib.ListN.{length, take, drop, getD, set, length-set, length-drop}
-use lib.Dec.{leb}
+use borrow.Author.Tests.{le-leb, lt-leb}
+use lib.ListN.{getD}
 use Rattle.words.specs.Parts.{region}
 use Rattle.synthdef.specs.Fields.{nameBytes}
 use Rattle.synthdef.specs.NameLaws.{region-past, region-none, name-turn}
 use Rattle.synthdef.proofs.cursor.name_bytes.Statement.{statement}
 use Rattle.synthdef.proofs.cursor.name_bytes.Tie as tie
-use Rattle.synthdef.proofs.cursor.name_bytes.Reads as reads
-use Rattle.synthdef.proofs.cursor.name_bytes.Lts as lts
 
 abbrev Inv-loop : tie.InvT-loop
 Inv-loop s from to i₀ i = nameBytes (region i (to - i) s) ≡ nameBytes (region from (to - from) s)

@@ -1,19 +1,7 @@
-use Prim.Native.Nat.{ℕ, zero, suc, _+_, _*_, _-_, _≤_, _<_}
-use mathlib.Core.Bool.{Bool, true, false, not}
-use mathlib.Core.Path.{_≡_, refl, sym, ap, _∙_}
-use mathlib.Core.List.{List, [], _∷_, _++_, append-assoc}
-use native.Mathlib.Omega.{arith}
-use native.Mathlib.Numerals.{add-one}
-use borrow.Author.Needs.{needs}
-use borrow.Author.Tests.{lt-ltb, le-ltb, le-leb, lt-leb, eq-eqb, ne-eqb}
-use lib.ListN.{length, take, drop, getD, set, length-set, length-drop}
+use mathlib.Core.Path.{sym}
 use borrow.Author.Needs.{needs}
 use Rattle.synthdef.proofs.front.parameter_name.Statement.{statement}
 use Rattle.synthdef.proofs.front.parameter_name.Tie as tie
-use Rattle.synthdef.proofs.front.parameter_name.Reads as reads
-use Rattle.synthdef.proofs.front.parameter_name.Lts as lts
-use Rattle.synthdef.proofs.cursor.Cursor.index_below.Reads as index-below-reads
-use Rattle.synthdef.proofs.cursor.Cursor.name.Reads as name-reads
 
 name-requires : tie.Need-name-requires
 name-requires c κs = search needs

@@ -1,21 +1,8 @@
-use Prim.Native.Nat.{ℕ, zero, suc, _+_, _*_, _-_, _≤_, _<_}
-use mathlib.Core.Bool.{Bool, true, false, not}
-use mathlib.Core.Path.{_≡_, refl, sym, ap, _∙_}
-use mathlib.Core.List.{List, [], _∷_, _++_, append-assoc}
-use native.Mathlib.Omega.{arith}
-use native.Mathlib.Numerals.{add-one}
+use mathlib.Core.Path.{sym}
 use borrow.Author.Needs.{needs}
-use borrow.Author.Tests.{lt-ltb, le-ltb, le-leb, lt-leb, eq-eqb, ne-eqb}
-use lib.ListN.{length, take, drop, getD, set, length-set, length-drop}
-use borrow.Author.Needs.{needs}
-use Rattle.synthdef.specs.Front.{readNames}
 use Rattle.synthdef.specs.FrontLaws.{front-told}
 use Rattle.synthdef.proofs.front.read_front.Statement.{statement}
 use Rattle.synthdef.proofs.front.read_front.Tie as tie
-use Rattle.synthdef.proofs.front.read_front.Reads as reads
-use Rattle.synthdef.proofs.front.read_front.Lts as lts
-use Rattle.synthdef.proofs.front.read_counts.Reads as read-counts-reads
-use Rattle.synthdef.proofs.front.skip_parameter_names.Reads as skip-parameter-names-reads
 
 read-counts-requires : tie.Need-read-counts-requires
 read-counts-requires c κs = search needs

@@ -1,22 +1,13 @@
-use Prim.Native.Nat.{ℕ, zero, suc, _+_, _*_, _-_, _≤_, _<_}
-use mathlib.Core.Bool.{Bool, true, false, not}
-use mathlib.Core.Path.{_≡_, refl, sym, ap, _∙_}
-use mathlib.Core.List.{List, [], _∷_, _++_, append-assoc}
+use Prim.Native.Nat.{_-_}
+use mathlib.Core.Path.{sym}
 use native.Mathlib.Omega.{arith}
-use native.Mathlib.Numerals.{add-one}
 use borrow.Author.Needs.{needs}
-use borrow.Author.Tests.{lt-ltb, le-ltb, le-leb, lt-leb, eq-eqb, ne-eqb}
-use lib.ListN.{length, take, drop, getD, set, length-set, length-drop}
-use borrow.Author.Needs.{needs}
+use lib.ListN.{length}
 use Prim.Native.Nat.{_/_}
-use Rattle.synthdef.specs.Read.{repeat, ending}
-use Rattle.synthdef.specs.Fields.{float32}
+use Rattle.synthdef.specs.Read.{repeat}
 use Rattle.synthdef.specs.RepeatLaws.{floats-whole, float-cut, floats-cut}
 use Rattle.synthdef.proofs.front.skip_floats.Statement.{statement}
 use Rattle.synthdef.proofs.front.skip_floats.Tie as tie
-use Rattle.synthdef.proofs.front.skip_floats.Reads as reads
-use Rattle.synthdef.proofs.front.skip_floats.Lts as lts
-use Rattle.words.proofs.wide.Reads as wide-reads
 
 returns : tie.Need-returns
 unfolding repeat

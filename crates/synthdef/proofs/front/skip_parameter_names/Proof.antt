@@ -1,21 +1,13 @@
-use Prim.Native.Nat.{ℕ, zero, suc, _+_, _*_, _-_, _≤_, _<_}
-use mathlib.Core.Bool.{Bool, true, false, not}
-use mathlib.Core.Path.{_≡_, refl, sym, ap, _∙_}
-use mathlib.Core.List.{List, [], _∷_, _++_, append-assoc}
+use Prim.Native.Nat.{_-_, _≤_}
+use mathlib.Core.Path.{_≡_, sym, _∙_}
 use native.Mathlib.Omega.{arith}
-use native.Mathlib.Numerals.{add-one}
 use borrow.Author.Needs.{needs}
 use native.Mathlib.Nat.{sub-zero}
-use borrow.Author.Tests.{lt-ltb, le-ltb, le-leb, lt-leb, eq-eqb, ne-eqb}
-use lib.ListN.{length, take, drop, getD, set, length-set, length-drop}
 use Rattle.synthdef.specs.Read.{repeat, ending}
 use Rattle.synthdef.specs.Reader.{parameterName}
 use Rattle.synthdef.specs.RepeatLaws.{ending-turn, ending-none}
 use Rattle.synthdef.proofs.front.skip_parameter_names.Statement.{statement}
 use Rattle.synthdef.proofs.front.skip_parameter_names.Tie as tie
-use Rattle.synthdef.proofs.front.skip_parameter_names.Reads as reads
-use Rattle.synthdef.proofs.front.skip_parameter_names.Lts as lts
-use Rattle.synthdef.proofs.front.parameter_name.Reads as parameter-name-reads
 
 abbrev Inv-loop : tie.InvT-loop
 Inv-loop s parameters count at₀ i₀ at i = (i ≤ count) × (ending (repeat (parameterName parameters s) (count - i) at) ≡ ending (repeat (parameterName parameters s) count at₀))

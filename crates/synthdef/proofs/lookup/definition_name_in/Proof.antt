@@ -1,22 +1,11 @@
-use Prim.Native.Nat.{ℕ, zero, suc, _+_, _*_, _-_, _≤_, _<_}
-use mathlib.Core.Bool.{Bool, true, false, not}
-use mathlib.Core.Path.{_≡_, refl, sym, ap, _∙_}
-use mathlib.Core.List.{List, [], _∷_, _++_, append-assoc}
-use native.Mathlib.Omega.{arith}
-use native.Mathlib.Numerals.{add-one}
-use borrow.Author.Needs.{needs}
-use borrow.Author.Tests.{lt-ltb, le-ltb, le-leb, lt-leb, eq-eqb, ne-eqb}
-use lib.ListN.{length, take, drop, getD, set, length-set, length-drop}
+use mathlib.Core.Path.{sym, _∙_}
+use mathlib.Core.List.{[]}
 use borrow.Author.Needs.{needs}
 use Rattle.synthdef.specs.Reader.{readFront}
 use Rattle.synthdef.specs.Front.{told}
 use Rattle.synthdef.specs.LookupLaws.{told-bad, name-told}
 use Rattle.synthdef.proofs.lookup.definition_name_in.Statement.{statement}
 use Rattle.synthdef.proofs.lookup.definition_name_in.Tie as tie
-use Rattle.synthdef.proofs.lookup.definition_name_in.Reads as reads
-use Rattle.synthdef.proofs.lookup.definition_name_in.Lts as lts
-use Rattle.synthdef.proofs.front.read_front.Reads as read-front-reads
-use Rattle.synthdef.proofs.lookup.part.Reads as part-reads
 
 read-front-requires : tie.Need-read-front-requires
 read-front-requires c κs = search needs

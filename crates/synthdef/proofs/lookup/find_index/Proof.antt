@@ -1,26 +1,21 @@
-use Prim.Native.Nat.{ℕ, zero, suc, _+_, _*_, _-_, _≤_, _<_}
-use mathlib.Core.Bool.{Bool, true, false, not}
-use mathlib.Core.Path.{_≡_, refl, sym, ap, _∙_}
-use mathlib.Core.List.{List, [], _∷_, _++_, append-assoc}
+use Prim.Native.Nat.{ℕ, _+_, _-_, _≤_}
+use mathlib.Core.Bool.{Bool}
+use mathlib.Core.Path.{_≡_, sym, ap, _∙_}
+use mathlib.Core.List.{List}
 use native.Mathlib.Omega.{arith}
-use native.Mathlib.Numerals.{add-one}
 use borrow.Author.Needs.{needs}
-use borrow.Author.Tests.{lt-ltb, le-ltb, le-leb, lt-leb, eq-eqb, ne-eqb}
-use lib.ListN.{length, take, drop, getD, set, length-set, length-drop}
 use native.Mathlib.Nat.{sub-zero}
 use lib.Dec.{eqb}
 use mathlib.Core.Option.{Option, none, some}
-use Rattle.words.specs.Parts.{region}
+use Rattle.synthdef.specs.declared.lookup.NameFound.{NameFound}
+use Rattle.synthdef.specs.declared.lookup.NameFound.the-variants.{Nothing}
 use Rattle.synthdef.specs.Definition.{ParameterName}
 use Rattle.synthdef.specs.Read.{repeat}
 use Rattle.synthdef.specs.Reader.{parameterName}
-use Rattle.synthdef.specs.LookupLaws.{First, first-turn, first-none, on-true, on-false}
+use Rattle.synthdef.specs.Lookup.{firstName, orElse, partOf}
+use Rattle.synthdef.specs.LookupLaws.{First, first-turn, first-none, on-same, or-part, or-none}
 use Rattle.synthdef.proofs.lookup.find_index.Statement.{statement}
 use Rattle.synthdef.proofs.lookup.find_index.Tie as tie
-use Rattle.synthdef.proofs.lookup.find_index.Reads as reads
-use Rattle.synthdef.proofs.lookup.find_index.Lts as lts
-use Rattle.synthdef.proofs.front.parameter_name.Reads as parameter-name-reads
-use Rattle.synthdef.proofs.lookup.names_follow.Reads as names-follow-reads
 
 abbrev test : ℕ → ParameterName → Bool
 test wanted p = eqb (p .index) wanted
@@ -28,15 +23,15 @@ test wanted p = eqb (p .index) wanted
 abbrev ask : ParameterName → Option (List ℕ)
 ask p = some (p .name)
 
--- what is found among so many names from a place on
-abbrev Left : List ℕ → ℕ → ℕ → ℕ → ℕ → Option (List ℕ)
-Left s parameters wanted n at = First (parameterName parameters s) (test wanted) ask none n at
+-- what is found in all, by what was found so far and so many names from a place on
+abbrev Left : List ℕ → ℕ → ℕ → NameFound → ℕ → ℕ → Option (List ℕ)
+Left s parameters wanted found n at = First (parameterName parameters s) (test wanted) ask none (orElse (partOf s found)) n at
 
 abbrev Inv-loop : tie.InvT-loop
-Inv-loop s parameters count wanted at₀ i₀ at i = (i ≤ count) × (Left s parameters wanted (count - i) at ≡ Left s parameters wanted count at₀)
+Inv-loop s parameters count wanted at₀ found₀ i₀ at found i = (i ≤ count) × (Left s parameters wanted found (count - i) at ≡ Left s parameters wanted Nothing count at₀)
 
 abbrev μ-loop : tie.MeasureT-loop
-μ-loop s parameters count wanted at₀ i₀ at i = count - i
+μ-loop s parameters count wanted at₀ found₀ i₀ at found i = count - i
 
 loop-holds : tie.Need-loop-holds Inv-loop μ-loop
 loop-holds c = (omega arith, rw sub-zero)
@@ -47,49 +42,18 @@ parameter-name-requires c κs = search needs
 enum-known-start : tie.Need-enum-known-start Inv-loop μ-loop
 enum-known-start c = search needs
 
-add-names-follow : tie.Need-add-names-follow Inv-loop μ-loop
-add-names-follow c = omega arith
-
-sub-names-follow : tie.Need-sub-names-follow Inv-loop μ-loop
-sub-names-follow c = omega arith
-
-names-follow-requires : tie.Need-names-follow-requires Inv-loop μ-loop
-names-follow-requires c κs = search needs
-
-returns : tie.Need-returns Inv-loop μ-loop
-returns c =
-    let a = c .before .before .before .before .before .before .before .before .before .before .args in
-    let l = c .before .before .before .before .before .before .before .before .loop in
-    let g = c .before .before .before .before .start .given in
-    let e = rw (g .1) at (c .before .before .before .before .before .before .parameter-name .ensures) in
-    let same = eq-eqb (g .0 .1 .1 .0) (a .wanted) (c .before .before .if1 .taken) in
-    let rest = repeat (parameterName (a .parameters) (a .s .now)) (a .count - (l .i + 1)) (g .0 .1 .1 .1 .0 .at) in
-    let turn = rw (sym e, same) at (first-turn (parameterName (a .parameters) (a .s .now)) (test (a .wanted)) ask none (a .count) (l .i) (l .at) (omega arith)) in
-    let name = some (region (g .0 .0) (g .0 .1 .0 - g .0 .0) (a .s .now)) in
-    sym (on-true rest none name (sym (c .before .names-follow .ensures) ∙ c .if2 .taken)) ∙ sym turn ∙ l .inv .1
-
-returns-2 : tie.Need-returns-2 Inv-loop μ-loop
-returns-2 c =
-    let a = c .before .before .before .before .before .before .before .before .before .before .args in
-    let l = c .before .before .before .before .before .before .before .before .loop in
-    let g = c .before .before .before .before .start .given in
-    let e = rw (g .1) at (c .before .before .before .before .before .before .parameter-name .ensures) in
-    let same = eq-eqb (g .0 .1 .1 .0) (a .wanted) (c .before .before .if1 .taken) in
-    let rest = repeat (parameterName (a .parameters) (a .s .now)) (a .count - (l .i + 1)) (g .0 .1 .1 .1 .0 .at) in
-    let turn = rw (sym e, same) at (first-turn (parameterName (a .parameters) (a .s .now)) (test (a .wanted)) ask none (a .count) (l .i) (l .at) (omega arith)) in
-    let name = some (region (g .0 .0) (g .0 .1 .0 - g .0 .0) (a .s .now)) in
-    sym (on-false rest none name (sym (c .before .names-follow .ensures) ∙ c .if2 .left)) ∙ sym turn ∙ l .inv .1
+first-part-requires : tie.Need-first-part-requires Inv-loop μ-loop
+first-part-requires c κs = search needs
 
 enum-known-refusal : tie.Need-enum-known-refusal Inv-loop μ-loop
 enum-known-refusal c = search needs
 
-returns-3 : tie.Need-returns-3 Inv-loop μ-loop
-returns-3 c =
+returns : tie.Need-returns Inv-loop μ-loop
+returns c =
     let a = c .before .before .before .before .before .before .before .args in
     let l = c .before .before .before .before .before .loop in
     let e = rw (c .before .refusal .given .1) at (c .before .before .before .parameter-name .ensures) in
-    let turn = rw (sym e) at (first-turn (parameterName (a .parameters) (a .s .now)) (test (a .wanted)) ask none (a .count) (l .i) (l .at) (omega arith)) in
-    sym turn ∙ l .inv .1
+    rw (sym e) at (sym (first-turn (parameterName (a .parameters) (a .s .now)) (test (a .wanted)) ask none (orElse (partOf (a .s .now) (l .found))) (a .count) (l .i) (l .at) (omega arith)) ∙ l .inv .1)
 
 add-i : tie.Need-add-i Inv-loop μ-loop
 add-i c = omega arith
@@ -102,16 +66,25 @@ loop-again c =
     let a = c .before .before .before .before .before .before .before .before .args in
     let l = c .before .before .before .before .before .before .loop in
     let g = c .before .before .start .given in
+    let index = g .0 .1 .1 .0 in
+    let next = g .0 .1 .1 .1 .0 .at in
+    let left = a .count - (l .i + 1) in
     let e = rw (g .1) at (c .before .before .before .before .parameter-name .ensures) in
-    let other = ne-eqb (g .0 .1 .1 .0) (a .wanted) (c .if1 .left) in
-    let turn = rw (sym e, other) at (first-turn (parameterName (a .parameters) (a .s .now)) (test (a .wanted)) ask none (a .count) (l .i) (l .at) (omega arith)) in
-    (omega arith, sym turn ∙ l .inv .1)
+    let turn = rw (sym e) at (sym (first-turn (parameterName (a .parameters) (a .s .now)) (test (a .wanted)) ask none (orElse (partOf (a .s .now) (l .found))) (a .count) (l .i) (l .at) (omega arith)) ∙ l .inv .1) in
+    let rest = repeat (parameterName (a .parameters) (a .s .now)) left next in (
+      omega arith,
+      ap (λ f. Left (a .s .now) (a .parameters) (a .wanted) f left next) (c .first-part .ensures)
+          ∙ sym (on-same rest none (λ names end. or-part (a .s .now) (l .found) (eqb index (a .wanted)) (g .0 .0) (g .0 .1 .0) (firstName (a .wanted) names)))
+          ∙ turn,
+    )
 
-returns-4 : tie.Need-returns-4 Inv-loop μ-loop
-returns-4 c =
+returns-2 : tie.Need-returns-2 Inv-loop μ-loop
+returns-2 c =
     let a = c .before .before .before .args in
     let l = c .before .loop in
-    sym (first-none (parameterName (a .parameters) (a .s .now)) (test (a .wanted)) ask none (a .count) (l .i) (l .at) (omega arith)) ∙ l .inv .1
+    sym (or-none (partOf (a .s .now) (l .found)))
+    ∙ sym (first-none (parameterName (a .parameters) (a .s .now)) (test (a .wanted)) ask none (orElse (partOf (a .s .now) (l .found))) (a .count) (l .i) (l .at) (omega arith))
+    ∙ l .inv .1
 
 pub find-index-spec : {M : Type 1} → statement M
 find-index-spec =
@@ -122,14 +95,10 @@ find-index-spec =
     loop-holds
     parameter-name-requires
     enum-known-start
-    add-names-follow
-    sub-names-follow
-    names-follow-requires
-    returns
-    returns-2
+    first-part-requires
     enum-known-refusal
-    returns-3
+    returns
     add-i
     loop-less
     loop-again
-    returns-4)
+    returns-2)

@@ -1,27 +1,14 @@
-use Prim.Native.Nat.{ℕ, zero, suc, _+_, _*_, _-_, _≤_, _<_}
-use mathlib.Core.Bool.{Bool, true, false, not}
-use mathlib.Core.Path.{_≡_, refl, sym, ap, _∙_}
-use mathlib.Core.List.{List, [], _∷_, _++_, append-assoc}
+use Prim.Native.Nat.{_+_, _*_}
+use mathlib.Core.Path.{sym, _∙_}
 use native.Mathlib.Omega.{arith}
-use native.Mathlib.Numerals.{add-one}
 use borrow.Author.Needs.{needs}
-use borrow.Author.Tests.{lt-ltb, le-ltb, le-leb, lt-leb, eq-eqb, ne-eqb}
-use lib.ListN.{length, take, drop, getD, set, length-set, length-drop}
-use borrow.Author.Needs.{needs}
-use lib.Dec.{ltb}
-use Rattle.words.specs.Choice.{pick}
 use Rattle.synthdef.specs.declared.lookup.Found.the-variants.{At, Nothing}
 use Rattle.synthdef.specs.Reader.{readFront}
 use Rattle.synthdef.specs.Front.{told}
-use Rattle.synthdef.specs.Lookup.{onRead}
-use Rattle.synthdef.specs.LookupLaws.{value-place, value-told, value-past, told-bad}
+use Rattle.synthdef.specs.Fields.{float32}
+use Rattle.synthdef.specs.LookupLaws.{value-place, value-told, value-past, on-got, on-bad, told-bad}
 use Rattle.synthdef.proofs.lookup.initial_value.Statement.{statement}
 use Rattle.synthdef.proofs.lookup.initial_value.Tie as tie
-use Rattle.synthdef.proofs.lookup.initial_value.Reads as reads
-use Rattle.synthdef.proofs.lookup.initial_value.Lts as lts
-use Rattle.synthdef.proofs.cursor.Cursor.float32.Reads as float32-reads
-use Rattle.synthdef.proofs.front.read_front.Reads as read-front-reads
-use Rattle.words.proofs.wide.Reads as wide-reads
 
 read-front-requires : tie.Need-read-front-requires
 read-front-requires c κs = search needs
@@ -63,22 +50,24 @@ enum-known-refusal-2 c = search needs
 returns-2 : tie.Need-returns-2
 returns-2 c =
     let a = c .before .before .before .before .before .before .before .before .before .before .before .before .before .args in
+    let k = c .before .before .before .before .before .before .before .before .before .counts .given .0 .0 in
     let e = rw (c .before .before .before .before .before .before .before .before .before .counts .given .1) at (c .before .before .before .before .before .before .before .before .before .before .before .read-front .ensures) in
     let n = rw (c .before .pattern .given .1, c .before .before .before .before .before .wide .ensures) at (c .before .before .before .float32 .ensures) in
-    ap (λ r. onRead r Nothing (λ x end. At x)) n ∙ sym (value-told (a .s .now) (a .index) e (c .before .before .before .before .before .before .if1 .left))
+    on-got (float32 (a .s .now) (k .values + 4 * a .index)) Nothing (λ x end. At x) n ∙ sym (value-told (a .s .now) (a .index) e (c .before .before .before .before .before .before .if1 .left))
 
 returns-3 : tie.Need-returns-3
 returns-3 c =
     let a = c .before .before .before .before .before .before .before .before .before .before .before .before .before .args in
+    let k = c .before .before .before .before .before .before .before .before .before .counts .given .0 .0 in
     let e = rw (c .before .before .before .before .before .before .before .before .before .counts .given .1) at (c .before .before .before .before .before .before .before .before .before .before .before .read-front .ensures) in
     let n = rw (c .before .refusal .given .1, c .before .before .before .before .before .wide .ensures) at (c .before .before .before .float32 .ensures) in
-    ap (λ r. onRead r Nothing (λ x end. At x)) n ∙ sym (value-told (a .s .now) (a .index) e (c .before .before .before .before .before .before .if1 .left))
+    on-bad (float32 (a .s .now) (k .values + 4 * a .index)) Nothing (λ x end. At x) n ∙ sym (value-told (a .s .now) (a .index) e (c .before .before .before .before .before .before .if1 .left))
 
 returns-4 : tie.Need-returns-4
 returns-4 c =
     let a = c .before .before .before .before .before .args in
     let e = rw (c .before .refusal2 .given .1) at (c .before .before .before .read-front .ensures) in
-    told-bad (told 0) (readFront (a .s .now) 0) Nothing (λ f p. pick (ltb (a .index) (length (f .values))) (At (getD (f .values) (a .index) 0)) Nothing) e
+    told-bad (told 0) (readFront (a .s .now) 0) Nothing _ e
 
 pub initial-value-spec : {M : Type 1} → statement M
 initial-value-spec =

@@ -1,19 +1,12 @@
-use Prim.Native.Nat.{ℕ, zero, suc, _+_, _*_, _-_, _≤_, _<_}
-use mathlib.Core.Bool.{Bool, true, false, not}
-use mathlib.Core.Path.{_≡_, refl, sym, ap, _∙_}
-use mathlib.Core.List.{List, [], _∷_, _++_, append-assoc}
+use Prim.Native.Nat.{_-_, _≤_}
+use mathlib.Core.Path.{_≡_, refl, sym, _∙_}
 use native.Mathlib.Omega.{arith}
-use native.Mathlib.Numerals.{add-one}
-use borrow.Author.Needs.{needs}
-use borrow.Author.Tests.{lt-ltb, le-ltb, le-leb, lt-leb, eq-eqb, ne-eqb}
-use lib.ListN.{length, take, drop, getD, set, length-set, length-drop}
-use lib.Dec.{eqb}
+use borrow.Author.Tests.{eq-eqb, ne-eqb}
+use lib.ListN.{length, drop, getD}
 use Rattle.synthdef.specs.Reader.{sameName}
 use Rattle.synthdef.specs.SameLaws.{same-lengths, same-turn, same-end}
 use Rattle.synthdef.proofs.lookup.same_name.Statement.{statement}
 use Rattle.synthdef.proofs.lookup.same_name.Tie as tie
-use Rattle.synthdef.proofs.lookup.same_name.Reads as reads
-use Rattle.synthdef.proofs.lookup.same_name.Lts as lts
 
 abbrev Inv-loop : tie.InvT-loop
 Inv-loop a b i₀ i = (i ≤ length a) × (sameName (drop i a) (drop i b) ≡ sameName a b)

@@ -1,25 +1,18 @@
-use Prim.Native.Nat.{ℕ, zero, suc, _+_, _*_, _-_, _≤_, _<_}
-use mathlib.Core.Bool.{Bool, true, false, not}
-use mathlib.Core.Path.{_≡_, refl, sym, ap, _∙_}
-use mathlib.Core.List.{List, [], _∷_, _++_, append-assoc}
-use native.Mathlib.Omega.{arith}
-use native.Mathlib.Numerals.{add-one}
+use Prim.Native.Nat.{ℕ}
+use mathlib.Core.Path.{_∙_}
 use borrow.Author.Needs.{needs}
-use borrow.Author.Tests.{lt-ltb, le-ltb, le-leb, lt-leb, eq-eqb, ne-eqb}
-use lib.ListN.{length, take, drop, getD, set, length-set, length-drop}
-use borrow.Author.Needs.{needs}
+use Rattle.synthdef.specs.declared.lookup.Found.{Found}
 use Rattle.synthdef.specs.declared.lookup.Found.the-variants.{At, Nothing}
 use Rattle.synthdef.specs.Fields.{count}
 use Rattle.synthdef.specs.Reader.{readFront}
 use Rattle.synthdef.specs.Front.{told}
 use Rattle.synthdef.specs.Lookup.{onRead}
-use Rattle.synthdef.specs.LookupLaws.{on-told, told-bad}
+use Rattle.synthdef.specs.LookupLaws.{on-got, on-bad, told-got, told-bad}
 use Rattle.synthdef.proofs.lookup.units_in.Statement.{statement}
 use Rattle.synthdef.proofs.lookup.units_in.Tie as tie
-use Rattle.synthdef.proofs.lookup.units_in.Reads as reads
-use Rattle.synthdef.proofs.lookup.units_in.Lts as lts
-use Rattle.synthdef.proofs.cursor.Cursor.count_to.Reads as count-to-reads
-use Rattle.synthdef.proofs.front.read_front.Reads as read-front-reads
+
+abbrev units : ℕ → ℕ → Found
+units u end = At u
 
 read-front-requires : tie.Need-read-front-requires
 read-front-requires c κs = search needs
@@ -44,24 +37,22 @@ returns c =
     let s = c .before .before .before .before .before .before .before .before .before .args .s .now in
     let e = rw (c .before .before .before .before .before .counts .given .1) at (c .before .before .before .before .before .before .before .read-front .ensures) in
     let n = rw (c .before .units .given .1) at (c .before .before .before .count-to .ensures) in
-    ap (λ r. onRead r Nothing (λ u end. At u)) n
-    ∙ ap (λ r. onRead r Nothing (λ k p. onRead (count s p) Nothing (λ u end. At u))) e
-    ∙ on-told (told 0) (readFront s 0) Nothing (λ k p. onRead (count s p) Nothing (λ u end. At u))
+    let past = c .before .before .before .before .before .counts .given .0 .1 .0 .at in
+    on-got (count s past) Nothing units n ∙ told-got (told 0) (readFront s 0) Nothing (λ k p. onRead (count s p) Nothing units) e
 
 returns-2 : tie.Need-returns-2
 returns-2 c =
     let s = c .before .before .before .before .before .before .before .before .before .args .s .now in
     let e = rw (c .before .before .before .before .before .counts .given .1) at (c .before .before .before .before .before .before .before .read-front .ensures) in
     let n = rw (c .before .refusal .given .1) at (c .before .before .before .count-to .ensures) in
-    ap (λ r. onRead r Nothing (λ u end. At u)) n
-    ∙ ap (λ r. onRead r Nothing (λ k p. onRead (count s p) Nothing (λ u end. At u))) e
-    ∙ on-told (told 0) (readFront s 0) Nothing (λ k p. onRead (count s p) Nothing (λ u end. At u))
+    let past = c .before .before .before .before .before .counts .given .0 .1 .0 .at in
+    on-bad (count s past) Nothing units n ∙ told-got (told 0) (readFront s 0) Nothing (λ k p. onRead (count s p) Nothing units) e
 
 returns-3 : tie.Need-returns-3
 returns-3 c =
     let s = c .before .before .before .before .before .args .s .now in
     let e = rw (c .before .refusal2 .given .1) at (c .before .before .before .read-front .ensures) in
-    told-bad (told 0) (readFront s 0) Nothing (λ f p. onRead (count s p) Nothing (λ u end. At u)) e
+    told-bad (told 0) (readFront s 0) Nothing _ e
 
 pub units-in-spec : {M : Type 1} → statement M
 units-in-spec =

@@ -1,22 +1,10 @@
-use Prim.Native.Nat.{ℕ, zero, suc, _+_, _*_, _-_, _≤_, _<_}
-use mathlib.Core.Bool.{Bool, true, false, not}
-use mathlib.Core.Path.{_≡_, refl, sym, ap, _∙_}
-use mathlib.Core.List.{List, [], _∷_, _++_, append-assoc}
-use native.Mathlib.Omega.{arith}
-use native.Mathlib.Numerals.{add-one}
-use borrow.Author.Needs.{needs}
-use borrow.Author.Tests.{lt-ltb, le-ltb, le-leb, lt-leb, eq-eqb, ne-eqb}
-use lib.ListN.{length, take, drop, getD, set, length-set, length-drop}
+use mathlib.Core.Path.{sym, _∙_}
 use borrow.Author.Needs.{needs}
 use Rattle.words.specs.declared.Refusal.the-variants.{BadName}
 use Rattle.synthdef.specs.Fields.{nameBytes}
 use Rattle.synthdef.specs.ReadLaws.{checked-pass, checked-fail, checked-bad}
 use Rattle.synthdef.proofs.cursor.Cursor.name.Statement.{statement}
 use Rattle.synthdef.proofs.cursor.Cursor.name.Tie as tie
-use Rattle.synthdef.proofs.cursor.Cursor.name.Reads as reads
-use Rattle.synthdef.proofs.cursor.Cursor.name.Lts as lts
-use Rattle.synthdef.proofs.cursor.Cursor.pstring.Reads as pstring-reads
-use Rattle.synthdef.proofs.cursor.name_bytes.Reads as name-bytes-reads
 
 pstring-requires : tie.Need-pstring-requires
 pstring-requires c κs = search needs

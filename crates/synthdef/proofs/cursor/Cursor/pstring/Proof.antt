@@ -1,17 +1,11 @@
-use Prim.Native.Nat.{ℕ, zero, suc, _+_, _*_, _-_, _≤_, _<_}
-use mathlib.Core.Bool.{Bool, true, false, not}
-use mathlib.Core.Path.{_≡_, refl, sym, ap, _∙_}
-use mathlib.Core.List.{List, [], _∷_, _++_, append-assoc}
+use Prim.Native.Nat.{_+_, _-_}
+use mathlib.Core.Path.{_≡_}
 use native.Mathlib.Omega.{arith}
-use native.Mathlib.Numerals.{add-one}
 use borrow.Author.Needs.{needs}
-use borrow.Author.Tests.{lt-ltb, le-ltb, le-leb, lt-leb, eq-eqb, ne-eqb}
-use lib.ListN.{length, take, drop, getD, set, length-set, length-drop}
-use borrow.Author.Needs.{needs}
+use borrow.Author.Tests.{lt-ltb, le-ltb, le-leb, lt-leb}
+use lib.ListN.{length, getD}
 use Rattle.synthdef.proofs.cursor.Cursor.pstring.Statement.{statement}
 use Rattle.synthdef.proofs.cursor.Cursor.pstring.Tie as tie
-use Rattle.synthdef.proofs.cursor.Cursor.pstring.Reads as reads
-use Rattle.synthdef.proofs.cursor.Cursor.pstring.Lts as lts
 
 returns : tie.Need-returns
 returns c =
@@ -30,22 +24,22 @@ add-start c = search needs
 sub-if2 : tie.Need-sub-if2
 sub-if2 c = search needs
 
+add-t12 : tie.Need-add-t12
+add-t12 c = search needs
+
 returns-2 : tie.Need-returns-2
 returns-2 c =
-    let a = c .before .before .before .args in
-    let n = getD (a .s .now) (a .self .at) 0 in
-    rw (lt-ltb (a .self .at) (length (a .s .now)) (omega arith), lt-leb (a .self .at + (1 + n)) (length (a .s .now)) (omega arith))
-
-add-t6 : tie.Need-add-t6
-add-t6 c = search needs
-
-returns-3 : tie.Need-returns-3
-returns-3 c =
     let a = c .before .before .before .args in
     let n = getD (a .s .now) (a .self .at) 0 in
     let size : a .self .at + 1 + n - (a .self .at + 1) ≡ n = omega arith in
     let end : a .self .at + 1 + n ≡ a .self .at + (1 + n) = omega arith in
     rw (lt-ltb (a .self .at) (length (a .s .now)) (omega arith), le-leb (a .self .at + (1 + n)) (length (a .s .now)) (omega arith), size, end)
+
+returns-3 : tie.Need-returns-3
+returns-3 c =
+    let a = c .before .before .before .args in
+    let n = getD (a .s .now) (a .self .at) 0 in
+    rw (lt-ltb (a .self .at) (length (a .s .now)) (omega arith), lt-leb (a .self .at + (1 + n)) (length (a .s .now)) (omega arith))
 
 pub pstring-spec : {M : Type 1} → statement M
 pstring-spec =
@@ -56,6 +50,6 @@ pstring-spec =
     cast-size
     add-start
     sub-if2
+    add-t12
     returns-2
-    add-t6
     returns-3)
