@@ -369,6 +369,23 @@ impl Engine {
         Ok(())
     }
 
+    /// How many nodes there are, with the root.
+    pub fn nodes(&self) -> usize {
+        self.tree.count()
+    }
+
+    /// Whether a number is that of a synth whose definition's name means another one by now.
+    pub fn is_old_voice(&self, number: i32) -> bool {
+        let place = self.tree.find(number);
+        place
+            .and_then(|place| self.tree.synth(place))
+            .is_some_and(|synth| {
+                let name = &self.slots.kept(synth.slot).definition.name;
+                let resident = self.slots.resident(name);
+                resident.is_some_and(|slot| slot != synth.slot)
+            })
+    }
+
     /// Sets the next number to be generated, as no command does.
     pub fn set_next(&mut self, next: Option<i32>) {
         self.next = next;

@@ -100,7 +100,7 @@ fn next_and_latest(records: &[Record], words: &[u32]) -> bool {
 }
 
 /// The running order worked out afresh.
-fn running(records: &[Record]) -> Vec<u32> {
+pub fn running(records: &[Record]) -> Vec<u32> {
     let mut order = Vec::new();
     // Of the node in hand and each of its ancestors, whether it is on.
     let mut line: Vec<bool> = Vec::new();

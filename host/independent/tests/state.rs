@@ -4,7 +4,7 @@ use independent::engine::{Commands, Theme};
 use independent::layout::{self, record, row_words};
 use independent::layout::{BUS, CONTROL, COUNT, GROUP, LATEST, LENGTH, NEXT, NODE, NONE_LEFT};
 use independent::layout::{ORDER, ORDER_LENGTH, RECORD, RESIDENT, ROW, SHELF, WORDS};
-use independent::{well_formed, write, Call, Definition, Engine, Random, MOST_BYTES};
+use independent::{leave, well_formed, write, Call, Definition, Engine, Random, MOST_BYTES};
 
 /// Sends random commands and looks at some of the states.
 #[test]
@@ -13,6 +13,7 @@ fn states_are_well_formed_and_read_back() {
     let mut answers = [0; 26];
     for (seed, theme) in (1..=40).zip(Theme::ALL.into_iter().cycle()) {
         let mut engine = Engine::new();
+        let (mut words, mut shelf) = layout::state(&engine.view());
         let mut commands = Commands::new(Random::new(seed), theme);
         for round in 0..1000 {
             let call = commands.next(&engine);
@@ -21,8 +22,13 @@ fn states_are_well_formed_and_read_back() {
             };
             let answer = engine.apply(&command, &mut reply);
             answers[answer.err().map_or(0, |fault| fault.number as usize)] += 1;
+            let view = engine.view();
+            if answer.is_ok() {
+                leave(call.op, &view, &mut words, &mut shelf);
+            }
             if round % 20 == 0 {
-                let view = engine.view();
+                assert!(well_formed(&words, &shelf));
+                assert_eq!(layout::view(&words, &shelf), view);
                 let (words, shelf) = layout::state(&view);
                 assert!(well_formed(&words, &shelf));
                 assert_eq!(layout::view(&words, &shelf), view);

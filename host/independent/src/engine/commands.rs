@@ -1,7 +1,7 @@
 //! Random commands, most of them plausible for the engine that they are meant for.
 
 use super::tree::{Kind, ROOT};
-use super::{Engine, BUSES};
+use super::{Engine, BUSES, MOST_NODES};
 use crate::{write, Call, Definition, Random, Shape, MOST_BYTES};
 
 /// Numbers at the edges of what a node can be named by.
@@ -184,7 +184,7 @@ impl Commands {
                     call.bytes = self.definition_name(engine);
                 }
                 numbers[0] = self.new_number(&nodes, op == 3);
-                numbers[1] = self.action();
+                numbers[1] = self.action(nodes.len() == MOST_NODES);
                 numbers[2] = self.target(numbers[1], &nodes);
             }
             5 => numbers[0] = self.node(&nodes),
@@ -250,8 +250,8 @@ impl Commands {
             .collect();
         match self.random.below(100) {
             0..=77 if !fitting.is_empty() => self.random.one_of(&fitting),
-            0..=84 => -1,
-            85..=87 => 0,
+            78..=84 => -1,
+            0..=87 => 0,
             88..=90 => nodes[self.random.below(nodes.len())].number,
             91..=93 => self.random.below(self.numbers) as i32 + 1,
             _ => self.random.one_of(&EDGES),
@@ -291,12 +291,13 @@ impl Commands {
         }
     }
 
-    fn action(&mut self) -> i32 {
+    fn action(&mut self, full: bool) -> i32 {
         match (self.random.below(100), self.theme) {
             (0..=4, _) => self
                 .random
                 .one_of(&[-1, 5, 6, 256, 260, i32::MIN, i32::MAX]),
             (5..=7, _) => 4,
+            (8..=27, _) if full => 4,
             (8..=20, Theme::Mixed | Theme::Library) => 4,
             (..=60, Theme::Deep) => 0,
             _ => self.random.below(4) as i32,
