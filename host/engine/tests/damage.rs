@@ -170,8 +170,12 @@ fn damage(random: &mut Random, words: &mut [u32], shelf: &mut [u8]) {
         26 => (ORDER + random.below(MOST_NODES - 1), other.number),
         27..=29 => {
             let row = (row as usize).min(MOST_NODES - 1);
-            let word = row_words(row, random.below(MOST_PARAMETERS)).end;
-            (word + random.below(2), BUSES as u32)
+            let index = match random.below(4) {
+                0 => random.below(MOST_PARAMETERS),
+                _ => random.below(4),
+            };
+            let word = row_words(row, index).end + usize::from(random.below(4) > 0);
+            (word, (BUSES + random.below(3)) as u32)
         }
         30 => (CONTROL + random.below(ROW * MOST_NODES), 0),
         31 => (BUS + random.below(BUSES), 0),
