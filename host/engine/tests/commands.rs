@@ -13,7 +13,7 @@ use std::sync::atomic::{AtomicUsize, Ordering};
 use std::sync::Mutex;
 use std::thread;
 
-const SEQUENCES: usize = 250;
+const SEQUENCES: usize = 270;
 const LONGEST: usize = 2000;
 
 /// What came how often.
