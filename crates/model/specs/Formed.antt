@@ -13,7 +13,7 @@ use Rattle.synthdef.specs.Reader.{readDefinition, sizeLimit, sameName, among}
 use Rattle.nodes.specs.declared.Node.{Node}
 use Rattle.nodes.specs.Place.{isGroup}
 use Rattle.nodes.specs.Order.{order}
-use Rattle.nodes.specs.Formed.{mostNodes} 
+use Rattle.nodes.specs.Formed.{mostNodes}
 use Rattle.nodes.specs.Formed as nodes
 use Rattle.model.specs.Layout.{slotCount, slotRoom, rowWords, busCount, wordsLength, shelfLength, countIn, nextIn, latestIn, orderLengthIn, orderWords, lengthsIn, residentIn, nodesIn, orderIn, controlsIn}
 use Rattle.model.specs.Engine.{Slot, Engine, decode, slotTaken, nameIn, definitionOf}

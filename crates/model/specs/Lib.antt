@@ -8,3 +8,7 @@ pub mod Effects
 pub mod Replies
 pub mod After
 pub mod Door
+pub mod Plain
+pub mod Demands
+pub mod Script
+pub mod Examples

@@ -14,43 +14,92 @@ pub enum DefinitionCommand {
 // Of the tree. Numbers are the 32-bit patterns of signed ones.
 pub enum TreeCommand {
     // /s_new; the definition's name is in the bytes.
-    NewSynth { number: u32, action: u32, target: u32 },
+    NewSynth {
+        number: u32,
+        action: u32,
+        target: u32,
+    },
     // /g_new
-    NewGroup { number: u32, action: u32, target: u32 },
+    NewGroup {
+        number: u32,
+        action: u32,
+        target: u32,
+    },
     // /n_free
-    Free { node: u32 },
+    Free {
+        node: u32,
+    },
     // /g_freeAll
-    FreeAll { group: u32 },
+    FreeAll {
+        group: u32,
+    },
     // /g_deepFree
-    DeepFree { group: u32 },
+    DeepFree {
+        group: u32,
+    },
     // /n_before
-    Before { node: u32, place: u32 },
+    Before {
+        node: u32,
+        place: u32,
+    },
     // /n_after
-    After { node: u32, place: u32 },
+    After {
+        node: u32,
+        place: u32,
+    },
     // /g_head
-    Head { group: u32, node: u32 },
+    Head {
+        group: u32,
+        node: u32,
+    },
     // /g_tail
-    Tail { group: u32, node: u32 },
+    Tail {
+        group: u32,
+        node: u32,
+    },
     // /n_run
-    Run { node: u32, flag: u32 },
+    Run {
+        node: u32,
+        flag: u32,
+    },
 }
 
 // Of controls; a key by name has the name in the bytes.
 pub enum ControlCommand {
     // /n_set
-    Set { node: u32, key: Key, value: Value },
+    Set {
+        node: u32,
+        key: Key,
+        value: Value,
+    },
     // /n_fill
-    Fill { node: u32, key: Key, count: u32, value: Value },
+    Fill {
+        node: u32,
+        key: Key,
+        count: u32,
+        value: Value,
+    },
     // /n_map
-    Map { node: u32, key: Key, bus: u32 },
+    Map {
+        node: u32,
+        key: Key,
+        bus: u32,
+    },
 }
 
 // Of buses.
 pub enum BusCommand {
     // /c_set
-    Set { bus: u32, value: Value },
+    Set {
+        bus: u32,
+        value: Value,
+    },
     // /c_fill
-    Fill { start: u32, count: u32, value: Value },
+    Fill {
+        start: u32,
+        count: u32,
+        value: Value,
+    },
 }
 
 // Questions, which change nothing.

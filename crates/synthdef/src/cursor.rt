@@ -1,8 +1,10 @@
 // The place in a file: it goes in and comes back by value. Each method reads one field.
 use words::Refusal;
+ghost use Prim.Native.Nat.{_+_, _*_, _-_};
 ghost use mathlib.Core.Path.{_≡_};
+ghost use Rattle.words.specs.Parts.{region};
 ghost use Rattle.synthdef.specs.Answers.{numberOf, textOf};
-ghost use Rattle.synthdef.specs.Fields.{int8, int16, int32, name, definitionName, countTo, shortCountTo, rate, indexBelow};
+ghost use Rattle.synthdef.specs.Fields.{int8, int16, int32, float32, nameBytes, pstring, name, definitionName, countTo, shortCountTo, rate, indexBelow};
 
 pub struct Cursor {
     pub at: usize,
@@ -26,6 +28,46 @@ pub enum Step {
     Bad(Refusal, usize),
 }
 
+// Two bytes as a number, the first one the highest.
+fn number16(a: u8, b: u8) -> u32
+    ensures { λ r. ⌜ r ≡ 256 * a + b ⌝ }
+{
+    let high = a as u32;
+    let low = b as u32;
+    256 * high + low
+}
+
+// Four bytes as a number, the first one the highest.
+pub(crate) fn number32(a: u8, b: u8, c: u8, d: u8) -> u32
+    ensures { λ r. ⌜ r ≡ 16777216 * a + 65536 * b + 256 * c + d ⌝ }
+{
+    let n3 = a as u32;
+    let n2 = b as u32;
+    let n1 = c as u32;
+    let n0 = d as u32;
+    16777216 * n3 + 65536 * n2 + 256 * n1 + n0
+}
+
+// The bytes from one place to another are bytes of a name.
+fn name_bytes(s: &[u8], from: usize, to: usize) -> bool
+    ensures { λ r. ⌜ r ≡ nameBytes (region from (to - from) (now (s .entry))) ⌝ }
+{
+    let mut i = from;
+    while i < to {
+        if s.len() <= i {
+            return true;
+        }
+        if s[i] < 1 {
+            return false;
+        }
+        if 127 < s[i] {
+            return false;
+        }
+        i += 1;
+    }
+    true
+}
+
 impl Cursor {
     pub fn int8(self, s: &[u8]) -> Number
         ensures { λ r. ⌜ numberOf r ≡ int8 (now (s .entry)) (self .at) ⌝ }
@@ -35,5 +77,156 @@ impl Cursor {
             return Number::Bad(Refusal::Truncated, at);
         }
         Number::Value(s[at] as u32, Cursor { at: at + 1 })
+    }
+
+    pub fn int16(self, s: &[u8]) -> Number
+        ensures { λ r. ⌜ numberOf r ≡ int16 (now (s .entry)) (self .at) ⌝ }
+    {
+        let at = self.at;
+        if s.len() <= at {
+            return Number::Bad(Refusal::Truncated, at);
+        }
+        if s.len() - at < 2 {
+            return Number::Bad(Refusal::Truncated, at);
+        }
+        Number::Value(number16(s[at], s[at + 1]), Cursor { at: at + 2 })
+    }
+
+    pub fn int32(self, s: &[u8]) -> Number
+        ensures { λ r. ⌜ numberOf r ≡ int32 (now (s .entry)) (self .at) ⌝ }
+    {
+        let at = self.at;
+        if s.len() <= at {
+            return Number::Bad(Refusal::Truncated, at);
+        }
+        if s.len() - at < 4 {
+            return Number::Bad(Refusal::Truncated, at);
+        }
+        Number::Value(
+            number32(s[at], s[at + 1], s[at + 2], s[at + 3]),
+            Cursor { at: at + 4 },
+        )
+    }
+
+    // A float is its pattern.
+    pub fn float32(self, s: &[u8]) -> Number
+        ensures { λ r. ⌜ numberOf r ≡ float32 (now (s .entry)) (self .at) ⌝ }
+    {
+        self.int32(s)
+    }
+
+    // A count of at most so many.
+    pub fn count_to(self, s: &[u8], most: u32) -> Number
+        ensures { λ r. ⌜ numberOf r ≡ countTo most (now (s .entry)) (self .at) ⌝ }
+    {
+        let at = self.at;
+        match self.int32(s) {
+            Number::Value(n, next) => {
+                if n <= most {
+                    return Number::Value(n, next);
+                }
+                Number::Bad(Refusal::BadCount, at)
+            }
+            Number::Bad(refusal, place) => Number::Bad(refusal, place),
+        }
+    }
+
+    // The same of two bytes.
+    pub fn short_count_to(self, s: &[u8], most: u32) -> Number
+        ensures { λ r. ⌜ numberOf r ≡ shortCountTo most (now (s .entry)) (self .at) ⌝ }
+    {
+        let at = self.at;
+        match self.int16(s) {
+            Number::Value(n, next) => {
+                if n <= most {
+                    return Number::Value(n, next);
+                }
+                Number::Bad(Refusal::BadCount, at)
+            }
+            Number::Bad(refusal, place) => Number::Bad(refusal, place),
+        }
+    }
+
+    pub fn rate(self, s: &[u8]) -> Number
+        ensures { λ r. ⌜ numberOf r ≡ rate (now (s .entry)) (self .at) ⌝ }
+    {
+        let at = self.at;
+        match self.int8(s) {
+            Number::Value(n, next) => {
+                if n <= 2 {
+                    return Number::Value(n, next);
+                }
+                Number::Bad(Refusal::BadRate, at)
+            }
+            Number::Bad(refusal, place) => Number::Bad(refusal, place),
+        }
+    }
+
+    // An index below a bound.
+    pub fn index_below(self, s: &[u8], bound: u32) -> Number
+        ensures { λ r. ⌜ numberOf r ≡ indexBelow bound (now (s .entry)) (self .at) ⌝ }
+    {
+        let at = self.at;
+        match self.int32(s) {
+            Number::Value(n, next) => {
+                if n < bound {
+                    return Number::Value(n, next);
+                }
+                Number::Bad(Refusal::BadIndex, at)
+            }
+            Number::Bad(refusal, place) => Number::Bad(refusal, place),
+        }
+    }
+
+    // A pstring, of bytes of any kind.
+    pub fn pstring(self, s: &[u8]) -> Text
+        ensures { λ r. ⌜ textOf (now (s .entry)) r ≡ pstring (now (s .entry)) (self .at) ⌝ }
+    {
+        let at = self.at;
+        if s.len() <= at {
+            return Text::Bad(Refusal::Truncated, at);
+        }
+        let size = s[at] as usize;
+        let start = at + 1;
+        if size <= s.len() - start {
+            return Text::Value(start, Cursor { at: start + size });
+        }
+        Text::Bad(Refusal::Truncated, at)
+    }
+
+    pub fn name(self, s: &[u8]) -> Text
+        ensures { λ r. ⌜ textOf (now (s .entry)) r ≡ name (now (s .entry)) (self .at) ⌝ }
+    {
+        let at = self.at;
+        match self.pstring(s) {
+            Text::Value(start, next) => {
+                let end = next.at;
+                if name_bytes(s, start, end) {
+                    return Text::Value(start, next);
+                }
+                Text::Bad(Refusal::BadName, at)
+            }
+            Text::Bad(refusal, place) => Text::Bad(refusal, place),
+        }
+    }
+
+    // A name that is not empty.
+    pub fn definition_name(self, s: &[u8]) -> Text
+        ensures { λ r. ⌜ textOf (now (s .entry)) r ≡ definitionName (now (s .entry)) (self .at) ⌝ }
+    {
+        let at = self.at;
+        match self.pstring(s) {
+            Text::Value(start, next) => {
+                let end = next.at;
+                if end <= start {
+                    return Text::Bad(Refusal::BadName, at);
+                }
+                if name_bytes(s, start, end) {
+                    return Text::Value(start, next);
+                }
+                Text::Bad(Refusal::BadName, at)
+            }
+            Text::Bad(refusal, place) => Text::Bad(refusal, place),
+        }
     }
 }

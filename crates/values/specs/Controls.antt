@@ -15,18 +15,19 @@ pub record ControlValue : Type 0 where
   pub own : ℕ
   pub mapping : Mapping
 
--- what a control's struct holds
-abbrev pub seen : Control → ControlValue
+-- what a control's struct holds: "Floats may be any 32 bits and are kept bit for bit", a NaN's in `nan`
+unfoldable pub seen : Control → ControlValue
 seen c = record { own = pick (eqb (c .nan) 0) (toBits binary32 (c .own)) (c .nan); mapping = c .mapping }
 
 -- the one struct for a value: at a NaN's pattern `own` is 0.0
-abbrev pub controlOf : ControlValue → Control
+unfoldable pub controlOf : ControlValue → Control
 controlOf v = record {
   own = ofBits binary32 (pick (nanBits binary32 (v .own)) 0 (v .own));
   nan = pick (nanBits binary32 (v .own)) (v .own) 0;
   mapping = v .mapping;
 }
 
+-- a struct that holds a value, and the only one made for it
 pub record Holds (c : Control) (v : ControlValue) : Type 0 where
   pub struct : c ≡ controlOf v
   pub value : seen c ≡ v

@@ -1,6 +1,6 @@
 pub mod Controls
+pub mod ControlLaws
 pub mod Targets
 pub mod Values
-pub mod Laws
 pub mod ValueLaws
 pub mod Worked

@@ -1,22 +1,23 @@
--- An integer value is the equal float.
+-- Laws of values: an integer is the equal float, and the cases that the code makes.
 use Prim.Native.Nat.{ℕ, zero, suc, _+_, _-_, _*_, _/_, _%_, _^_, _<_, _≤_, compare}
 use mathlib.Core.Bool.{Bool, true, false, not, cond}
-use mathlib.Core.Path.{_≡_, refl, sym, ap, _∙_, subst}
-use mathlib.Core.Logic.{⊎-elim}
+use mathlib.Core.Path.{_≡_, refl}
 use native.Mathlib.Omega.{arith}
 use native.Mathlib.Numerals.{add-one}
 use borrow.Author.Tests.{ltb-true, ltb-false, le-leb, lt-leb}
-use lib.Dec.{T, ltb, leb, le→leb}
-use lib.IntN.{ℤ, pos, negsuc}
-use lib.Ieee.{Float, nan, inf, fin, Format, binary32, low, prec, emax, isNan, neg, odd, units, nearest, size, round, ofInt, toBits, inFloat}
+use lib.Dec.{T, ltb, le→leb}
+use lib.IntN.{pos, negsuc}
+use lib.Ieee.{Float, nan, inf, fin, Format, binary32, low, prec, emax, isNan, neg, odd, units, nearest, size, round, ofInt, inFloat}
 use lib.Ieee.Exact.{HasValue}
 use lib.Ieee.Back.{round-whole}
+use lib.Ieee.Bits.{toBits-lt}
 use lib.Ieee.Fits.{ofInt-fits}
-use lib.Ieee.Bits.{ofBits-toBits}
+use Rattle.words.specs.Choice.{pick}
 use Rattle.values.specs.Targets.{signed, signed-low, signed-high}
-use Rattle.values.specs.Values.{bounded, equalFloat, patternOf}
+use Rattle.values.specs.Values.{equalFloat, inBounds, pattern, patternOf}
+use Rattle.values.specs.declared.Value.{Value}
 use Rattle.values.specs.declared.Value.the-variants.{Integer}
-use Rattle.values.specs.declared.ValuePattern.{ValuePattern}
+use Rattle.values.specs.declared.Value.the-variants as value
 use Rattle.values.specs.declared.ValuePattern.the-variants.{Pattern, OutOfBounds}
 
 -- "the equal float": it has the integer's sign and is its magnitude in size
@@ -27,6 +28,10 @@ equal-positive n h = round-whole binary32 false n h
 pub equal-negative : (n : ℕ) → n < 16777216 → HasValue (ofInt binary32 (negsuc n)) true (suc n) 1
 unfolding ofInt
 equal-negative n h = round-whole binary32 true (suc n) h
+
+pub integer-fits : (p : ℕ) → pattern (Integer p) < 4294967296
+unfolding pattern
+integer-fits p = toBits-lt binary32 (ofInt binary32 (signed p)) (ofInt-fits binary32 (signed p))
 
 pub in-float : (n : ℕ) → n ≤ 16777216 → T (inFloat binary32 (pos n))
 unfolding inFloat
@@ -75,15 +80,40 @@ negated n = rw (add-one n) (neg-round binary32 false (suc n) 1)
 
 -- ---- the code's three cases
 
+pub float-pattern : (p : ℕ) → patternOf (value.Float p) ≡ Pattern p
+unfolding patternOf inBounds pattern
+float-pattern p = refl
+
 pub small-integer : (p : ℕ) → p ≤ 16777216 → patternOf (Integer p) ≡ Pattern (equalFloat (pos p))
+unfolding patternOf inBounds pattern
 small-integer p h = rw (signed-low p (omega arith), le-leb p 16777216 h)
 
 pub small-negative : (p k : ℕ) → 4278190080 ≤ p → 4294967295 - p ≡ k → patternOf (Integer p) ≡ Pattern (equalFloat (negsuc k))
+unfolding patternOf inBounds pattern
 small-negative p k h e = rw (signed-high p k (omega arith) e, le-leb k 16777215 (omega arith))
 
 pub large-integer : (p : ℕ) → 16777216 < p → p < 4278190080 → patternOf (Integer p) ≡ OutOfBounds
+unfolding patternOf inBounds
 large-integer p h l = go (ltb p 2147483648) refl
   where
     go : (b : Bool) → ltb p 2147483648 ≡ b → patternOf (Integer p) ≡ OutOfBounds
     go true e = rw (signed-low p (ltb-true p 2147483648 e), lt-leb p 16777216 h)
     go false e = rw (signed-high p (4294967295 - p) (ltb-false p 2147483648 e) refl, lt-leb (4294967295 - p) 16777215 (omega arith))
+
+-- ---- what the answer tells
+
+picked : (b : Bool) (x : ℕ) (p : ℕ) → pick b (Pattern x) OutOfBounds ≡ Pattern p → (b ≡ true) × (x ≡ p)
+picked true x p h = (refl, (cc))
+picked false x p h = ((cc), (cc))
+
+pub pattern-told : (v : Value) (p : ℕ) → patternOf v ≡ Pattern p → (inBounds v ≡ true) × (pattern v ≡ p)
+unfolding patternOf
+pattern-told v p h = picked (inBounds v) (pattern v) p h
+
+refused : (b : Bool) (x : ℕ) → pick b (Pattern x) OutOfBounds ≡ OutOfBounds → b ≡ false
+refused true x h = (cc)
+refused false x h = refl
+
+pub bounds-told : (v : Value) → patternOf v ≡ OutOfBounds → inBounds v ≡ false
+unfolding patternOf
+bounds-told v h = refused (inBounds v) (pattern v) h

@@ -19,14 +19,14 @@ bounded z = both (leZ (negℤ (pos 16777216)) z) (leZ z (pos 16777216))
 abbrev pub equalFloat : ℤ → ℕ
 equalFloat z = toBits binary32 (ofInt binary32 z)
 
-abbrev pub inBounds : Value → Bool
+unfoldable pub inBounds : Value → Bool
 inBounds (Float p) = true
 inBounds (Integer p) = bounded (signed p)
 
-abbrev pub pattern : Value → ℕ
+unfoldable pub pattern : Value → ℕ
 pattern (Float p) = p
 pattern (Integer p) = equalFloat (signed p)
 
 -- out of bounds is refusal 23
-abbrev pub patternOf : Value → ValuePattern
+unfoldable pub patternOf : Value → ValuePattern
 patternOf v = pick (inBounds v) (Pattern (pattern v)) OutOfBounds

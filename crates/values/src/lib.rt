@@ -5,13 +5,14 @@ ghost use Rattle.values.specs.Controls.{Holds, controlAt, seen, mappingO
 ghost use Rattle.values.specs.Targets.{targetOf};
 ghost use Rattle.values.specs.Values.{patternOf};
 
-// "a struct by value with an f32 beside its mapping"
+// "an enum Unmapped or Bus(number), matched when read and when shown"
 pub enum Mapping {
     Unmapped,
     Bus(u32),
 }
 
-// Where the own float is a number, `nan` is 0. Where it is a NaN, `own` is 0.0 and `nan` is its pattern.
+// "a control is a struct by value with an f32 beside its mapping". An own float that is a number is in `own`, and `nan` is 0.
+// A NaN is kept by its pattern, in `nan`, and `own` is 0.0: so every float is kept bit for bit, and equal controls are equal structs.
 pub struct Control {
     pub own: f32,
     pub nan: u32,
@@ -24,7 +25,7 @@ pub enum Value {
     Integer(u32),
 }
 
-// The float pattern that a value becomes, or that it is out of bounds.
+// The pattern of the float that a value becomes; or it is out of bounds, refusal 23.
 pub enum ValuePattern {
     Pattern(u32),
     OutOfBounds,
@@ -53,6 +54,7 @@ fn mapping_of(word: u32) -> Mapping
     Mapping::Bus(word - 1)
 }
 
+// The word of a mapping.
 fn word_of(mapping: Mapping) -> u32
     ensures { λ r. ⌜ r ≡ mappingWord mapping ⌝ }
 {
@@ -104,7 +106,7 @@ impl Control {
         Control::new(own, mapping_of(mapping))
     }
 
-    // The own float's pattern. A NaN in `own` itself, which no function here makes, reads as the logic's one NaN does.
+    // The own float's pattern. No function here puts a NaN into `own` itself: one that is there reads as 0x7FC0_0000.
     pub fn own_word(self) -> u32
         ensures { λ r. ⌜ r ≡ seen self .own ⌝ }
     {
@@ -130,7 +132,8 @@ impl Control {
     pub fn set(self, pattern: u32) -> Control
         ensures { λ r. ⌜ Holds r (setTo pattern (seen self)) ⌝ }
     {
-        Control::new(pattern, Mapping::Unmapped)
+        let mapping = Mapping::Unmapped;
+        Control::new(pattern, mapping)
     }
 
     // The control mapped to a bus, or unmapped: its own float stays.

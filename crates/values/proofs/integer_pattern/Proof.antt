@@ -1,18 +1,10 @@
-use Prim.Native.Nat.{ℕ, zero, suc, _+_, _*_, _-_, _≤_, _<_}
-use mathlib.Core.Bool.{Bool, true, false, not}
-use mathlib.Core.Path.{_≡_, refl, sym, ap, _∙_}
-use mathlib.Core.List.{List, [], _∷_, _++_, append-assoc}
+use Prim.Native.Nat.{_+_, _-_}
+use mathlib.Core.Path.{refl, sym}
 use native.Mathlib.Omega.{arith}
-use native.Mathlib.Numerals.{add-one}
-use borrow.Author.Needs.{needs}
-use borrow.Author.Tests.{lt-ltb, le-ltb, le-leb, lt-leb, eq-eqb, ne-eqb}
-use lib.ListN.{length, take, drop, getD, set, length-set, length-drop}
 use borrow.Author.Needs.{needs}
 use Rattle.values.specs.ValueLaws.{in-float, positive-no-nan, negative-no-nan, negated, small-integer, small-negative, large-integer}
 use Rattle.values.proofs.integer_pattern.Statement.{statement}
 use Rattle.values.proofs.integer_pattern.Tie as tie
-use Rattle.values.proofs.integer_pattern.Reads as reads
-use Rattle.values.proofs.integer_pattern.Lts as lts
 
 int-to-float-number : tie.Need-int-to-float-number
 int-to-float-number c = in-float (c .before .before .args .integer) (c .before .if1 .taken)

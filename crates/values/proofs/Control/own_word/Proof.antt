@@ -1,17 +1,7 @@
-use Prim.Native.Nat.{ℕ, zero, suc, _+_, _*_, _-_, _≤_, _<_}
-use mathlib.Core.Bool.{Bool, true, false, not}
-use mathlib.Core.Path.{_≡_, refl, sym, ap, _∙_}
-use mathlib.Core.List.{List, [], _∷_, _++_, append-assoc}
-use native.Mathlib.Omega.{arith}
-use native.Mathlib.Numerals.{add-one}
-use borrow.Author.Needs.{needs}
-use borrow.Author.Tests.{lt-ltb, le-ltb, le-leb, lt-leb, eq-eqb, ne-eqb}
-use lib.ListN.{length, take, drop, getD, set, length-set, length-drop}
-use Rattle.values.specs.Laws.{seen-nan, seen-number, nan-pattern, no-nan}
+use mathlib.Core.Path.{sym, _∙_}
+use Rattle.values.specs.ControlLaws.{seen-nan, seen-number, nan-pattern, no-nan}
 use Rattle.values.proofs.Control.own_word.Statement.{statement}
 use Rattle.values.proofs.Control.own_word.Tie as tie
-use Rattle.values.proofs.Control.own_word.Reads as reads
-use Rattle.values.proofs.Control.own_word.Lts as lts
 
 returns : tie.Need-returns
 returns c = sym (seen-nan (c .before .before .args .self) (c .if1 .taken))

@@ -1,17 +1,10 @@
-use Prim.Native.Nat.{ℕ, zero, suc, _+_, _*_, _-_, _≤_, _<_}
-use mathlib.Core.Bool.{Bool, true, false, not}
-use mathlib.Core.Path.{_≡_, refl, sym, ap, _∙_}
-use mathlib.Core.List.{List, [], _∷_, _++_, append-assoc}
+use Prim.Native.Nat.{_+_}
 use native.Mathlib.Omega.{arith}
-use native.Mathlib.Numerals.{add-one}
 use borrow.Author.Needs.{needs}
-use borrow.Author.Tests.{lt-ltb, le-ltb, le-leb, lt-leb, eq-eqb, ne-eqb}
-use lib.ListN.{length, take, drop, getD, set, length-set, length-drop}
-use borrow.Author.Needs.{needs}
+use borrow.Author.Tests.{le-leb, lt-leb}
+use lib.ListN.{length}
 use Rattle.synthdef.proofs.cursor.Cursor.int8.Statement.{statement}
 use Rattle.synthdef.proofs.cursor.Cursor.int8.Tie as tie
-use Rattle.synthdef.proofs.cursor.Cursor.int8.Reads as reads
-use Rattle.synthdef.proofs.cursor.Cursor.int8.Lts as lts
 
 returns : tie.Need-returns
 returns c =

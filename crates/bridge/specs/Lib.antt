@@ -1,0 +1,16 @@
+pub mod Flatten
+pub mod Leaves
+pub mod Edits
+pub mod Shape
+pub mod Rooted
+pub mod Tally
+pub mod Keep
+pub mod Latest
+pub mod Order
+pub mod MapForest
+pub mod Left
+pub mod Parent
+pub mod Outside
+pub mod Untouched
+pub mod Family
+pub mod Siblings

@@ -1,0 +1,12 @@
+pub mod Assemble
+pub mod Passed
+pub mod Parameters
+pub mod Rows
+pub mod Every
+pub mod Nodes
+pub mod Adds
+pub mod Slots
+pub mod ControlRows
+pub mod Numbers
+pub mod TreeSteps
+pub mod TreeKept

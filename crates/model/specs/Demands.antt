@@ -1,0 +1,269 @@
+-- The three demands, each as a statement over the definitions that the contracts cite.
+use Prim.{Unit, tt}
+use Prim.Native.Nat.{ℕ, _<_, _≤_}
+use mathlib.Core.Bool.{Bool, true, false, not}
+use mathlib.Core.Path.{_≡_}
+use mathlib.Core.List.{List, [], _∷_, _++_}
+use mathlib.Core.Option.{Option, none, some}
+use lib.ListN.{length}
+use lib.Dec.{ltb, leb, eqb}
+use Rattle.words.specs.Choice.{pick, both, either}
+use Rattle.words.specs.declared.Refusal.the-variants.{BadState}
+use Rattle.synthdef.specs.Definition.{Definition}
+use Rattle.synthdef.specs.Bounds.{every}
+use Rattle.nodes.specs.declared.Node.{Node}
+use Rattle.nodes.specs.Place.{isGroup, lives}
+use Rattle.nodes.specs.Edit.{isBelow}
+use Rattle.nodes.specs.Structure.{parentOf, childrenOf}
+use Rattle.nodes.specs.Formed.{apart}
+use Rattle.model.specs.declared.DefinitionCommand.the-variants as definitions
+use Rattle.model.specs.declared.TreeCommand.{TreeCommand}
+use Rattle.model.specs.declared.TreeCommand.the-variants as tree
+use Rattle.model.specs.declared.ControlCommand.{ControlCommand}
+use Rattle.model.specs.declared.ControlCommand.the-variants as controls
+use Rattle.model.specs.declared.Query.{Query}
+use Rattle.model.specs.declared.Query.the-variants as query
+use Rattle.model.specs.declared.Command.{Command}
+use Rattle.model.specs.declared.Command.the-variants as command
+use Rattle.model.specs.declared.Answer.{Answer}
+use Rattle.model.specs.declared.Answer.the-variants.{Done, Replied, Refused, RefusedAt}
+use Rattle.model.specs.Engine.{Slot, Engine, decode, slotAt, definitionIn, residentOf, residents}
+use Rattle.model.specs.Formed.{formed}
+use Rattle.model.specs.View.{Kind, group, synth, PlainNode, Row, shape, view}
+use Rattle.model.specs.Meaning.{meant, nodeNamed}
+use Rattle.model.specs.Effects.{numberFor}
+use Rattle.model.specs.Replies.{replyTo, reply}
+use Rattle.model.specs.After.{wordsAfter, shelfAfter, freshState, freshShelf}
+use Rattle.model.specs.Door.{answerIn, answer, isAccepted, Does}
+use Rattle.model.specs.Plain.{Plain, atFirst, meaning, meantIn, fed, plainRows, plainOrder}
+
+-- Demand 1: "A refusal changes nothing in the state or the reply buffer": of whatever a call does
+abbrev pub Demand1 : Type 0
+Demand1 =
+    (c : Command) (bytes ws bs out : List ℕ) (a : Answer) (ws′ bs′ out′ : List ℕ)
+    → Does c bytes ws bs out a ws′ bs′ out′
+    → (a ≡ answer c bytes ws bs out) × (isAccepted a ≡ false → (ws′ ≡ ws) × ((bs′ ≡ bs) × (out′ ≡ out)))
+
+-- the definition that a name means in the engine: its resident's
+abbrev pub residentIn : List Slot → ℕ → Option Definition
+residentIn slots k = pick (ltb k (length slots)) (some (definitionIn (slotAt slots k))) none
+
+abbrev pub meaningIn : List ℕ → Engine → Option Definition
+meaningIn name e = residentIn (e .slots) (residentOf name (e .slots))
+
+-- a file as a call's bytes: each below 256
+abbrev pub AreBytes : List ℕ → Type 0
+AreBytes s = every (λ b. ltb b 256) s ≡ true
+
+abbrev pub receive : Command
+receive = command.Definitions definitions.Receive
+
+-- Demand 2: "What a fresh engine accepts is exported byte for byte; an export loaded into a fresh one gives the same definitions."
+pub record Demand2 : Type 0 where
+  pub exported : (file : List ℕ) → AreBytes file → answerIn receive file (decode freshState freshShelf) 0 ≡ Done
+      → reply query.Export [] (decode (wordsAfter receive file freshState freshShelf) (shelfAfter receive file freshState freshShelf)) ≡ file
+  pub loaded : (ws bs : List ℕ) → AreBytes bs → formed ws bs ≡ true
+      → (answerIn receive (reply query.Export [] (decode ws bs)) (decode freshState freshShelf) 0 ≡ Done)
+      × ((name : List ℕ)
+      → meaningIn name
+      (decode (wordsAfter receive (reply query.Export [] (decode ws bs)) freshState freshShelf) (shelfAfter receive (reply query.Export [] (decode ws bs)) freshState freshShelf))
+      ≡ meaningIn name (decode ws bs))
+
+-- a call: a command, its bytes, and the reply buffer that is lent
+pub record Call : Type 0 where
+  pub command : Command
+  pub bytes : List ℕ
+  pub out : List ℕ
+
+pub record State : Type 0 where
+  pub words : List ℕ
+  pub shelf : List ℕ
+
+abbrev pub engineIn : State → Engine
+engineIn s = decode (s .words) (s .shelf)
+
+abbrev pub answerTo : Call → State → Answer
+answerTo c s = answer (c .command) (c .bytes) (s .words) (s .shelf) (c .out)
+
+abbrev pub acceptedIn : Call → State → Bool
+acceptedIn c s = isAccepted (answerTo c s)
+
+-- the state after a call
+abbrev pub after : Call → State → State
+after c s = record {
+  words = pick (acceptedIn c s) (wordsAfter (c .command) (c .bytes) (s .words) (s .shelf)) (s .words);
+  shelf = pick (acceptedIn c s) (shelfAfter (c .command) (c .bytes) (s .words) (s .shelf)) (s .shelf);
+}
+
+-- "one claim about every sequence of loads and commands from a fresh engine"
+abbrev pub freshEngine : State
+freshEngine = record { words = freshState; shelf = freshShelf }
+
+unfoldable pub run : List Call → State → State
+run [] s = s
+run (c ∷ cs) s = run cs (after c s)
+
+-- the plain tree, fed each command and whether it was accepted
+unfoldable pub replay : List Call → State → Plain → Plain
+replay [] s p = p
+replay (c ∷ cs) s p = replay cs (after c s) (fed (c .command) (c .bytes) (acceptedIn c s) p)
+
+-- the definition that the name of an accepted `/s_new` meant, if it made the synth n; else what was known before
+abbrev pub madeBy : TreeCommand → List ℕ → Engine → ℕ → Option Definition → Option Definition
+madeBy (tree.NewSynth number action target) bytes e n known = pick (eqb (numberFor number (e .next)) n) (meaningIn bytes e) known
+madeBy (tree.NewGroup number action target) bytes e n known = known
+madeBy (tree.Free a) bytes e n known = known
+madeBy (tree.FreeAll g) bytes e n known = known
+madeBy (tree.DeepFree g) bytes e n known = known
+madeBy (tree.Before a b) bytes e n known = known
+madeBy (tree.After a b) bytes e n known = known
+madeBy (tree.Head g a) bytes e n known = known
+madeBy (tree.Tail g a) bytes e n known = known
+madeBy (tree.Run a flag) bytes e n known = known
+
+abbrev pub madeIn : Command → List ℕ → Engine → ℕ → Option Definition → Option Definition
+madeIn (command.Definitions c) bytes e n known = known
+madeIn (command.Tree c) bytes e n known = madeBy c bytes e n known
+madeIn (command.Controls c) bytes e n known = known
+madeIn (command.Buses c) bytes e n known = known
+madeIn (command.Query q) bytes e n known = known
+
+-- what the name meant when the last synth n was made
+unfoldable pub made : List Call → State → ℕ → Option Definition → Option Definition
+made [] s n known = known
+made (c ∷ cs) s n known = made cs (after c s) n (pick (acceptedIn c s) (madeIn (c .command) (c .bytes) (engineIn s) n known) known)
+
+-- the definition of the synth n in the tree
+abbrev pub definitionOfKind : Kind → Option Definition
+definitionOfKind group = none
+definitionOfKind (synth d cs) = some d
+
+unfoldable pub voiceOf : ℕ → List Row → Option Definition
+voiceOf n [] = none
+voiceOf n (r ∷ l) = pick (eqb (r .node .number) n) (definitionOfKind (r .node .kind)) (voiceOf n l)
+
+unfoldable pub holds : ℕ → List ℕ → Bool
+holds n [] = false
+holds n (m ∷ ms) = either (eqb m n) (holds n ms)
+
+-- the node n is in a subtree that the command adds, moves or frees
+abbrev pub displacedBy : TreeCommand → Engine → ℕ → Bool
+displacedBy (tree.NewSynth number action target) e n =
+    either (eqb (numberFor number (e .next)) n) (both (eqb action 4) (isBelow n (meant target e) (e .nodes)))
+displacedBy (tree.NewGroup number action target) e n = either (eqb number n) (both (eqb action 4) (isBelow n (meant target e) (e .nodes)))
+displacedBy (tree.Free a) e n = isBelow n (meant a e) (e .nodes)
+displacedBy (tree.FreeAll g) e n = both (isBelow n (meant g e) (e .nodes)) (not (eqb n (meant g e)))
+displacedBy (tree.DeepFree g) e n = both (isBelow n (meant g e) (e .nodes)) (not (isGroup (nodeNamed n (e .nodes))))
+displacedBy (tree.Before a b) e n = isBelow n (meant a e) (e .nodes)
+displacedBy (tree.After a b) e n = isBelow n (meant a e) (e .nodes)
+displacedBy (tree.Head g a) e n = isBelow n (meant a e) (e .nodes)
+displacedBy (tree.Tail g a) e n = isBelow n (meant a e) (e .nodes)
+displacedBy (tree.Run a flag) e n = false
+
+abbrev pub displaced : Command → Engine → ℕ → Bool
+displaced (command.Definitions c) e n = false
+displaced (command.Tree c) e n = displacedBy c e n
+displaced (command.Controls c) e n = false
+displaced (command.Buses c) e n = false
+displaced (command.Query q) e n = false
+
+-- .. or that it turns on or off, sets or maps
+abbrev pub turnedBy : TreeCommand → Engine → ℕ → Bool
+turnedBy (tree.NewSynth number action target) e n = false
+turnedBy (tree.NewGroup number action target) e n = false
+turnedBy (tree.Free a) e n = false
+turnedBy (tree.FreeAll g) e n = false
+turnedBy (tree.DeepFree g) e n = false
+turnedBy (tree.Before a b) e n = false
+turnedBy (tree.After a b) e n = false
+turnedBy (tree.Head g a) e n = false
+turnedBy (tree.Tail g a) e n = false
+turnedBy (tree.Run a flag) e n = isBelow n (meant a e) (e .nodes)
+
+abbrev pub controlNode : ControlCommand → ℕ
+controlNode (controls.Set n key value) = n
+controlNode (controls.Fill n key count value) = n
+controlNode (controls.Map n key bus) = n
+
+abbrev pub touched : Command → Engine → ℕ → Bool
+touched (command.Definitions c) e n = false
+touched (command.Tree c) e n = either (displacedBy c e n) (turnedBy c e n)
+touched (command.Controls c) e n = isBelow n (meant (controlNode c) e) (e .nodes)
+touched (command.Buses c) e n = false
+touched (command.Query q) e n = false
+
+-- the numbers of rows that fail a test
+unfoldable pub numbersLeft : (ℕ → Bool) → List Row → List ℕ
+numbersLeft test [] = []
+numbersLeft test (r ∷ l) = pick (test (r .node .number)) (numbersLeft test l) (r .node .number ∷ numbersLeft test l)
+
+-- a node with its parent
+pub record Entry : Type 0 where
+  pub node : PlainNode
+  pub parent : ℕ
+
+-- the nodes whose numbers fail a test, each with its parent in the tree t
+unfoldable pub entriesLeft : (ℕ → Bool) → List Node → List Row → List Entry
+entriesLeft test t [] = []
+entriesLeft test t (r ∷ l) =
+    pick (test (r .node .number)) (entriesLeft test t l) (record { node = r .node; parent = parentOf (r .node .number) t } ∷ entriesLeft test t l)
+
+-- of one call between the state before it and the state after it: "never refusal 1, each answer as the table says"; "what a command doesn't touch stays as it was": nodes that
+-- it neither adds, moves nor frees keep their order among themselves; a node outside the subtrees that it adds, moves, sets, maps, turns on or off, or frees keeps its
+-- kind, parent, definition, run flag and controls
+pub record StepHolds (c : Call) (s : State) : Type 0 where
+  pub sound : answerTo c s ≡ Refused BadState → ⊥
+  pub table : answerTo c s ≡ answerIn (c .command) (c .bytes) (engineIn s) (length (c .out))
+  pub ordered : numbersLeft (displaced (c .command) (engineIn s)) (view (engineIn s))
+      ≡ numbersLeft (displaced (c .command) (engineIn s)) (view (engineIn (after c s)))
+  pub untouched : entriesLeft (touched (c .command) (engineIn s)) (engineIn s .nodes) (view (engineIn s))
+      ≡ entriesLeft (touched (c .command) (engineIn s)) (engineIn (after c s) .nodes) (view (engineIn (after c s)))
+
+unfoldable pub EachHolds : List Call → State → Type 0
+EachHolds [] s = Unit {0}
+EachHolds (c ∷ cs) s = StepHolds c s × EachHolds cs (after c s)
+
+-- of a tree: "numbers are distinct, every node descends from the root by one parent"
+pub record TreeHolds (t : List Node) : Type 0 where
+  pub distinct : apart t ≡ true
+  pub descends : (n : ℕ) → lives n t ≡ true → isBelow n 0 t ≡ true
+  pub parentGroup : (n : ℕ) → lives n t ≡ true → (n ≡ 0 → ⊥)
+      → (lives (parentOf n t) t ≡ true) × ((isGroup (nodeNamed (parentOf n t) t) ≡ true) × (holds n (childrenOf (parentOf n t) t) ≡ true))
+  pub oneParent : (n g : ℕ) → lives n t ≡ true → holds n (childrenOf g t) ≡ true → g ≡ parentOf n t
+
+-- "One reply for all queries breaks it by the replay model": the reply to a query, of what the plain tree holds; all but export's
+abbrev pub plainReply : Query → List ℕ → Plain → List ℕ
+plainReply q bytes p = replyTo q (λ a. meantIn a p) bytes (plainRows 0 (p .tree)) (p .buses) (length (p .names)) []
+
+abbrev pub isExport : Query → Bool
+isExport (query.Node n) = false
+isExport (query.Control n key) = false
+isExport (query.Bus b) = false
+isExport (query.Tree g flag) = false
+isExport query.Status = false
+isExport query.Export = true
+
+-- of the state after a sequence and the plain tree that was fed the same: "afterwards everything equals paper 01's plain tree, the kept running order equals the one worked
+-- out afresh". "All that the plain tree holds is compared: definitions, each synth's and each name's, as read, not by slot; controls by own float and mapping; every float by its bits."
+pub record Same (e : Engine) (p : Plain) : Type 0 where
+  pub nodes : view e ≡ plainRows 0 (p .tree)
+  pub names : (name : List ℕ) → meaningIn name e ≡ meaning name (p .names)
+  pub nameCount : length (residents (e .slots)) ≡ length (p .names)
+  pub next : e .next ≡ p .next
+  pub latest : e .latest ≡ p .latest
+  pub buses : e .buses ≡ p .buses
+  pub order : e .order ≡ plainOrder p
+  pub replies : (q : Query) (bytes : List ℕ) → isExport q ≡ false → reply q bytes e ≡ plainReply q bytes p
+
+-- every call's bytes are bytes
+unfoldable pub AllBytes : List Call → Type 0
+AllBytes [] = Unit {0}
+AllBytes (c ∷ cs) = AreBytes (c .bytes) × AllBytes cs
+
+-- Demand 3, of one sequence; it is claimed of every one whose bytes are bytes: `(cs : List Call) → AllBytes cs → Demand3 cs`
+pub record Demand3 (cs : List Call) : Type 0 where
+  pub each : EachHolds cs freshEngine
+  pub same : Same (engineIn (run cs freshEngine)) (replay cs freshEngine atFirst)
+  pub tree : TreeHolds (engineIn (run cs freshEngine) .nodes)
+  -- "each voice has the definition its name meant when it was made"
+  pub voices : (n : ℕ) (d : Definition) → voiceOf n (view (engineIn (run cs freshEngine))) ≡ some d → made cs freshEngine n none ≡ some d

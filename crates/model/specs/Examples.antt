@@ -1,0 +1,125 @@
+-- The examples that paper 01 marks "Proved", as one table with one proved statement.
+use Prim.Native.Nat.{ℕ, _*_}
+use mathlib.Core.Bool.{Bool, true, false}
+use mathlib.Core.Path.{_≡_, refl}
+use mathlib.Core.List.{List, [], _∷_, _++_}
+use lib.ListN.{length, take, drop, replicate}
+use Rattle.synthdef.specs.Read.{repeat}
+use Rattle.synthdef.specs.Fields.{nameBytes}
+use Rattle.synthdef.specs.Reader.{readFront, readUnit, readUnits, readDefinition, readDefinitions, readFile, sameName, among}
+use Rattle.synthdef.specs.Writer.{writeAll, writeDefinition, writeFile}
+use Rattle.nodes.specs.Place.{lives}
+use Rattle.nodes.specs.Edit.{lift, sink, takeDeeper, dropDeeper, onlyGroups, runOf, editRows}
+use Rattle.nodes.specs.Order.{orderFrom}
+use Rattle.nodes.specs.Formed.{rowTaken}
+use Rattle.osc.specs.Message.{tags, arguments}
+use Rattle.values.specs.declared.Key.the-variants.{Index, Name}
+use Rattle.values.specs.declared.Value.the-variants.{Float, Integer}
+use Rattle.values.specs.Targets.{targetOf}
+use Rattle.values.specs.Values.{inBounds, pattern}
+use Rattle.model.specs.declared.DefinitionCommand.the-variants as definitions
+use Rattle.model.specs.declared.TreeCommand.the-variants.{NewSynth, NewGroup, Free, Before, Head, Run}
+use Rattle.model.specs.declared.ControlCommand.the-variants.{Set, Map}
+use Rattle.model.specs.declared.BusCommand.the-variants as buses
+use Rattle.model.specs.declared.Query.the-variants as query
+use Rattle.model.specs.declared.Command.the-variants.{Definitions, Tree, Controls, Buses, Query}
+use Rattle.model.specs.Engine.{held, residentFrom, controlsFrom, firstIndex}
+use Rattle.model.specs.View.{viewRows}
+use Rattle.model.specs.Meaning.{minusOne, nodeNamed}
+use Rattle.model.specs.Checks.{firstOf, namesOf, staying}
+use Rattle.model.specs.Effects.{retired, freeFrom, loaded, freeRowFrom, initialWords, changeWords, changeAll, effect}
+use Rattle.model.specs.Replies.{plainNamed, replyTo}
+use Rattle.model.specs.Door.{queryAnswer, answerIn}
+use Rattle.model.specs.Script.{Line, line, played, told, replied, answersOf, orderAfter, verdict, Example, example, agrees}
+
+-- the header of a file of so many definitions
+abbrev header : ℕ → List ℕ
+header n = 83 ∷ 67 ∷ 103 ∷ 102 ∷ 0 ∷ 0 ∷ 0 ∷ 2 ∷ 0 ∷ n ∷ []
+
+-- four bytes of a small number
+abbrev int : ℕ → List ℕ
+int n = 0 ∷ 0 ∷ 0 ∷ n ∷ []
+
+-- "a", no constants, so many parameters at 0.0, names, units, no variants
+abbrev fileOf : ℕ → List ℕ → List ℕ → List ℕ
+fileOf parameters names units =
+    header 1 ++ (1 ∷ 97 ∷ []) ++ int 0 ++ int parameters ++ replicate (4 * parameters) 0 ++ names ++ units ++ (0 ∷ 0 ∷ [])
+
+-- one parameter name, "x", of the index i
+abbrev oneName : ℕ → List ℕ
+oneName i = int 1 ++ (1 ∷ 120 ∷ []) ++ int i
+
+-- one unit, "U", whose one input is output 0 of the unit u
+abbrev oneUnit : ℕ → List ℕ
+oneUnit u = int 1 ++ (1 ∷ 85 ∷ 0 ∷ []) ++ int 1 ++ int 1 ++ (0 ∷ 0 ∷ []) ++ int u ++ int 0 ++ (0 ∷ [])
+
+-- "ping" with one parameter "freq", 440.0 (43 DC 00 00), no units
+abbrev ping : List ℕ
+ping =
+    83 ∷ 67 ∷ 103 ∷ 102 ∷ 0 ∷ 0 ∷ 0 ∷ 2 ∷ 0 ∷ 1 ∷ 4 ∷ 112 ∷ 105 ∷ 110 ∷ 103 ∷ 0 ∷ 0 ∷ 0 ∷ 0 ∷ 0 ∷ 0 ∷ 0 ∷ 1 ∷ 67 ∷ 220 ∷ 0 ∷ 0 ∷ 0 ∷ 0 ∷ 0 ∷ 1 ∷ 4 ∷ 102 ∷ 114 ∷ 101 ∷ 113 ∷ 0 ∷ 0 ∷ 0 ∷ 0 ∷ 0 ∷ 0 ∷ 0 ∷ 0 ∷ 0 ∷ 0 ∷ []
+
+abbrev pingName : List ℕ
+pingName = 112 ∷ 105 ∷ 110 ∷ 103 ∷ []
+
+abbrev freqName : List ℕ
+freqName = 102 ∷ 114 ∷ 101 ∷ 113 ∷ []
+
+-- group 1 at tail of 0, "ping" 1000 at tail of 1, "ping" 1001 before 1000
+abbrev show : List Line
+show =
+    line (Definitions definitions.Receive) ping
+    ∷ line (Tree (NewGroup 1 1 0)) []
+    ∷ line (Tree (NewSynth 1000 1 1)) pingName
+    ∷ line (Tree (NewSynth 1001 2 1000)) pingName
+    ∷ []
+
+-- 440.0 and 2.0
+abbrev float440 : ℕ
+float440 = 1138491392
+
+abbrev float2 : ℕ
+float2 = 1073741824
+
+-- bus 7 at 2.0, the control mapped to it, and then to -1
+abbrev mapped : List Line
+mapped = line (Buses (buses.Set 7 (Float float2))) [] ∷ line (Controls (Map 1000 Name 7)) freqName ∷ []
+
+abbrev unmapped : List Line
+unmapped = line (Controls (Map 1000 Name minusOne)) freqName ∷ []
+
+-- the last four bytes of a reply to `/s_get` 1000 freq: the value read
+abbrev valueRead : List Line → List ℕ
+valueRead ls = drop 28 (replied ls (line (Query (query.Control 1000 Name)) freqName))
+
+abbrev pub table : List Example
+table =
+    -- "no definitions, 10 bytes, loads; 9 bytes is 2. One definition "a" with every count 0: 30 bytes."
+    example (verdict (readFile (header 0))) (0 ∷ 0 ∷ [])
+    ∷ example (verdict (readFile (take 9 (header 0)))) (2 ∷ 8 ∷ [])
+    ∷ example (verdict (readFile (fileOf 0 (int 0) (int 0)))) (0 ∷ 1 ∷ [])
+    ∷ example (length (fileOf 0 (int 0) (int 0)) ∷ []) (30 ∷ [])
+    -- "P 32 loads, 33 is 5; index P-1 loads, P is 8; a unit's input naming itself is 8."
+    ∷ example (verdict (readFile (fileOf 32 (int 0) (int 0)))) (0 ∷ 1 ∷ [])
+    ∷ example (verdict (readFile (fileOf 33 (int 0) (int 0)))) (5 ∷ 16 ∷ [])
+    ∷ example (verdict (readFile (fileOf 2 (oneName 1) (int 0)))) (0 ∷ 1 ∷ [])
+    ∷ example (verdict (readFile (fileOf 2 (oneName 2) (int 0)))) (8 ∷ 34 ∷ [])
+    ∷ example (verdict (readFile (fileOf 0 (int 0) (oneUnit 0)))) (8 ∷ 41 ∷ [])
+    -- ""ping" with one parameter "freq", 440.0 (43 DC 00 00), no units: 46 bytes."
+    ∷ example (verdict (readFile ping)) (0 ∷ 1 ∷ [])
+    ∷ example (length ping ∷ []) (46 ∷ [])
+    -- "running order 1001, 1000. Then run 1 off: empty."
+    ∷ example (answersOf show) (0 ∷ 0 ∷ 0 ∷ 0 ∷ [])
+    ∷ example (orderAfter show) (1001 ∷ 1000 ∷ [])
+    ∷ example (orderAfter (show ++ (line (Tree (Run 1 0)) [] ∷ []))) []
+    -- "`/g_head` 1 with node 1 is 19; `/n_before` 1000 1000 is 19; `/n_free` 0 is 18."
+    ∷ example (answersOf (show ++ (line (Tree (Head 1 1)) [] ∷ line (Tree (Before 1000 1000)) [] ∷ line (Tree (Free 0)) [] ∷ [])))
+    (0 ∷ 0 ∷ 0 ∷ 0 ∷ 19 ∷ 19 ∷ 18 ∷ [])
+    -- "own 440.0, mapped to bus 7 at 2.0, reads 2.0; mapped to -1, reads 440.0."
+    ∷ example (valueRead show) (67 ∷ 220 ∷ 0 ∷ 0 ∷ [])
+    ∷ example (valueRead (show ++ mapped)) (64 ∷ 0 ∷ 0 ∷ 0 ∷ [])
+    ∷ example (valueRead (show ++ mapped ++ unmapped)) (67 ∷ 220 ∷ 0 ∷ 0 ∷ [])
+    ∷ []
+
+pub proved : agrees table ≡ true
+unfolding repeat nameBytes readFront readUnit readUnits readDefinition readDefinitions readFile sameName among writeAll writeDefinition writeFile lives lift sink takeDeeper dropDeeper onlyGroups runOf editRows orderFrom rowTaken tags arguments targetOf inBounds pattern held residentFrom controlsFrom firstIndex viewRows nodeNamed firstOf namesOf staying retired freeFrom loaded freeRowFrom initialWords changeWords changeAll effect plainNamed replyTo queryAnswer answerIn played told agrees
+proved = refl

@@ -1,0 +1,84 @@
+-- A list of commands played on the engine's model from a fresh engine, for the tables of examples.
+use Prim.Native.Nat.{ℕ}
+use mathlib.Core.Bool.{Bool, true, false}
+use mathlib.Core.List.{List, [], _∷_, _++_}
+use lib.ListN.{length, replicate}
+use Rattle.words.specs.Choice.{pick}
+use Rattle.words.specs.Refusals.{numberOf}
+use Rattle.synthdef.specs.Read.{Read, got, bad}
+use Rattle.synthdef.specs.Definition.{Definition}
+use Rattle.synthdef.specs.Reader.{sameName}
+use Rattle.nodes.specs.Formed.{firstGiven}
+use Rattle.model.specs.declared.Command.{Command}
+use Rattle.model.specs.Layout.{slotCount, controlsWords, busCount}
+use Rattle.model.specs.Engine.{Engine}
+use Rattle.model.specs.Effects.{effect}
+use Rattle.model.specs.After.{root}
+use Rattle.model.specs.Door.{answerIn, isAccepted, answerNumber, replyOf}
+
+-- a fresh engine
+abbrev pub freshModel : Engine
+freshModel = record {
+  slots = replicate slotCount (record { bytes = []; resident = false });
+  nodes = root ∷ [];
+  order = [];
+  controls = replicate controlsWords 0;
+  buses = replicate busCount 0;
+  next = firstGiven;
+  latest = 0;
+}
+
+-- a command with its bytes
+pub record Line : Type 0 where
+  pub command : Command
+  pub bytes : List ℕ
+
+abbrev pub line : Command → List ℕ → Line
+line c bytes = record { command = c; bytes = bytes }
+
+-- the reply buffer of a script has room for 100,000 bytes
+abbrev pub room : ℕ
+room = 100000
+
+abbrev pub accepts : Line → Engine → Bool
+accepts l e = isAccepted (answerIn (l .command) (l .bytes) e room)
+
+abbrev pub afterLine : Line → Engine → Engine
+afterLine l e = pick (accepts l e) (effect (l .command) (l .bytes) e) e
+
+unfoldable pub played : List Line → Engine → Engine
+played [] e = e
+played (l ∷ ls) e = played ls (afterLine l e)
+
+-- the answers of all lines, each as one number
+unfoldable pub told : List Line → Engine → List ℕ
+told [] e = []
+told (l ∷ ls) e = answerNumber (answerIn (l .command) (l .bytes) e room) ∷ told ls (afterLine l e)
+
+-- the reply to a query behind a script
+abbrev pub replied : List Line → Line → List ℕ
+replied ls l = replyOf (l .command) (l .bytes) (played ls freshModel)
+
+abbrev pub answersOf : List Line → List ℕ
+answersOf ls = told ls freshModel
+
+abbrev pub orderAfter : List Line → List ℕ
+orderAfter ls = played ls freshModel .order
+
+-- what is said of a file: 0 and the number of definitions, or the refusal's number and its place
+abbrev pub verdict : Read (List Definition) → List ℕ
+verdict (got ds end) = 0 ∷ length ds ∷ []
+verdict (bad r at) = numberOf r ∷ at ∷ []
+
+-- one row of a table: what the definitions say, and what the paper says
+pub record Example : Type 0 where
+  pub found : List ℕ
+  pub wanted : List ℕ
+
+abbrev pub example : List ℕ → List ℕ → Example
+example a b = record { found = a; wanted = b }
+
+-- every row agrees
+unfoldable pub agrees : List Example → Bool
+agrees [] = true
+agrees (x ∷ xs) = pick (sameName (x .found) (x .wanted)) (agrees xs) false

@@ -1,0 +1,11 @@
+pub mod Kept
+pub mod TreeReplay
+pub mod Names
+pub mod SlotNames
+pub mod Load
+pub mod DefinitionsReplay
+pub mod SynthReplay
+pub mod RowChange
+pub mod ControlsReplay
+pub mod Replay
+pub mod Voices

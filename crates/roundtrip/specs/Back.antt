@@ -1,0 +1,73 @@
+-- Reading what is written: a definition within the bounds, and a file of them, is read back as it was.
+use Prim.Native.Nat.{ℕ, _+_, _-_, _≤_}
+use mathlib.Core.Path.{_≡_, refl}
+use mathlib.Core.Bool.{true, false, not}
+use mathlib.Core.List.{List, [], _∷_, _++_}
+use native.Mathlib.Omega.{arith}
+use lib.ListN.{length}
+use lib.Dec.{leb, eqb}
+use borrow.Author.Tests.{leb-true, le-ltb, not-true}
+use Rattle.words.specs.Choice.{both-true}
+use Rattle.words.specs.declared.Refusal.the-variants.{NotSynthDef, BadVersion}
+use Rattle.synthdef.specs.Read.{Read, got, andThen, checked}
+use Rattle.synthdef.specs.Definition.{Definition}
+use Rattle.synthdef.specs.Fields.{int32, shortCountTo}
+use Rattle.synthdef.specs.Reader.{mostDefinitions, sizeLimit, fileType, fileVersion, among, fits, readDefinition, readDefinitions, readHeader, readFile}
+use Rattle.words.specs.Bytes.{bytes16, bytes32}
+use Rattle.synthdef.specs.Writer.{writeAll, writeDefinition, writeFile}
+use Rattle.synthdef.specs.Bounds.{isDefinition, areDefinitions, isFile}
+use Rattle.roundtrip.specs.Stands.{Stands, stands-in, stands-all, stands-left, stands-right}
+use Rattle.roundtrip.specs.Codec.{Reads, Back, then-reads, last-reads, none-reads, checked-reads}
+use Rattle.roundtrip.specs.FieldsBack.{int32-reads, short-count-reads}
+use Rattle.roundtrip.specs.RecordsBack.{definition-reads}
+
+-- a definition is read back from its writing, whatever stands before and after it
+pub definition-back : (d : Definition) → isDefinition d ≡ true → (a z : List ℕ)
+    → readDefinition (a ++ (writeDefinition d ++ z)) (length a) ≡ got d (length a + length (writeDefinition d))
+definition-back d t a z = definition-reads d t .found (a ++ (writeDefinition d ++ z)) (length a) (stands-in a (writeDefinition d) z)
+
+fitting-reads : (names : List (List ℕ)) (d : Definition) → isDefinition d ≡ true → length (writeDefinition d) ≤ sizeLimit → among (d .front .name) names ≡ false
+    → Reads (λ s at. andThen (readDefinition s at) (λ d next. fits names at d next)) d (writeDefinition d)
+fitting-reads names d t small new = record {
+  found = λ s at h.
+      rw (definition-reads d t .found s at h, le-ltb sizeLimit (at + length (writeDefinition d) - at) (omega arith), new);
+}
+
+definitions-read : (ds : List Definition) (names : List (List ℕ)) → areDefinitions names ds ≡ true
+    → Reads (λ s at. readDefinitions s (length ds) names at) ds (writeAll writeDefinition ds)
+unfolding readDefinitions areDefinitions writeAll
+definitions-read [] names t = none-reads []
+definitions-read (d ∷ ds) names t =
+    let t1 = both-true (isDefinition d) _ t in
+    let t2 = both-true (leb (length (writeDefinition d)) sizeLimit) _ (t1 .1) in
+    let t3 = both-true (not (among (d .front .name) names)) _ (t2 .1) in
+    then-reads _ (fitting-reads names d (t1 .0) (leb-true (length (writeDefinition d)) sizeLimit (t2 .0)) (not-true (among (d .front .name) names) (t3 .0)))
+    (last-reads _ (definitions-read ds (names ++ (d .front .name ∷ [])) (t3 .1)))
+
+-- the header, from any place on
+abbrev headerAt : List ℕ → ℕ → Read ℕ
+headerAt s at =
+    andThen (checked NotSynthDef (λ t. eqb t fileType) at (int32 s at)) (λ t p1.
+    andThen (checked BadVersion (λ v. eqb v fileVersion) p1 (int32 s p1)) (λ v p2.
+    shortCountTo mostDefinitions s p2))
+
+abbrev pub writeHeader : ℕ → List ℕ
+writeHeader n = bytes32 fileType ++ (bytes32 fileVersion ++ bytes16 n)
+
+header-reads : Back headerAt writeHeader (λ n. leb n mostDefinitions)
+header-reads n t =
+    then-reads _ (checked-reads NotSynthDef (λ t. eqb t fileType) (int32-reads fileType (omega arith)) refl)
+    (then-reads _ (checked-reads BadVersion (λ v. eqb v fileVersion) (int32-reads fileVersion (omega arith)) refl) (short-count-reads mostDefinitions (omega arith) n t))
+
+-- a file is read back from its writing
+pub file-back : (ds : List Definition) → isFile ds ≡ true → readFile (writeFile ds) ≡ got ds (length (writeFile ds))
+unfolding readFile writeFile
+file-back ds t =
+    let u = both-true (leb (length ds) mostDefinitions) _ t in
+    let s : List ℕ = writeFile ds in
+    let h : Stands s 0 (writeHeader (length ds) ++ writeAll writeDefinition ds) = stands-all s in
+    let head : readHeader s ≡ got (length ds) 10 = header-reads (length ds) (u .0) .found s 0 (stands-left s 0 (writeHeader (length ds)) (writeAll writeDefinition ds) h) in
+    let rest : readDefinitions s (length ds) [] 10 ≡ got ds (10 + length (writeAll writeDefinition ds)) =
+    definitions-read ds [] (u .1) .found s 10 (stands-right s 0 (writeHeader (length ds)) (writeAll writeDefinition ds) h) in
+    let size : 10 + length (writeAll writeDefinition ds) ≡ length s = omega arith in
+    rw (head, rest, size, le-ltb (length s) (length s) (omega arith))

@@ -1,0 +1,12 @@
+pub mod Stands
+pub mod BigEndian
+pub mod Codec
+pub mod FieldsBack
+pub mod RecordsBack
+pub mod Back
+pub mod Sound
+pub mod FieldsForth
+pub mod RecordsForth
+pub mod Forth
+pub mod Place
+pub mod Local

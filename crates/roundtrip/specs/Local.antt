@@ -1,0 +1,30 @@
+-- The reading of a definition depends only on its own bytes.
+use Prim.Native.Nat.{ℕ, _+_, _-_}
+use mathlib.Core.Path.{_≡_, ap, _∙_}
+use mathlib.Core.List.{List, _++_}
+use native.Mathlib.Nat.{zero-add}
+use lib.ListN.{length, take, drop}
+use native.Mathlib.Omega.{arith}
+use Rattle.words.specs.Parts.{region-length}
+use Rattle.synthdef.specs.Read.{got}
+use Rattle.synthdef.specs.Definition.{Definition}
+use Rattle.synthdef.specs.Reader.{readDefinition}
+use Rattle.roundtrip.specs.Stands.{Bytes, Stands, stands-in, stands-all}
+use Rattle.roundtrip.specs.RecordsBack.{definition-reads}
+use Rattle.roundtrip.specs.Forth.{definition-forth}
+
+module _ (s : List ℕ) (b : Bytes s) (at : ℕ) (d : Definition) (next : ℕ) (e : readDefinition s at ≡ got d next) where
+  -- the same bytes in another file, at another place, are read as the same definition
+  pub definition-moved : (t : List ℕ) (place : ℕ) → Stands t place (take (next - at) (drop at s)) → readDefinition t place ≡ got d (place + (next - at))
+  definition-moved t place h =
+      let w = definition-forth s b at d next e in
+      let forward = w .forward in
+      let inside = w .inside in
+      let size : length (take (next - at) (drop at s)) ≡ next - at = region-length at (next - at) s (omega arith) in
+      definition-reads d (w .bounded) .found t place (rw (w .bytes) h) ∙ ap (λ (n : ℕ). got d (place + n)) (ap length (w .bytes) ∙ size)
+
+  pub definition-local : (a z : List ℕ) → readDefinition (a ++ (take (next - at) (drop at s) ++ z)) (length a) ≡ got d (length a + (next - at))
+  definition-local a z = definition-moved (a ++ (take (next - at) (drop at s) ++ z)) (length a) (stands-in a (take (next - at) (drop at s)) z)
+
+  pub definition-alone : readDefinition (take (next - at) (drop at s)) 0 ≡ got d (next - at)
+  definition-alone = rw zero-add at (definition-moved (take (next - at) (drop at s)) 0 (stands-all (take (next - at) (drop at s))))

@@ -1,0 +1,275 @@
+-- Decoding the words and the shelf after a command gives the model's effect.
+use Prim.{Unit, tt}
+use Prim.Native.Nat.{ℕ, zero, suc, _+_, _-_, _*_, _≤_, _<_}
+use mathlib.Core.Bool.{Bool, true, false}
+use mathlib.Core.Path.{_≡_, refl, sym, ap, ap₂, _∙_}
+use mathlib.Core.List.{List, [], _∷_, _++_}
+use native.Mathlib.Omega.{arith}
+use lib.ListN.{length, take, drop, getD, replicate, length-append, length-take, length-drop, length-replicate}
+use lib.Dec.{eqb}
+use lib.Seq.{take-at, drop-at, take-take, length-take-le}
+use Rattle.words.specs.Choice.{pick}
+use Rattle.words.specs.Parts.{region, put, region-length, region-put}
+use Rattle.nodes.specs.declared.Node.{Node}
+use Rattle.nodes.specs.Table.{width, rows, fill, fill-length, rows-fill}
+use Rattle.model.specs.Layout.{wordsLength, nodesPlace, nodesWords, orderPlace, orderWords, controlsPlace, controlsWords, busesPlace, busCount, lengthsPlace, residentPlace, slotCount, slotRoom, shelfLength, putLengths, putResident, putNodes, orderRegion, putOrder, putControls, putBuses, putHeader, lengthsIn, residentIn, nodesIn, orderIn, controlsIn, busesIn}
+use Rattle.model.specs.Engine.{Slot, Engine, slotsFrom, decode}
+use Rattle.model.specs.Effects.{withControls, withBuses, withSlots}
+use Rattle.model.specs.After.{putTree, flagsOf, lengthsOf, putSlots, shelfOf}
+use Rattle.state.specs.Regions.{region-before, region-past, word-before, put-size, header-length, header-region}
+
+-- an order padded to its region, and read back from it
+pub order-region-length : (o : List ℕ) → length (orderRegion o) ≡ orderWords
+order-region-length o =
+    let l : length (o ++ replicate orderWords 0) ≡ length o + 255 = length-append o (replicate orderWords 0) in
+    length-take-le orderWords (o ++ replicate orderWords 0) (omega arith)
+
+pub order-region-back : (o : List ℕ) → length o ≤ orderWords → take (length o) (orderRegion o) ≡ o
+order-region-back o h = take-take (length o) orderWords (o ++ replicate orderWords 0) h ∙ take-at o (replicate orderWords 0) (length o) refl
+
+-- the parts of the words after the tree's parts were put in
+module _ (e : Engine) (ws : List ℕ) (size : length ws ≡ wordsLength) (few : length (e .nodes) ≤ 256) (many : length (e .controls) ≡ controlsWords) where
+  filled : length (fill (region nodesPlace nodesWords ws) (e .nodes)) ≡ nodesWords
+  filled =
+      let r : length (region nodesPlace nodesWords ws) ≡ nodesWords = region-length nodesPlace nodesWords ws (omega arith) in
+      fill-length (region nodesPlace nodesWords ws) (e .nodes) (rw r (omega arith)) ∙ r
+
+  abbrev w1 : List ℕ
+  w1 = putNodes (e .nodes) ws
+
+  size1 : length w1 ≡ wordsLength
+  size1 = put-size nodesPlace nodesWords (fill (region nodesPlace nodesWords ws) (e .nodes)) ws (omega arith) filled ∙ size
+
+  abbrev w2 : List ℕ
+  w2 = putOrder (e .order) w1
+
+  size2 : length w2 ≡ wordsLength
+  size2 = put-size orderPlace orderWords (orderRegion (e .order)) w1 (omega (arith, size1)) (order-region-length (e .order)) ∙ size1
+
+  abbrev w3 : List ℕ
+  w3 = putControls (e .controls) w2
+
+  size3 : length w3 ≡ wordsLength
+  size3 = put-size controlsPlace controlsWords (e .controls) w2 (omega (arith, size2)) many ∙ size2
+
+  pub tree-size : length (putTree e ws) ≡ wordsLength
+  tree-size = header-length (length (e .nodes)) (length (e .order)) (e .next) (e .latest) w3 (omega (arith, size3)) ∙ size3
+
+  top : (b m : ℕ) → 4 ≤ b → region b m (putTree e ws) ≡ region b m w3
+  top b m h = header-region (length (e .nodes)) (length (e .order)) (e .next) (e .latest) w3 (omega (arith, size3)) b m h
+
+  -- a region below the nodes
+  low : (b m : ℕ) → 4 ≤ b → b + m ≤ nodesPlace → region b m (putTree e ws) ≡ region b m ws
+  low b m h l =
+      top b m h
+      ∙ region-before controlsPlace controlsWords (e .controls) w2 (omega (arith, size2)) many b m (omega arith)
+      ∙ region-before orderPlace orderWords (orderRegion (e .order)) w1 (omega (arith, size1)) (order-region-length (e .order)) b m (omega arith)
+      ∙ region-before nodesPlace nodesWords (fill (region nodesPlace nodesWords ws) (e .nodes)) ws (omega arith) filled b m l
+
+  pub tree-lengths : lengthsIn (putTree e ws) ≡ lengthsIn ws
+  tree-lengths = low lengthsPlace slotCount (omega arith) (omega arith)
+
+  pub tree-flags : residentIn (putTree e ws) ≡ residentIn ws
+  tree-flags = low residentPlace slotCount (omega arith) (omega arith)
+
+  pub tree-nodes : nodesIn (putTree e ws) ≡ e .nodes
+  tree-nodes =
+      ap (λ (us : List ℕ). rows (length (e .nodes)) us)
+      (top nodesPlace nodesWords (omega arith)
+      ∙ region-before controlsPlace controlsWords (e .controls) w2 (omega (arith, size2)) many nodesPlace nodesWords (omega arith)
+      ∙ region-before orderPlace orderWords (orderRegion (e .order)) w1 (omega (arith, size1)) (order-region-length (e .order)) nodesPlace nodesWords (omega arith)
+      ∙ region-put nodesPlace nodesWords (fill (region nodesPlace nodesWords ws) (e .nodes)) ws (omega arith) filled)
+      ∙ rows-fill (region nodesPlace nodesWords ws) (e .nodes)
+
+  pub tree-order : length (e .order) ≤ orderWords → orderIn (putTree e ws) ≡ e .order
+  tree-order short =
+      ap (λ (us : List ℕ). take (length (e .order)) us)
+      (top orderPlace orderWords (omega arith)
+      ∙ region-before controlsPlace controlsWords (e .controls) w2 (omega (arith, size2)) many orderPlace orderWords (omega arith)
+      ∙ region-put orderPlace orderWords (orderRegion (e .order)) w1 (omega (arith, size1)) (order-region-length (e .order)))
+      ∙ order-region-back (e .order) short
+
+  pub tree-controls : controlsIn (putTree e ws) ≡ e .controls
+  tree-controls =
+      top controlsPlace controlsWords (omega arith) ∙ region-put controlsPlace controlsWords (e .controls) w2 (omega (arith, size2)) many
+
+  pub tree-buses : busesIn (putTree e ws) ≡ busesIn ws
+  tree-buses =
+      top busesPlace busCount (omega arith)
+      ∙ region-past controlsPlace controlsWords (e .controls) w2 (omega (arith, size2)) many busesPlace busCount (omega arith)
+      ∙ region-past orderPlace orderWords (orderRegion (e .order)) w1 (omega (arith, size1)) (order-region-length (e .order)) busesPlace busCount (omega arith)
+      ∙ region-past nodesPlace nodesWords (fill (region nodesPlace nodesWords ws) (e .nodes)) ws (omega arith) filled busesPlace busCount (omega arith)
+
+  -- the engine in the words is the one whose parts were put in
+  pub tree-decoded : (bs : List ℕ) → length (e .order) ≤ orderWords → e .slots ≡ decode ws bs .slots → e .buses ≡ busesIn ws → decode (putTree e ws) bs ≡ e
+  unfolding decode
+  tree-decoded bs short same kept =
+      simp (
+        tree-lengths,
+        tree-flags,
+        tree-nodes,
+        tree-order short,
+        tree-controls,
+        tree-buses,
+        sym same,
+        sym kept,
+      )
+
+-- the engine of the parts of the words
+abbrev engineOf : (count orderLength next latest : ℕ) (lengths flags nodes order controls buses shelf : List ℕ) → Engine
+engineOf count orderLength next latest lengths flags nodes order controls buses shelf = record {
+  slots = slotsFrom slotCount lengths flags shelf;
+  nodes = rows count nodes;
+  order = take orderLength order;
+  controls = controls;
+  buses = buses;
+  next = next;
+  latest = latest;
+}
+
+-- words with the same first four words, and the same parts but for the buses and the controls
+same-engine : {a a′ b b′ c c′ d d′ : ℕ} {l l′ f f′ n n′ o o′ cs cs′ bs bs′ : List ℕ} (shelf : List ℕ) → a ≡ a′ → b ≡ b′ → c ≡ c′ → d ≡ d′ → l ≡ l′ → f ≡ f′ → n ≡ n′ → o ≡ o′ → cs ≡ cs′ → bs ≡ bs′
+    → engineOf a b c d l f n o cs bs shelf ≡ engineOf a′ b′ c′ d′ l′ f′ n′ o′ cs′ bs′ shelf
+same-engine shelf p0 p1 p2 p3 p4 p5 p6 p7 p8 p9 = cc
+
+-- the controls put in, and nothing else
+module _ (cs ws bs : List ℕ) (size : length ws ≡ wordsLength) (many : length cs ≡ controlsWords) where
+  pub controls-size : length (putControls cs ws) ≡ wordsLength
+  controls-size = put-size controlsPlace controlsWords cs ws (omega arith) many ∙ size
+
+  word : (i : ℕ) → i < controlsPlace → getD (putControls cs ws) i 0 ≡ getD ws i 0
+  word i h = word-before controlsPlace controlsWords cs ws (omega arith) many i h
+
+  part : (b m : ℕ) → b + m ≤ controlsPlace → region b m (putControls cs ws) ≡ region b m ws
+  part b m h = region-before controlsPlace controlsWords cs ws (omega arith) many b m h
+
+  pub controls-decoded : decode (putControls cs ws) bs ≡ withControls cs (decode ws bs)
+  unfolding decode
+  controls-decoded =
+      same-engine bs (word 0 (omega arith)) (word 1 (omega arith)) (word 2 (omega arith)) (word 3 (omega arith)) (part lengthsPlace slotCount (omega arith))
+      (part residentPlace slotCount (omega arith)) (part nodesPlace nodesWords (omega arith)) (part orderPlace orderWords (omega arith))
+      (region-put controlsPlace controlsWords cs ws (omega arith) many)
+      (region-past controlsPlace controlsWords cs ws (omega arith) many busesPlace busCount (omega arith))
+
+-- the buses put in, and nothing else
+module _ (cs ws bs : List ℕ) (size : length ws ≡ wordsLength) (many : length cs ≡ busCount) where
+  pub buses-size : length (putBuses cs ws) ≡ wordsLength
+  buses-size = put-size busesPlace busCount cs ws (omega arith) many ∙ size
+
+  word′ : (i : ℕ) → i < busesPlace → getD (putBuses cs ws) i 0 ≡ getD ws i 0
+  word′ i h = word-before busesPlace busCount cs ws (omega arith) many i h
+
+  part′ : (b m : ℕ) → b + m ≤ busesPlace → region b m (putBuses cs ws) ≡ region b m ws
+  part′ b m h = region-before busesPlace busCount cs ws (omega arith) many b m h
+
+  pub buses-decoded : decode (putBuses cs ws) bs ≡ withBuses cs (decode ws bs)
+  unfolding decode
+  buses-decoded =
+      same-engine bs (word′ 0 (omega arith)) (word′ 1 (omega arith)) (word′ 2 (omega arith)) (word′ 3 (omega arith)) (part′ lengthsPlace slotCount (omega arith))
+      (part′ residentPlace slotCount (omega arith)) (part′ nodesPlace nodesWords (omega arith)) (part′ orderPlace orderWords (omega arith))
+      (part′ controlsPlace controlsWords (omega arith)) (region-put busesPlace busCount cs ws (omega arith) many)
+
+-- slots that can be put in over others: a resident's bytes fit its slot, and another's are the bytes that are there
+unfoldable pub Backed : List Slot → List Slot → Type 0
+Backed [] old = Unit {0}
+Backed (s ∷ more) [] = ⊥
+Backed (s ∷ more) (o ∷ old) = ((s .resident ≡ true → length (s .bytes) ≤ slotRoom) × (s .resident ≡ false → s .bytes ≡ o .bytes)) × Backed more old
+
+-- one slot written and read back
+slot-back : (s : Slot) (size : ℕ) (shelf rest : List ℕ) → slotRoom ≤ length shelf
+    → (s .resident ≡ true → length (s .bytes) ≤ slotRoom) → (s .resident ≡ false → s .bytes ≡ take size (take slotRoom shelf))
+    → (b : Bool) → s .resident ≡ b
+    → take (pick b (length (s .bytes)) size) (take slotRoom (pick b (s .bytes ++ drop (length (s .bytes)) (take slotRoom shelf)) (take slotRoom shelf) ++ rest)) ≡ s .bytes
+slot-back s size shelf rest long fits kept true e =
+    let front : length (take slotRoom shelf) ≡ slotRoom = length-take-le slotRoom shelf long in
+    let n : length (s .bytes) ≤ slotRoom = fits e in
+    let back : length (drop (length (s .bytes)) (take slotRoom shelf)) ≡ slotRoom - length (s .bytes) = length-drop (length (s .bytes)) (take slotRoom shelf) ∙ ap (λ (k : ℕ). k - length (s .bytes)) front in
+    let whole : length (s .bytes ++ drop (length (s .bytes)) (take slotRoom shelf)) ≡ slotRoom = length-append (s .bytes) (drop (length (s .bytes)) (take slotRoom shelf)) ∙ omega arith in
+    ap (λ (l : List ℕ). take (length (s .bytes)) l) (take-at (s .bytes ++ drop (length (s .bytes)) (take slotRoom shelf)) rest slotRoom whole)
+    ∙ take-at (s .bytes) (drop (length (s .bytes)) (take slotRoom shelf)) (length (s .bytes)) refl
+slot-back s size shelf rest long fits kept false e =
+    ap (λ (l : List ℕ). take size l) (take-at (take slotRoom shelf) rest slotRoom (length-take-le slotRoom shelf long)) ∙ sym (kept e)
+
+-- the shelf behind one slot
+behind : (s : Slot) (shelf rest : List ℕ) → slotRoom ≤ length shelf → (s .resident ≡ true → length (s .bytes) ≤ slotRoom) → (b : Bool) → s .resident ≡ b
+    → drop slotRoom (pick b (s .bytes ++ drop (length (s .bytes)) (take slotRoom shelf)) (take slotRoom shelf) ++ rest) ≡ rest
+behind s shelf rest long fits true e =
+    let front : length (take slotRoom shelf) ≡ slotRoom = length-take-le slotRoom shelf long in
+    let n : length (s .bytes) ≤ slotRoom = fits e in
+    let back : length (drop (length (s .bytes)) (take slotRoom shelf)) ≡ slotRoom - length (s .bytes) = length-drop (length (s .bytes)) (take slotRoom shelf) ∙ ap (λ (k : ℕ). k - length (s .bytes)) front in
+    drop-at (s .bytes ++ drop (length (s .bytes)) (take slotRoom shelf)) rest slotRoom (length-append (s .bytes) (drop (length (s .bytes)) (take slotRoom shelf)) ∙ omega arith)
+behind s shelf rest long fits false e = drop-at (take slotRoom shelf) rest slotRoom (length-take-le slotRoom shelf long)
+
+flag-back : (b : Bool) → eqb (pick b 1 0) 1 ≡ b
+flag-back true = refl
+flag-back false = refl
+
+-- slots put in are read back
+pub slots-back : (n : ℕ) (slots : List Slot) (lengths flags shelf : List ℕ) → length slots ≡ n → slotRoom * n ≤ length shelf → Backed slots (slotsFrom n lengths flags shelf)
+    → slotsFrom n (lengthsOf slots lengths) (flagsOf slots) (shelfOf slots shelf) ≡ slots
+unfolding slotsFrom lengthsOf flagsOf shelfOf Backed
+slots-back zero [] lengths flags shelf h long k = refl
+slots-back zero (s ∷ slots) lengths flags shelf h long k = absurd (omega arith)
+slots-back (suc n) [] lengths flags shelf h long k = absurd (omega arith)
+slots-back (suc n) (s ∷ slots) lengths flags shelf h long k =
+    let room : slotRoom ≤ length shelf = omega arith in
+    let rest : slotRoom * n ≤ length (drop slotRoom shelf) = rw (length-drop slotRoom shelf) (omega arith) in
+    let ih : slotsFrom n (lengthsOf slots (drop 1 lengths)) (flagsOf slots) (shelfOf slots (drop slotRoom shelf)) ≡ slots =
+    slots-back n slots (drop 1 lengths) (drop 1 flags) (drop slotRoom shelf) (omega arith) rest (k .1) in
+    ap₂ (λ (l : List ℕ) (more : List Slot). record { bytes = l; resident = eqb (pick (s .resident) 1 0) 1 } ∷ more)
+    (slot-back s (getD lengths 0 0) shelf (shelfOf slots (drop slotRoom shelf)) room (k .0 .0) (k .0 .1) (s .resident) refl)
+    (ap (λ (l : List ℕ). slotsFrom n (lengthsOf slots (drop 1 lengths)) (flagsOf slots) l) (behind s shelf (shelfOf slots (drop slotRoom shelf)) room (k .0 .0) (s .resident) refl) ∙ ih)
+    ∙ ap (λ (b : Bool). record { bytes = s .bytes; resident = b } ∷ slots) (flag-back (s .resident))
+
+-- the lists of a slot's words are as many as the slots
+flags-length : (slots : List Slot) → length (flagsOf slots) ≡ length slots
+unfolding flagsOf
+flags-length [] = refl
+flags-length (s ∷ slots) = ap suc (flags-length slots)
+
+lengths-length : (slots : List Slot) (sizes : List ℕ) → length (lengthsOf slots sizes) ≡ length slots
+unfolding lengthsOf
+lengths-length [] sizes = refl
+lengths-length (s ∷ slots) sizes = ap suc (lengths-length slots (drop 1 sizes))
+
+-- slots put in, and nothing else
+module _ (slots : List Slot) (ws bs : List ℕ) (size : length ws ≡ wordsLength) (room : length bs ≡ shelfLength) (many : length slots ≡ slotCount) (backed : Backed slots (decode ws bs .slots)) where
+  abbrev flagged : List ℕ
+  flagged = putResident (flagsOf slots) ws
+
+  flagsMany : length (flagsOf slots) ≡ slotCount
+  flagsMany = flags-length slots ∙ many
+
+  lengthsMany : length (lengthsOf slots (lengthsIn ws)) ≡ slotCount
+  lengthsMany = lengths-length slots (lengthsIn ws) ∙ many
+
+  flaggedSize : length flagged ≡ wordsLength
+  flaggedSize = put-size residentPlace slotCount (flagsOf slots) ws (omega arith) flagsMany ∙ size
+
+  pub slots-size : length (putSlots slots ws) ≡ wordsLength
+  slots-size = put-size lengthsPlace slotCount (lengthsOf slots (lengthsIn ws)) flagged (omega (arith, flaggedSize)) lengthsMany ∙ flaggedSize
+
+  high : (b m : ℕ) → nodesPlace ≤ b → region b m (putSlots slots ws) ≡ region b m ws
+  high b m h =
+      region-past lengthsPlace slotCount (lengthsOf slots (lengthsIn ws)) flagged (omega (arith, flaggedSize)) lengthsMany b m (omega arith)
+      ∙ region-past residentPlace slotCount (flagsOf slots) ws (omega arith) flagsMany b m (omega arith)
+
+  first : (i : ℕ) → i < lengthsPlace → getD (putSlots slots ws) i 0 ≡ getD ws i 0
+  first i h =
+      word-before lengthsPlace slotCount (lengthsOf slots (lengthsIn ws)) flagged (omega (arith, flaggedSize)) lengthsMany i h
+      ∙ word-before residentPlace slotCount (flagsOf slots) ws (omega arith) flagsMany i (omega arith)
+
+  pub slots-lengths : lengthsIn (putSlots slots ws) ≡ lengthsOf slots (lengthsIn ws)
+  slots-lengths = region-put lengthsPlace slotCount (lengthsOf slots (lengthsIn ws)) flagged (omega (arith, flaggedSize)) lengthsMany
+
+  pub slots-flags : residentIn (putSlots slots ws) ≡ flagsOf slots
+  slots-flags =
+      region-past lengthsPlace slotCount (lengthsOf slots (lengthsIn ws)) flagged (omega (arith, flaggedSize)) lengthsMany residentPlace slotCount (omega arith)
+      ∙ region-put residentPlace slotCount (flagsOf slots) ws (omega arith) flagsMany
+
+  pub slots-decoded : decode (putSlots slots ws) (shelfOf slots bs) ≡ withSlots slots (decode ws bs)
+  unfolding decode
+  slots-decoded =
+      same-engine (shelfOf slots bs) (first 0 (omega arith)) (first 1 (omega arith)) (first 2 (omega arith)) (first 3 (omega arith)) slots-lengths slots-flags
+      (high nodesPlace nodesWords (omega arith)) (high orderPlace orderWords (omega arith)) (high controlsPlace controlsWords (omega arith)) (high busesPlace busCount (omega arith))
+      ∙ ap (λ (l : List Slot). withSlots l (decode ws bs)) (slots-back slotCount slots (lengthsIn ws) (residentIn ws) bs many (omega arith) backed)

@@ -1,0 +1,4 @@
+pub mod Known
+pub mod Does
+pub mod Regions
+pub mod Decoded

@@ -1,0 +1,2 @@
+// What a well-formed engine is known to have: definitions and laws stand in specs/.
+pub fn nothing() {}

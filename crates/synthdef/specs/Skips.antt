@@ -1,0 +1,38 @@
+-- Parts of a definition of which only the end is told, field by field.
+use Prim.{Unit, tt}
+use Prim.Native.Nat.{ℕ}
+use mathlib.Core.Path.{_≡_, refl, sym, ap, _∙_}
+use mathlib.Core.List.{List, [], _∷_}
+use lib.ListN.{length}
+use Rattle.synthdef.specs.declared.front.Counts.{Counts}
+use Rattle.synthdef.specs.Read.{Read, got, bad, andThen, repeat, ending}
+use Rattle.synthdef.specs.Fields.{float32, name, count, shortCountTo, highest16}
+use Rattle.synthdef.specs.Definition.{Front, Variant, Definition}
+use Rattle.synthdef.specs.Reader.{readFront, readUnits, variant, readDefinition}
+use Rattle.synthdef.specs.Front.{mapRead, told}
+use Rattle.synthdef.specs.Endings.{ending-told, ending-then, then-ending, ending-keeps}
+
+-- a variant
+abbrev pub skipVariant : ℕ → List ℕ → ℕ → Read (Unit {0})
+skipVariant p s at = andThen (name s at) (λ n next. ending (repeat (float32 s) p next))
+
+pub skip-variant : (p : ℕ) (s : List ℕ) (at : ℕ) → ending (variant p s at) ≡ skipVariant p s at
+skip-variant p s at = ending-then (name s at) _ _ (λ n next. ending-keeps (repeat (float32 s) p next) (λ values. record { name = n; values = values }))
+
+-- what stands behind the front
+abbrev pub skipRest : List ℕ → Counts → ℕ → Read (Unit {0})
+skipRest s c at =
+    andThen (count s at) (λ many p2.
+    andThen (ending (readUnits (c .constants) s many [] p2)) (λ u p3.
+    andThen (shortCountTo highest16 s p3) (λ v p4.
+    ending (repeat (variant (c .parameters) s) v p4))))
+
+pub skip-definition : (s : List ℕ) (at : ℕ) → ending (readDefinition s at) ≡ andThen (mapRead (told at) (readFront s at)) (skipRest s)
+unfolding readDefinition
+skip-definition s at =
+    ending-told (told at) (readFront s at) _ (skipRest s) (λ f p1.
+    ending-then (count s p1) _ _ (λ many p2.
+    ending-then (readUnits (length (f .constants)) s many [] p2) _ _ (λ units p3.
+    ending-then (shortCountTo highest16 s p3) _ _ (λ v p4.
+    ending-keeps (repeat (variant (length (f .values)) s) v p4) (λ variants. record { front = f; units = units; variants = variants })))
+    ∙ then-ending (readUnits (length (f .constants)) s many [] p2) _ _ (λ units p3. refl)))
