@@ -1,0 +1,52 @@
+-- `tree::change::insert` meets its contract: one law of the words.
+use lib.ListN.{length-append, length-take, length-drop}
+use Prim.Native.Nat.{ℕ, _*_, _-_}
+use mathlib.Core.Path.{ap, _∙_}
+use mathlib.Core.List.{List}
+use native.Mathlib.Omega.{arith}
+use borrow.Author.Needs.{needs}
+use Rattle.nodes.specs.Table.{width, wordsOf, over, rows-length, insert-words}
+use Rattle.tree.proofs.change.insert.Statement.{statement}
+use Rattle.tree.proofs.change.insert.Tie as tie
+
+mul-open-gap : tie.Need-mul-open-gap
+mul-open-gap c = search needs
+
+mul-open-gap-2 : tie.Need-mul-open-gap-2
+mul-open-gap-2 c = search needs
+
+open-gap-requires : tie.Need-open-gap-requires
+open-gap-requires c κs = search needs
+
+put-node-requires : tie.Need-put-node-requires
+put-node-requires c κs = search needs
+
+add-result : tie.Need-add-result
+add-result c = search needs
+
+same-length : tie.Need-same-length
+same-length c = search needs
+
+returns : tie.Need-returns
+returns c =
+    let a = c .before .before .before .before .before .before .before .before .before .args in
+    let us = a .nodes .now in
+    let m = 5 * a .count - 5 * a .at in record {
+      words =
+          c .before .before .put-node .ensures
+          ∙ ap (λ (l : List ℕ). over (width * a .at) (wordsOf (a .node)) l) (c .before .before .before .before .before .before .open-gap .ensures)
+          ∙ insert-words us (a .count) (a .at) m (a .node) (omega arith) (omega arith) (omega arith);
+      size = simp (length-append, length-take, length-drop, rows-length) (omega arith);
+    }
+
+pub insert-spec : {M : Type 1} → statement M
+insert-spec =
+    tie.close
+    (tie.spec
+    mul-open-gap
+    mul-open-gap-2
+    open-gap-requires
+    put-node-requires
+    add-result
+    same-length
+    returns)

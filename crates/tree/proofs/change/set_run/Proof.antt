@@ -1,0 +1,34 @@
+-- `tree::change::set_run` meets its contract: one record is written over another.
+use Prim.Native.Nat.{_*_}
+use mathlib.Core.Path.{sym, ap, _∙_}
+use mathlib.Core.List.{List}
+use native.Mathlib.Omega.{arith}
+use borrow.Author.Needs.{needs}
+use Rattle.nodes.specs.declared.Node.{Node}
+use Rattle.nodes.specs.Table.{width, fill, wordsOf, over, nodeFrom}
+use Rattle.nodes.specs.Edit.{withRun}
+use Rattle.nodes.specs.Split.{setRun-at}
+use Rattle.tree.specs.Words.{put-words}
+use Rattle.tree.proofs.change.set_run.Statement.{statement}
+use Rattle.tree.proofs.change.set_run.Tie as tie
+
+node-at-requires : tie.Need-node-at-requires
+node-at-requires c κs = search needs
+
+put-node-requires : tie.Need-put-node-requires
+put-node-requires c κs = search needs
+
+same-length : tie.Need-same-length
+same-length c = search needs
+
+returns : tie.Need-returns
+returns c = λ n here.
+    let a = c .before .before .before .before .before .before .before .args in
+    let us = a .nodes .now in
+    c .before .before .put-node .ensures
+    ∙ ap (λ (r : Node). over (width * a .at) (wordsOf (withRun (a .flag) r)) us) (c .before .before .before .before .node-at .ensures)
+    ∙ put-words us (a .count) (a .at) (withRun (a .flag) (nodeFrom us (width * a .at))) (omega arith) (omega arith)
+    ∙ ap (λ (l : List Node). fill us l) (sym (setRun-at (a .count) us n (a .at) here (omega arith) (a .flag)))
+
+pub set-run-spec : {M : Type 1} → statement M
+set-run-spec = tie.close (tie.spec node-at-requires put-node-requires same-length returns)

@@ -1,0 +1,99 @@
+-- `tree::search::subtree_end` meets its contract. The invariant is that of `find`, with depths.
+use Prim.Native.Nat.{suc, _+_, _*_, _-_, _≤_}
+use mathlib.Core.Path.{_≡_, refl}
+use native.Mathlib.Omega.{arith}
+use borrow.Author.Tests.{lt-ltb, le-ltb}
+use lib.ListN.{drop, getD}
+use Rattle.nodes.specs.Table.{width, rows}
+use Rattle.nodes.specs.Place.{deeper, deeper-turn, deeper-end}
+use Rattle.tree.proofs.search.subtree_end.Statement.{statement}
+use Rattle.tree.proofs.search.subtree_end.Tie as tie
+
+abbrev Inv-loop : tie.InvT-loop
+Inv-loop nodes count at depth i₀ i = (i ≤ count) × (i + deeper depth (drop i (rows count nodes)) ≡ at + 1 + deeper depth (drop (at + 1) (rows count nodes)))
+
+abbrev μ-loop : tie.MeasureT-loop
+μ-loop nodes count at depth i₀ i = count - i
+
+mul-depth : tie.Need-mul-depth Inv-loop μ-loop
+mul-depth c = omega arith
+
+add-depth : tie.Need-add-depth Inv-loop μ-loop
+add-depth c = omega arith
+
+mul-depth-2 : tie.Need-mul-depth-2 Inv-loop μ-loop
+mul-depth-2 c = omega arith
+
+shared-slice-read-depth : tie.Need-shared-slice-read-depth Inv-loop μ-loop
+shared-slice-read-depth c = omega arith
+
+add-i : tie.Need-add-i Inv-loop μ-loop
+add-i c = omega arith
+
+loop-holds : tie.Need-loop-holds Inv-loop μ-loop
+loop-holds c = (omega arith, refl)
+
+mul-if1 : tie.Need-mul-if1 Inv-loop μ-loop
+mul-if1 c = omega arith
+
+add-if1 : tie.Need-add-if1 Inv-loop μ-loop
+add-if1 c = omega arith
+
+mul-if1-2 : tie.Need-mul-if1-2 Inv-loop μ-loop
+mul-if1-2 c = omega arith
+
+shared-slice-read-if1 : tie.Need-shared-slice-read-if1 Inv-loop μ-loop
+shared-slice-read-if1 c = omega arith
+
+returns : tie.Need-returns Inv-loop μ-loop
+returns c =
+    let a = c .before .before .before .before .before .args in
+    let d = getD (a .nodes .now) (width * a .at + 1) 0 in
+    let i = c .before .before .before .loop .i in
+    let here : deeper d (drop i (rows (a .count) (a .nodes .now))) ≡ 0 =
+    rw (le-ltb _ _ (c .if1 .taken)) at (deeper-turn (a .count) (a .nodes .now) d i (omega arith)) in
+    omega arith
+
+add-i-2 : tie.Need-add-i-2 Inv-loop μ-loop
+add-i-2 c = omega arith
+
+loop-less : tie.Need-loop-less Inv-loop μ-loop
+loop-less c = omega arith
+
+loop-again : tie.Need-loop-again Inv-loop μ-loop
+loop-again c =
+    let a = c .before .before .before .before .before .args in
+    let d = getD (a .nodes .now) (width * a .at + 1) 0 in
+    let i = c .before .before .before .loop .i in
+    let on : deeper d (drop i (rows (a .count) (a .nodes .now))) ≡ suc (deeper d (drop (i + 1) (rows (a .count) (a .nodes .now)))) =
+    rw (lt-ltb _ _ (c .if1 .left)) at (deeper-turn (a .count) (a .nodes .now) d i (omega arith)) in (omega arith, omega arith)
+
+returns-2 : tie.Need-returns-2 Inv-loop μ-loop
+returns-2 c =
+    let a = c .before .before .before .args in
+    let d = getD (a .nodes .now) (width * a .at + 1) 0 in
+    let i = c .before .loop .i in
+    let none : deeper d (drop i (rows (a .count) (a .nodes .now))) ≡ 0 = deeper-end (a .count) (a .nodes .now) d i (omega arith) in
+    omega arith
+
+pub subtree-end-spec : {M : Type 1} → statement M
+subtree-end-spec =
+    tie.close
+    (tie.spec
+    Inv-loop
+    μ-loop
+    mul-depth
+    add-depth
+    mul-depth-2
+    shared-slice-read-depth
+    add-i
+    loop-holds
+    mul-if1
+    add-if1
+    mul-if1-2
+    shared-slice-read-if1
+    returns
+    add-i-2
+    loop-less
+    loop-again
+    returns-2)

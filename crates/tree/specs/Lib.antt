@@ -1,0 +1,13 @@
+pub mod Sizes
+pub mod Words
+pub mod Add
+pub mod Moves
+pub mod Depths
+pub mod MoveRun
+pub mod Places
+pub mod Moved
+pub mod Ends
+pub mod Around
+pub mod Below
+pub mod FreeRow
+pub mod Shallow

@@ -1,0 +1,72 @@
+// Records and runs of words in the region: read, written, moved up and down.
+use nodes::Node;
+ghost use mathlib.Core.Path.{_≡_};
+ghost use Prim.Native.Nat.{ℕ, _+_, _-_, _*_, _≤_, _<_};
+ghost use lib.ListN.{length, take, drop, getD};
+ghost use lib.Seq.{paste};
+ghost use Rattle.nodes.specs.Table.{width, nodeFrom, wordsOf, over};
+
+// The record at a place.
+pub fn node_at(nodes: &[u32], at: usize) -> Node
+    requires { ⌜ width * at + width ≤ length (now nodes) ⌝ }
+    ensures { λ r. ⌜ r ≡ nodeFrom (now (nodes .entry)) (width * at) ⌝ }
+{
+    let from = 5 * at;
+    Node {
+        number: nodes[from],
+        depth: nodes[from + 1],
+        run: nodes[from + 2],
+        slot: nodes[from + 3],
+        row: nodes[from + 4],
+    }
+}
+
+// A record written at a place.
+pub fn put_node(nodes: &mut [u32], at: usize, node: Node)
+    requires { ⌜ width * at + width ≤ length (now nodes) ⌝ }
+    ensures { λ r. ⌜ now (nodes .exit) ≡ over (width * at) (wordsOf node) (now (nodes .entry)) ⌝ }
+{
+    let from = 5 * at;
+    nodes[from] = node.number;
+    nodes[from + 1] = node.depth;
+    nodes[from + 2] = node.run;
+    nodes[from + 3] = node.slot;
+    nodes[from + 4] = node.row;
+}
+
+// The words from `from` up to `end` moved up by `gap`.
+pub fn open_gap(words: &mut [u32], from: usize, gap: usize, end: usize)
+    requires { ⌜ (from ≤ end) × (end + gap ≤ length (now words)) ⌝ }
+    ensures { λ r. ⌜ now (words .exit) ≡ paste (now (words .entry)) (from + gap) (drop from (now (words .entry))) (end - from) ⌝ }
+{
+    let mut i = end;
+    while from < i {
+        i -= 1;
+        words[i + gap] = words[i];
+    }
+}
+
+// The words from `to` up to `end` moved down to `from`.
+pub fn close_gap(words: &mut [u32], from: usize, to: usize, end: usize)
+    requires { ⌜ (from ≤ to) × ((to ≤ end) × (end ≤ length (now words))) ⌝ }
+    ensures { λ r. ⌜ now (words .exit) ≡ paste (now (words .entry)) from (drop to (now (words .entry))) (end - to) ⌝ }
+{
+    let count = end - to;
+    let mut i = 0;
+    while i < count {
+        words[from + i] = words[to + i];
+        i += 1;
+    }
+}
+
+// The first `count` words of `source` copied to `to` from `at` on.
+pub fn copy_words(to: &mut [u32], at: usize, source: &[u32], count: usize)
+    requires { ⌜ (at + count ≤ length (now to)) × (count ≤ length (now source)) ⌝ }
+    ensures { λ r. ⌜ now (to .exit) ≡ paste (now (to .entry)) at (now (source .entry)) count ⌝ }
+{
+    let mut i = 0;
+    while i < count {
+        to[at + i] = source[i];
+        i += 1;
+    }
+}

@@ -1,0 +1,36 @@
+// Looking along the table: a node by its number, and the end of a node's run.
+ghost use mathlib.Core.Path.{_≡_};
+ghost use Rattle.nodes.specs.Table.{rows};
+ghost use Rattle.nodes.specs.Place.{place};
+ghost use Rattle.tree.specs.Sizes.{Sized, Placed, endAt};
+
+// The place of the node with this number, or the count.
+pub fn find(nodes: &[u32], count: usize, number: u32) -> usize
+    requires { ⌜ Sized (now nodes) count ⌝ }
+    ensures { λ r. ⌜ r ≡ place number (rows count (now (nodes .entry))) ⌝ }
+{
+    let mut i = 0;
+    while i < count {
+        if nodes[5 * i] == number {
+            return i;
+        }
+        i += 1;
+    }
+    i
+}
+
+// The end of the run of the node at this place: the first place behind it whose record is no deeper, or the count.
+pub fn subtree_end(nodes: &[u32], count: usize, at: usize) -> usize
+    requires { ⌜ Placed (now nodes) count at ⌝ }
+    ensures { λ r. ⌜ r ≡ endAt count (now (nodes .entry)) at ⌝ }
+{
+    let depth = nodes[5 * at + 1];
+    let mut i = at + 1;
+    while i < count {
+        if nodes[5 * i + 1] <= depth {
+            return i;
+        }
+        i += 1;
+    }
+    i
+}
