@@ -3,11 +3,10 @@ use Prim.Native.Nat.{ℕ, _+_, _*_, _-_, _≤_, _<_}
 use mathlib.Core.Path.{_≡_, refl, sym, ap, ap₂, _∙_}
 use mathlib.Core.List.{List, [], _∷_, _++_, append-assoc, append-nil}
 use native.Mathlib.Omega.{arith}
-use native.Mathlib.Nat.{add-zero}
-use lib.ListN.{length, take, drop, getD, set, take-append-drop, length-append, length-take, length-drop}
+use lib.ListN.{length, take, drop, getD, set, take-append-drop, length-append, length-drop}
 use lib.Seq.{getD-append-add, getD-drop, drop-drop, set-at, length-take-le}
 use Rattle.nodes.specs.declared.Node.{Node}
-use Rattle.nodes.specs.Table.{width, rows, nodeAt, nodeFrom, wordsOf, encode, over, rows-length, rows-take, rows-end, row-from, node-from, encode-length, encode-append, encode-one}
+use Rattle.nodes.specs.Table.{width, rows, nodeAt, nodeFrom, wordsOf, encode, rows-length, rows-take, rows-end, row-from, node-from, encode-length, encode-append, encode-one}
 use Rattle.nodes.specs.Edit.{level, lift, sink}
 use Rattle.tree.specs.Words.{whole}
 
@@ -33,7 +32,7 @@ relevel-snoc old new [] r = refl
 relevel-snoc old new (x ∷ l) r = ap (λ (m : List Node). level (x .depth - old + new) x ∷ m) (relevel-snoc old new l r)
 
 -- one record more
-rows-snoc : (k : ℕ) (us : List ℕ) → rows (k + 1) us ≡ rows k us ++ (nodeFrom us (width * k) ∷ [])
+pub rows-snoc : (k : ℕ) (us : List ℕ) → rows (k + 1) us ≡ rows k us ++ (nodeFrom us (width * k) ∷ [])
 rows-snoc k us =
     sym (take-append-drop k (rows (k + 1) us))
     ∙ ap₂ (λ (a b : List Node). a ++ b) (rows-take k (k + 1) us (omega arith)) (row-from (k + 1) us k (omega arith) ∙ ap (λ (m : List Node). nodeFrom us (width * k) ∷ m) (rows-end (k + 1) us (k + 1) (omega arith)))

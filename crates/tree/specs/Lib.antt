@@ -4,3 +4,10 @@ pub mod Add
 pub mod Moves
 pub mod Depths
 pub mod MoveRun
+pub mod Places
+pub mod Moved
+pub mod Ends
+pub mod Around
+pub mod Below
+pub mod FreeRow
+pub mod Shallow

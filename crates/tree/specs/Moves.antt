@@ -1,10 +1,10 @@
 -- Items of a run moved: taken out, and put in at a place of what is left.
-use Prim.Native.Nat.{ℕ, _+_, _*_, _-_, _≤_, _<_}
-use mathlib.Core.Path.{_≡_, refl, sym, ap, ap₂, _∙_}
-use mathlib.Core.List.{List, [], _∷_, _++_, append-assoc}
+use Prim.Native.Nat.{ℕ, _+_, _-_, _≤_}
+use mathlib.Core.Path.{_≡_, sym, ap, ap₂, _∙_}
+use mathlib.Core.List.{List, _++_, append-assoc}
 use native.Mathlib.Omega.{arith}
-use lib.ListN.{length, take, drop, length-append, length-take, length-drop}
-use lib.Seq.{take-add, take-at, drop-at, drop-drop, take-take, take-append-le, drop-append-le, take-append-add, drop-append-add, take-paste, drop-paste, length-take-le, paste}
+use lib.ListN.{length, take, drop, length-append, length-drop}
+use lib.Seq.{take-add, drop-at, drop-drop, take-take, take-append-le, drop-append-le, take-append-add, drop-append-add, take-paste, drop-paste, length-take-le, paste}
 
 module _ {A : Type 0} where
   -- the run without its items from a place up to another
@@ -23,7 +23,7 @@ module _ {A : Type 0} where
     pub front : take at after ≡ take at (without from to l)
     pub back : drop (at + (to - from)) after ≡ drop at (without from to l)
 
-  drop-take : (a b : ℕ) (l : List A) → a ≤ b → b ≤ length l → drop a (take b l) ≡ take (b - a) (drop a l)
+  pub drop-take : (a b : ℕ) (l : List A) → a ≤ b → b ≤ length l → drop a (take b l) ≡ take (b - a) (drop a l)
   drop-take a b l h g =
       let e : b ≡ a + (b - a) = omega arith in
       ap (λ (k : ℕ). drop a (take k l)) e ∙ ap (λ (m : List A). drop a m) (take-add a (b - a) l) ∙ drop-at (take a l) (take (b - a) (drop a l)) a (length-take-le a l (omega arith))

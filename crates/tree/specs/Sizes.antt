@@ -1,10 +1,18 @@
 -- What the functions on the node region ask of it, and what those that change it leave.
-use Prim.Native.Nat.{ℕ, _*_, _≤_, _<_}
+use Prim.Native.Nat.{ℕ, _+_, _*_, _≤_, _<_}
 use mathlib.Core.Path.{_≡_}
 use mathlib.Core.List.{List}
-use lib.ListN.{length}
+use lib.ListN.{length, drop, getD}
 use Rattle.nodes.specs.declared.Node.{Node}
-use Rattle.nodes.specs.Table.{width, fill}
+use Rattle.nodes.specs.Table.{width, rows, fill}
+use Rattle.nodes.specs.Place.{deeper}
+
+-- the depth of the record at a place, and the end of its run
+abbrev pub depthAt : List ℕ → ℕ → ℕ
+depthAt us at = getD us (width * at + 1) 0
+
+abbrev pub endAt : ℕ → List ℕ → ℕ → ℕ
+endAt count us at = at + 1 + deeper (depthAt us at) (drop (at + 1) (rows count us))
 
 -- a region that holds so many records
 pub record Sized (us : List ℕ) (count : ℕ) : Type 0 where

@@ -6,12 +6,11 @@ use nodes::Node;
 use words::Refusal;
 ghost use mathlib.Core.Path.{_≡_};
 ghost use mathlib.Core.List.{_∷_, []};
-ghost use Prim.Native.Nat.{ℕ, _+_, _*_, _≤_, _<_};
-ghost use lib.ListN.{length, drop, getD};
-ghost use Rattle.nodes.specs.Table.{width, rows};
-ghost use Rattle.nodes.specs.Place.{place, deeper};
+ghost use Prim.Native.Nat.{ℕ};
+ghost use Rattle.nodes.specs.Table.{rows};
+ghost use Rattle.nodes.specs.Place.{place};
 ghost use Rattle.nodes.specs.Edit.{level, addOver};
-ghost use Rattle.tree.specs.Sizes.{Placed, Leaves};
+ghost use Rattle.tree.specs.Sizes.{Placed, Leaves, depthAt, endAt};
 ghost use Rattle.tree.specs.Add.{Target, Room, addPlace, addBy};
 
 // Where a new record goes and its depth, or the refusal.
@@ -23,7 +22,7 @@ pub enum Place {
 // Where an add action puts a new record; at is the target's place.
 pub fn add_place(nodes: &[u32], count: usize, action: u32, at: usize) -> Place
     requires { ⌜ Target (now nodes) count at ⌝ }
-    ensures { λ r. ⌜ r ≡ addPlace action at (getD (now (nodes .entry)) (width * at + 1) 0) (at + 1 + deeper (getD (now (nodes .entry)) (width * at + 1) 0) (drop (at + 1) (rows count (now (nodes .entry))))) ⌝ }
+    ensures { λ r. ⌜ r ≡ addPlace action at (depthAt (now (nodes .entry)) at) (endAt count (now (nodes .entry)) at) ⌝ }
 {
     let depth = nodes[5 * at + 1];
     match action {

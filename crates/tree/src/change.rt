@@ -7,12 +7,12 @@ use crate::search::subtree_end;
 use nodes::Node;
 ghost use mathlib.Core.Path.{_≡_};
 ghost use mathlib.Core.List.{_∷_, _++_};
-ghost use Prim.Native.Nat.{ℕ, _+_, _-_, _*_, _≤_, _<_};
+ghost use Prim.Native.Nat.{ℕ, _+_, _*_, _≤_};
 ghost use lib.ListN.{length, take, drop};
 ghost use Rattle.nodes.specs.Table.{width, rows, fill};
 ghost use Rattle.nodes.specs.Place.{place};
 ghost use Rattle.nodes.specs.Edit.{cut, cutBelow, setRun};
-ghost use Rattle.tree.specs.Sizes.{Sized, Placed, Leaves};
+ghost use Rattle.tree.specs.Sizes.{Placed, Leaves};
 
 // A record put in at a place.
 pub fn insert(nodes: &mut [u32], count: usize, at: usize, node: Node) -> usize

@@ -2,9 +2,14 @@
 use crate::runs::close_gap;
 use crate::runs::copy_words;
 use crate::runs::open_gap;
+use crate::search::subtree_end;
 ghost use mathlib.Core.Path.{_≡_};
 ghost use Prim.Native.Nat.{ℕ, _+_, _-_, _*_, _≤_, _<_};
 ghost use lib.ListN.{length, take, drop, getD};
+ghost use Rattle.nodes.specs.Place.{place};
+ghost use Rattle.nodes.specs.Edit.{moveBefore, moveAfter, moveHead, moveTail};
+ghost use Rattle.tree.specs.Sizes.{depthAt, endAt};
+ghost use Rattle.tree.specs.Ends.{Aimed, Moving};
 ghost use Rattle.tree.specs.Depths.{Levels, releveled};
 ghost use Rattle.nodes.specs.Table.{width, rows, fill};
 ghost use Rattle.tree.specs.MoveRun.{Movable, movedRun, landing};
@@ -65,4 +70,53 @@ fn place_without(place: usize, from: usize, to: usize) -> usize
     } else {
         place - (to - from)
     }
+}
+
+// The run of the node at a place moved to another place, which is not inside the run, to stand there at a depth.
+fn move_to(nodes: &mut [u32], count: usize, at: usize, place: usize, depth: u32)
+    requires { ⌜ Aimed (now nodes) count at place depth ⌝ }
+    ensures { λ r. ⌜ now (nodes .exit) ≡ fill (now (nodes .entry)) (movedRun at (endAt count (now (nodes .entry)) at) (landing at (endAt count (now (nodes .entry)) at) place) (depthAt (now (nodes .entry)) at) depth (rows count (now (nodes .entry)))) ⌝ }
+{
+    let end = subtree_end(nodes, count, at);
+    let old = nodes[5 * at + 1];
+    let to = place_without(place, at, end);
+    move_run(nodes, at, end, to, old, depth);
+}
+
+// The node at the place a moved, with all below it, before the node at the place b.
+pub fn move_before(nodes: &mut [u32], count: usize, a: usize, b: usize)
+    requires { ⌜ Moving (now nodes) count a b ⌝ }
+    ensures { λ r. ⌜ ((m n : ℕ) → a ≡ place m (rows count (now (nodes .entry))) → b ≡ place n (rows count (now (nodes .entry))) → now (nodes .exit) ≡ fill (now (nodes .entry)) (moveBefore m n (rows count (now (nodes .entry))))) ⌝ }
+{
+    let depth = nodes[5 * b + 1];
+    move_to(nodes, count, a, b, depth);
+}
+
+// The same, after it.
+pub fn move_after(nodes: &mut [u32], count: usize, a: usize, b: usize)
+    requires { ⌜ Moving (now nodes) count a b ⌝ }
+    ensures { λ r. ⌜ ((m n : ℕ) → a ≡ place m (rows count (now (nodes .entry))) → b ≡ place n (rows count (now (nodes .entry))) → now (nodes .exit) ≡ fill (now (nodes .entry)) (moveAfter m n (rows count (now (nodes .entry))))) ⌝ }
+{
+    let depth = nodes[5 * b + 1];
+    let end = subtree_end(nodes, count, b);
+    move_to(nodes, count, a, end, depth);
+}
+
+// The same, to the head of the group at the place b.
+pub fn move_head(nodes: &mut [u32], count: usize, a: usize, b: usize)
+    requires { ⌜ Moving (now nodes) count a b ⌝ }
+    ensures { λ r. ⌜ ((m n : ℕ) → a ≡ place m (rows count (now (nodes .entry))) → b ≡ place n (rows count (now (nodes .entry))) → now (nodes .exit) ≡ fill (now (nodes .entry)) (moveHead m n (rows count (now (nodes .entry))))) ⌝ }
+{
+    let depth = nodes[5 * b + 1] + 1;
+    move_to(nodes, count, a, b + 1, depth);
+}
+
+// The same, to its tail.
+pub fn move_tail(nodes: &mut [u32], count: usize, a: usize, b: usize)
+    requires { ⌜ Moving (now nodes) count a b ⌝ }
+    ensures { λ r. ⌜ ((m n : ℕ) → a ≡ place m (rows count (now (nodes .entry))) → b ≡ place n (rows count (now (nodes .entry))) → now (nodes .exit) ≡ fill (now (nodes .entry)) (moveTail m n (rows count (now (nodes .entry))))) ⌝ }
+{
+    let depth = nodes[5 * b + 1] + 1;
+    let end = subtree_end(nodes, count, b);
+    move_to(nodes, count, a, end, depth);
 }

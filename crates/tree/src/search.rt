@@ -1,10 +1,8 @@
 // Looking along the table: a node by its number, and the end of a node's run.
 ghost use mathlib.Core.Path.{_≡_};
-ghost use Prim.Native.Nat.{ℕ, _+_, _*_, _≤_, _<_};
-ghost use lib.ListN.{length, drop, getD};
-ghost use Rattle.nodes.specs.Table.{width, rows};
-ghost use Rattle.nodes.specs.Place.{place, deeper};
-ghost use Rattle.tree.specs.Sizes.{Sized, Placed};
+ghost use Rattle.nodes.specs.Table.{rows};
+ghost use Rattle.nodes.specs.Place.{place};
+ghost use Rattle.tree.specs.Sizes.{Sized, Placed, endAt};
 
 // The place of the node with this number, or the count.
 pub fn find(nodes: &[u32], count: usize, number: u32) -> usize
@@ -24,7 +22,7 @@ pub fn find(nodes: &[u32], count: usize, number: u32) -> usize
 // The end of the run of the node at this place: the first place behind it whose record is no deeper, or the count.
 pub fn subtree_end(nodes: &[u32], count: usize, at: usize) -> usize
     requires { ⌜ Placed (now nodes) count at ⌝ }
-    ensures { λ r. ⌜ r ≡ at + 1 + deeper (getD (now (nodes .entry)) (width * at + 1) 0) (drop (at + 1) (rows count (now (nodes .entry)))) ⌝ }
+    ensures { λ r. ⌜ r ≡ endAt count (now (nodes .entry)) at ⌝ }
 {
     let depth = nodes[5 * at + 1];
     let mut i = at + 1;

@@ -15,10 +15,6 @@ use Rattle.tree.specs.Add.{addPlace, addBy, place-most, addBy-at, addBy-
 use Rattle.tree.specs.declared.add.Place.the-variants.{At, Refused}
 use Rattle.tree.proofs.add.add_node.Statement.{statement}
 use Rattle.tree.proofs.add.add_node.Tie as tie
-use Rattle.tree.proofs.add.add_place.Reads as add-place-reads
-use Rattle.tree.proofs.add.at_depth.Reads as at-depth-reads
-use Rattle.tree.proofs.add.replace.Reads as replace-reads
-use Rattle.tree.proofs.change.insert.Reads as insert-reads
 
 replace-requires : tie.Need-replace-requires
 replace-requires c κs = search needs

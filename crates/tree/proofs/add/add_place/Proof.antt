@@ -9,7 +9,6 @@ use Rattle.tree.specs.Add.{addPlace}
 use Rattle.tree.specs.declared.add.Place.the-variants.{At}
 use Rattle.tree.proofs.add.add_place.Statement.{statement}
 use Rattle.tree.proofs.add.add_place.Tie as tie
-use Rattle.tree.proofs.search.subtree_end.Reads as subtree-end-reads
 
 mul-depth : tie.Need-mul-depth
 mul-depth c = search needs

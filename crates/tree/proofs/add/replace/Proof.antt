@@ -15,10 +15,6 @@ use Rattle.tree.specs.Words.{leaves-rows, leaves-then}
 use Rattle.tree.specs.Add.{lift-one}
 use Rattle.tree.proofs.add.replace.Statement.{statement}
 use Rattle.tree.proofs.add.replace.Tie as tie
-use Rattle.tree.proofs.add.at_depth.Reads as at-depth-reads
-use Rattle.tree.proofs.change.insert.Reads as insert-reads
-use Rattle.tree.proofs.change.remove.Reads as remove-reads
-use Rattle.tree.proofs.search.subtree_end.Reads as subtree-end-reads
 
 mul-depth : tie.Need-mul-depth
 mul-depth c = search needs

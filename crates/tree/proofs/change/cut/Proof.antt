@@ -9,8 +9,6 @@ use Rattle.nodes.specs.Place.{end-most}
 use Rattle.nodes.specs.Split.{cut-at}
 use Rattle.tree.proofs.change.cut.Statement.{statement}
 use Rattle.tree.proofs.change.cut.Tie as tie
-use Rattle.tree.proofs.change.remove.Reads as remove-reads
-use Rattle.tree.proofs.search.subtree_end.Reads as subtree-end-reads
 
 subtree-end-requires : tie.Need-subtree-end-requires
 subtree-end-requires c κs = search needs

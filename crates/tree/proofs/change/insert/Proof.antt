@@ -8,8 +8,6 @@ use borrow.Author.Needs.{needs}
 use Rattle.nodes.specs.Table.{width, wordsOf, over, rows-length, insert-words}
 use Rattle.tree.proofs.change.insert.Statement.{statement}
 use Rattle.tree.proofs.change.insert.Tie as tie
-use Rattle.tree.proofs.runs.open_gap.Reads as open-gap-reads
-use Rattle.tree.proofs.runs.put_node.Reads as put-node-reads
 
 mul-open-gap : tie.Need-mul-open-gap
 mul-open-gap c = search needs

@@ -7,7 +7,6 @@ use borrow.Author.Needs.{needs}
 use Rattle.nodes.specs.Table.{rows-length, remove-words}
 use Rattle.tree.proofs.change.remove.Statement.{statement}
 use Rattle.tree.proofs.change.remove.Tie as tie
-use Rattle.tree.proofs.runs.close_gap.Reads as close-gap-reads
 
 mul-close-gap : tie.Need-mul-close-gap
 mul-close-gap c = search needs

@@ -11,8 +11,6 @@ use Rattle.nodes.specs.Split.{setRun-at}
 use Rattle.tree.specs.Words.{put-words}
 use Rattle.tree.proofs.change.set_run.Statement.{statement}
 use Rattle.tree.proofs.change.set_run.Tie as tie
-use Rattle.tree.proofs.runs.node_at.Reads as node-at-reads
-use Rattle.tree.proofs.runs.put_node.Reads as put-node-reads
 
 node-at-requires : tie.Need-node-at-requires
 node-at-requires c κs = search needs

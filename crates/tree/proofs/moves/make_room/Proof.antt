@@ -4,8 +4,6 @@ use borrow.Author.Needs.{needs}
 use Rattle.tree.specs.Moves.{opened-up, opened-down}
 use Rattle.tree.proofs.moves.make_room.Statement.{statement}
 use Rattle.tree.proofs.moves.make_room.Tie as tie
-use Rattle.tree.proofs.runs.close_gap.Reads as close-gap-reads
-use Rattle.tree.proofs.runs.open_gap.Reads as open-gap-reads
 
 sub-open-gap : tie.Need-sub-open-gap
 sub-open-gap c = search needs

@@ -9,8 +9,6 @@ use Rattle.tree.specs.Moves.{without, putIn}
 use Rattle.tree.specs.MoveRun.{move-run-words}
 use Rattle.tree.proofs.moves.move_run.Statement.{statement}
 use Rattle.tree.proofs.moves.move_run.Tie as tie
-use Rattle.tree.proofs.moves.move_words.Reads as move-words-reads
-use Rattle.tree.proofs.moves.set_depths.Reads as set-depths-reads
 
 set-depths-requires : tie.Need-set-depths-requires
 set-depths-requires c κs = search needs

@@ -10,8 +10,6 @@ use borrow.Author.Needs.{needs}
 use Rattle.tree.specs.Moves.{put-between}
 use Rattle.tree.proofs.moves.move_words.Statement.{statement}
 use Rattle.tree.proofs.moves.move_words.Tie as tie
-use Rattle.tree.proofs.moves.make_room.Reads as make-room-reads
-use Rattle.tree.proofs.runs.copy_words.Reads as copy-words-reads
 
 slice-aggregate-copy-words : tie.Need-slice-aggregate-copy-words
 slice-aggregate-copy-words c = search needs

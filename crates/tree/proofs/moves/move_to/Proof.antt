@@ -1,0 +1,78 @@
+-- `tree::moves::move_to` meets its contract: the run's end, the place without it, and the move.
+use mathlib.Core.Path.{ap₂, ap, _∙_}
+use Prim.Native.Nat.{ℕ, _+_}
+use native.Mathlib.Omega.{arith}
+use borrow.Author.Needs.{needs}
+use Rattle.nodes.specs.Table.{rows, fill}
+use Rattle.nodes.specs.Place.{end-most}
+use Rattle.tree.specs.Sizes.{depthAt}
+use Rattle.tree.specs.MoveRun.{movedRun, landing}
+use Rattle.tree.specs.Ends.{landing-fits, run-least}
+use Rattle.tree.proofs.moves.move_to.Statement.{statement}
+use Rattle.tree.proofs.moves.move_to.Tie as tie
+
+subtree-end-requires : tie.Need-subtree-end-requires
+subtree-end-requires c κs = search needs
+
+mul-old : tie.Need-mul-old
+mul-old c = search needs
+
+add-old : tie.Need-add-old
+add-old c = search needs
+
+mul-old-2 : tie.Need-mul-old-2
+mul-old-2 c = search needs
+
+slice-read-old : tie.Need-slice-read-old
+slice-read-old c = search needs
+
+place-without-requires : tie.Need-place-without-requires
+place-without-requires c κs =
+    let s = c .before .before .before .before in
+    let e = c .before .subtree-end .ensures in
+    (omega arith, λ h. omega (arith, e, s .pre .outside h))
+
+move-run-requires : tie.Need-move-run-requires
+move-run-requires c κs =
+    let s = c .before .before .before .before .before .before in
+    let a = s .args in
+    let us = a .nodes .now in
+    let e = c .before .before .before .subtree-end in
+    let most = end-most (a .count) us (depthAt us (a .at)) (a .at + 1) (omega arith) in
+    let fit = landing-fits (a .at) (e .result) (a .place) (a .count) (omega arith) (omega arith) (omega arith) (λ h. omega (arith, e .ensures, s .pre .outside h)) in record {
+      order = omega arith;
+      few = omega arith;
+      room = omega arith;
+      inside = omega (arith, c .before .place-without .ensures);
+      least = λ i h g. run-least (a .count) us (a .at) (omega arith) i h (omega (arith, e .ensures));
+      most = λ i h g. omega (arith, s .pre .shallow i (omega (arith, e .ensures)));
+    }
+
+same-length : tie.Need-same-length
+same-length c = search needs
+
+returns : tie.Need-returns
+returns c =
+    let f = c .before .before .before .before in
+    let s = f .before .before .before .before .before in
+    let a = s .args in
+    let us = a .nodes .now in
+    let e = f .before .before .subtree-end in
+    let most = end-most (a .count) us (depthAt us (a .at)) (a .at + 1) (omega arith) in
+    let fit = landing-fits (a .at) (e .result) (a .place) (a .count) (omega arith) (omega arith) (omega arith) (λ h. omega (arith, e .ensures, s .pre .outside h)) in
+    c .before .before .move-run .ensures (a .count) (omega arith) (omega (arith, f .place-without .ensures)) (s .pre .room)
+    ∙ ap₂ (λ (j k : ℕ). fill us (movedRun (a .at) j k (depthAt us (a .at)) (a .depth) (rows (a .count) us))) (e .ensures) (f .place-without .ensures ∙ ap (λ (j : ℕ). landing (a .at) j (a .place)) (e .ensures))
+
+pub move-to-spec : {M : Type 1} → statement M
+move-to-spec =
+    tie.close
+    (tie.spec
+    subtree-end-requires
+    mul-old
+    add-old
+    mul-old-2
+    slice-read-old
+    place-without-requires
+    move-run-requires
+    same-length
+    returns)

@@ -1,0 +1,111 @@
+-- `tree::structure::child_count` meets its contract. The invariant: the children so far, and those from i on, are all of them.
+use mathlib.Core.Logic.{⊎-elim}
+use Prim.Native.Nat.{_+_, _*_, _-_, _≤_}
+use mathlib.Core.Path.{_≡_, ap}
+use native.Mathlib.Omega.{arith}
+use lib.ListN.{length, drop, getD}
+use Rattle.nodes.specs.Table.{rows}
+use Rattle.tree.specs.Around.{kids, kids-stop, kids-child, kids-skip, kids-end, childrenOf-at}
+use Rattle.tree.proofs.structure.child_count.Statement.{statement}
+use Rattle.tree.proofs.structure.child_count.Tie as tie
+
+abbrev Inv-loop : tie.InvT-loop
+Inv-loop nodes count at depth children₀ i₀ children i = (i ≤ count) × (children ≤ i) × (children + length (kids depth (drop i (rows count nodes))) ≡ length (kids depth (drop (at + 1) (rows count nodes))))
+
+abbrev μ-loop : tie.MeasureT-loop
+μ-loop nodes count at depth children₀ i₀ children i = count - i
+
+mul-depth : tie.Need-mul-depth Inv-loop μ-loop
+mul-depth c = omega arith
+
+add-depth : tie.Need-add-depth Inv-loop μ-loop
+add-depth c = omega arith
+
+mul-depth-2 : tie.Need-mul-depth-2 Inv-loop μ-loop
+mul-depth-2 c = omega arith
+
+shared-slice-read-depth : tie.Need-shared-slice-read-depth Inv-loop μ-loop
+shared-slice-read-depth c = omega arith
+
+add-i : tie.Need-add-i Inv-loop μ-loop
+add-i c = omega arith
+
+loop-holds : tie.Need-loop-holds Inv-loop μ-loop
+loop-holds c = (omega arith, omega arith, omega arith)
+
+mul-other : tie.Need-mul-other Inv-loop μ-loop
+mul-other c = omega arith
+
+add-other : tie.Need-add-other Inv-loop μ-loop
+add-other c = omega arith
+
+mul-other-2 : tie.Need-mul-other-2 Inv-loop μ-loop
+mul-other-2 c = omega arith
+
+shared-slice-read-other : tie.Need-shared-slice-read-other Inv-loop μ-loop
+shared-slice-read-other c = omega arith
+
+returns : tie.Need-returns Inv-loop μ-loop
+returns c = λ n here.
+    let l = c .before .before .before in
+    let a = l .before .before .args in
+    let us = a .nodes .now in
+    let d = getD us (5 * a .at + 1) 0 in
+    let none = ap length (kids-stop (a .count) us d (l .loop .i) (omega arith) (c .if1 .taken)) in
+    omega (arith, ap length (childrenOf-at (a .count) us n (a .at) here (omega arith)))
+
+sub-if2 : tie.Need-sub-if2 Inv-loop μ-loop
+sub-if2 c = omega arith
+
+add-children : tie.Need-add-children Inv-loop μ-loop
+add-children c = omega arith
+
+add-i-2 : tie.Need-add-i-2 Inv-loop μ-loop
+add-i-2 c = omega arith
+
+loop-less : tie.Need-loop-less Inv-loop μ-loop
+loop-less c = omega arith
+
+loop-again : tie.Need-loop-again Inv-loop μ-loop
+loop-again c =
+    let l = c .before .before .before .before in
+    let a = l .before .before .args in
+    let us = a .nodes .now in
+    let d = getD us (5 * a .at + 1) 0 in
+    ⊎-elim
+    (λ w. let on = ap length (kids-child (a .count) us d (l .loop .i) (omega arith) (omega arith) (w .0 .taken)) in (omega arith, omega arith, omega arith))
+    (λ w. let on = ap length (kids-skip (a .count) us d (l .loop .i) (omega arith) (omega arith) (w .0 .left)) in (omega arith, omega arith, omega arith))
+    (c .if2 .came)
+
+returns-2 : tie.Need-returns-2 Inv-loop μ-loop
+returns-2 c = λ n here.
+    let l = c .before in
+    let a = l .before .before .args in
+    let us = a .nodes .now in
+    let d = getD us (5 * a .at + 1) 0 in
+    let none = ap length (kids-end (a .count) us d (l .loop .i) (omega arith)) in
+    omega (arith, ap length (childrenOf-at (a .count) us n (a .at) here (omega arith)))
+
+pub child-count-spec : {M : Type 1} → statement M
+child-count-spec =
+    tie.close
+    (tie.spec
+    Inv-loop
+    μ-loop
+    mul-depth
+    add-depth
+    mul-depth-2
+    shared-slice-read-depth
+    add-i
+    loop-holds
+    mul-other
+    add-other
+    mul-other-2
+    shared-slice-read-other
+    returns
+    sub-if2
+    add-children
+    add-i-2
+    loop-less
+    loop-again
+    returns-2)

@@ -1,0 +1,133 @@
+-- `tree::structure::head_of` meets its contract. The invariant: no record from the node's place up to i is a child.
+use Prim.Native.Nat.{ℕ, _+_, _*_, _-_, _≤_}
+use mathlib.Core.Path.{_≡_, refl, sym, ap, _∙_}
+use mathlib.Core.List.{List}
+use native.Mathlib.Omega.{arith}
+use lib.ListN.{drop, getD}
+use Rattle.nodes.specs.Table.{rows}
+use Rattle.nodes.specs.Structure.{noNode, firstOr}
+use Rattle.tree.specs.Around.{kids, kids-stop, kids-child, kids-skip, kids-end, childrenOf-at}
+use Rattle.tree.proofs.structure.head_of.Statement.{statement}
+use Rattle.tree.proofs.structure.head_of.Tie as tie
+
+abbrev Inv-loop : tie.InvT-loop
+Inv-loop nodes count at depth i₀ i = (i ≤ count) × (firstOr noNode (kids depth (drop i (rows count nodes))) ≡ firstOr noNode (kids depth (drop (at + 1) (rows count nodes))))
+
+abbrev μ-loop : tie.MeasureT-loop
+μ-loop nodes count at depth i₀ i = count - i
+
+mul-depth : tie.Need-mul-depth Inv-loop μ-loop
+mul-depth c = omega arith
+
+add-depth : tie.Need-add-depth Inv-loop μ-loop
+add-depth c = omega arith
+
+mul-depth-2 : tie.Need-mul-depth-2 Inv-loop μ-loop
+mul-depth-2 c = omega arith
+
+shared-slice-read-depth : tie.Need-shared-slice-read-depth Inv-loop μ-loop
+shared-slice-read-depth c = omega arith
+
+add-i : tie.Need-add-i Inv-loop μ-loop
+add-i c = omega arith
+
+loop-holds : tie.Need-loop-holds Inv-loop μ-loop
+loop-holds c = (omega arith, refl)
+
+mul-other : tie.Need-mul-other Inv-loop μ-loop
+mul-other c = omega arith
+
+add-other : tie.Need-add-other Inv-loop μ-loop
+add-other c = omega arith
+
+mul-other-2 : tie.Need-mul-other-2 Inv-loop μ-loop
+mul-other-2 c = omega arith
+
+shared-slice-read-other : tie.Need-shared-slice-read-other Inv-loop μ-loop
+shared-slice-read-other c = omega arith
+
+returns : tie.Need-returns Inv-loop μ-loop
+unfolding firstOr
+returns c = λ n here.
+    let l = c .before .before .before in
+    let a = l .before .before .args in
+    let us = a .nodes .now in
+    let d = getD us (5 * a .at + 1) 0 in
+    ap (λ (k : List ℕ). firstOr noNode k) (sym (kids-stop (a .count) us d (l .loop .i) (omega arith) (c .if1 .taken)))
+    ∙ l .loop .inv .1
+    ∙ ap (λ (k : List ℕ). firstOr noNode k) (sym (childrenOf-at (a .count) us n (a .at) here (omega arith)))
+
+sub-if2 : tie.Need-sub-if2 Inv-loop μ-loop
+sub-if2 c = omega arith
+
+mul-result : tie.Need-mul-result Inv-loop μ-loop
+mul-result c = omega arith
+
+mul-result-2 : tie.Need-mul-result-2 Inv-loop μ-loop
+mul-result-2 c = omega arith
+
+shared-slice-read-result : tie.Need-shared-slice-read-result Inv-loop μ-loop
+shared-slice-read-result c = omega arith
+
+returns-2 : tie.Need-returns-2 Inv-loop μ-loop
+unfolding firstOr
+returns-2 c = λ n here.
+    let l = c .before .before .before .before .before in
+    let a = l .before .before .args in
+    let us = a .nodes .now in
+    let d = getD us (5 * a .at + 1) 0 in
+    ap (λ (k : List ℕ). firstOr noNode k) (sym (kids-child (a .count) us d (l .loop .i) (omega arith) (omega arith) (c .before .if2 .taken)))
+    ∙ l .loop .inv .1
+    ∙ ap (λ (k : List ℕ). firstOr noNode k) (sym (childrenOf-at (a .count) us n (a .at) here (omega arith)))
+
+add-i-2 : tie.Need-add-i-2 Inv-loop μ-loop
+add-i-2 c = omega arith
+
+loop-less : tie.Need-loop-less Inv-loop μ-loop
+loop-less c = omega arith
+
+loop-again : tie.Need-loop-again Inv-loop μ-loop
+loop-again c =
+    let l = c .before .before .before .before in
+    let a = l .before .before .args in
+    let us = a .nodes .now in
+    let d = getD us (5 * a .at + 1) 0 in
+    (omega arith, ap (λ (k : List ℕ). firstOr noNode k) (sym (kids-skip (a .count) us d (l .loop .i) (omega arith) (omega arith) (c .if2 .left))) ∙ l .loop .inv .1)
+
+returns-3 : tie.Need-returns-3 Inv-loop μ-loop
+unfolding firstOr
+returns-3 c = λ n here.
+    let l = c .before in
+    let a = l .before .before .args in
+    let us = a .nodes .now in
+    let d = getD us (5 * a .at + 1) 0 in
+    ap (λ (k : List ℕ). firstOr noNode k) (sym (kids-end (a .count) us d (l .loop .i) (omega arith)))
+    ∙ l .loop .inv .1
+    ∙ ap (λ (k : List ℕ). firstOr noNode k) (sym (childrenOf-at (a .count) us n (a .at) here (omega arith)))
+
+pub head-of-spec : {M : Type 1} → statement M
+head-of-spec =
+    tie.close
+    (tie.spec
+    Inv-loop
+    μ-loop
+    mul-depth
+    add-depth
+    mul-depth-2
+    shared-slice-read-depth
+    add-i
+    loop-holds
+    mul-other
+    add-other
+    mul-other-2
+    shared-slice-read-other
+    returns
+    sub-if2
+    mul-result
+    mul-result-2
+    shared-slice-read-result
+    returns-2
+    add-i-2
+    loop-less
+    loop-again
+    returns-3)

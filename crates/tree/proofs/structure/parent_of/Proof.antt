@@ -1,0 +1,111 @@
+-- `tree::structure::parent_of` meets its contract. The invariant: no record from i up to the node's place is less deep.
+use Prim.Native.Nat.{ℕ, _+_, _*_, _-_, _≤_}
+use mathlib.Core.Path.{_≡_, refl, sym, ap, _∙_}
+use native.Mathlib.Omega.{arith}
+use borrow.Author.Tests.{lt-ltb, le-ltb}
+use lib.ListN.{getD}
+use Rattle.nodes.specs.Table.{rows}
+use Rattle.nodes.specs.Structure.{noNode}
+use Rattle.tree.specs.Around.{along, above, along-start, along-back, parentOf-at}
+use Rattle.tree.proofs.structure.parent_of.Statement.{statement}
+use Rattle.tree.proofs.structure.parent_of.Tie as tie
+
+abbrev Inv-loop : tie.InvT-loop
+Inv-loop nodes at depth i₀ i = (i ≤ at) × (along (above depth) noNode (rows i nodes) ≡ along (above depth) noNode (rows at nodes))
+
+abbrev μ-loop : tie.MeasureT-loop
+μ-loop nodes at depth i₀ i = i
+
+mul-depth : tie.Need-mul-depth Inv-loop μ-loop
+mul-depth c = omega arith
+
+add-depth : tie.Need-add-depth Inv-loop μ-loop
+add-depth c = omega arith
+
+mul-depth-2 : tie.Need-mul-depth-2 Inv-loop μ-loop
+mul-depth-2 c = omega arith
+
+shared-slice-read-depth : tie.Need-shared-slice-read-depth Inv-loop μ-loop
+shared-slice-read-depth c = omega arith
+
+loop-holds : tie.Need-loop-holds Inv-loop μ-loop
+loop-holds c = (omega arith, refl)
+
+sub-i : tie.Need-sub-i Inv-loop μ-loop
+sub-i c = omega arith
+
+mul-if1 : tie.Need-mul-if1 Inv-loop μ-loop
+mul-if1 c = omega arith
+
+add-if1 : tie.Need-add-if1 Inv-loop μ-loop
+add-if1 c = omega arith
+
+mul-if1-2 : tie.Need-mul-if1-2 Inv-loop μ-loop
+mul-if1-2 c = omega arith
+
+shared-slice-read-if1 : tie.Need-shared-slice-read-if1 Inv-loop μ-loop
+shared-slice-read-if1 c = omega arith
+
+mul-result : tie.Need-mul-result Inv-loop μ-loop
+mul-result c = omega arith
+
+mul-result-2 : tie.Need-mul-result-2 Inv-loop μ-loop
+mul-result-2 c = omega arith
+
+shared-slice-read-result : tie.Need-shared-slice-read-result Inv-loop μ-loop
+shared-slice-read-result c = omega arith
+
+returns : tie.Need-returns Inv-loop μ-loop
+returns c = λ count n live here.
+    let l = c .before .before .before .before in
+    let a = l .before .before .args in
+    let us = a .nodes .now in
+    let d = getD us (5 * a .at + 1) 0 in
+    let step : along (above d) noNode (rows (l .loop .i) us) ≡ getD us (5 * (l .loop .i - 1)) 0 =
+    rw (lt-ltb (getD us (5 * (l .loop .i - 1) + 1) 0) d (c .before .if1 .taken)) at (along-back (above d) noNode (l .loop .i) us (omega arith)) in
+    sym step ∙ l .loop .inv .1 ∙ sym (parentOf-at count us n (a .at) here live)
+
+loop-less : tie.Need-loop-less Inv-loop μ-loop
+loop-less c = omega arith
+
+loop-again : tie.Need-loop-again Inv-loop μ-loop
+loop-again c =
+    let l = c .before .before .before in
+    let a = l .before .before .args in
+    let us = a .nodes .now in
+    let d = getD us (5 * a .at + 1) 0 in
+    let step : along (above d) noNode (rows (l .loop .i) us) ≡ along (above d) noNode (rows (l .loop .i - 1) us) =
+    rw (le-ltb (getD us (5 * (l .loop .i - 1) + 1) 0) d (c .if1 .left)) at (along-back (above d) noNode (l .loop .i) us (omega arith)) in (omega arith, sym step ∙ l .loop .inv .1)
+
+returns-2 : tie.Need-returns-2 Inv-loop μ-loop
+returns-2 c = λ count n live here.
+    let l = c .before in
+    let a = l .before .before .args in
+    let us = a .nodes .now in
+    let d = getD us (5 * a .at + 1) 0 in
+    let none : l .loop .i ≡ 0 = omega arith in
+    sym (along-start (above d) noNode us) ∙ ap (λ (k : ℕ). along (above d) noNode (rows k us)) (sym none) ∙ l .loop .inv .1 ∙ sym (parentOf-at count us n (a .at) here live)
+
+pub parent-of-spec : {M : Type 1} → statement M
+parent-of-spec =
+    tie.close
+    (tie.spec
+    Inv-loop
+    μ-loop
+    mul-depth
+    add-depth
+    mul-depth-2
+    shared-slice-read-depth
+    loop-holds
+    sub-i
+    mul-if1
+    add-if1
+    mul-if1-2
+    shared-slice-read-if1
+    mul-result
+    mul-result-2
+    shared-slice-read-result
+    returns
+    loop-less
+    loop-again
+    returns-2)

@@ -1,0 +1,124 @@
+-- `tree::structure::previous_of` meets its contract. The invariant: every record from i up to the node's place is deeper.
+use Prim.Native.Nat.{ℕ, _+_, _*_, _-_, _≤_}
+use mathlib.Core.Path.{_≡_, refl, sym, ap, _∙_}
+use native.Mathlib.Omega.{arith}
+use borrow.Author.Tests.{lt-ltb, le-ltb, eq-eqb, ne-eqb}
+use lib.ListN.{getD}
+use Rattle.nodes.specs.Table.{rows}
+use Rattle.nodes.specs.Structure.{noNode}
+use Rattle.tree.specs.Around.{along, beside, along-start, along-back, previousOf-at}
+use Rattle.tree.proofs.structure.previous_of.Statement.{statement}
+use Rattle.tree.proofs.structure.previous_of.Tie as tie
+
+abbrev Inv-loop : tie.InvT-loop
+Inv-loop nodes at depth i₀ i = (i ≤ at) × (along (beside depth) noNode (rows i nodes) ≡ along (beside depth) noNode (rows at nodes))
+
+abbrev μ-loop : tie.MeasureT-loop
+μ-loop nodes at depth i₀ i = i
+
+mul-depth : tie.Need-mul-depth Inv-loop μ-loop
+mul-depth c = omega arith
+
+add-depth : tie.Need-add-depth Inv-loop μ-loop
+add-depth c = omega arith
+
+mul-depth-2 : tie.Need-mul-depth-2 Inv-loop μ-loop
+mul-depth-2 c = omega arith
+
+shared-slice-read-depth : tie.Need-shared-slice-read-depth Inv-loop μ-loop
+shared-slice-read-depth c = omega arith
+
+loop-holds : tie.Need-loop-holds Inv-loop μ-loop
+loop-holds c = (omega arith, refl)
+
+sub-i : tie.Need-sub-i Inv-loop μ-loop
+sub-i c = omega arith
+
+mul-other : tie.Need-mul-other Inv-loop μ-loop
+mul-other c = omega arith
+
+add-other : tie.Need-add-other Inv-loop μ-loop
+add-other c = omega arith
+
+mul-other-2 : tie.Need-mul-other-2 Inv-loop μ-loop
+mul-other-2 c = omega arith
+
+shared-slice-read-other : tie.Need-shared-slice-read-other Inv-loop μ-loop
+shared-slice-read-other c = omega arith
+
+returns : tie.Need-returns Inv-loop μ-loop
+returns c = λ count n live here.
+    let l = c .before .before .before in
+    let a = l .before .before .args in
+    let us = a .nodes .now in
+    let d = getD us (5 * a .at + 1) 0 in
+    let step : along (beside d) noNode (rows (l .loop .i) us) ≡ noNode =
+    rw (lt-ltb (getD us (5 * (l .loop .i - 1) + 1) 0) d (c .if1 .taken)) at (along-back (beside d) noNode (l .loop .i) us (omega arith)) in
+    sym step ∙ l .loop .inv .1 ∙ sym (previousOf-at count us n (a .at) here live)
+
+mul-result : tie.Need-mul-result Inv-loop μ-loop
+mul-result c = omega arith
+
+mul-result-2 : tie.Need-mul-result-2 Inv-loop μ-loop
+mul-result-2 c = omega arith
+
+shared-slice-read-result : tie.Need-shared-slice-read-result Inv-loop μ-loop
+shared-slice-read-result c = omega arith
+
+returns-2 : tie.Need-returns-2 Inv-loop μ-loop
+returns-2 c = λ count n live here.
+    let l = c .before .before .before .before .before in
+    let a = l .before .before .args in
+    let us = a .nodes .now in
+    let d = getD us (5 * a .at + 1) 0 in
+    let other = getD us (5 * (l .loop .i - 1) + 1) 0 in
+    let step : along (beside d) noNode (rows (l .loop .i) us) ≡ getD us (5 * (l .loop .i - 1)) 0 =
+    rw (le-ltb other d (omega arith), eq-eqb other d (c .before .if2 .taken)) at (along-back (beside d) noNode (l .loop .i) us (omega arith)) in
+    sym step ∙ l .loop .inv .1 ∙ sym (previousOf-at count us n (a .at) here live)
+
+loop-less : tie.Need-loop-less Inv-loop μ-loop
+loop-less c = omega arith
+
+loop-again : tie.Need-loop-again Inv-loop μ-loop
+loop-again c =
+    let l = c .before .before .before .before in
+    let a = l .before .before .args in
+    let us = a .nodes .now in
+    let d = getD us (5 * a .at + 1) 0 in
+    let other = getD us (5 * (l .loop .i - 1) + 1) 0 in
+    let step : along (beside d) noNode (rows (l .loop .i) us) ≡ along (beside d) noNode (rows (l .loop .i - 1) us) =
+    rw (le-ltb other d (omega arith), ne-eqb other d (c .if2 .left)) at (along-back (beside d) noNode (l .loop .i) us (omega arith)) in (omega arith, sym step ∙ l .loop .inv .1)
+
+returns-3 : tie.Need-returns-3 Inv-loop μ-loop
+returns-3 c = λ count n live here.
+    let l = c .before in
+    let a = l .before .before .args in
+    let us = a .nodes .now in
+    let d = getD us (5 * a .at + 1) 0 in
+    let none : l .loop .i ≡ 0 = omega arith in
+    sym (along-start (beside d) noNode us) ∙ ap (λ (k : ℕ). along (beside d) noNode (rows k us)) (sym none) ∙ l .loop .inv .1 ∙ sym (previousOf-at count us n (a .at) here live)
+
+pub previous-of-spec : {M : Type 1} → statement M
+previous-of-spec =
+    tie.close
+    (tie.spec
+    Inv-loop
+    μ-loop
+    mul-depth
+    add-depth
+    mul-depth-2
+    shared-slice-read-depth
+    loop-holds
+    sub-i
+    mul-other
+    add-other
+    mul-other-2
+    shared-slice-read-other
+    returns
+    mul-result
+    mul-result-2
+    shared-slice-read-result
+    returns-2
+    loop-less
+    loop-again
+    returns-3)

@@ -1,0 +1,130 @@
+-- `tree::structure::tail_of` meets its contract. The invariant: the last child so far, and those from i on, give the last of all.
+use mathlib.Core.Logic.{⊎-elim}
+use Prim.Native.Nat.{ℕ, _+_, _*_, _-_, _≤_}
+use mathlib.Core.Path.{_≡_, refl, sym, ap, _∙_}
+use mathlib.Core.List.{List}
+use native.Mathlib.Omega.{arith}
+use lib.ListN.{drop, getD}
+use Rattle.nodes.specs.Table.{rows}
+use Rattle.nodes.specs.Structure.{noNode, lastOr}
+use Rattle.tree.specs.Around.{kids, kids-stop, kids-child, kids-skip, kids-end, childrenOf-at}
+use Rattle.tree.proofs.structure.tail_of.Statement.{statement}
+use Rattle.tree.proofs.structure.tail_of.Tie as tie
+
+abbrev Inv-loop : tie.InvT-loop
+Inv-loop nodes count at depth last₀ i₀ last i = (i ≤ count) × (lastOr last (kids depth (drop i (rows count nodes))) ≡ lastOr noNode (kids depth (drop (at + 1) (rows count nodes))))
+
+abbrev μ-loop : tie.MeasureT-loop
+μ-loop nodes count at depth last₀ i₀ last i = count - i
+
+mul-depth : tie.Need-mul-depth Inv-loop μ-loop
+mul-depth c = omega arith
+
+add-depth : tie.Need-add-depth Inv-loop μ-loop
+add-depth c = omega arith
+
+mul-depth-2 : tie.Need-mul-depth-2 Inv-loop μ-loop
+mul-depth-2 c = omega arith
+
+shared-slice-read-depth : tie.Need-shared-slice-read-depth Inv-loop μ-loop
+shared-slice-read-depth c = omega arith
+
+add-i : tie.Need-add-i Inv-loop μ-loop
+add-i c = omega arith
+
+loop-holds : tie.Need-loop-holds Inv-loop μ-loop
+loop-holds c = (omega arith, refl)
+
+mul-other : tie.Need-mul-other Inv-loop μ-loop
+mul-other c = omega arith
+
+add-other : tie.Need-add-other Inv-loop μ-loop
+add-other c = omega arith
+
+mul-other-2 : tie.Need-mul-other-2 Inv-loop μ-loop
+mul-other-2 c = omega arith
+
+shared-slice-read-other : tie.Need-shared-slice-read-other Inv-loop μ-loop
+shared-slice-read-other c = omega arith
+
+returns : tie.Need-returns Inv-loop μ-loop
+unfolding lastOr
+returns c = λ n here.
+    let l = c .before .before .before in
+    let a = l .before .before .args in
+    let us = a .nodes .now in
+    let d = getD us (5 * a .at + 1) 0 in
+    ap (λ (k : List ℕ). lastOr (l .loop .last) k) (sym (kids-stop (a .count) us d (l .loop .i) (omega arith) (c .if1 .taken)))
+    ∙ l .loop .inv .1
+    ∙ ap (λ (k : List ℕ). lastOr noNode k) (sym (childrenOf-at (a .count) us n (a .at) here (omega arith)))
+
+sub-if2 : tie.Need-sub-if2 Inv-loop μ-loop
+sub-if2 c = omega arith
+
+mul-last : tie.Need-mul-last Inv-loop μ-loop
+mul-last c = omega arith
+
+mul-last-2 : tie.Need-mul-last-2 Inv-loop μ-loop
+mul-last-2 c = omega arith
+
+shared-slice-read-last : tie.Need-shared-slice-read-last Inv-loop μ-loop
+shared-slice-read-last c = omega arith
+
+add-i-2 : tie.Need-add-i-2 Inv-loop μ-loop
+add-i-2 c = omega arith
+
+loop-less : tie.Need-loop-less Inv-loop μ-loop
+loop-less c = omega arith
+
+loop-again : tie.Need-loop-again Inv-loop μ-loop
+unfolding lastOr
+loop-again c =
+    let l = c .before .before .before .before in
+    let a = l .before .before .args in
+    let us = a .nodes .now in
+    let d = getD us (5 * a .at + 1) 0 in
+    let rest = kids d (drop (l .loop .i + 1) (rows (a .count) us)) in (
+      omega arith,
+      ⊎-elim
+          (λ w. ap (λ (x : ℕ). lastOr x rest) (w .2) ∙ ap (λ (k : List ℕ). lastOr (l .loop .last) k) (sym (kids-child (a .count) us d (l .loop .i) (omega arith) (omega arith) (w .0 .taken))))
+          (λ w. ap (λ (x : ℕ). lastOr x rest) (w .1) ∙ ap (λ (k : List ℕ). lastOr (l .loop .last) k) (sym (kids-skip (a .count) us d (l .loop .i) (omega arith) (omega arith) (w .0 .left))))
+          (c .if2 .came)
+          ∙ l .loop .inv .1,
+    )
+
+returns-2 : tie.Need-returns-2 Inv-loop μ-loop
+unfolding lastOr
+returns-2 c = λ n here.
+    let l = c .before in
+    let a = l .before .before .args in
+    let us = a .nodes .now in
+    let d = getD us (5 * a .at + 1) 0 in
+    ap (λ (k : List ℕ). lastOr (l .loop .last) k) (sym (kids-end (a .count) us d (l .loop .i) (omega arith)))
+    ∙ l .loop .inv .1
+    ∙ ap (λ (k : List ℕ). lastOr noNode k) (sym (childrenOf-at (a .count) us n (a .at) here (omega arith)))
+
+pub tail-of-spec : {M : Type 1} → statement M
+tail-of-spec =
+    tie.close
+    (tie.spec
+    Inv-loop
+    μ-loop
+    mul-depth
+    add-depth
+    mul-depth-2
+    shared-slice-read-depth
+    add-i
+    loop-holds
+    mul-other
+    add-other
+    mul-other-2
+    shared-slice-read-other
+    returns
+    sub-if2
+    mul-last
+    mul-last-2
+    shared-slice-read-last
+    add-i-2
+    loop-less
+    loop-again
+    returns-2)

@@ -1,0 +1,91 @@
+-- "A new synth takes the lowest row that no live synth has."
+use Prim.Native.Nat.{ℕ, zero, suc, _+_, _*_, _≤_, _<_}
+use mathlib.Core.Bool.{Bool, true, false}
+use mathlib.Core.Path.{_≡_, refl, sym, ap, _∙_}
+use mathlib.Core.List.{List}
+use native.Mathlib.Omega.{arith}
+use lib.ListN.{length, drop, getD, set, replicate, getD-replicate}
+use lib.Seq.{getD-set-same, getD-set-other}
+use lib.Dec.{eqb}
+use borrow.Author.Tests.{ne-eqb, eqb-true, eqb-false}
+use Rattle.words.specs.Choice.{pick, either}
+use Rattle.nodes.specs.declared.Node.{Node}
+use Rattle.nodes.specs.Table.{width, nodeFrom, rows, rows-end, row-from}
+use Rattle.nodes.specs.Place.{isGroup}
+use Rattle.nodes.specs.Formed.{mostRows, rowTaken}
+
+-- the first row from k on that no synth of the table has, of n rows
+unfoldable pub freeFrom : ℕ → ℕ → List Node → ℕ
+freeFrom zero k t = k
+freeFrom (suc n) k t = pick (rowTaken k t) (freeFrom n (suc k) t) k
+
+-- 256 where there is none
+abbrev pub freeRow : List Node → ℕ
+freeRow t = freeFrom mostRows 0 t
+
+-- the record is a synth with the row k
+abbrev pub rowIs : ℕ → Node → Bool
+rowIs k r = pick (isGroup r) false (eqb (r .row) k)
+
+module _ (n : ℕ) (us : List ℕ) (k i : ℕ) where
+  pub taken-turn : i < n → rowTaken k (drop i (rows n us)) ≡ either (rowIs k (nodeFrom us (width * i))) (rowTaken k (drop (i + 1) (rows n us)))
+  unfolding rowTaken
+  taken-turn h = ap (λ (l : List Node). rowTaken k l) (row-from n us i h)
+
+  pub taken-end : n ≤ i → rowTaken k (drop i (rows n us)) ≡ false
+  unfolding rowTaken
+  taken-end h = ap (λ (l : List Node). rowTaken k l) (rows-end n us i h)
+
+either-none : (b : Bool) → either b false ≡ b
+either-none true = refl
+either-none false = refl
+
+-- marks of rows, of which the first i records were looked at
+abbrev pub Marked : List Bool → ℕ → List ℕ → ℕ → Type 0
+Marked marks n us i = (k : ℕ) → k < 256 → either (getD marks k false) (rowTaken k (drop i (rows n us))) ≡ rowTaken k (rows n us)
+
+pub marked-start : (n : ℕ) (us : List ℕ) → Marked (replicate 256 false) n us 0
+marked-start n us k h = rw (getD-replicate 256 k false false h)
+
+pub marked-end : (marks : List Bool) (n : ℕ) (us : List ℕ) (i : ℕ) → n ≤ i → Marked marks n us i → (k : ℕ) → k < 256 → getD marks k false ≡ rowTaken k (rows n us)
+marked-end marks n us i h all k s = sym (either-none (getD marks k false)) ∙ ap (λ (b : Bool). either (getD marks k false) b) (sym (taken-end n us k i h)) ∙ all k s
+
+-- a record whose row below 256, where it has one, is row
+module _ (marks : List Bool) (n : ℕ) (us : List ℕ) (i row : ℕ) (inside : i < n) (own : (k : ℕ) → k < 256 → eqb row k ≡ rowIs k (nodeFrom us (width * i))) (all : Marked marks n us i) where
+  next : (k : ℕ) → k < 256 → either (getD marks k false) (either (eqb row k) (rowTaken k (drop (i + 1) (rows n us)))) ≡ rowTaken k (rows n us)
+  next k h = ap (λ (b : Bool). either (getD marks k false) (either b (rowTaken k (drop (i + 1) (rows n us))))) (own k h) ∙ ap (λ (b : Bool). either (getD marks k false) b) (sym (taken-turn n us k i inside)) ∙ all k h
+
+  pub marked-skip : 256 ≤ row → Marked marks n us (i + 1)
+  marked-skip h k s = rw (ne-eqb row k (λ e. omega arith)) at (next k s)
+
+  pub marked-set : row < 256 → length marks ≡ 256 → Marked (set marks row true) n us (i + 1)
+  marked-set h size k s = go (eqb row k) refl
+    where
+      rest : Bool
+      rest = rowTaken k (drop (i + 1) (rows n us))
+
+      either-true : (b : Bool) → either b true ≡ true
+      either-true true = refl
+      either-true false = refl
+
+      go : (b : Bool) → eqb row k ≡ b → either (getD (set marks row true) k false) rest ≡ rowTaken k (rows n us)
+      go true e =
+          ap (λ (b : Bool). either b rest) (ap (λ (j : ℕ). getD (set marks row true) j false) (sym (eqb-true row k e)) ∙ getD-set-same marks row true false (omega arith))
+          ∙ sym (either-true (getD marks k false))
+          ∙ rw e at (next k s)
+      go false e =
+          ap (λ (b : Bool). either b rest) (getD-set-other marks row k true false (λ q. eqb-false row k e (sym q))) ∙ rw e at (next k s)
+
+-- one row looked at
+module _ (n k : ℕ) (t : List Node) where
+  pub free-here : rowTaken k t ≡ false → freeFrom (suc n) k t ≡ k
+  unfolding freeFrom
+  free-here e = ap (λ (b : Bool). pick b (freeFrom n (suc k) t) k) e
+
+  pub free-on : rowTaken k t ≡ true → freeFrom (suc n) k t ≡ freeFrom n (suc k) t
+  unfolding freeFrom
+  free-on e = ap (λ (b : Bool). pick b (freeFrom n (suc k) t) k) e
+
+pub free-end : (k : ℕ) (t : List Node) → freeFrom 0 k t ≡ k
+unfolding freeFrom
+free-end k t = refl
