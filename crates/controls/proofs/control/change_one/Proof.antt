@@ -1,0 +1,88 @@
+use Prim.Native.Nat.{ℕ, _+_}
+use mathlib.Core.Path.{_≡_, ap, ap₂, _∙_}
+use native.Mathlib.Omega.{arith}
+use borrow.Author.Needs.{needs}
+use lib.ListN.{getD, set, length-set}
+use Rattle.values.specs.Controls.{ControlValue, controlAt, mappingWord, seen}
+use Rattle.controls.specs.Change.{changeOf, set-two}
+use Rattle.controls.proofs.control.change_one.Statement.{statement}
+use Rattle.controls.proofs.control.change_one.Tie as tie
+
+mul-from-words : tie.Need-mul-from-words
+mul-from-words c = search needs
+
+slice-read-from-words : tie.Need-slice-read-from-words
+slice-read-from-words c = search needs
+
+add-from-words : tie.Need-add-from-words
+add-from-words c = search needs
+
+mul-from-words-2 : tie.Need-mul-from-words-2
+mul-from-words-2 c = search needs
+
+slice-read-from-words-2 : tie.Need-slice-read-from-words-2
+slice-read-from-words-2 c = search needs
+
+from-words-requires : tie.Need-from-words-requires
+from-words-requires c κs = search needs
+
+changed-requires : tie.Need-changed-requires
+changed-requires c κs = search needs
+
+own-word-requires : tie.Need-own-word-requires
+own-word-requires c κs = search needs
+
+mapping-word-requires : tie.Need-mapping-word-requires
+mapping-word-requires c κs = search needs
+
+mul-controls : tie.Need-mul-controls
+mul-controls c = search needs
+
+slice-write-controls : tie.Need-slice-write-controls
+slice-write-controls c = search needs
+
+add-controls : tie.Need-add-controls
+add-controls c = search needs
+
+mul-controls-2 : tie.Need-mul-controls-2
+mul-controls-2 c = search needs
+
+slice-write-controls-2 : tie.Need-slice-write-controls-2
+slice-write-controls-2 c = simp length-set (omega arith)
+
+same-length : tie.Need-same-length
+same-length c = search needs
+
+returns : tie.Need-returns
+returns c =
+    let a = c .before .before .before .before .before .before .before .args in
+    let cs = a .controls .now in
+    let v : ControlValue = controlAt (getD cs (a .at) 0) (getD cs (a .at + 1) 0) in
+    let after : seen (c .before .before .changed .result) ≡ changeOf (a .change) v =
+    c .before .before .changed .ensures .value ∙ ap (changeOf (a .change)) (c .before .before .before .from-words .ensures .value) in
+    let own : c .before .own-word .result ≡ changeOf (a .change) v .own = c .before .own-word .ensures ∙ ap (λ (x : ControlValue). x .own) after in
+    let mapping : c .mapping-word .result ≡ mappingWord (changeOf (a .change) v .mapping) =
+    c .mapping-word .ensures ∙ ap (λ (x : ControlValue). mappingWord (x .mapping)) after in
+    ap₂ (λ (x y : ℕ). set (set cs (a .at) x) (a .at + 1) y) own mapping
+    ∙ set-two cs (a .at) (changeOf (a .change) v .own) (mappingWord (changeOf (a .change) v .mapping)) (omega arith)
+
+pub change-one-spec : {M : Type 1} → statement M
+change-one-spec =
+    tie.close
+    (tie.spec
+    mul-from-words
+    slice-read-from-words
+    add-from-words
+    mul-from-words-2
+    slice-read-from-words-2
+    from-words-requires
+    changed-requires
+    own-word-requires
+    mapping-word-requires
+    mul-controls
+    slice-write-controls
+    add-controls
+    mul-controls-2
+    slice-write-controls-2
+    same-length
+    returns)

@@ -1,0 +1,117 @@
+use Prim.Native.Nat.{ℕ, suc, _+_, _*_, _-_, _≤_, min}
+use mathlib.Core.Path.{_≡_, refl, sym, ap, ap₂, _∙_}
+use native.Mathlib.Omega.{arith}
+use borrow.Author.Needs.{needs}
+use lib.ListN.{length}
+use Rattle.model.specs.Effects.{changeRow}
+use Rattle.controls.specs.Change.{changeOf, changeFromPlace, changedAt, change-turn, changed-length, change-none}
+use Rattle.controls.proofs.control.change_row.Statement.{statement}
+use Rattle.controls.proofs.control.change_row.Tie as tie
+
+abbrev Inv-loop : tie.InvT-loop
+Inv-loop controls₀ row start count p change many at₀ i₀ controls at i =
+    (i ≤ many) × (at ≡ 64 * row + 2 * start + 2 * i) × (length controls ≡ length controls₀)
+    × (changeFromPlace (changeOf change) at (many - i) controls ≡ changeRow (changeOf change) row start count p controls₀)
+
+abbrev μ-loop : tie.MeasureT-loop
+μ-loop controls₀ row start count p change many at₀ i₀ controls at i = many - i
+
+reached-requires : tie.Need-reached-requires Inv-loop μ-loop
+reached-requires c κs = tt
+
+returns : tie.Need-returns Inv-loop μ-loop
+returns c =
+    let a = c .before .before .before .args in
+    let none : min (a .count) (a .p - a .start) ≡ 0 = omega arith in
+    sym (ap (λ (n : ℕ). changeFromPlace (changeOf (a .change)) (64 * a .row + 2 * a .start) n (a .controls .now)) none
+    ∙ change-none (changeOf (a .change)) (a .controls .now) (64 * a .row + 2 * a .start))
+
+wide-requires : tie.Need-wide-requires Inv-loop μ-loop
+wide-requires c κs = tt
+
+mul-at : tie.Need-mul-at Inv-loop μ-loop
+mul-at c = omega arith
+
+wide-requires-2 : tie.Need-wide-requires-2 Inv-loop μ-loop
+wide-requires-2 c κs = tt
+
+mul-at-2 : tie.Need-mul-at-2 Inv-loop μ-loop
+mul-at-2 c = omega arith
+
+add-at : tie.Need-add-at Inv-loop μ-loop
+add-at c = omega arith
+
+loop-holds : tie.Need-loop-holds Inv-loop μ-loop
+loop-holds c =
+    let a = c .before .before .before .before .before .args in
+    let place : 64 * c .before .wide .result + 2 * c .wide2 .result ≡ 64 * a .row + 2 * a .start = omega arith in
+    let all : c .before .before .before .reached .result - 0 ≡ min (a .count) (a .p - a .start) = omega arith in (
+      omega arith,
+      omega arith,
+      refl,
+      ap₂ (λ (k n : ℕ). changeFromPlace (changeOf (a .change)) k n (a .controls .now)) place all,
+    )
+
+change-one-requires : tie.Need-change-one-requires Inv-loop μ-loop
+change-one-requires c κs = omega arith
+
+add-at-2 : tie.Need-add-at-2 Inv-loop μ-loop
+add-at-2 c = omega arith
+
+add-i : tie.Need-add-i Inv-loop μ-loop
+add-i c = omega arith
+
+loop-less : tie.Need-loop-less Inv-loop μ-loop
+loop-less c = omega arith
+
+loop-again : tie.Need-loop-again Inv-loop μ-loop
+loop-again c =
+    let a = c .before .before .before .before .before .before .before .before .before .before .before .args in
+    let l = c .before .before .before .before .before .loop in
+    let m = c .before .before .before .before .before .before .before .before .before .reached .result in
+    let f = changeOf (a .change) in
+    let told : c .before .before .change-one .last .0 ≡ changedAt f (l .at) (l .controls) = c .before .before .change-one .ensures in
+    let room : l .at + 2 ≤ length (l .controls) = omega arith in
+    let more : m - l .i ≡ suc (m - (l .i + 1)) = omega arith in (
+      omega arith,
+      omega arith,
+      ap length told ∙ changed-length f (l .controls) (l .at) room ∙ l .inv .2,
+      ap (changeFromPlace f (l .at + 2) (m - (l .i + 1))) told
+          ∙ change-turn f (l .controls) (l .at) (m - (l .i + 1)) room
+          ∙ ap (λ (n : ℕ). changeFromPlace f (l .at) n (l .controls)) (sym more)
+          ∙ l .inv .3,
+    )
+
+same-length : tie.Need-same-length Inv-loop μ-loop
+same-length c = search needs
+
+returns-2 : tie.Need-returns-2 Inv-loop μ-loop
+returns-2 c =
+    let a = c .before .before .before .before .before .before .before .args in
+    let l = c .before .loop in
+    let done : c .before .before .before .before .before .reached .result - l .i ≡ 0 = omega arith in
+    sym (change-none (changeOf (a .change)) (l .controls) (l .at))
+    ∙ ap (λ (n : ℕ). changeFromPlace (changeOf (a .change)) (l .at) n (l .controls)) (sym done)
+    ∙ l .inv .3
+
+pub change-row-spec : {M : Type 1} → statement M
+change-row-spec =
+    tie.close
+    (tie.spec
+    Inv-loop
+    μ-loop
+    reached-requires
+    returns
+    wide-requires
+    mul-at
+    wide-requires-2
+    mul-at-2
+    add-at
+    loop-holds
+    change-one-requires
+    add-at-2
+    add-i
+    loop-less
+    loop-again
+    same-length
+    returns-2)

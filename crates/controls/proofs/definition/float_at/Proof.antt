@@ -1,0 +1,29 @@
+use mathlib.Core.Path.{sym, ap, _∙_}
+use borrow.Author.Needs.{needs}
+use Rattle.synthdef.specs.Answers.{numberOf}
+use Rattle.model.specs.Engine.{valueOr}
+use Rattle.controls.proofs.definition.float_at.Statement.{statement}
+use Rattle.controls.proofs.definition.float_at.Tie as tie
+
+float32-requires : tie.Need-float32-requires
+float32-requires c κs = search needs
+
+enum-known-pattern : tie.Need-enum-known-pattern
+enum-known-pattern c = search needs
+
+enum-known-refusal : tie.Need-enum-known-refusal
+enum-known-refusal c = search needs
+
+returns : tie.Need-returns
+returns c =
+    let a = c .before .before .before .before .before .args in
+    ap (valueOr 0) (ap numberOf (sym (c .before .pattern .given .1)) ∙ c .before .before .before .float32 .ensures)
+
+returns-2 : tie.Need-returns-2
+returns-2 c =
+    let a = c .before .before .before .before .before .args in
+    ap (valueOr 0) (ap numberOf (sym (c .before .refusal .given .1)) ∙ c .before .before .before .float32 .ensures)
+
+pub float-at-spec : {M : Type 1} → statement M
+float-at-spec =
+    tie.close (tie.spec float32-requires enum-known-pattern enum-known-refusal returns returns-2)

@@ -1,0 +1,124 @@
+-- What a definition in its encoded bytes tells of its controls: by its front, which the lookups read.
+use Prim.Native.Nat.{ℕ, _+_, _-_, _≤_, _<_}
+use mathlib.Core.Bool.{Bool, true, false}
+use mathlib.Core.Path.{_≡_, refl, sym, ap, _∙_}
+use mathlib.Core.List.{List, [], _∷_}
+use mathlib.Core.Option.{Option, none, some}
+use native.Mathlib.Omega.{arith}
+use borrow.Author.Tests.{leb-true, leb-false, le-leb, lt-leb}
+use lib.ListN.{length}
+use lib.Dec.{leb}
+use Rattle.synthdef.specs.declared.lookup.Found.{Found}
+use Rattle.synthdef.specs.declared.lookup.Found.the-variants as found
+use Rattle.synthdef.specs.Lookup.{onRead, firstOf, parametersIn, firstNamed, indexIn}
+use Rattle.synthdef.specs.Read.{Read, got, bad, repeat}
+use Rattle.synthdef.specs.Fields.{integer, float32, definitionName, count, countTo, highest16, shortCountTo}
+use Rattle.synthdef.specs.FieldLaws.{checked-got}
+use Rattle.synthdef.specs.RepeatLaws.{went-on, repeat-length}
+use Rattle.synthdef.specs.Definition.{ParameterName, Front, Definition}
+use Rattle.synthdef.specs.Reader.{sameName, mostParameters, parameterName, readFront, readUnits, variant, readDefinition}
+use Rattle.words.specs.Choice.{pick}
+use Rattle.words.specs.declared.Refusal.the-variants.{BadCount}
+use Rattle.values.specs.declared.Key.{Key}
+use Rattle.values.specs.declared.Key.the-variants.{Index, Name}
+use Rattle.model.specs.Engine.{valueOr, firstIndex}
+use Rattle.model.specs.Meaning.{startOf}
+
+-- a front with nothing in it, for bytes that have none
+abbrev pub noFront : Front
+noFront = record { name = []; constants = []; values = []; names = [] }
+
+unfoldable pub frontIn : List ℕ → Front
+frontIn s = valueOr noFront (readFront s 0)
+
+-- the definition as far as its front tells
+abbrev pub frontOnly : List ℕ → Definition
+frontOnly s = record { front = frontIn s; units = []; variants = [] }
+
+-- a lookup's answer
+abbrev pub foundAt : Found → Option ℕ
+foundAt (found.At n) = some n
+foundAt found.Nothing = none
+
+abbrev pub numberOr : Found → ℕ
+numberOr (found.At n) = n
+numberOr found.Nothing = 0
+
+-- the front of a definition that was read
+pub front-read : (s : List ℕ) {d : Definition} {next : ℕ} → readDefinition s 0 ≡ got d next → frontIn s ≡ d .front
+unfolding frontIn readDefinition
+front-read s {d} {next} h =
+    went-on (readFront s 0) _ h (λ f p1 e1 h1.
+    went-on (count s p1) _ h1 (λ many p2 e2 h2.
+    went-on (readUnits (length (f .constants)) s many [] p2) _ h2 (λ units p3 e3 h3.
+    went-on (shortCountTo highest16 s p3) _ h3 (λ v p4 e4 h4.
+    went-on (repeat (variant (length (f .values)) s) v p4) _ h4 (λ variants p5 e5 h5.
+    ap (valueOr noFront) e1 ∙ ap (λ (r : Read Definition). valueOr (frontOnly s) r .front) h5)))))
+
+-- "P at most 32"
+few-read : (s : List ℕ) {f : Front} {next : ℕ} → readFront s 0 ≡ got f next → length (f .values) ≤ mostParameters
+unfolding readFront
+few-read s {f} {next} h =
+    went-on (definitionName s 0) _ h (λ n p1 e1 h1.
+    went-on (count s p1) _ h1 (λ k p2 e2 h2.
+    went-on (repeat (float32 s) k p2) _ h2 (λ constants p3 e3 h3.
+    went-on (countTo mostParameters s p3) _ h3 (λ p p4 e4 h4.
+    went-on (repeat (float32 s) p p4) _ h4 (λ values p5 e5 h5.
+    went-on (count s p5) _ h5 (λ many p6 e6 h6.
+    went-on (repeat (parameterName p s) many p6) _ h6 (λ names p7 e7 h7.
+    let same : values ≡ f .values = ap (λ (r : Read Front). valueOr noFront r .values) h7 in
+    let size : length values ≡ p = repeat-length (float32 s) p p4 e5 in
+    let low : p ≤ mostParameters = leb-true p mostParameters (checked-got BadCount (λ m. leb m mostParameters) p3 (integer s p3) e4 .1) in
+    rw (sym same, size) low)))))))
+
+few-or : (r : Read Front) → ((f : Front) (p : ℕ) → r ≡ got f p → length (f .values) ≤ mostParameters) → length (valueOr noFront r .values) ≤ mostParameters
+few-or (got f p) h = h f p refl
+few-or (bad q place) h = omega arith
+
+pub values-few : (s : List ℕ) → length (frontIn s .values) ≤ mostParameters
+unfolding frontIn
+values-few s = few-or (readFront s 0) (λ f p e. few-read s e)
+
+-- where a key starts, by the front alone
+pub start-front : (key : Key) (name : List ℕ) (d e : Definition) → d .front ≡ e .front → startOf key name d ≡ startOf key name e
+start-front (Index i) name d e h = refl
+start-front Name name d e h = ap (λ (f : Front). firstIndex name (f .names)) h
+
+-- P, as the lookup tells it
+count-of : (r : Read Front) → numberOr (onRead r found.Nothing (λ f next. found.At (length (f .values)))) ≡ length (valueOr noFront r .values)
+count-of (got f p) = refl
+count-of (bad q place) = refl
+
+pub parameters-told : (s : List ℕ) → numberOr (parametersIn s) ≡ length (frontIn s .values)
+unfolding frontIn
+parameters-told s = count-of (readFront s 0)
+
+-- the first entry of a name
+first-of : (name : List ℕ) (l : List ParameterName) → foundAt (firstNamed name l) ≡ firstIndex name l
+unfolding firstOf firstIndex
+first-of name [] = refl
+first-of name (p ∷ l) = go (first-of name l) (sameName (p .name) name)
+  where
+    go : foundAt (firstNamed name l) ≡ firstIndex name l → (b : Bool) → foundAt (pick b (found.At (p .index)) (firstNamed name l)) ≡ pick b (some (p .index)) (firstIndex name l)
+    go ih true = refl
+    go ih false = ih
+
+index-of : (name : List ℕ) (r : Read Front) → foundAt (onRead r found.Nothing (λ f next. firstNamed name (f .names))) ≡ firstIndex name (valueOr noFront r .names)
+unfolding firstIndex
+index-of name (got f p) = first-of name (f .names)
+index-of name (bad q place) = refl
+
+pub index-told : (name s : List ℕ) → foundAt (indexIn name s) ≡ firstIndex name (frontIn s .names)
+unfolding frontIn
+index-told name s = index-of name (readFront s 0)
+
+-- the test of a start and a count, without a sum
+pub has-past : (start count p : ℕ) → p < start → leb (start + count) p ≡ false
+has-past start count p h = lt-leb (start + count) p (omega arith)
+
+pub has-within : (start count p : ℕ) → start ≤ p → leb (start + count) p ≡ leb count (p - start)
+has-within start count p h = go (leb count (p - start)) refl
+  where
+    go : (b : Bool) → leb count (p - start) ≡ b → leb (start + count) p ≡ b
+    go true e = let low : count ≤ p - start = leb-true count (p - start) e in le-leb (start + count) p (omega arith)
+    go false e = let high : p - start < count = leb-false count (p - start) e in lt-leb (start + count) p (omega arith)

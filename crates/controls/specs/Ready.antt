@@ -1,0 +1,146 @@
+-- What the functions on the words assume of them: sizes and bounds, which the state check has tested.
+use Prim.Native.Nat.{ℕ, zero, suc, _+_, _*_, _≤_, _<_}
+use mathlib.Core.Bool.{Bool, true, false}
+use mathlib.Core.Path.{_≡_, refl, sym, ap, ap₂, _∙_}
+use mathlib.Core.List.{List, [], _∷_, nil≢cons, head-eq-of-cons-eq}
+use native.Mathlib.Omega.{arith}
+use native.Mathlib.Nat.{add-zero, zero-add}
+use borrow.Author.Tests.{leb-true, ltb-true, eq-eqb, eqb-false}
+use lib.ListN.{length, take, drop, getD}
+use lib.Seq.{drop-drop, getD-take, getD-drop}
+use lib.Dec.{leb, ltb, eqb}
+use Rattle.words.specs.Choice.{both, either, both-true}
+use Rattle.words.specs.Parts.{region}
+use Rattle.synthdef.specs.Read.{Read, got, bad}
+use Rattle.synthdef.specs.Definition.{Definition}
+use Rattle.synthdef.specs.Reader.{sizeLimit, readDefinition}
+use Rattle.nodes.specs.declared.Node.{Node}
+use Rattle.nodes.specs.Table.{width, nodeFrom, row-from}
+use Rattle.nodes.specs.Place.{groupSlot, isGroup}
+use Rattle.nodes.specs.Formed.{mostNodes, mostRows, numberFormed, rowFormed, fieldsFormed, allFormed}
+use Rattle.model.specs.Layout.{slotCount, slotRoom, lengthsPlace, nodesPlace, nodesWords, wordsLength, shelfLength, countIn, nextIn, lengthsIn, residentIn, nodesIn}
+use Rattle.model.specs.Engine.{Slot, slotsFrom, decode, noDefinition, valueOr, definitionIn, slotAt, definitionOf, held, slotTaken}
+use Rattle.model.specs.Formed.{isWhole, slotFormed, slotsFormed}
+use Rattle.controls.specs.Encoded.{frontIn, front-read}
+
+-- the record at a place of the node table
+abbrev pub nodeIn : List ℕ → ℕ → Node
+nodeIn ws i = nodeFrom (region nodesPlace nodesWords ws) (width * i)
+
+-- the bytes of the slot k
+abbrev pub slotBytes : List ℕ → List ℕ → ℕ → List ℕ
+slotBytes ws shelf k = take (getD ws (lengthsPlace + k) 0) (take slotRoom (drop (slotRoom * k) shelf))
+
+-- a state of which the check has passed the sizes, the nodes' fields and the slots
+pub record Ready (ws shelf : List ℕ) : Type 0 where
+  pub size : length ws ≡ wordsLength
+  pub shelfSize : length shelf ≡ shelfLength
+  pub few : countIn ws ≤ mostNodes
+  pub fields : allFormed (nextIn ws) (nodesIn ws) ≡ true
+  pub slots : slotsFormed 0 (lengthsIn ws) (decode ws shelf .slots) (nodesIn ws) ≡ true
+
+-- a synth of such a state: its slot and row are there, and its definition's front is what its slot's bytes tell
+pub record Synth (ws shelf : List ℕ) (r : Node) : Type 0 where
+  pub slot : r .slot < slotCount
+  pub row : r .row < mostRows
+  pub front : definitionOf (decode ws shelf .slots) r .front ≡ frontIn (slotBytes ws shelf (r .slot))
+
+-- a word of a part
+pub part-word : (a m i : ℕ) (ws : List ℕ) → i < m → getD (region a m ws) i 0 ≡ getD ws (a + i) 0
+part-word a m i ws h = getD-take m (drop a ws) i 0 h ∙ getD-drop a ws i 0
+
+slots-from : (n k : ℕ) (lengths flags shelf : List ℕ) → k < n
+    → slotAt (slotsFrom n lengths flags shelf) k .bytes ≡ take (getD lengths k 0) (take slotRoom (drop (slotRoom * k) shelf))
+unfolding slotsFrom
+slots-from zero k lengths flags shelf h = absurd (omega arith)
+slots-from (suc n) zero lengths flags shelf h = refl
+slots-from (suc n) (suc k) lengths flags shelf h =
+    let one : 1 + k ≡ suc k = omega arith in
+    let more : slotRoom + slotRoom * k ≡ slotRoom * suc k = omega arith in
+    slots-from n k (drop 1 lengths) (drop 1 flags) (drop slotRoom shelf) (omega arith)
+    ∙ ap₂ (λ (j : ℕ) (l : List ℕ). take j (take slotRoom l))
+    (getD-drop 1 lengths k 0 ∙ ap (λ (j : ℕ). getD lengths j 0) one)
+    (drop-drop (slotRoom * k) slotRoom shelf ∙ ap (λ (j : ℕ). drop j shelf) more)
+
+pub slot-bytes : (ws shelf : List ℕ) (k : ℕ) → k < slotCount → slotAt (decode ws shelf .slots) k .bytes ≡ slotBytes ws shelf k
+unfolding decode
+slot-bytes ws shelf k h =
+    slots-from slotCount k (lengthsIn ws) (residentIn ws) shelf h
+    ∙ ap (λ (j : ℕ). take j (take slotRoom (drop (slotRoom * k) shelf))) (part-word lengthsPlace slotCount k ws h)
+
+-- a record of the table: its fields are formed, and it holds its slot
+fields-at : (next : ℕ) (t : List Node) (i : ℕ) (r : Node) (rest : List Node) → drop i t ≡ r ∷ rest → allFormed next t ≡ true → fieldsFormed next r ≡ true
+unfolding allFormed
+fields-at next [] zero r rest e h = absurd (nil≢cons e)
+fields-at next [] (suc i) r rest e h = absurd (nil≢cons e)
+fields-at next (x ∷ t) zero r rest e h = ap (fieldsFormed next) (sym (head-eq-of-cons-eq e)) ∙ both-true (fieldsFormed next x) (allFormed next t) h .0
+fields-at next (x ∷ t) (suc i) r rest e h = fields-at next t i r rest e (both-true (fieldsFormed next x) (allFormed next t) h .1)
+
+either-true : (b : Bool) → either b true ≡ true
+either-true true = refl
+either-true false = refl
+
+held-at : (t : List Node) (i : ℕ) (r : Node) (rest : List Node) → drop i t ≡ r ∷ rest → held (r .slot) t ≡ true
+unfolding held
+held-at [] zero r rest e = absurd (nil≢cons e)
+held-at [] (suc i) r rest e = absurd (nil≢cons e)
+held-at (x ∷ t) zero r rest e = rw (eq-eqb (x .slot) (r .slot) (ap (λ (y : Node). y .slot) (head-eq-of-cons-eq e)))
+held-at (x ∷ t) (suc i) r rest e = rw (held-at t i r rest e) (either-true (eqb (x .slot) (r .slot)))
+
+-- a slot that a synth holds is one definition
+slot-formed : (k j : ℕ) (sizes : List ℕ) (slots : List Slot) (t : List Node) → j < length slots → slotsFormed k sizes slots t ≡ true
+    → slotFormed (k + j) (getD sizes j 0) (slotAt slots j) t ≡ true
+unfolding slotsFormed
+slot-formed k j sizes [] t l h = absurd (omega arith)
+slot-formed k zero sizes (s ∷ more) t l h =
+    rw add-zero (both-true (slotFormed k (getD sizes 0 0) s t) (slotsFormed (k + 1) (drop 1 sizes) more t) h .0)
+slot-formed k (suc j) sizes (s ∷ more) t l h =
+    let place : k + suc j ≡ k + 1 + j = omega arith in
+    let one : 1 + j ≡ suc j = omega arith in
+    let size : getD sizes (suc j) 0 ≡ getD (drop 1 sizes) j 0 = ap (λ (m : ℕ). getD sizes m 0) (sym one) ∙ sym (getD-drop 1 sizes j 0) in
+    rw (place, size)
+    (slot-formed (k + 1) j (drop 1 sizes) more t (omega arith) (both-true (slotFormed k (getD sizes 0 0) s t) (slotsFormed (k + 1) (drop 1 sizes) more t) h .1))
+
+slots-many : (n : ℕ) (lengths flags shelf : List ℕ) → length (slotsFrom n lengths flags shelf) ≡ n
+unfolding slotsFrom
+slots-many zero lengths flags shelf = refl
+slots-many (suc n) lengths flags shelf = ap suc (slots-many n (drop 1 lengths) (drop 1 flags) (drop slotRoom shelf))
+
+decoded-many : (ws shelf : List ℕ) → length (decode ws shelf .slots) ≡ slotCount
+unfolding decode
+decoded-many ws shelf = slots-many slotCount (lengthsIn ws) (residentIn ws) shelf
+
+whole-front : (s : List ℕ) (size : ℕ) (r : Read Definition) → readDefinition s 0 ≡ r → isWhole size r ≡ true → valueOr noDefinition r .front ≡ frontIn s
+whole-front s size (got d next) e h = sym (front-read s e)
+whole-front s size (bad q place) e h = cc
+
+taken-front : (k size : ℕ) (s : Slot) (t : List Node) → held k t ≡ true → slotFormed k size s t ≡ true → definitionIn s .front ≡ frontIn (s .bytes)
+taken-front k size s t held formed =
+    let taken : slotTaken k s t ≡ true = rw held (either-true (s .resident)) in
+    let whole : both (leb size sizeLimit) (isWhole size (readDefinition (s .bytes) 0)) ≡ true = rw taken at formed in
+    whole-front (s .bytes) size (readDefinition (s .bytes) 0) refl (both-true (leb size sizeLimit) (isWhole size (readDefinition (s .bytes) 0)) whole .1)
+
+slot-front : (ws shelf : List ℕ) (k : ℕ) → slotsFormed 0 (lengthsIn ws) (decode ws shelf .slots) (nodesIn ws) ≡ true → held k (nodesIn ws) ≡ true → k < slotCount
+    → definitionIn (slotAt (decode ws shelf .slots) k) .front ≡ frontIn (slotBytes ws shelf k)
+slot-front ws shelf k formed held h =
+    taken-front k (getD (lengthsIn ws) k 0) (slotAt (decode ws shelf .slots) k) (nodesIn ws) held
+    (rw zero-add at (slot-formed 0 k (lengthsIn ws) (decode ws shelf .slots) (nodesIn ws) (rw (decoded-many ws shelf) h) formed))
+    ∙ ap frontIn (slot-bytes ws shelf k h)
+
+-- a synth at a place of the table
+pub synth-ready : (ws shelf : List ℕ) → Ready ws shelf → (i : ℕ) → i < countIn ws → isGroup (nodeIn ws i) ≡ false → Synth ws shelf (nodeIn ws i)
+synth-ready ws shelf ready i h single =
+    let r = nodeIn ws i in
+    let found : drop i (nodesIn ws) ≡ r ∷ drop (i + 1) (nodesIn ws) = row-from (countIn ws) (region nodesPlace nodesWords ws) i h in
+    let a = both-true (numberFormed (nextIn ws) r) _ (fields-at (nextIn ws) (nodesIn ws) i r (drop (i + 1) (nodesIn ws)) found (ready .fields)) in
+    let b = both-true (leb (r .run) 1) _ (a .1) in
+    let d = both-true (leb (r .slot) groupSlot) (rowFormed r) (b .1) in
+    let most : r .slot ≤ groupSlot = leb-true (r .slot) groupSlot (d .0) in
+    let other : r .slot ≡ groupSlot → ⊥ = eqb-false (r .slot) groupSlot single in
+    let low : r .slot < slotCount = omega arith in
+    let row : ltb (r .row) mostRows ≡ true = rw single at (d .1) in
+    record {
+      slot = low;
+      row = ltb-true (r .row) mostRows row;
+      front = slot-front ws shelf (r .slot) (ready .slots) (held-at (nodesIn ws) i r (drop (i + 1) (nodesIn ws)) found) low;
+    }

@@ -1,0 +1,71 @@
+// One control and one row of controls: functions on the controls' part of the words.
+use values::Control;
+use values::Mapping;
+use words::wide;
+ghost use Prim.Native.Nat.{_+_, _-_, _*_, _≤_, min};
+ghost use mathlib.Core.Path.{_≡_};
+ghost use lib.ListN.{length, getD};
+ghost use Rattle.nodes.specs.Table.{over};
+ghost use Rattle.values.specs.Controls.{Holds, seen, controlAt};
+ghost use Rattle.model.specs.Effects.{controlWords, changeRow};
+ghost use Rattle.controls.specs.Change.{changeOf};
+
+// What a command does to each control that it reaches.
+pub enum Change {
+    Set(u32),
+    Map(Mapping),
+}
+
+// A control changed.
+fn changed(control: Control, change: Change) -> Control
+    ensures { λ r. ⌜ Holds r (changeOf change (seen control)) ⌝ }
+{
+    match change {
+        Change::Set(pattern) => control.set(pattern),
+        Change::Map(mapping) => control.map_to(mapping),
+    }
+}
+
+// The control in the two words at a place, taken as its struct, changed and put back.
+fn change_one(controls: &mut [u32], at: usize, change: Change)
+    requires { ⌜ at + 2 ≤ length (now controls) ⌝ }
+    ensures { λ r. ⌜ now (controls .exit) ≡ over at (controlWords (changeOf change (controlAt (getD (now (controls .entry)) at 0) (getD (now (controls .entry)) (at + 1) 0)))) (now (controls .entry)) ⌝ }
+{
+    let before = Control::from_words(controls[at], controls[at + 1]);
+    let after = changed(before, change);
+    let own = after.own_word();
+    let mapping = after.mapping_word();
+    controls[at] = own;
+    controls[at + 1] = mapping;
+}
+
+// How many controls a count from start on reaches, of p.
+fn reached(start: u32, count: u32, p: u32) -> u32
+    ensures { λ r. ⌜ r ≡ min count (p - start) ⌝ }
+{
+    if p <= start {
+        return 0;
+    }
+    if count <= p - start {
+        return count;
+    }
+    p - start
+}
+
+// The controls of a row from start on, count of them or as many as there are among p.
+pub fn change_row(controls: &mut [u32], row: u32, start: u32, count: u32, p: u32, change: Change)
+    requires { ⌜ 64 * row + 2 * p ≤ length (now controls) ⌝ }
+    ensures { λ r. ⌜ now (controls .exit) ≡ changeRow (changeOf change) row start count p (now (controls .entry)) ⌝ }
+{
+    let many = reached(start, count, p);
+    if many == 0 {
+        return;
+    }
+    let mut at = 64 * wide(row) + 2 * wide(start);
+    let mut i = 0;
+    while i < many {
+        change_one(controls, at, change);
+        at += 2;
+        i += 1;
+    }
+}
