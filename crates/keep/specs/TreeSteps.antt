@@ -44,7 +44,7 @@ pub record Sound (sizes : List ℕ) (e : Engine) : Type 0 where
   pub controls : controlsFormed (e .slots) (e .controls) (e .nodes) ≡ true
 
 -- a node that is not moved lives while another is out
-still-lives : (m n : ℕ) (t : List Node) → lives n t ≡ true → isBelow n m t ≡ false → lives n (cut m t) ≡ true
+pub still-lives : (m n : ℕ) (t : List Node) → lives n t ≡ true → isBelow n m t ≡ false → lives n (cut m t) ≡ true
 still-lives m n t h b =
     let is : 0 < tally (numbered n) t = ltb-true 0 (tally (numbered n) t) (sym (lives-some n t) ∙ h) in
     let none = ltb-false 0 (tally (numbered n) (runOf m t)) (sym (lives-some n (runOf m t)) ∙ b) in

@@ -1,0 +1,4 @@
+// The commands of the tree, behind the state check: each refuses by its row of the table, or changes the tree's parts of the words.
+mod finish;
+mod free;
+mod place;
