@@ -1,4 +1,5 @@
 // The commands of the tree, behind the state check: each refuses by its row of the table, or changes the tree's parts of the words.
 mod finish;
 mod free;
+mod moves;
 mod place;
