@@ -7,3 +7,5 @@ pub mod Emptying
 pub mod Sighting
 pub mod SightingInto
 pub mod Moving
+pub mod Adding
+pub mod Grouping
