@@ -11,14 +11,8 @@ use Rattle.words.specs.Choice.{pick}
 use Rattle.words.specs.Parts.{region, region-length}
 use Rattle.words.specs.declared.Refusal.the-variants.{NotSynthDef, BadVersion, BadCount, TooLong, NameTwice, BytesLeft, BadName}
 use Rattle.synthdef.specs.Read.{Read, got, bad, andThen, checked, repeat}
-<<<<<<< HEAD
 use Rattle.synthdef.specs.FieldLaws.{checked-got, whole-got}
 use Rattle.synthdef.specs.RepeatLaws.{went-on}
-=======
-use Rattle.synthdef.specs.RepeatLaws.{went-on}
-use Rattle.synthdef.specs.FieldLaws.{checked-got}
-use Rattle.synthdef.specs.Endings.{field-got}
->>>>>>> cbe3c12bd3783159e2b0a89d8e49d0e5d67b3322
 use Rattle.synthdef.specs.Units.{string-got}
 use Rattle.synthdef.specs.Fields.{int16, int32, float32, stringAt, nameBytes, pstring, definitionName, count, countTo, shortCountTo, highest16}
 use Rattle.synthdef.specs.NameLaws.{full}
@@ -116,15 +110,9 @@ header-end : (s : List ℕ) {n p : ℕ} → readHeader s ≡ got n p → p ≡ 1
 header-end s {n} {p} e =
     went-on (checked NotSynthDef (λ t. eqb t fileType) 0 (int32 s 0)) _ e (λ t p1 e1 r1.
     went-on (checked BadVersion (λ v. eqb v fileVersion) p1 (int32 s p1)) _ r1 (λ v p2 e2 r2.
-<<<<<<< HEAD
     let a = whole-got 4 s 0 _ (checked-got NotSynthDef (λ t. eqb t fileType) 0 (int32 s 0) e1 .0) in
     let b = whole-got 4 s p1 _ (checked-got BadVersion (λ v. eqb v fileVersion) p1 (int32 s p1) e2 .0) in
     let d = whole-got 2 s p2 _ (checked-got BadCount (λ n. leb n mostDefinitions) p2 (int16 s p2) r2 .0) in
-=======
-    let a = field-got 4 s 0 _ (checked-got NotSynthDef (λ t. eqb t fileType) 0 (int32 s 0) e1 .0) in
-    let b = field-got 4 s p1 _ (checked-got BadVersion (λ v. eqb v fileVersion) p1 (int32 s p1) e2 .0) in
-    let d = field-got 2 s p2 _ (checked-got BadCount (λ n. leb n mostDefinitions) p2 (int16 s p2) r2 .0) in
->>>>>>> cbe3c12bd3783159e2b0a89d8e49d0e5d67b3322
     omega arith))
 
 -- where a file's first definition starts
