@@ -1,0 +1,42 @@
+-- `engine::exports::engine_fresh` meets its contract.
+use mathlib.Core.Path.{_≡_, ap, _∙_}
+use native.Mathlib.Omega.{arith}
+use borrow.Author.Needs.{needs}
+use Rattle.model.specs.Door.{freshAnswer}
+use Rattle.ops.specs.Numbers.{callNumber}
+use Rattle.engine.specs.Calls.{fresh-number, fresh-small}
+use Rattle.engine.proofs.exports.engine_fresh.Statement.{statement}
+use Rattle.engine.proofs.exports.engine_fresh.Tie as tie
+
+fresh-requires : tie.Need-fresh-requires
+fresh-requires c κs = search needs
+
+call-number-requires : tie.Need-call-number-requires
+call-number-requires c κs = search needs
+
+cast-result : tie.Need-cast-result
+cast-result c =
+    let a = c .before .before .before .before .before .before .before .before .before .before .args in
+    let told : c .call-number .result ≡ callNumber (freshAnswer (a .words .now) (a .shelf .now)) = c .call-number .ensures ∙ ap callNumber (c .before .before .before .before .before .fresh .ensures .answers) in
+    omega (arith, fresh-small (a .words .now) (a .shelf .now))
+
+same-length : tie.Need-same-length
+same-length c = search needs
+
+same-length-2 : tie.Need-same-length-2
+same-length-2 c = search needs
+
+returns : tie.Need-returns
+returns c =
+    let a = c .before .before .before .before .before .before .before .before .before .before .args in
+    let made = c .before .before .before .before .before .fresh .ensures in
+    record {
+      number = c .call-number .ensures ∙ ap callNumber (made .answers) ∙ fresh-number (a .words .now) (a .shelf .now);
+      words = made .words;
+      shelf = made .shelf;
+    }
+
+pub engine-fresh-spec : {M : Type 1} → statement M
+engine-fresh-spec =
+    tie.close
+    (tie.spec fresh-requires call-number-requires cast-result same-length same-length-2 returns)

@@ -1,0 +1,67 @@
+// A command on any words, any shelf and any reply buffer: the state check, and then the step of its kind.
+use buscommands::bus_step;
+use controlcommands::control_step;
+use definitioncommands::definition_step;
+use model::Answer;
+use model::Command;
+use model::Query;
+use model::TreeCommand;
+use statecheck::well_formed;
+use words::Refusal;
+ghost use mathlib.Core.Bool.{true};
+ghost use mathlib.Core.Path.{_≡_};
+ghost use Rattle.model.specs.declared.Command.{Command};
+ghost use Rattle.model.specs.Formed.{formed};
+ghost use Rattle.model.specs.Door.{Does};
+ghost use Rattle.state.specs.Known.{Known};
+ghost use Rattle.state.specs.Does.{WordsStep, Reply};
+
+fn tree_step(command: TreeCommand, bytes: &[u8], words: &mut [u32], shelf: &[u8]) -> Answer
+    requires { ⌜ Known (now words) (now shelf) ⌝ }
+    ensures { λ r. ⌜ WordsStep (Command.Tree command) (now (bytes .entry)) (now (words .entry)) (now (shelf .entry)) r (now (words .exit)) ⌝ }
+{
+    Answer::Done
+}
+
+fn query_step(query: Query, bytes: &[u8], words: &[u32], shelf: &[u8], reply: &mut [u8]) -> Answer
+    requires { ⌜ Known (now words) (now shelf) ⌝ }
+    ensures { λ r. ⌜ Reply query (now (bytes .entry)) (now (words .entry)) (now (shelf .entry)) (now (reply .entry)) r (now (reply .exit)) ⌝ }
+{
+    Answer::Done
+}
+
+// A command in a well-formed state.
+pub fn step(
+    command: Command,
+    bytes: &[u8],
+    words: &mut [u32],
+    shelf: &mut [u8],
+    reply: &mut [u8],
+) -> Answer
+    requires { ⌜ formed (now words) (now shelf) ≡ true ⌝ }
+    ensures { λ r. ⌜ Does command (now (bytes .entry)) (now (words .entry)) (now (shelf .entry)) (now (reply .entry)) r (now (words .exit)) (now (shelf .exit)) (now (reply .exit)) ⌝ }
+{
+    match command {
+        Command::Definitions(of) => definition_step(of, bytes, words, shelf),
+        Command::Tree(of) => tree_step(of, bytes, words, shelf),
+        Command::Controls(of) => control_step(of, bytes, words, shelf),
+        Command::Buses(of) => bus_step(of, words),
+        Command::Query(of) => query_step(of, bytes, words, shelf, reply),
+    }
+}
+
+// A command in any state at all: refusal 1 where the state is not well formed, and otherwise its step.
+pub fn apply(
+    command: Command,
+    bytes: &[u8],
+    words: &mut [u32],
+    shelf: &mut [u8],
+    reply: &mut [u8],
+) -> Answer
+    ensures { λ r. ⌜ Does command (now (bytes .entry)) (now (words .entry)) (now (shelf .entry)) (now (reply .entry)) r (now (words .exit)) (now (shelf .exit)) (now (reply .exit)) ⌝ }
+{
+    if !well_formed(words, shelf) {
+        return Answer::Refused(Refusal::BadState);
+    }
+    step(command, bytes, words, shelf, reply)
+}
