@@ -9,6 +9,7 @@ use lib.Dec.{ltb}
 use borrow.Author.Tests.{lt-ltb, le-ltb}
 use Rattle.words.specs.Choice.{pick}
 use Rattle.words.specs.declared.Refusal.the-variants.{NoRoom}
+use Rattle.words.specs.Bytes.{bytes32}
 use Rattle.osc.specs.Message.{padded}
 use Rattle.osc.specs.Over.{over, over-first}
 use Rattle.model.specs.declared.Answer.{Answer}
@@ -41,6 +42,30 @@ module _ (bytes out : List ℕ) where
 -- a message of words, by its address and its tags
 abbrev pub wordMessage : List ℕ → List ℕ → List ℕ → List ℕ
 wordMessage address tags ws = padded address ++ (padded tags ++ wordBytes ws)
+
+-- a message of an integer, a string and a float
+abbrev pub setAddress : List ℕ
+setAddress = 47 ∷ (110 ∷ (95 ∷ (115 ∷ (101 ∷ (116 ∷ [])))))
+
+abbrev pub namedTags : List ℕ
+namedTags = 44 ∷ (105 ∷ (115 ∷ (102 ∷ [])))
+
+abbrev pub namedMessage : ℕ → List ℕ → ℕ → List ℕ
+namedMessage number name value = wordMessage setAddress namedTags (number ∷ []) ++ (padded name ++ bytes32 value)
+
+pub named-size : (number : ℕ) (name : List ℕ) (value : ℕ) → length (namedMessage number name value) ≡ 24 + (length name + (4 - length name % 4))
+unfolding wordBytes
+named-size number name value =
+    length-append (wordMessage setAddress namedTags (number ∷ [])) (padded name ++ bytes32 value)
+    ∙ ap (λ (k : ℕ). 20 + k) (length-append (padded name) (bytes32 value))
+    ∙ omega (arith, padded-size name)
+
+-- room for a message
+pub record Roomy (address tags ws out : List ℕ) : Type 0 where
+  pub addressShort : length address ≤ 64
+  pub tagsShort : length tags ≤ 64
+  pub wordsShort : length ws ≤ 64
+  pub room : length address + (4 - length address % 4) + (length tags + (4 - length tags % 4)) + 4 * length ws ≤ length out
 
 -- lengths that add up
 pub record Short (address tags ws : List ℕ) : Type 0 where

@@ -10,9 +10,6 @@ use Rattle.osc.specs.Over.{over, over-length}
 use Rattle.replies.specs.Words.{wordBytes, over-none, word-bytes-none, word-bytes-size, next-word}
 use Rattle.replies.proofs.put_words.Statement.{statement}
 use Rattle.replies.proofs.put_words.Tie as tie
-use Rattle.replies.proofs.put_words.Reads as reads
-use Rattle.replies.proofs.put_words.Lts as lts
-use Rattle.osc.proofs.put_int.Reads as put-int-reads
 
 abbrev Inv-loop : tie.InvT-loop
 Inv-loop out₀ at words i₀ out i = (i ≤ length words) × (out ≡ over at (wordBytes (take i words)) out₀) × (length out ≡ length out₀)
