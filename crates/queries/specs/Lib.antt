@@ -1,2 +1,4 @@
 pub mod Answers
 pub mod Same
+pub mod Held
+pub mod Status

@@ -1,4 +1,6 @@
 // The queries, behind the state check: they take the state as `&` and write nothing but the reply.
 mod bus;
+mod status;
 
 pub use bus::bus_query;
+pub use status::status_query;
