@@ -1,6 +1,8 @@
 // The queries, behind the state check: they take the state as `&` and write nothing but the reply.
 mod bus;
+mod node;
 mod status;
 
 pub use bus::bus_query;
+pub use node::node_query;
 pub use status::status_query;
