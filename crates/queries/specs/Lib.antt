@@ -5,3 +5,4 @@ pub mod Status
 pub mod Shape
 pub mod Found
 pub mod Info
+pub mod Control
