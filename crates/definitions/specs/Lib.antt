@@ -1,3 +1,14 @@
 pub mod Lists
 pub mod Holders
 pub mod Slots
+pub mod Files
+pub mod Storing
+pub mod Names
+pub mod Naming
+pub mod Retiring
+pub mod Retired
+pub mod Loading
+pub mod Checking
+pub mod Exporting
+pub mod Lent
+pub mod Exported

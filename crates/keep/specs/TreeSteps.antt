@@ -44,7 +44,7 @@ pub record Sound (sizes : List ℕ) (e : Engine) : Type 0 where
   pub controls : controlsFormed (e .slots) (e .controls) (e .nodes) ≡ true
 
 -- a node that is not moved lives while another is out
-still-lives : (m n : ℕ) (t : List Node) → lives n t ≡ true → isBelow n m t ≡ false → lives n (cut m t) ≡ true
+pub still-lives : (m n : ℕ) (t : List Node) → lives n t ≡ true → isBelow n m t ≡ false → lives n (cut m t) ≡ true
 still-lives m n t h b =
     let is : 0 < tally (numbered n) t = ltb-true 0 (tally (numbered n) t) (sym (lives-some n t) ∙ h) in
     let none = ltb-false 0 (tally (numbered n) (runOf m t)) (sym (lives-some n (runOf m t)) ∙ b) in
@@ -68,7 +68,7 @@ module _ (sizes : List ℕ) (e : Engine) (k : Sound sizes e) where
 
   -- a new node goes in
   module _ (action target : ℕ) (act : badAction action ≡ false) (there : not (known target e) ≡ false) (kind : badTarget action target e ≡ false) (room : full action e ≡ false) where
-    comes : (x : Node) → x .depth ≡ 0 → Added x (addBy action x (meant target e) (e .nodes)) (stayingNodes action (meant target e) (e .nodes)) (e .nodes)
+    pub comes : (x : Node) → x .depth ≡ 0 → Added x (addBy action x (meant target e) (e .nodes)) (stayingNodes action (meant target e) (e .nodes)) (e .nodes)
     comes x flat =
         added x flat (meant target e) (e .nodes) (known-lives target e there) (k .tree .root) (k .tree .few) action act room
         (λ q. group-only target e (k .tree .distinct) (rw q at kind))

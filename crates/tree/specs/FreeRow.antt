@@ -17,7 +17,7 @@ use Rattle.nodes.specs.Formed.{mostRows, rowTaken}
 -- the first row from k on that no synth of the table has, of n rows
 unfoldable pub freeFrom : ℕ → ℕ → List Node → ℕ
 freeFrom zero k t = k
-freeFrom (suc n) k t = pick (rowTaken k t) (freeFrom n (suc k) t) k
+freeFrom (suc n) k t = pick (rowTaken k t) (freeFrom n (k + 1) t) k
 
 -- 256 where there is none
 abbrev pub freeRow : List Node → ℕ
@@ -80,11 +80,11 @@ module _ (marks : List Bool) (n : ℕ) (us : List ℕ) (i row : ℕ) (inside : i
 module _ (n k : ℕ) (t : List Node) where
   pub free-here : rowTaken k t ≡ false → freeFrom (suc n) k t ≡ k
   unfolding freeFrom
-  free-here e = ap (λ (b : Bool). pick b (freeFrom n (suc k) t) k) e
+  free-here e = ap (λ (b : Bool). pick b (freeFrom n (k + 1) t) k) e
 
-  pub free-on : rowTaken k t ≡ true → freeFrom (suc n) k t ≡ freeFrom n (suc k) t
+  pub free-on : rowTaken k t ≡ true → freeFrom (suc n) k t ≡ freeFrom n (k + 1) t
   unfolding freeFrom
-  free-on e = ap (λ (b : Bool). pick b (freeFrom n (suc k) t) k) e
+  free-on e = ap (λ (b : Bool). pick b (freeFrom n (k + 1) t) k) e
 
 pub free-end : (k : ℕ) (t : List Node) → freeFrom 0 k t ≡ k
 unfolding freeFrom

@@ -4,7 +4,6 @@ use Prim.Native.Nat.{ℕ, suc, _+_, _-_, _≤_}
 use mathlib.Core.Bool.{true, false}
 use mathlib.Core.Path.{_≡_, refl, sym, ap, _∙_}
 use native.Mathlib.Omega.{arith}
-use native.Mathlib.Numerals.{add-one}
 use lib.ListN.{getD}
 use Rattle.nodes.specs.Table.{rows}
 use Rattle.nodes.specs.Formed.{rowTaken}
@@ -55,7 +54,7 @@ loop-again c =
     let more : 256 - row ≡ suc (255 - row) = omega arith in
     let fewer : 256 - (row + 1) ≡ 255 - row = omega arith in
     let taken : rowTaken row t ≡ true = sym (l .before .taken-rows .ensures row (omega arith)) ∙ ap (λ (k : ℕ). getD (l .before .taken-rows .result) k false) (sym (c .before .wide .ensures)) ∙ not-false _ (c .if1 .left) in
-    (omega arith, rw (fewer, add-one) (sym (free-on (255 - row) row t taken) ∙ ap (λ (k : ℕ). freeFrom k row t) (sym more) ∙ l .loop .inv .1))
+    (omega arith, rw fewer (sym (free-on (255 - row) row t taken) ∙ ap (λ (k : ℕ). freeFrom k row t) (sym more) ∙ l .loop .inv .1))
 
 returns-2 : tie.Need-returns-2 Inv-loop μ-loop
 returns-2 c =

@@ -1,0 +1,47 @@
+use Rattle.synthdef.specs.Definition.{Definition}
+use Rattle.synthdef.specs.Answers.{stepOf}
+use Rattle.synthdef.specs.Read.{Read, got, bad, ending}
+use Prim.{Unit, tt}
+use Prim.Native.Nat.{ℕ, zero, suc, _+_, _*_, _-_, _≤_, _<_}
+use mathlib.Core.Bool.{Bool, true, false, not}
+use mathlib.Core.Path.{_≡_, refl, sym, ap, _∙_}
+use mathlib.Core.List.{List, [], _∷_, _++_, append-assoc}
+use native.Mathlib.Omega.{arith}
+use native.Mathlib.Numerals.{add-one}
+use borrow.Author.Needs.{needs}
+use borrow.Author.Tests.{lt-ltb, le-ltb, le-leb, lt-leb, eq-eqb, ne-eqb}
+use lib.ListN.{length, take, drop, getD, set, length-set, length-drop}
+use borrow.Author.Needs.{needs}
+use Rattle.definitions.proofs.definition_end.Statement.{statement}
+use Rattle.definitions.proofs.definition_end.Tie as tie
+use Rattle.definitions.proofs.definition_end.Reads as reads
+use Rattle.definitions.proofs.definition_end.Lts as lts
+use Rattle.synthdef.proofs.read_definition.Reads as read-definition-reads
+
+read-definition-requires : tie.Need-read-definition-requires
+read-definition-requires c κs = tt
+
+enum-known-next : tie.Need-enum-known-next
+enum-known-next c = search needs
+
+enum-known-refusal : tie.Need-enum-known-refusal
+enum-known-refusal c = search needs
+
+returns : tie.Need-returns
+returns c = λ d next e.
+    let call = c .before .before .before .read-definition in
+    let whole : stepOf (call .result) ≡ got tt next = call .ensures ∙ ap (λ (r : Read Definition). ending r) e in
+    let part : stepOf (call .result) ≡ got tt (c .before .next .given .0 .0 .at) = ap stepOf (c .before .next .given .1) in
+    cc
+
+returns-2 : tie.Need-returns-2
+returns-2 c = λ d next e.
+    let call = c .before .before .before .read-definition in
+    let whole : stepOf (call .result) ≡ got tt next = call .ensures ∙ ap (λ (r : Read Definition). ending r) e in
+    let part : stepOf (call .result) ≡ bad (c .before .refusal .given .0 .0) (c .before .refusal .given .0 .1 .0) = ap stepOf (c .before .refusal .given .1) in
+    cc
+
+pub definition-end-spec : {M : Type 1} → statement M
+definition-end-spec =
+    tie.close
+    (tie.spec read-definition-requires enum-known-next enum-known-refusal returns returns-2)

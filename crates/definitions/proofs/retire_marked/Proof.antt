@@ -1,0 +1,78 @@
+use mathlib.Core.Logic.{⊎-elim}
+use Rattle.definitions.specs.Retiring.{Retiring, retiring-set, retiring-skip, retiring-done}
+use Prim.Native.Nat.{ℕ, zero, suc, _+_, _*_, _-_, _≤_, _<_}
+use mathlib.Core.Bool.{Bool, true, false, not}
+use mathlib.Core.Path.{_≡_, refl, sym, ap, _∙_}
+use mathlib.Core.List.{List, [], _∷_, _++_, append-assoc}
+use native.Mathlib.Omega.{arith}
+use native.Mathlib.Numerals.{add-one}
+use borrow.Author.Needs.{needs}
+use borrow.Author.Tests.{lt-ltb, le-ltb, le-leb, lt-leb, eq-eqb, ne-eqb}
+use lib.ListN.{length, take, drop, getD, set, length-set, length-drop}
+use Rattle.definitions.proofs.retire_marked.Statement.{statement}
+use Rattle.definitions.proofs.retire_marked.Tie as tie
+use Rattle.definitions.proofs.retire_marked.Reads as reads
+use Rattle.definitions.proofs.retire_marked.Lts as lts
+
+abbrev Inv-loop : tie.InvT-loop
+Inv-loop table₀ marks k₀ table k = Retiring table₀ marks k table
+
+abbrev μ-loop : tie.MeasureT-loop
+μ-loop table₀ marks k₀ table k = 32 - k
+
+loop-holds : tie.Need-loop-holds Inv-loop μ-loop
+loop-holds c = record { most = omega arith; size = c .pre; lengths = λ j h. refl; before = λ j h. absurd (omega arith); behind = λ j h. refl }
+
+array-read-if1 : tie.Need-array-read-if1 Inv-loop μ-loop
+array-read-if1 c = omega arith
+
+add-table : tie.Need-add-table Inv-loop μ-loop
+add-table c = omega arith
+
+mul-table : tie.Need-mul-table Inv-loop μ-loop
+mul-table c = omega arith
+
+slice-write-table : tie.Need-slice-write-table Inv-loop μ-loop
+slice-write-table c = omega arith
+
+add-k : tie.Need-add-k Inv-loop μ-loop
+add-k c = omega arith
+
+loop-less : tie.Need-loop-less Inv-loop μ-loop
+loop-less c = omega arith
+
+loop-again : tie.Need-loop-again Inv-loop μ-loop
+loop-again c = let k = c .before .before .loop .k in
+    let now = c .before .before .loop .table in
+    let a = c .before .before .before .args in
+    let inv = c .before .before .loop .inv in
+    let less : k < 32 = omega arith in
+    ⊎-elim
+    (λ w. rw (w .1) (retiring-set (a .table .now) (a .t2) k now inv less (w .0 .taken)))
+    (λ w. rw (w .1) (retiring-skip (a .table .now) (a .t2) k now inv less (w .0 .left)))
+    (c .if1 .came)
+
+same-length : tie.Need-same-length Inv-loop μ-loop
+same-length c = search needs
+
+returns : tie.Need-returns Inv-loop μ-loop
+returns c = λ shelf names f n.
+    let a = c .before .before .args in
+    retiring-done (a .table .now) shelf names f (a .t2) (c .before .loop .k) (c .before .loop .table) n (c .before .loop .inv) (omega arith)
+
+pub retire-marked-spec : {M : Type 1} → statement M
+retire-marked-spec =
+    tie.close
+    (tie.spec
+    Inv-loop
+    μ-loop
+    loop-holds
+    array-read-if1
+    add-table
+    mul-table
+    slice-write-table
+    add-k
+    loop-less
+    loop-again
+    same-length
+    returns)

@@ -1,0 +1,172 @@
+-- Slots put into the table and onto the shelf.
+use Prim.Native.Nat.{ℕ, zero, suc, _+_, _*_, _-_, _≤_, _<_, min}
+use mathlib.Core.Bool.{Bool, true, false, not}
+use mathlib.Core.Path.{_≡_, refl, sym, ap, ap₂, _∙_}
+use mathlib.Core.List.{List, [], _∷_, _++_, append-assoc}
+use native.Mathlib.Omega.{arith}
+use native.Mathlib.Nat.{add-zero, zero-add, sub-zero}
+use lib.ListN.{length, take, drop, getD, set, length-take, length-drop, length-append, length-set, take-append-drop}
+use lib.Seq.{getD-take, getD-drop, drop-drop, take-take, ext-getD, take-at, drop-at, drop-append-le, drop-append-add, take-append-add, length-take-le, set-append-left, getD-append-add}
+use lib.Dec.{eqb}
+use borrow.Author.Tests.{eq-eqb, ne-eqb, eqb-true, eqb-false}
+use Rattle.words.specs.Choice.{pick, both, either}
+use Rattle.words.specs.Parts.{region, put}
+use Rattle.synthdef.specs.Read.{Read, got, bad}
+use Rattle.nodes.specs.declared.Node.{Node}
+use Rattle.model.specs.Layout.{slotCount, slotRoom, shelfLength, lengthsPlace, lengthsIn, residentIn}
+use Rattle.model.specs.Engine.{Slot, slotsFrom, slotAt, held, slotTaken}
+use Rattle.model.specs.Effects.{freeFrom}
+use Rattle.model.specs.After.{flagsOf, lengthsOf, shelfOf}
+use Rattle.definitions.specs.Lists.{set-append-add}
+use Rattle.definitions.specs.Slots.{tableWords, lengthsOn, flagsOn, slotsOn, slotOn, bytesOn, residentOn, slots-length, slot-at, Sized, Whole, Formed}
+
+-- the table of slots: a resident's own length, of another what was there; and the flags
+abbrev pub tableOf : List Slot → List ℕ → List ℕ
+tableOf slots table = lengthsOf slots (lengthsOn table) ++ flagsOf slots
+
+pub flags-size : (slots : List Slot) → length (flagsOf slots) ≡ length slots
+unfolding flagsOf
+flags-size [] = refl
+flags-size (s ∷ more) = ap suc (flags-size more)
+
+pub lengths-size : (slots : List Slot) (sizes : List ℕ) → length (lengthsOf slots sizes) ≡ length slots
+unfolding lengthsOf
+lengths-size [] sizes = refl
+lengths-size (s ∷ more) sizes = ap suc (lengths-size more (drop 1 sizes))
+
+pub table-size : (slots : List Slot) (table : List ℕ) → length (tableOf slots table) ≡ length slots + length slots
+table-size slots table = length-append (lengthsOf slots (lengthsOn table)) (flagsOf slots) ∙ ap₂ (λ (a b : ℕ). a + b) (lengths-size slots (lengthsOn table)) (flags-size slots)
+
+-- at a place
+pub flags-at : (slots : List Slot) (k : ℕ) → k < length slots → getD (flagsOf slots) k 0 ≡ pick (slotAt slots k .resident) 1 0
+unfolding flagsOf
+flags-at [] k h = absurd (omega arith)
+flags-at (s ∷ more) zero h = refl
+flags-at (s ∷ more) (suc k) h = flags-at more k (omega arith)
+
+pub lengths-at : (slots : List Slot) (sizes : List ℕ) (k : ℕ) → k < length slots
+    → getD (lengthsOf slots sizes) k 0 ≡ pick (slotAt slots k .resident) (length (slotAt slots k .bytes)) (getD sizes k 0)
+unfolding lengthsOf
+lengths-at [] sizes k h = absurd (omega arith)
+lengths-at (s ∷ more) sizes zero h = refl
+lengths-at (s ∷ more) sizes (suc k) h =
+    lengths-at more (drop 1 sizes) k (omega arith)
+    ∙ ap (λ (n : ℕ). pick (slotAt more k .resident) (length (slotAt more k .bytes)) n) (getD-drop 1 sizes k 0 ∙ ap (λ (j : ℕ). getD sizes j 0) one)
+  where
+    one : 1 + k ≡ suc k
+    one = omega arith
+
+-- a slot changed
+pub flags-set : (slots : List Slot) (k : ℕ) (x : Slot) → flagsOf (set slots k x) ≡ set (flagsOf slots) k (pick (x .resident) 1 0)
+unfolding flagsOf
+flags-set [] k x = refl
+flags-set (s ∷ more) zero x = refl
+flags-set (s ∷ more) (suc k) x = ap (λ (l : List ℕ). pick (s .resident) 1 0 ∷ l) (flags-set more k x)
+
+pub lengths-set : (slots : List Slot) (sizes : List ℕ) (k : ℕ) (x : Slot) → x .resident ≡ true → lengthsOf (set slots k x) sizes ≡ set (lengthsOf slots sizes) k (length (x .bytes))
+unfolding lengthsOf
+lengths-set [] sizes k x r = refl
+lengths-set (s ∷ more) sizes zero x r = rw r
+lengths-set (s ∷ more) sizes (suc k) x r =
+    ap (λ (l : List ℕ). pick (s .resident) (length (s .bytes)) (getD sizes 0 0) ∷ l) (lengths-set more (drop 1 sizes) k x r)
+
+-- a resident put into a slot, in the table
+pub table-set : (slots : List Slot) (table : List ℕ) (k : ℕ) (x : Slot) → length slots ≡ slotCount → k < slotCount → x .resident ≡ true
+    → tableOf (set slots k x) table ≡ set (set (tableOf slots table) k (length (x .bytes))) (slotCount + k) 1
+table-set slots table k x many h r =
+    let ls = lengthsOf slots (lengthsOn table) in
+    let fs = flagsOf slots in
+    let size : length ls ≡ slotCount = lengths-size slots (lengthsOn table) ∙ many in
+    let size′ : length (set ls k (length (x .bytes))) ≡ slotCount = length-set ls k (length (x .bytes)) ∙ size in
+    rw (lengths-set slots (lengthsOn table) k x r, flags-set slots k x, r)
+    (sym (rw (set-append-left ls fs k (length (x .bytes)) (omega arith), sym size′) (set-append-add (set ls k (length (x .bytes))) fs k 1)))
+
+-- a run with a part put in, behind a first part
+pub put-behind : (p q : List ℕ) (a k : ℕ) (ys : List ℕ) → put (length p + a) k ys (p ++ q) ≡ p ++ put a k ys q
+put-behind p q a k ys =
+    rw (take-append-add p q a, drop-append-add p q a) (append-assoc p (take a q) (ys ++ drop k (drop a q)))
+
+-- a resident's bytes have room
+abbrev pub Short : List Slot → Type 0
+Short slots = (k : ℕ) → slotAt slots k .resident ≡ true → length (slotAt slots k .bytes) ≤ slotRoom
+
+-- what a slot leaves in its room
+abbrev chunk : Slot → List ℕ → List ℕ
+chunk s room = pick (s .resident) (s .bytes ++ drop (length (s .bytes)) room) room
+
+chunk-size : (s : Slot) (room : List ℕ) → (s .resident ≡ true → length (s .bytes) ≤ length room) → length (chunk s room) ≡ length room
+chunk-size s room h = by (s .resident) refl
+  where
+    by : (r : Bool) → s .resident ≡ r → length (pick r (s .bytes ++ drop (length (s .bytes)) room) room) ≡ length room
+    by true e =
+        let fits = h e in
+        simp (length-append, length-drop) (omega arith)
+    by false e = refl
+
+-- a resident put into a slot that is not resident, on the shelf
+pub shelf-set : (slots : List Slot) (shelf : List ℕ) (k : ℕ) (x : Slot) → Short slots → slotRoom * length slots ≤ length shelf → k < length slots
+    → slotAt slots k .resident ≡ false → x .resident ≡ true → length (x .bytes) ≤ slotRoom
+    → shelfOf (set slots k x) shelf ≡ put (slotRoom * k) (length (x .bytes)) (x .bytes) (shelfOf slots shelf)
+unfolding shelfOf
+shelf-set [] shelf k x short long h free r fits = absurd (omega arith)
+shelf-set (s ∷ more) shelf zero x short long h free r fits =
+    let room : length (take slotRoom shelf) ≡ slotRoom = length-take-le slotRoom shelf (omega arith) in
+    let rest = shelfOf more (drop slotRoom shelf) in
+    rw (r, free)
+    (append-assoc (x .bytes) (drop (length (x .bytes)) (take slotRoom shelf)) rest
+    ∙ ap (λ (l : List ℕ). x .bytes ++ l) (sym (drop-append-le (length (x .bytes)) (take slotRoom shelf) rest (omega arith))))
+shelf-set (s ∷ more) shelf (suc k) x short long h free r fits =
+    let room : length (take slotRoom shelf) ≡ slotRoom = length-take-le slotRoom shelf (omega arith) in
+    let size : length (chunk s (take slotRoom shelf)) ≡ slotRoom = chunk-size s (take slotRoom shelf) (λ e. omega (arith, short 0 e)) ∙ room in
+    let at : slotRoom * suc k ≡ length (chunk s (take slotRoom shelf)) + slotRoom * k = omega arith in
+    let inner : slotRoom * length more ≤ length (drop slotRoom shelf) = simp length-drop (omega arith) in
+    ap (λ (l : List ℕ). chunk s (take slotRoom shelf) ++ l) (shelf-set more (drop slotRoom shelf) k x (λ j e. short (suc j) e) inner (omega arith) free r fits)
+    ∙ sym (put-behind (chunk s (take slotRoom shelf)) (shelfOf more (drop slotRoom shelf)) (slotRoom * k) (length (x .bytes)) (x .bytes))
+    ∙ ap (λ (a : ℕ). put a (length (x .bytes)) (x .bytes) (chunk s (take slotRoom shelf) ++ shelfOf more (drop slotRoom shelf))) (sym at)
+
+-- slots that lie there leave the shelf as it is
+take-prefix : (n : ℕ) (l : List ℕ) → take n l ++ drop (length (take n l)) l ≡ l
+take-prefix zero l = refl
+take-prefix (suc n) [] = refl
+take-prefix (suc n) (x ∷ l) = ap (λ (m : List ℕ). x ∷ m) (take-prefix n l)
+
+pub shelf-same : (n : ℕ) (lengths flags shelf : List ℕ) → shelfOf (slotsFrom n lengths flags shelf) shelf ≡ shelf
+unfolding slotsFrom shelfOf
+shelf-same zero lengths flags shelf = refl
+shelf-same (suc n) lengths flags shelf =
+    ap₂ (λ (a b : List ℕ). a ++ b) (kept (eqb (getD flags 0 0) 1)) (shelf-same n (drop 1 lengths) (drop 1 flags) (drop slotRoom shelf))
+    ∙ take-append-drop slotRoom shelf
+  where
+    bytes : List ℕ
+    bytes = take (getD lengths 0 0) (take slotRoom shelf)
+
+    kept : (b : Bool) → pick b (bytes ++ drop (length bytes) (take slotRoom shelf)) (take slotRoom shelf) ≡ take slotRoom shelf
+    kept true = take-prefix (getD lengths 0 0) (take slotRoom shelf)
+    kept false = refl
+
+-- and so the flags
+pub flags-back : (slots : List Slot) (lengths shelf : List ℕ) → flagsOf (slotsFrom (length slots) lengths (flagsOf slots) shelf) ≡ flagsOf slots
+unfolding slotsFrom flagsOf
+flags-back [] lengths shelf = refl
+flags-back (s ∷ more) lengths shelf = ap₂ (λ (a : ℕ) (b : List ℕ). a ∷ b) (flag (s .resident)) (flags-back more (drop 1 lengths) (drop slotRoom shelf))
+  where
+    flag : (b : Bool) → _≡_ {A = ℕ} (pick (eqb (pick b 1 0) 1) 1 0) (pick b 1 0)
+    flag true = refl
+    flag false = refl
+
+-- a free slot is found by the flags
+pub free-flags : (k : ℕ) (a b : List Slot) (t : List Node) → flagsOf a ≡ flagsOf b → freeFrom k a t ≡ freeFrom k b t
+unfolding freeFrom flagsOf
+free-flags k [] [] t e = refl
+free-flags k [] (y ∷ b) t e = absurd (let z : _≡_ {A = ℕ} 0 1 = ap length e ∙ cc in omega arith)
+free-flags k (x ∷ a) [] t e = absurd (let z : _≡_ {A = ℕ} 0 1 = cc in omega arith)
+free-flags k (x ∷ a) (y ∷ b) t e =
+    let first : _≡_ {A = ℕ} (pick (x .resident) 1 0) (pick (y .resident) 1 0) = cc in
+    let rest : flagsOf a ≡ flagsOf b = cc in
+    rw (bit (x .resident) (y .resident) first, free-flags (k + 1) a b t rest)
+  where
+    bit : (p q : Bool) → _≡_ {A = ℕ} (pick p 1 0) (pick q 1 0) → p ≡ q
+    bit true true h = refl
+    bit true false h = absurd (omega arith)
+    bit false true h = absurd (omega arith)
+    bit false false h = refl

@@ -1,0 +1,170 @@
+-- `order::nodes_formed` meets its contract: `formed`, one rule at a time by `formed-some`.
+use mathlib.Core.Bool.{true, false}
+use mathlib.Core.Path.{_≡_, sym, _∙_}
+use native.Mathlib.Omega.{arith}
+use borrow.Author.Needs.{needs}
+use borrow.Author.Tests.{le-leb, lt-leb, eq-eqb, ne-eqb, not-true, not-false}
+use Rattle.nodes.specs.Table.{rows, rows-length}
+use Rattle.nodes.specs.Formed.{rooted, apart, allFormed, noneLeft, firstGiven}
+use Rattle.order.specs.Marks.{rowsHold}
+use Rattle.order.specs.Checks.{formed-none, formed-many, formed-some}
+use Rattle.order.proofs.nodes_formed.Statement.{statement}
+use Rattle.order.proofs.nodes_formed.Tie as tie
+
+returns : tie.Need-returns
+returns c =
+    let a = c .before .before .args in
+    let t = rows (a .count) (a .nodes .now) in
+    let size = rows-length (a .count) (a .nodes .now) in
+    sym (formed-none (a .next) (a .latest) t (omega arith))
+
+returns-2 : tie.Need-returns-2
+returns-2 c =
+    let a = c .before .before .before .args in
+    let t = rows (a .count) (a .nodes .now) in
+    let size = rows-length (a .count) (a .nodes .now) in
+    sym (formed-many (a .next) (a .latest) t (omega arith))
+
+root-holds-requires : tie.Need-root-holds-requires
+root-holds-requires c κs = search needs
+
+returns-3 : tie.Need-returns-3
+returns-3 c =
+    let a = c .before .before .before .before .before .args in
+    let t = rows (a .count) (a .nodes .now) in
+    let size = rows-length (a .count) (a .nodes .now) in
+    let root : rooted t ≡ false =
+    sym (c .before .root-holds .ensures) ∙ not-true (c .before .root-holds .result) (c .if3 .taken) in
+    sym (rw (root) at (formed-some (a .next) (a .latest) t (omega arith) (omega arith)))
+
+numbers-apart-requires : tie.Need-numbers-apart-requires
+numbers-apart-requires c κs = search needs
+
+returns-4 : tie.Need-returns-4
+returns-4 c =
+    let a = c .before .before .before .before .before .before .before .args in
+    let t = rows (a .count) (a .nodes .now) in
+    let size = rows-length (a .count) (a .nodes .now) in
+    let root : rooted t ≡ true =
+    sym (c .before .before .before .root-holds .ensures) ∙ not-false (c .before .before .before .root-holds .result) (c .before .before .if3 .left) in
+    let distinct : apart t ≡ false =
+    sym (c .before .numbers-apart .ensures) ∙ not-true (c .before .numbers-apart .result) (c .if4 .taken) in
+    sym (rw (root, distinct) at (formed-some (a .next) (a .latest) t (omega arith) (omega arith)))
+
+records-hold-requires : tie.Need-records-hold-requires
+records-hold-requires c κs = search needs
+
+returns-5 : tie.Need-returns-5
+returns-5 c =
+    let a = c .before .before .before .before .before .before .before .before .before .args in
+    let t = rows (a .count) (a .nodes .now) in
+    let size = rows-length (a .count) (a .nodes .now) in
+    let root : rooted t ≡ true =
+    sym (c .before .before .before .before .before .root-holds .ensures) ∙ not-false (c .before .before .before .before .before .root-holds .result) (c .before .before .before .before .if3 .left) in
+    let distinct : apart t ≡ true =
+    sym (c .before .before .before .numbers-apart .ensures) ∙ not-false (c .before .before .before .numbers-apart .result) (c .before .before .if4 .left) in
+    let fields : allFormed (a .next) t ≡ false =
+    sym (c .before .records-hold .ensures) ∙ not-true (c .before .records-hold .result) (c .if5 .taken) in
+    sym (rw (root, distinct, fields) at (formed-some (a .next) (a .latest) t (omega arith) (omega arith)))
+
+running-order-requires : tie.Need-running-order-requires
+running-order-requires c κs = search needs
+
+returns-6 : tie.Need-returns-6
+returns-6 c =
+    let a = c .before .before .before .before .before .before .before .before .before .before .before .before .args in
+    let t = rows (a .count) (a .nodes .now) in
+    let size = rows-length (a .count) (a .nodes .now) in
+    let root : rooted t ≡ true =
+    sym (c .before .before .before .before .before .before .before .before .root-holds .ensures) ∙ not-false (c .before .before .before .before .before .before .before .before .root-holds .result) (c .before .before .before .before .before .before .before .if3 .left) in
+    let distinct : apart t ≡ true =
+    sym (c .before .before .before .before .before .before .numbers-apart .ensures) ∙ not-false (c .before .before .before .before .before .before .numbers-apart .result) (c .before .before .before .before .before .if4 .left) in
+    let fields : allFormed (a .next) t ≡ true =
+    sym (c .before .before .before .before .records-hold .ensures) ∙ not-false (c .before .before .before .before .records-hold .result) (c .before .before .before .if5 .left) in
+    let held : rowsHold t ≡ false =
+    sym (c .before .before .running-order .ensures .distinct) ∙ not-true (c .before .before .running-order .result .distinct) (c .if6 .taken) in
+    sym (rw (root, distinct, fields, held) at (formed-some (a .next) (a .latest) t (omega arith) (omega arith)))
+
+returns-7 : tie.Need-returns-7
+returns-7 c =
+    let a = c .before .before .before .before .before .before .before .before .before .before .before .before .before .args in
+    let t = rows (a .count) (a .nodes .now) in
+    let size = rows-length (a .count) (a .nodes .now) in
+    let root : rooted t ≡ true =
+    sym (c .before .before .before .before .before .before .before .before .before .root-holds .ensures) ∙ not-false (c .before .before .before .before .before .before .before .before .before .root-holds .result) (c .before .before .before .before .before .before .before .before .if3 .left) in
+    let distinct : apart t ≡ true =
+    sym (c .before .before .before .before .before .before .before .numbers-apart .ensures) ∙ not-false (c .before .before .before .before .before .before .before .numbers-apart .result) (c .before .before .before .before .before .before .if4 .left) in
+    let fields : allFormed (a .next) t ≡ true =
+    sym (c .before .before .before .before .before .records-hold .ensures) ∙ not-false (c .before .before .before .before .before .records-hold .result) (c .before .before .before .before .if5 .left) in
+    let held : rowsHold t ≡ true =
+    sym (c .before .before .before .running-order .ensures .distinct) ∙ not-false (c .before .before .before .running-order .result .distinct) (c .before .if6 .left) in
+    sym (rw (root, distinct, fields, held, lt-leb noneLeft (a .next) (c .if7 .taken)) at (formed-some (a .next) (a .latest) t (omega arith) (omega arith)))
+
+returns-8 : tie.Need-returns-8
+returns-8 c =
+    let a = c .before .before .before .before .before .before .before .before .before .before .before .before .before .before .args in
+    let t = rows (a .count) (a .nodes .now) in
+    let size = rows-length (a .count) (a .nodes .now) in
+    let root : rooted t ≡ true =
+    sym (c .before .before .before .before .before .before .before .before .before .before .root-holds .ensures) ∙ not-false (c .before .before .before .before .before .before .before .before .before .before .root-holds .result) (c .before .before .before .before .before .before .before .before .before .if3 .left) in
+    let distinct : apart t ≡ true =
+    sym (c .before .before .before .before .before .before .before .before .numbers-apart .ensures) ∙ not-false (c .before .before .before .before .before .before .before .before .numbers-apart .result) (c .before .before .before .before .before .before .before .if4 .left) in
+    let fields : allFormed (a .next) t ≡ true =
+    sym (c .before .before .before .before .before .before .records-hold .ensures) ∙ not-false (c .before .before .before .before .before .before .records-hold .result) (c .before .before .before .before .before .if5 .left) in
+    let held : rowsHold t ≡ true =
+    sym (c .before .before .before .before .running-order .ensures .distinct) ∙ not-false (c .before .before .before .before .running-order .result .distinct) (c .before .before .if6 .left) in
+    sym (rw (root, distinct, fields, held, le-leb noneLeft (a .next) (omega arith), lt-leb (a .next) firstGiven (c .if8 .taken)) at (formed-some (a .next) (a .latest) t (omega arith) (omega arith)))
+
+returns-9 : tie.Need-returns-9
+returns-9 c =
+    let a = c .before .before .before .before .before .before .before .before .before .before .before .before .before .before .before .args in
+    let t = rows (a .count) (a .nodes .now) in
+    let size = rows-length (a .count) (a .nodes .now) in
+    let root : rooted t ≡ true =
+    sym (c .before .before .before .before .before .before .before .before .before .before .before .root-holds .ensures) ∙ not-false (c .before .before .before .before .before .before .before .before .before .before .before .root-holds .result) (c .before .before .before .before .before .before .before .before .before .before .if3 .left) in
+    let distinct : apart t ≡ true =
+    sym (c .before .before .before .before .before .before .before .before .before .numbers-apart .ensures) ∙ not-false (c .before .before .before .before .before .before .before .before .before .numbers-apart .result) (c .before .before .before .before .before .before .before .before .if4 .left) in
+    let fields : allFormed (a .next) t ≡ true =
+    sym (c .before .before .before .before .before .before .before .records-hold .ensures) ∙ not-false (c .before .before .before .before .before .before .before .records-hold .result) (c .before .before .before .before .before .before .if5 .left) in
+    let held : rowsHold t ≡ true =
+    sym (c .before .before .before .before .before .running-order .ensures .distinct) ∙ not-false (c .before .before .before .before .before .running-order .result .distinct) (c .before .before .before .if6 .left) in
+    sym (rw (root, distinct, fields, held, le-leb noneLeft (a .next) (omega arith), le-leb (a .next) firstGiven (omega arith), eq-eqb (a .latest) 0 (c .if9 .taken)) at (formed-some (a .next) (a .latest) t (omega arith) (omega arith)))
+
+synth-lives-requires : tie.Need-synth-lives-requires
+synth-lives-requires c κs = search needs
+
+returns-10 : tie.Need-returns-10
+returns-10 c =
+    let a = c .before .before .before .before .before .before .before .before .before .before .before .before .before .before .before .before .args in
+    let t = rows (a .count) (a .nodes .now) in
+    let size = rows-length (a .count) (a .nodes .now) in
+    let root : rooted t ≡ true =
+    sym (c .before .before .before .before .before .before .before .before .before .before .before .before .root-holds .ensures) ∙ not-false (c .before .before .before .before .before .before .before .before .before .before .before .before .root-holds .result) (c .before .before .before .before .before .before .before .before .before .before .before .if3 .left) in
+    let distinct : apart t ≡ true =
+    sym (c .before .before .before .before .before .before .before .before .before .before .numbers-apart .ensures) ∙ not-false (c .before .before .before .before .before .before .before .before .before .before .numbers-apart .result) (c .before .before .before .before .before .before .before .before .before .if4 .left) in
+    let fields : allFormed (a .next) t ≡ true =
+    sym (c .before .before .before .before .before .before .before .before .records-hold .ensures) ∙ not-false (c .before .before .before .before .before .before .before .before .records-hold .result) (c .before .before .before .before .before .before .before .if5 .left) in
+    let held : rowsHold t ≡ true =
+    sym (c .before .before .before .before .before .before .running-order .ensures .distinct) ∙ not-false (c .before .before .before .before .before .before .running-order .result .distinct) (c .before .before .before .before .if6 .left) in
+    c .synth-lives .ensures
+    ∙ sym (rw (root, distinct, fields, held, le-leb noneLeft (a .next) (omega arith), le-leb (a .next) firstGiven (omega arith), ne-eqb (a .latest) 0 (c .before .if9 .left)) at (formed-some (a .next) (a .latest) t (omega arith) (omega arith)))
+
+pub nodes-formed-spec : {M : Type 1} → statement M
+nodes-formed-spec =
+    tie.close
+    (tie.spec
+    returns
+    returns-2
+    root-holds-requires
+    returns-3
+    numbers-apart-requires
+    returns-4
+    records-hold-requires
+    returns-5
+    running-order-requires
+    returns-6
+    returns-7
+    returns-8
+    returns-9
+    synth-lives-requires
+    returns-10)

@@ -1,0 +1,68 @@
+-- `order::number_lives` meets its contract. The invariant: what is left to search is what there was to search.
+use Prim.Native.Nat.{_*_, _-_, _≤_}
+use mathlib.Core.Path.{_≡_, refl, sym, _∙_}
+use native.Mathlib.Omega.{arith}
+use borrow.Author.Tests.{eq-eqb, ne-eqb}
+use lib.ListN.{drop, getD}
+use Rattle.nodes.specs.Table.{rows}
+use Rattle.nodes.specs.Place.{lives, lives-turn, lives-end}
+use Rattle.order.proofs.number_lives.Statement.{statement}
+use Rattle.order.proofs.number_lives.Tie as tie
+
+abbrev Inv-loop : tie.InvT-loop
+Inv-loop nodes count from number i₀ i = (i ≤ count) × (lives number (drop i (rows count nodes)) ≡ lives number (drop from (rows count nodes)))
+
+abbrev μ-loop : tie.MeasureT-loop
+μ-loop nodes count from number i₀ i = count - i
+
+loop-holds : tie.Need-loop-holds Inv-loop μ-loop
+loop-holds c = (omega arith, refl)
+
+mul-if1 : tie.Need-mul-if1 Inv-loop μ-loop
+mul-if1 c = omega arith
+
+mul-if1-2 : tie.Need-mul-if1-2 Inv-loop μ-loop
+mul-if1-2 c = omega arith
+
+shared-slice-read-if1 : tie.Need-shared-slice-read-if1 Inv-loop μ-loop
+shared-slice-read-if1 c = omega arith
+
+returns : tie.Need-returns Inv-loop μ-loop
+returns c =
+    let b = c .before .before .before in
+    let a = b .before .args in
+    sym (rw (eq-eqb (getD (a .nodes .now) (5 * b .loop .i) 0) (a .number) (c .if1 .taken)) at (lives-turn (a .count) (a .nodes .now) (a .number) (b .loop .i) (omega arith))) ∙ b .loop .inv .1
+
+add-i : tie.Need-add-i Inv-loop μ-loop
+add-i c = omega arith
+
+loop-less : tie.Need-loop-less Inv-loop μ-loop
+loop-less c = omega arith
+
+loop-again : tie.Need-loop-again Inv-loop μ-loop
+loop-again c =
+    let b = c .before .before .before in
+    let a = b .before .args in
+    (omega arith, sym (rw (ne-eqb (getD (a .nodes .now) (5 * b .loop .i) 0) (a .number) (c .if1 .left)) at (lives-turn (a .count) (a .nodes .now) (a .number) (b .loop .i) (omega arith))) ∙ b .loop .inv .1)
+
+returns-2 : tie.Need-returns-2 Inv-loop μ-loop
+returns-2 c =
+    let b = c .before in
+    let a = b .before .args in
+    sym (lives-end (a .count) (a .nodes .now) (a .number) (b .loop .i) (omega arith)) ∙ b .loop .inv .1
+
+pub number-lives-spec : {M : Type 1} → statement M
+number-lives-spec =
+    tie.close
+    (tie.spec
+    Inv-loop
+    μ-loop
+    loop-holds
+    mul-if1
+    mul-if1-2
+    shared-slice-read-if1
+    returns
+    add-i
+    loop-less
+    loop-again
+    returns-2)

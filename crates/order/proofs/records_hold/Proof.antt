@@ -1,0 +1,139 @@
+-- `order::records_hold` meets its contract. The invariant: what is left to check is what there was to check.
+use Prim.Native.Nat.{_+_, _*_, _-_, _≤_}
+use mathlib.Core.Bool.{true, false}
+use mathlib.Core.Path.{_≡_, refl, sym, _∙_}
+use native.Mathlib.Omega.{arith}
+use borrow.Author.Tests.{not-true, not-false}
+use lib.ListN.{drop, getD}
+use Rattle.nodes.specs.Table.{rows}
+use Rattle.nodes.specs.Formed.{allFormed}
+use Rattle.order.specs.Checks.{numberHolds, fieldsHold, fields-turn, fields-end}
+use Rattle.order.proofs.records_hold.Statement.{statement}
+use Rattle.order.proofs.records_hold.Tie as tie
+
+abbrev Inv-loop : tie.InvT-loop
+Inv-loop nodes count next i₀ i = (i ≤ count) × (allFormed next (drop i (rows count nodes)) ≡ allFormed next (rows count nodes))
+
+abbrev μ-loop : tie.MeasureT-loop
+μ-loop nodes count next i₀ i = count - i
+
+loop-holds : tie.Need-loop-holds Inv-loop μ-loop
+loop-holds c = (omega arith, refl)
+
+mul-at : tie.Need-mul-at Inv-loop μ-loop
+mul-at c = omega arith
+
+add-slot : tie.Need-add-slot Inv-loop μ-loop
+add-slot c = omega arith
+
+mul-slot : tie.Need-mul-slot Inv-loop μ-loop
+mul-slot c = omega arith
+
+shared-slice-read-slot : tie.Need-shared-slice-read-slot Inv-loop μ-loop
+shared-slice-read-slot c = omega arith
+
+mul-number-holds : tie.Need-mul-number-holds Inv-loop μ-loop
+mul-number-holds c = omega arith
+
+shared-slice-read-number-holds : tie.Need-shared-slice-read-number-holds Inv-loop μ-loop
+shared-slice-read-number-holds c = omega arith
+
+number-holds-requires : tie.Need-number-holds-requires Inv-loop μ-loop
+number-holds-requires c κs = tt
+
+returns : tie.Need-returns Inv-loop μ-loop
+returns c =
+    let b = c .before .before .before .before .before in
+    let a = b .before .before .args in
+    let us = a .nodes .now in
+    let i = b .loop .i in
+    let e = c .before .number-holds .ensures in
+    let bad : numberHolds (a .next) (getD us (5 * i) 0) (getD us (5 * i + 3) 0) ≡ false = sym e ∙ not-true (c .before .number-holds .result) (c .if1 .taken) in
+    sym (rw bad at (fields-turn (a .count) us (a .next) i (omega arith))) ∙ b .loop .inv .1
+
+add-fields-hold : tie.Need-add-fields-hold Inv-loop μ-loop
+add-fields-hold c = omega arith
+
+mul-fields-hold : tie.Need-mul-fields-hold Inv-loop μ-loop
+mul-fields-hold c = omega arith
+
+shared-slice-read-fields-hold : tie.Need-shared-slice-read-fields-hold Inv-loop μ-loop
+shared-slice-read-fields-hold c = omega arith
+
+add-fields-hold-2 : tie.Need-add-fields-hold-2 Inv-loop μ-loop
+add-fields-hold-2 c = omega arith
+
+mul-fields-hold-2 : tie.Need-mul-fields-hold-2 Inv-loop μ-loop
+mul-fields-hold-2 c = omega arith
+
+shared-slice-read-fields-hold-2 : tie.Need-shared-slice-read-fields-hold-2 Inv-loop μ-loop
+shared-slice-read-fields-hold-2 c = omega arith
+
+fields-hold-requires : tie.Need-fields-hold-requires Inv-loop μ-loop
+fields-hold-requires c κs = tt
+
+returns-2 : tie.Need-returns-2 Inv-loop μ-loop
+returns-2 c =
+    let d = c .before .before .before .before in
+    let b = d .before .before .before .before .before in
+    let a = b .before .before .args in
+    let us = a .nodes .now in
+    let i = b .loop .i in
+    let good : numberHolds (a .next) (getD us (5 * i) 0) (getD us (5 * i + 3) 0) ≡ true =
+    sym (d .before .number-holds .ensures) ∙ not-false (d .before .number-holds .result) (d .if1 .left) in
+    let bad : fieldsHold (getD us (5 * i + 2) 0) (getD us (5 * i + 3) 0) (getD us (5 * i + 4) 0) ≡ false =
+    sym (c .before .fields-hold .ensures) ∙ not-true (c .before .fields-hold .result) (c .if2 .taken) in
+    sym (rw (good, bad) at (fields-turn (a .count) us (a .next) i (omega arith))) ∙ b .loop .inv .1
+
+add-i : tie.Need-add-i Inv-loop μ-loop
+add-i c = omega arith
+
+loop-less : tie.Need-loop-less Inv-loop μ-loop
+loop-less c = omega arith
+
+loop-again : tie.Need-loop-again Inv-loop μ-loop
+loop-again c =
+    let d = c .before .before .before .before in
+    let b = d .before .before .before .before .before in
+    let a = b .before .before .args in
+    let us = a .nodes .now in
+    let i = b .loop .i in
+    let good : numberHolds (a .next) (getD us (5 * i) 0) (getD us (5 * i + 3) 0) ≡ true =
+    sym (d .before .number-holds .ensures) ∙ not-false (d .before .number-holds .result) (d .if1 .left) in
+    let whole : fieldsHold (getD us (5 * i + 2) 0) (getD us (5 * i + 3) 0) (getD us (5 * i + 4) 0) ≡ true =
+    sym (c .before .fields-hold .ensures) ∙ not-false (c .before .fields-hold .result) (c .if2 .left) in
+    (omega arith, sym (rw (good, whole) at (fields-turn (a .count) us (a .next) i (omega arith))) ∙ b .loop .inv .1)
+
+returns-3 : tie.Need-returns-3 Inv-loop μ-loop
+returns-3 c =
+    let b = c .before in
+    let a = b .before .before .args in
+    sym (fields-end (a .count) (a .nodes .now) (a .next) (b .loop .i) (omega arith)) ∙ b .loop .inv .1
+
+pub records-hold-spec : {M : Type 1} → statement M
+records-hold-spec =
+    tie.close
+    (tie.spec
+    Inv-loop
+    μ-loop
+    loop-holds
+    mul-at
+    add-slot
+    mul-slot
+    shared-slice-read-slot
+    mul-number-holds
+    shared-slice-read-number-holds
+    number-holds-requires
+    returns
+    add-fields-hold
+    mul-fields-hold
+    shared-slice-read-fields-hold
+    add-fields-hold-2
+    mul-fields-hold-2
+    shared-slice-read-fields-hold-2
+    fields-hold-requires
+    returns-2
+    add-i
+    loop-less
+    loop-again
+    returns-3)

@@ -1,0 +1,282 @@
+// The running order and the rules of the state on nodes, over the node region in lent words.
+ghost use mathlib.Core.Path.{_≡_};
+ghost use Prim.Native.Nat.{ℕ, _+_, _-_, _*_, _≤_, _<_};
+ghost use lib.ListN.{length, take, drop, getD};
+ghost use Rattle.nodes.specs.Table.{rows};
+ghost use Rattle.nodes.specs.Place.{lives};
+ghost use Rattle.nodes.specs.Formed.{steps, rooted, apart, allFormed, synthLives, formed};
+ghost use Rattle.order.specs.Sizes.{Sized};
+ghost use Rattle.order.specs.Checks.{numberHolds, fieldsHold};
+ghost use Rattle.order.specs.Same.{sameOrder};
+ghost use Rattle.order.specs.Kept.{Kept};
+
+// The running order: its numbers, with zeros past them, and how many they are; and whether each synth has a row
+// of its own among the 256.
+pub struct Order {
+    pub numbers: [u32; 255],
+    pub length: usize,
+    pub distinct: bool,
+}
+
+// The running order worked out afresh, in one pass: `limit` is how deep a record may be with every ancestor on.
+pub fn running_order(nodes: &[u32], count: usize) -> Order
+    requires { ⌜ Sized (now nodes) count ⌝ }
+    ensures { λ r. ⌜ Kept (rows count (now (nodes .entry))) r ⌝ }
+{
+    let mut numbers: [u32; 255] = [0; 255];
+    let mut seen: [bool; 256] = [false; 256];
+    let mut length = 0;
+    let mut distinct = true;
+    let mut limit: u32 = 0;
+    let mut i = 0;
+    while i < count {
+        let at = 5 * i;
+        let depth = nodes[at + 1];
+        let run = nodes[at + 2];
+        let slot = nodes[at + 3];
+        if slot != 32 {
+            let row = words::wide(nodes[at + 4]);
+            if row < 256 {
+                if seen[row] {
+                    distinct = false;
+                }
+                seen[row] = true;
+            } else {
+                distinct = false;
+            }
+        }
+        if depth <= limit {
+            limit = depth;
+            if run == 1 {
+                limit = depth + 1;
+                if slot != 32 {
+                    if length < 255 {
+                        numbers[length] = nodes[at];
+                    }
+                    length += 1;
+                }
+            }
+        }
+        i += 1;
+    }
+    Order {
+        numbers: numbers,
+        length: length,
+        distinct: distinct,
+    }
+}
+
+// The order region written whole.
+pub fn write_order(order: &mut [u32], from: Order)
+    requires { ⌜ length (now order) ≡ 255 ⌝ }
+    ensures { λ r. ⌜ now (order .exit) ≡ from .numbers ⌝ }
+{
+    let numbers = from.numbers;
+    let mut i = 0;
+    while i < 255 {
+        order[i] = numbers[i];
+        i += 1;
+    }
+}
+
+// The order kept, of this length, is the one worked out afresh.
+pub fn same_order(kept: &[u32], many: usize, nodes: &[u32], count: usize) -> bool
+    requires { ⌜ (length (now kept) ≡ 255) × Sized (now nodes) count ⌝ }
+    ensures { λ r. ⌜ r ≡ sameOrder (now (kept .entry)) many (rows count (now (nodes .entry))) ⌝ }
+{
+    if 255 < many {
+        return false;
+    }
+    let fresh = running_order(nodes, count);
+    if many != fresh.length {
+        return false;
+    }
+    let numbers = fresh.numbers;
+    let mut i = 0;
+    while i < many {
+        if kept[i] != numbers[i] {
+            return false;
+        }
+        i += 1;
+    }
+    true
+}
+
+// Every record past the first is below the root, and none deeper than the one before it lets it be.
+fn steps_hold(nodes: &[u32], count: usize) -> bool
+    requires { ⌜ Sized (now nodes) count × (1 ≤ count) ⌝ }
+    ensures { λ r. ⌜ r ≡ steps 1 (drop 1 (rows count (now (nodes .entry)))) ⌝ }
+{
+    let mut most: u32 = 1;
+    let mut i = 1;
+    while i < count {
+        let at = 5 * i;
+        let depth = nodes[at + 1];
+        if depth == 0 {
+            return false;
+        }
+        if most < depth {
+            return false;
+        }
+        most = depth;
+        if nodes[at + 3] == 32 {
+            most = depth + 1;
+        }
+        i += 1;
+    }
+    true
+}
+
+// The number stands in a record from the place `from` on.
+fn number_lives(nodes: &[u32], count: usize, from: usize, number: u32) -> bool
+    requires { ⌜ Sized (now nodes) count × (from ≤ count) ⌝ }
+    ensures { λ r. ⌜ r ≡ lives number (drop from (rows count (now (nodes .entry)))) ⌝ }
+{
+    let mut i = from;
+    while i < count {
+        if nodes[5 * i] == number {
+            return true;
+        }
+        i += 1;
+    }
+    false
+}
+
+// No number stands twice.
+fn numbers_apart(nodes: &[u32], count: usize) -> bool
+    requires { ⌜ Sized (now nodes) count ⌝ }
+    ensures { λ r. ⌜ r ≡ apart (rows count (now (nodes .entry))) ⌝ }
+{
+    let mut i = 0;
+    while i < count {
+        let next = i + 1;
+        if number_lives(nodes, count, next, nodes[5 * i]) {
+            return false;
+        }
+        i = next;
+    }
+    true
+}
+
+// A synth has the number.
+fn synth_lives(nodes: &[u32], count: usize, number: u32) -> bool
+    requires { ⌜ Sized (now nodes) count ⌝ }
+    ensures { λ r. ⌜ r ≡ synthLives number (rows count (now (nodes .entry))) ⌝ }
+{
+    let mut i = 0;
+    while i < count {
+        let at = 5 * i;
+        if nodes[at + 3] != 32 {
+            if nodes[at] == number {
+                return true;
+            }
+        }
+        i += 1;
+    }
+    false
+}
+
+// A number is not negative, or was given to a synth.
+fn number_holds(number: u32, slot: u32, next: u32) -> bool
+    ensures { λ r. ⌜ r ≡ numberHolds next number slot ⌝ }
+{
+    if number < 2147483648 {
+        return true;
+    }
+    if 4294967288 < number {
+        return false;
+    }
+    if number <= next {
+        return false;
+    }
+    slot != 32
+}
+
+// A run flag, a slot and a row are in bounds.
+fn fields_hold(run: u32, slot: u32, row: u32) -> bool
+    ensures { λ r. ⌜ r ≡ fieldsHold run slot row ⌝ }
+{
+    if 1 < run {
+        return false;
+    }
+    if 32 < slot {
+        return false;
+    }
+    if slot == 32 {
+        return true;
+    }
+    row < 256
+}
+
+// Every record's fields are in bounds.
+fn records_hold(nodes: &[u32], count: usize, next: u32) -> bool
+    requires { ⌜ Sized (now nodes) count ⌝ }
+    ensures { λ r. ⌜ r ≡ allFormed next (rows count (now (nodes .entry))) ⌝ }
+{
+    let mut i = 0;
+    while i < count {
+        let at = 5 * i;
+        let slot = nodes[at + 3];
+        if !number_holds(nodes[at], slot, next) {
+            return false;
+        }
+        if !fields_hold(nodes[at + 2], slot, nodes[at + 4]) {
+            return false;
+        }
+        i += 1;
+    }
+    true
+}
+
+// The first record is the root, with all others below it.
+fn root_holds(nodes: &[u32], count: usize) -> bool
+    requires { ⌜ Sized (now nodes) count × (1 ≤ count) ⌝ }
+    ensures { λ r. ⌜ r ≡ rooted (rows count (now (nodes .entry))) ⌝ }
+{
+    if nodes[0] != 0 {
+        return false;
+    }
+    if nodes[1] != 0 {
+        return false;
+    }
+    if nodes[3] != 32 {
+        return false;
+    }
+    steps_hold(nodes, count)
+}
+
+// The state check's part on nodes: the table of `count` records, the next number to give and the latest synth.
+pub fn nodes_formed(nodes: &[u32], count: usize, next: u32, latest: u32) -> bool
+    requires { ⌜ length (now nodes) ≡ 1280 ⌝ }
+    ensures { λ r. ⌜ r ≡ formed next latest (rows count (now (nodes .entry))) ⌝ }
+{
+    if count < 1 {
+        return false;
+    }
+    if 256 < count {
+        return false;
+    }
+    if !root_holds(nodes, count) {
+        return false;
+    }
+    if !numbers_apart(nodes, count) {
+        return false;
+    }
+    if !records_hold(nodes, count, next) {
+        return false;
+    }
+    let fresh = running_order(nodes, count);
+    if !fresh.distinct {
+        return false;
+    }
+    if next < 2147483647 {
+        return false;
+    }
+    if 4294967288 < next {
+        return false;
+    }
+    if latest == 0 {
+        return true;
+    }
+    synth_lives(nodes, count, latest)
+}
