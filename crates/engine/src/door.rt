@@ -4,8 +4,8 @@ use controlcommands::control_step;
 use definitioncommands::definition_step;
 use model::Answer;
 use model::Command;
-use model::Query;
 use model::TreeCommand;
+use crate::query::query_step;
 use statecheck::well_formed;
 use words::Refusal;
 ghost use mathlib.Core.Bool.{true};
@@ -14,18 +14,11 @@ ghost use Rattle.model.specs.declared.Command.{Command};
 ghost use Rattle.model.specs.Formed.{formed};
 ghost use Rattle.model.specs.Door.{Does};
 ghost use Rattle.state.specs.Known.{Known};
-ghost use Rattle.state.specs.Does.{WordsStep, Reply};
+ghost use Rattle.state.specs.Does.{WordsStep};
 
 fn tree_step(command: TreeCommand, bytes: &[u8], words: &mut [u32], shelf: &[u8]) -> Answer
     requires { ⌜ Known (now words) (now shelf) ⌝ }
     ensures { λ r. ⌜ WordsStep (Command.Tree command) (now (bytes .entry)) (now (words .entry)) (now (shelf .entry)) r (now (words .exit)) ⌝ }
-{
-    Answer::Done
-}
-
-fn query_step(query: Query, bytes: &[u8], words: &[u32], shelf: &[u8], reply: &mut [u8]) -> Answer
-    requires { ⌜ Known (now words) (now shelf) ⌝ }
-    ensures { λ r. ⌜ Reply query (now (bytes .entry)) (now (words .entry)) (now (shelf .entry)) (now (reply .entry)) r (now (reply .exit)) ⌝ }
 {
     Answer::Done
 }

@@ -1,6 +1,7 @@
 // The engine: the one door for commands, and what other languages call. Nothing here asks anything of what it is lent.
 mod door;
 mod exports;
+mod query;
 
 pub use door::apply;
 pub use door::step;

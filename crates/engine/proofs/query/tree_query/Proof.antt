@@ -7,13 +7,13 @@ use native.Mathlib.Numerals.{add-one}
 use borrow.Author.Needs.{needs}
 use borrow.Author.Tests.{lt-ltb, le-ltb, le-leb, lt-leb, eq-eqb, ne-eqb}
 use lib.ListN.{length, take, drop, getD, set, length-set, length-drop}
-use Rattle.engine.proofs.door.query_step.Statement.{statement}
-use Rattle.engine.proofs.door.query_step.Tie as tie
-use Rattle.engine.proofs.door.query_step.Reads as reads
-use Rattle.engine.proofs.door.query_step.Lts as lts
+use Rattle.engine.proofs.query.tree_query.Statement.{statement}
+use Rattle.engine.proofs.query.tree_query.Tie as tie
+use Rattle.engine.proofs.query.tree_query.Reads as reads
+use Rattle.engine.proofs.query.tree_query.Lts as lts
 
 returns : tie.Need-returns
 returns c = ?
 
-pub query-step-spec : {M : Type 1} → statement M
-query-step-spec = tie.close (tie.spec returns)
+pub tree-query-spec : {M : Type 1} → statement M
+tree-query-spec = tie.close (tie.spec returns)

@@ -1,0 +1,46 @@
+// Queries in a well-formed state: each takes the words and the shelf as `&`, so that it can't change them.
+use definitioncommands::export_query;
+use model::Answer;
+use model::Query;
+use queries::bus_query;
+use queries::control_query;
+use queries::node_query;
+use queries::status_query;
+ghost use Rattle.model.specs.declared.Query.{Query};
+ghost use Rattle.state.specs.Known.{Known};
+ghost use Rattle.state.specs.Does.{Reply};
+
+fn tree_query(
+    words: &[u32],
+    shelf: &[u8],
+    bytes: &[u8],
+    out: &mut [u8],
+    group: u32,
+    flag: u32,
+) -> Answer
+    requires { ⌜ Known (now words) (now shelf) ⌝ }
+    ensures { λ r. ⌜ Reply (Query.Tree group flag) (now (bytes .entry)) (now (words .entry)) (now (shelf .entry)) (now (out .entry)) r (now (out .exit)) ⌝ }
+{
+    Answer::Done
+}
+
+// A query: its answer, and its reply from the buffer's first byte on.
+pub fn query_step(
+    query: Query,
+    bytes: &[u8],
+    words: &[u32],
+    shelf: &[u8],
+    reply: &mut [u8],
+) -> Answer
+    requires { ⌜ Known (now words) (now shelf) ⌝ }
+    ensures { λ r. ⌜ Reply query (now (bytes .entry)) (now (words .entry)) (now (shelf .entry)) (now (reply .entry)) r (now (reply .exit)) ⌝ }
+{
+    match query {
+        Query::Node { node } => node_query(words, shelf, bytes, reply, node),
+        Query::Control { node, key } => control_query(words, shelf, bytes, reply, node, key),
+        Query::Bus { bus } => bus_query(words, shelf, bytes, reply, bus),
+        Query::Tree { group, flag } => tree_query(words, shelf, bytes, reply, group, flag),
+        Query::Status => status_query(words, shelf, bytes, reply),
+        Query::Export => export_query(words, shelf, reply),
+    }
+}
