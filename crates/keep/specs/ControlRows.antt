@@ -65,7 +65,7 @@ unfolding initialWords
 initial-length [] = refl
 initial-length (v ∷ vs) = omega (arith, initial-length vs)
 
-over-put : (at : ℕ) (vs us : List ℕ) → over at vs us ≡ put at (length vs) vs us
+pub over-put : (at : ℕ) (vs us : List ℕ) → over at vs us ≡ put at (length vs) vs us
 over-put at vs us = append-assoc (take at us) vs (drop (at + length vs) us) ∙ ap (λ (l : List ℕ). take at us ++ (vs ++ l)) (sym (drop-drop (length vs) at us))
 
 -- the values of a definition put in over a row
@@ -100,7 +100,7 @@ module _ (slots : List Slot) (controls : List ℕ) (size : length controls ≡ c
       go false = ap (λ (l : List ℕ). mappingsFormed (length values) l) words ∙ mappings-initial values (drop (length (initialWords values)) (drop (rowWords * row) controls))
 
   -- another row is as it was
-  other-row : (k : ℕ) → k < mostRows → (k ≡ row → ⊥) → region (rowWords * k) rowWords started ≡ region (rowWords * k) rowWords controls
+  pub other-row : (k : ℕ) → k < mostRows → (k ≡ row → ⊥) → region (rowWords * k) rowWords started ≡ region (rowWords * k) rowWords controls
   other-row k h ne =
       ap (λ (l : List ℕ). region (rowWords * k) rowWords l) (over-put (rowWords * row) (initialWords values) controls) ∙ go (ltb k row) refl
     where

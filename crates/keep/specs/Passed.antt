@@ -35,7 +35,7 @@ pub known-lives : (a : ℕ) (e : Engine) → not (known a e) ≡ false → lives
 known-lives a e h = named-lives (targetOf a) (e .latest) (e .nodes) (not-false (known a e) h)
 
 -- a node that is a group: no synth has its number
-group-named : (n : ℕ) (t : List Node) → groupNamed n t ≡ isGroup (nodeNamed n t)
+pub group-named : (n : ℕ) (t : List Node) → groupNamed n t ≡ isGroup (nodeNamed n t)
 unfolding groupNamed nodeNamed
 group-named n [] = refl
 group-named n (r ∷ l) = go (group-named n l) (eqb (r .number) n)

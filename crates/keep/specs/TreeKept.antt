@@ -23,13 +23,13 @@ use Rattle.keep.specs.Assemble.{Whole, tree-formed, whole-formed}
 use Rattle.keep.specs.Rows.{order-short}
 use Rattle.keep.specs.TreeSteps.{Sound, sound-step}
 
-slots-many : (n : ℕ) (sizes flags shelf : List ℕ) → length (slotsFrom n sizes flags shelf) ≡ n
+pub slots-many : (n : ℕ) (sizes flags shelf : List ℕ) → length (slotsFrom n sizes flags shelf) ≡ n
 unfolding slotsFrom
 slots-many zero sizes flags shelf = refl
 slots-many (suc n) sizes flags shelf = ap suc (slots-many n (drop 1 sizes) (drop 1 flags) (drop slotRoom shelf))
 
 -- what the state check tells of the engine
-known-sound : (ws bs : List ℕ) → Known ws bs → Sound (lengthsIn ws) (decode ws bs)
+pub known-sound : (ws bs : List ℕ) → Known ws bs → Sound (lengthsIn ws) (decode ws bs)
 unfolding decode
 known-sound ws bs k = record {
   tree = k .tree;

@@ -68,7 +68,7 @@ module _ (sizes : List ℕ) (e : Engine) (k : Sound sizes e) where
 
   -- a new node goes in
   module _ (action target : ℕ) (act : badAction action ≡ false) (there : not (known target e) ≡ false) (kind : badTarget action target e ≡ false) (room : full action e ≡ false) where
-    comes : (x : Node) → x .depth ≡ 0 → Added x (addBy action x (meant target e) (e .nodes)) (stayingNodes action (meant target e) (e .nodes)) (e .nodes)
+    pub comes : (x : Node) → x .depth ≡ 0 → Added x (addBy action x (meant target e) (e .nodes)) (stayingNodes action (meant target e) (e .nodes)) (e .nodes)
     comes x flat =
         added x flat (meant target e) (e .nodes) (known-lives target e there) (k .tree .root) (k .tree .few) action act room
         (λ q. group-only target e (k .tree .distinct) (rw q at kind))

@@ -31,7 +31,8 @@ use Rattle.model.specs.Checks.{definitionsOf, namesOf, staying, noSlot, noResid
 use Rattle.model.specs.Effects.{retired, loaded, retire, withSlots}
 use Rattle.model.specs.Plain.{Plain, Named, meaning, forget, learn, withNames}
 use Rattle.model.specs.Demands.{AreBytes}
-use Rattle.replay.specs.Names.{same-equal, same-self, same-sym, there, means, meaning-means, Once, meaning-forget, once-forget, forget-count}
+use Rattle.keep.specs.Slots.{resident-found}
+use Rattle.replay.specs.Names.{same-equal, same-self, same-sym, there, means, from-least, meaning-means, Once, meaning-forget, once-forget, forget-count}
 use Rattle.replay.specs.SlotNames.{means-retired, means-retire, residents-retire, meant, Differ, residents-retired}
 use Rattle.replay.specs.Load.{known, freeCount, free-staying, AllDefinitions, Loading, loaded-all, held-loaded}
 use Rattle.replay.specs.Kept.{Kept, seenTree}
@@ -109,23 +110,24 @@ unfolding Each
 each-more g forest.none e = tt
 each-more g (node x b a) e = (g x (e .0), each-more g b (e .1), each-more g a (e .2))
 
+-- a record whose slot's bytes are as they were is seen alike
+pub bytes-alike : (before after : List Slot) (controls : List ℕ) (x : Node) → slotAt after (x .slot) .bytes ≡ slotAt before (x .slot) .bytes → viewOf before controls x ≡ viewOf after controls x
+bytes-alike before after controls x e =
+    let d : definitionOf before x ≡ definitionOf after x = ap (λ (l : List ℕ). definitionIn (record { bytes = l; resident = true })) (sym e) in
+    ap (λ (y : Definition). viewAs y) d
+  where
+    viewAs : Definition → PlainNode
+    viewAs y = record { number = x .number; run = x .run; kind = pick (isGroup x) group (synth y (controlsFrom (length (y .front .values)) (drop (rowWords * x .row) controls))) }
+
 -- slots whose held bytes are as they were are seen alike
 pub seen-alike : (before after : List Slot) (controls : List ℕ) (f : Forest Node) (t : List Node) → t ≡ flatten 0 f
     → ((k : ℕ) → held k t ≡ true → slotAt after k .bytes ≡ slotAt before k .bytes) → seenTree before controls f ≡ seenTree after controls f
 seen-alike before after controls f t laid same =
     map-each (viewOf before controls) (viewOf after controls) f
-    (each-more (λ x e. alike x (same (x .slot) e)) f (each-held 0 f t (λ k e. ap (λ (l : List Node). held k l) laid ∙ e)))
-  where
-    alike : (x : Node) → slotAt after (x .slot) .bytes ≡ slotAt before (x .slot) .bytes → viewOf before controls x ≡ viewOf after controls x
-    alike x e =
-        let d : definitionOf before x ≡ definitionOf after x = ap (λ (l : List ℕ). definitionIn (record { bytes = l; resident = true })) (sym e) in
-        ap (λ (y : Definition). viewAs y) d
-      where
-        viewAs : Definition → PlainNode
-        viewAs y = record { number = x .number; run = x .run; kind = pick (isGroup x) group (synth y (controlsFrom (length (y .front .values)) (drop (rowWords * x .row) controls))) }
+    (each-more (λ x e. bytes-alike before after controls x (same (x .slot) e)) f (each-held 0 f t (λ k e. ap (λ (l : List Node). held k l) laid ∙ e)))
 
 -- a load's retirement leaves the bytes
-retired-bytes : (names : List (List ℕ)) (slots : List Slot) (k : ℕ) → slotAt (retired names slots) k .bytes ≡ slotAt slots k .bytes
+pub retired-bytes : (names : List (List ℕ)) (slots : List Slot) (k : ℕ) → slotAt (retired names slots) k .bytes ≡ slotAt slots k .bytes
 unfolding retired
 retired-bytes names [] k = refl
 retired-bytes names (s ∷ more) zero = refl
@@ -136,6 +138,40 @@ meant-known : (names : List (List ℕ)) (slots : List Slot) (ms : List Named) �
 unfolding meant known
 meant-known [] slots ms h = refl
 meant-known (n ∷ names) slots ms h = ap₂ (λ (o : Option Definition) (j : ℕ). there o + j) (h n) (meant-known names slots ms h)
+
+-- the resident that is found has the name
+resident-name : (k j : ℕ) (name : List ℕ) (slots : List Slot) → residentFrom k name slots ≡ k + j → j < length slots → sameName (nameIn (slotAt slots j)) name ≡ true
+unfolding residentFrom
+resident-name k j name [] e h = absurd (omega arith)
+resident-name k zero name (s ∷ more) e h = go (both (s .resident) (sameName (nameIn s) name)) refl e
+  where
+    go : (b : Bool) → both (s .resident) (sameName (nameIn s) name) ≡ b → pick b k (residentFrom (k + 1) name more) ≡ k + 0 → sameName (nameIn s) name ≡ true
+    go true f g = both-true (s .resident) (sameName (nameIn s) name) f .1
+    go false f g = absurd (omega (arith, from-least (k + 1) name more))
+resident-name k (suc j) name (s ∷ more) e h = go (both (s .resident) (sameName (nameIn s) name)) e (λ f. resident-name (k + 1) j name more f (omega arith))
+  where
+    go : (b : Bool) → pick b k (residentFrom (k + 1) name more) ≡ k + suc j → (residentFrom (k + 1) name more ≡ k + 1 + j → sameName (nameIn (slotAt more j)) name ≡ true) → sameName (nameIn (slotAt more j)) name ≡ true
+    go true g ih = absurd (omega arith)
+    go false g ih = ih (omega arith)
+
+-- and the name means something
+means-there : (name : List ℕ) (slots : List Slot) (j : ℕ) → j < length slots → slotAt slots j .resident ≡ true → sameName (nameIn (slotAt slots j)) name ≡ true → there (means name slots) ≡ 1
+unfolding means
+means-there name [] j h r n = absurd (omega arith)
+means-there name (s ∷ more) zero h r n = ap₂ (λ (p q : Bool). there (pick (both p q) (some (definitionIn s)) (means name more))) r n
+means-there name (s ∷ more) (suc j) h r n = go (both (s .resident) (sameName (nameIn s) name)) (means-there name more j (omega arith) r n)
+  where
+    go : (b : Bool) → there (means name more) ≡ 1 → there (pick b (some (definitionIn s)) (means name more)) ≡ 1
+    go true ih = refl
+    go false ih = ih
+
+-- a retired slot's bytes stay
+pub set-bytes : (slots : List Slot) (j i : ℕ) → slotAt (retire j slots) i .bytes ≡ slotAt slots i .bytes
+set-bytes [] j i = refl
+set-bytes (s ∷ more) zero zero = refl
+set-bytes (s ∷ more) zero (suc i) = refl
+set-bytes (s ∷ more) (suc j) zero = refl
+set-bytes (s ∷ more) (suc j) (suc i) = set-bytes more j i
 
 module _ (e : Engine) (p : Plain) (k : Kept e p) (apart : namesApart (e .slots) ≡ true) where
   meanings : (m : List ℕ) → means m (e .slots) ≡ meaning m (p .names)
@@ -175,10 +211,40 @@ module _ (e : Engine) (p : Plain) (k : Kept e p) (apart : namesApart (e .slots) 
         leaves = k .leaves;
         tree = k .tree
             ∙ seen-alike (e .slots) slots (e .controls) (k .forest) (e .nodes) (k .laid)
-            (λ j held-j. ap (λ (s : Slot). s .bytes) (held-loaded ds (retired (namesOf ds) (e .slots)) (e .nodes) (p .names) l j held-j) ∙ retired-bytes (namesOf ds) (e .slots) j);
+            (λ j held-j. ap (λ (s : Slot). s .bytes) (held-loaded ds (retired (namesOf ds) (e .slots)) (e .nodes) (l .room) j held-j) ∙ retired-bytes (namesOf ds) (e .slots) j);
         names = λ m. meaning-means m slots ∙ done .meanings m;
         nameCount = let c = done .counts in omega arith;
         once = done .once;
+        next = k .next;
+        latest = k .latest;
+        buses = k .buses;
+        ordered = k .ordered;
+      }
+
+  -- "`/d_free` takes the name away."
+  pub retire-replayed : (name : List ℕ) → noResident name e ≡ false → Kept (withSlots (retire (residentOf name (e .slots)) (e .slots)) e) (withNames (forget name (p .names)) p)
+  retire-replayed name h =
+      let j = residentOf name (e .slots) in
+      let low : j < length (e .slots) = leb-false (length (e .slots)) j h in
+      let resident : slotAt (e .slots) j .resident ≡ true = resident-found name (e .slots) h in
+      let named : sameName (nameIn (slotAt (e .slots) j)) name ≡ true = resident-name 0 j name (e .slots) (omega arith) low in
+      let gone : Slot = record { bytes = slotAt (e .slots) j .bytes; resident = false } in
+      let slots = retire j (e .slots) in
+      let says : (m : List ℕ) → means m slots ≡ pick (sameName name m) none (means m (e .slots)) = λ m. means-retire name m (e .slots) j gone apart refl low resident named in
+      let heard : means name (e .slots) ≡ meaning name (p .names) = meanings name in
+      let one : there (meaning name (p .names)) ≡ 1 = ap (λ (o : Option Definition). there o) (sym heard) ∙ means-there name (e .slots) j low resident named in
+      record {
+        forest = k .forest;
+        laid = k .laid;
+        leaves = k .leaves;
+        tree = k .tree ∙ seen-alike (e .slots) slots (e .controls) (k .forest) (e .nodes) (k .laid) (λ i held-i. set-bytes (e .slots) j i);
+        names = λ m. meaning-means m slots ∙ says m ∙ ap (λ (o : Option Definition). pick (sameName name m) none o) (meanings m) ∙ sym (meaning-forget name m (p .names) (k .once));
+        nameCount =
+            let r = residents-retire (e .slots) j gone low resident refl in
+            let f = forget-count name (p .names) in
+            let c = k .nameCount in
+            omega arith;
+        once = once-forget name (p .names) (k .once);
         next = k .next;
         latest = k .latest;
         buses = k .buses;

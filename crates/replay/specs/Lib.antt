@@ -4,3 +4,8 @@ pub mod Names
 pub mod SlotNames
 pub mod Load
 pub mod DefinitionsReplay
+pub mod SynthReplay
+pub mod RowChange
+pub mod ControlsReplay
+pub mod Replay
+pub mod Voices

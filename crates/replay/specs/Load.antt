@@ -29,11 +29,11 @@ use Rattle.replay.specs.SlotNames.{means-set, residents-set, meant, Diff
 abbrev pub newSlot : Definition → Slot
 newSlot d = record { bytes = writeDefinition d; resident = true }
 
+pub written-back : (d : Definition) → isDefinition d ≡ true → readDefinition (writeDefinition d) 0 ≡ got d (0 + length (writeDefinition d))
+written-back d h = ap (λ (l : List ℕ). readDefinition l 0) (sym (append-nil (writeDefinition d))) ∙ definition-back d h [] []
+
 pub written-read : (d : Definition) → isDefinition d ≡ true → definitionIn (newSlot d) ≡ d
-written-read d h =
-    let e : readDefinition (writeDefinition d) 0 ≡ got d (0 + length (writeDefinition d)) =
-    ap (λ (l : List ℕ). readDefinition l 0) (sym (append-nil (writeDefinition d))) ∙ definition-back d h [] [] in
-    ap (λ (r : Read Definition). valueOr noDefinition r) e
+written-read d h = ap (λ (r : Read Definition). valueOr noDefinition r) (written-back d h)
 
 -- how many slots are free, from the slot k on
 unfoldable pub freeCount : ℕ → List Slot → List Node → ℕ
@@ -250,9 +250,8 @@ loaded-all [] slots t ms l = l
 loaded-all (d ∷ ds) slots t ms l = loaded-all ds (placed d slots t) t (forget (d .front .name) ms ++ (record { name = d .front .name; definition = d } ∷ [])) (loading-next d ds slots t ms l)
 
 -- the slots that synths hold are as they were
-pub held-loaded : (ds : List Definition) (slots : List Slot) (t : List Node) (ms : List Named) → Loading ds slots t ms → (k : ℕ) → held k t ≡ true → slotAt (loaded ds slots t) k ≡ slotAt slots k
+pub held-loaded : (ds : List Definition) (slots : List Slot) (t : List Node) → length ds ≤ freeCount 0 slots t → (k : ℕ) → held k t ≡ true → slotAt (loaded ds slots t) k ≡ slotAt slots k
 unfolding loaded
-held-loaded [] slots t ms l k h = refl
-held-loaded (d ∷ ds) slots t ms l k h =
-    held-loaded ds (placed d slots t) t (forget (d .front .name) ms ++ (record { name = d .front .name; definition = d } ∷ [])) (loading-next d ds slots t ms l) k h
-    ∙ held-placed slots t d k (let r = l .room in omega arith) h
+held-loaded [] slots t room k h = refl
+held-loaded (d ∷ ds) slots t room k h =
+    held-loaded ds (placed d slots t) t (omega (arith, placed-count slots t (omega arith) d)) k h ∙ held-placed slots t d k (omega arith) h

@@ -64,7 +64,7 @@ from-most k m (s ∷ more) = go (both (s .resident) (sameName (nameIn s) m)) (fr
     go true h = omega arith
     go false h = omega arith
 
-from-least : (k : ℕ) (m : List ℕ) (slots : List Slot) → k ≤ residentFrom k m slots
+pub from-least : (k : ℕ) (m : List ℕ) (slots : List Slot) → k ≤ residentFrom k m slots
 unfolding residentFrom
 from-least k m [] = omega arith
 from-least k m (s ∷ more) = go (both (s .resident) (sameName (nameIn s) m)) (from-least (k + 1) m more)

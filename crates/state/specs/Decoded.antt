@@ -254,8 +254,8 @@ module _ (slots : List Slot) (ws bs : List ℕ) (size : length ws ≡ wordsLengt
       region-past lengthsPlace slotCount (lengthsOf slots (lengthsIn ws)) flagged (omega (arith, flaggedSize)) lengthsMany b m (omega arith)
       ∙ region-past residentPlace slotCount (flagsOf slots) ws (omega arith) flagsMany b m (omega arith)
 
-  first : (i : ℕ) → i < lengthsPlace → getD (putSlots slots ws) i 0 ≡ getD ws i 0
-  first i h =
+  pub slots-word : (i : ℕ) → i < lengthsPlace → getD (putSlots slots ws) i 0 ≡ getD ws i 0
+  slots-word i h =
       word-before lengthsPlace slotCount (lengthsOf slots (lengthsIn ws)) flagged (omega (arith, flaggedSize)) lengthsMany i h
       ∙ word-before residentPlace slotCount (flagsOf slots) ws (omega arith) flagsMany i (omega arith)
 
@@ -270,6 +270,6 @@ module _ (slots : List Slot) (ws bs : List ℕ) (size : length ws ≡ wordsLengt
   pub slots-decoded : decode (putSlots slots ws) (shelfOf slots bs) ≡ withSlots slots (decode ws bs)
   unfolding decode
   slots-decoded =
-      same-engine (shelfOf slots bs) (first 0 (omega arith)) (first 1 (omega arith)) (first 2 (omega arith)) (first 3 (omega arith)) slots-lengths slots-flags
+      same-engine (shelfOf slots bs) (slots-word 0 (omega arith)) (slots-word 1 (omega arith)) (slots-word 2 (omega arith)) (slots-word 3 (omega arith)) slots-lengths slots-flags
       (high nodesPlace nodesWords (omega arith)) (high orderPlace orderWords (omega arith)) (high controlsPlace controlsWords (omega arith)) (high busesPlace busCount (omega arith))
       ∙ ap (λ (l : List Slot). withSlots l (decode ws bs)) (slots-back slotCount slots (lengthsIn ws) (residentIn ws) bs many (omega arith) backed)

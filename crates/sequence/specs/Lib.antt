@@ -1,0 +1,4 @@
+pub mod Sound
+pub mod Spoken
+pub mod Fresh
+pub mod Theorem

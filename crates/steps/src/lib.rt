@@ -1,0 +1,2 @@
+// Laws only: every accepted command keeps a well-formed state well formed. They stand in specs/.
+pub fn nothing() {}

@@ -1,0 +1,7 @@
+pub mod Tree
+pub mod Accepted
+pub mod Seen
+pub mod TreeUntouched
+pub mod Ordered
+pub mod Alike
+pub mod Untouched
