@@ -1,7 +1,9 @@
 pub mod Change
 pub mod BusLaws
-pub mod Kept
 pub mod Encoded
 pub mod Initial
 pub mod Ready
 pub mod Synth
+pub mod All
+pub mod Formed
+pub mod Asked

@@ -21,6 +21,7 @@ use Rattle.nodes.specs.Formed.{mostNodes, mostRows, numberFormed, rowFormed, fi
 use Rattle.model.specs.Layout.{slotCount, slotRoom, lengthsPlace, nodesPlace, nodesWords, wordsLength, shelfLength, countIn, nextIn, lengthsIn, residentIn, nodesIn}
 use Rattle.model.specs.Engine.{Slot, slotsFrom, decode, noDefinition, valueOr, definitionIn, slotAt, definitionOf, held, slotTaken}
 use Rattle.model.specs.Formed.{isWhole, slotFormed, slotsFormed}
+use Rattle.state.specs.Known.{Known}
 use Rattle.controls.specs.Encoded.{frontIn, front-read}
 
 -- the record at a place of the node table
@@ -38,6 +39,9 @@ pub record Ready (ws shelf : List ℕ) : Type 0 where
   pub few : countIn ws ≤ mostNodes
   pub fields : allFormed (nextIn ws) (nodesIn ws) ≡ true
   pub slots : slotsFormed 0 (lengthsIn ws) (decode ws shelf .slots) (nodesIn ws) ≡ true
+
+pub ready-known : (ws shelf : List ℕ) → Known ws shelf → Ready ws shelf
+ready-known ws shelf k = record { size = k .size; shelfSize = k .shelfSize; few = k .few; fields = k .tree .fields; slots = k .slots }
 
 -- a synth of such a state: its slot and row are there, and its definition's front is what its slot's bytes tell
 pub record Synth (ws shelf : List ℕ) (r : Node) : Type 0 where

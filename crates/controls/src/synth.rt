@@ -62,7 +62,7 @@ fn change_synth(
 }
 
 // The node at a place of the table: a synth's controls changed, and nothing at a group.
-fn change_node(
+pub fn change_node(
     words: &mut [u32],
     shelf: &[u8],
     place: usize,
@@ -94,7 +94,7 @@ fn change_node(
 }
 
 // The mapping words of a row's first controls, as many as the definition has: each at most 4,096.
-fn row_formed(controls: &[u32], definition: &[u8], row: u32) -> bool
+pub fn row_formed(controls: &[u32], definition: &[u8], row: u32) -> bool
     ensures { λ r. ⌜ r ≡ mappingsFormed (length (frontIn (now (definition .entry)) .values)) (drop (64 * row) (now (controls .entry))) ⌝ }
 {
     let many = parameter_count(definition);
@@ -114,7 +114,7 @@ fn row_formed(controls: &[u32], definition: &[u8], row: u32) -> bool
 }
 
 // What reading a control gives: the bus where it is mapped, otherwise its own float.
-fn read_at(controls: &[u32], buses: &[u32], at: usize) -> u32
+pub fn read_at(controls: &[u32], buses: &[u32], at: usize) -> u32
     requires { ⌜ at + 1 < length (now controls) ⌝ }
     ensures { λ r. ⌜ r ≡ shownBy (now (buses .entry)) (controlAt (getD (now (controls .entry)) at 0) (getD (now (controls .entry)) (at + 1) 0)) ⌝ }
 {

@@ -1,0 +1,148 @@
+-- A change of the controls of a run of the node table, node by node.
+use Prim.Native.Nat.{ℕ, suc, _+_, _-_, _*_, _≤_, _<_}
+use mathlib.Core.Bool.{Bool, true, false}
+use mathlib.Core.Path.{_≡_, refl, sym, ap, ap₂, _∙_, subst}
+use mathlib.Core.List.{List, [], _∷_, _++_}
+use native.Mathlib.Omega.{arith}
+use lib.ListN.{length, take, drop, getD, length-append, length-take, length-drop}
+use lib.Seq.{drop-drop}
+use Rattle.words.specs.Choice.{pick}
+use Rattle.words.specs.Parts.{region, put, region-length, region-put, past-put, before-put}
+use Rattle.synthdef.specs.Definition.{Front}
+use Rattle.nodes.specs.declared.Node.{Node}
+use Rattle.nodes.specs.Table.{width, rows, nodeFrom, row-from}
+use Rattle.nodes.specs.Place.{isGroup, place, deeper}
+use Rattle.nodes.specs.Edit.{sink, runOf}
+use Rattle.nodes.specs.Split.{runOf-at}
+use Rattle.nodes.specs.Formed.{mostRows}
+use Rattle.values.specs.declared.Key.{Key}
+use Rattle.values.specs.Controls.{ControlValue}
+use Rattle.model.specs.Layout.{slotCount, lengthsPlace, slotRoom, nodesPlace, nodesWords, controlsPlace, controlsWords, wordsLength, countIn, nodesIn, controlsIn, putControls}
+use Rattle.model.specs.Engine.{Slot, decode, definitionOf}
+use Rattle.model.specs.Meaning.{startOf}
+use Rattle.model.specs.Effects.{changeStart, changeAll}
+use Rattle.state.specs.Regions.{region-before, word-before}
+use Rattle.state.specs.Decoded.{controls-size}
+use Rattle.controls.specs.Encoded.{frontIn, frontOnly, start-front}
+use Rattle.controls.specs.Ready.{Ready, nodeIn, slotBytes, synth-ready}
+use Rattle.controls.specs.Synth.{changeSynth, changeNode, Bounds}
+
+-- a part put over another put at the same place
+pub put-put : (a k : ℕ) (xs ys ws : List ℕ) → a ≤ length ws → length xs ≡ k → put a k ys (put a k xs ws) ≡ put a k ys ws
+put-put a k xs ys ws h e =
+    ap₂ (λ (p q : List ℕ). p ++ (ys ++ q)) (before-put a k a xs ws h (omega arith))
+    (drop-drop k a (put a k xs ws) ∙ past-put a k (a + k) xs ws h e (omega arith) ∙ sym (drop-drop k a ws))
+
+-- what a change does to the controls of one node
+abbrev pub changeOne : (ControlValue → ControlValue) → Key → List ℕ → ℕ → List Slot → Node → List ℕ → List ℕ
+changeOne f key name count slots r cs =
+    pick (isGroup r) cs (changeStart f (startOf key name (definitionOf slots r)) (r .row) count (length (definitionOf slots r .front .values)) cs)
+
+-- the words with other controls: their nodes and slots
+module _ (cs ws : List ℕ) (size : length ws ≡ wordsLength) (many : length cs ≡ controlsWords) where
+  node-kept : (i : ℕ) → nodeIn (putControls cs ws) i ≡ nodeIn ws i
+  node-kept i =
+      ap (λ (us : List ℕ). nodeFrom us (width * i))
+      (region-before controlsPlace controlsWords cs ws (omega arith) many nodesPlace nodesWords (omega arith))
+
+  bytes-kept : (shelf : List ℕ) (k : ℕ) → k < 32 → slotBytes (putControls cs ws) shelf k ≡ slotBytes ws shelf k
+  bytes-kept shelf k h =
+      ap (λ (n : ℕ). take n (take slotRoom (drop (slotRoom * k) shelf)))
+      (word-before controlsPlace controlsWords cs ws (omega arith) many (lengthsPlace + k) (omega arith))
+
+  -- the node at a place of them
+  module _ (shelf : List ℕ) (ready : Ready ws shelf) (i : ℕ) (few : i < countIn ws) where
+    pub bounds-kept : Bounds (putControls cs ws) shelf i
+    bounds-kept =
+        record {
+          size = controls-size cs ws shelf size many;
+          shelfSize = ready .shelfSize;
+          place = omega (arith, ready .few);
+          slot = λ e. subst (λ (r : Node). r .slot < slotCount) (sym (node-kept i)) (synth-ready ws shelf ready i few (ap isGroup (sym (node-kept i)) ∙ e) .slot);
+          row = λ e. subst (λ (r : Node). r .row < mostRows) (sym (node-kept i)) (synth-ready ws shelf ready i few (ap isGroup (sym (node-kept i)) ∙ e) .row);
+        }
+
+    -- its change is the one that its definition gives
+    pub change-kept : (f : ControlValue → ControlValue) (key : Key) (name : List ℕ) (count : ℕ) (xs : List ℕ)
+        → changeNode f key name count (putControls cs ws) shelf i xs ≡ changeOne f key name count (decode ws shelf .slots) (nodeIn ws i) xs
+    change-kept f key name count xs =
+        ap (λ (r : Node). pick (isGroup r) xs (changeSynth f key name count (r .row) (slotBytes (putControls cs ws) shelf (r .slot)) xs)) (node-kept i)
+        ∙ go (isGroup (nodeIn ws i)) refl
+      where
+        go : (b : Bool) → isGroup (nodeIn ws i) ≡ b
+            → pick b xs (changeSynth f key name count (nodeIn ws i .row) (slotBytes (putControls cs ws) shelf (nodeIn ws i .slot)) xs)
+            ≡ pick b xs (changeStart f (startOf key name (definitionOf (decode ws shelf .slots) (nodeIn ws i))) (nodeIn ws i .row) count (length (definitionOf (decode ws shelf .slots) (nodeIn ws i) .front .values)) xs)
+        go true e = refl
+        go false e =
+            let s = synth-ready ws shelf ready i few e in
+            let d = definitionOf (decode ws shelf .slots) (nodeIn ws i) in
+            let bytes = slotBytes (putControls cs ws) shelf (nodeIn ws i .slot) in
+            let front : frontIn bytes ≡ d .front = ap frontIn (bytes-kept shelf (nodeIn ws i .slot) (s .slot)) ∙ sym (s .front) in
+            ap (λ (n : ℕ). changeStart f (startOf key name (frontOnly bytes)) (nodeIn ws i .row) count n xs) (ap (λ (x : Front). length (x .values)) front)
+            ∙ rw (start-front key name (frontOnly bytes) d front)
+
+-- a run of the table: one node more, and the end
+module _ (f : ControlValue → ControlValue) (key : Key) (name : List ℕ) (count : ℕ) (slots : List Slot) (ws : List ℕ) where
+  pub all-turn : (to i : ℕ) (xs : List ℕ) → i < to → to ≤ countIn ws
+      → changeAll f key name count slots (take (to - i) (drop i (nodesIn ws))) xs
+      ≡ changeAll f key name count slots (take (to - (i + 1)) (drop (i + 1) (nodesIn ws))) (changeOne f key name count slots (nodeIn ws i) xs)
+  unfolding changeAll
+  all-turn to i xs h k =
+      let more : to - i ≡ suc (to - (i + 1)) = omega arith in
+      ap₂ (λ (n : ℕ) (l : List Node). changeAll f key name count slots (take n l) xs) more (row-from (countIn ws) (region nodesPlace nodesWords ws) i (omega arith))
+
+  pub all-none : (n : ℕ) (l : List Node) (xs : List ℕ) → n ≡ 0 → changeAll f key name count slots (take n l) xs ≡ xs
+  unfolding changeAll
+  all-none n l xs e = ap (λ (k : ℕ). changeAll f key name count slots (take k l) xs) e
+
+-- as many items were put in as were there
+pub put-size : (a k : ℕ) (ys ws : List ℕ) → a + k ≤ length ws → length (put a k ys ws) ≡ length ws → length ys ≡ k
+put-size a k ys ws h e = omega (arith, simp (length-append, length-take, length-drop) at e)
+
+-- words that differ from the first in their controls alone, and one node more changed in them
+pub record Turned (f : ControlValue → ControlValue) (key : Key) (name : List ℕ) (count : ℕ) (ws₀ shelf : List ℕ) (to i : ℕ) (ws ws′ : List ℕ) : Type 0 where
+  pub size : length ws′ ≡ wordsLength
+  pub rest : ws′ ≡ putControls (controlsIn ws′) ws₀
+  pub left : changeAll f key name count (decode ws₀ shelf .slots) (take (to - (i + 1)) (drop (i + 1) (nodesIn ws₀))) (controlsIn ws′)
+      ≡ changeAll f key name count (decode ws₀ shelf .slots) (take (to - i) (drop i (nodesIn ws₀))) (controlsIn ws)
+
+pub turned : (f : ControlValue → ControlValue) (key : Key) (name : List ℕ) (count : ℕ) (ws₀ shelf : List ℕ) (to i : ℕ) (ws ws′ : List ℕ)
+    → Ready ws₀ shelf → i < to → to ≤ countIn ws₀ → length ws ≡ wordsLength → ws ≡ putControls (controlsIn ws) ws₀
+    → length ws′ ≡ length ws → ws′ ≡ putControls (changeNode f key name count ws shelf i (controlsIn ws)) ws
+    → Turned f key name count ws₀ shelf to i ws ws′
+turned f key name count ws₀ shelf to i ws ws′ ready h k size rest long told =
+    let cs : List ℕ = controlsIn ws in
+    let next : List ℕ = changeNode f key name count ws shelf i cs in
+    let many : length cs ≡ controlsWords = region-length controlsPlace controlsWords ws (omega arith) in
+    let many′ : length next ≡ controlsWords = put-size controlsPlace controlsWords next ws (omega arith) (sym (ap length told) ∙ long) in
+    let here : controlsIn ws′ ≡ next = ap controlsIn told ∙ region-put controlsPlace controlsWords next ws (omega arith) many′ in
+    let step : next ≡ changeOne f key name count (decode ws₀ shelf .slots) (nodeIn ws₀ i) cs =
+    ap (λ (w : List ℕ). changeNode f key name count w shelf i cs) rest ∙ change-kept cs ws₀ (ready .size) many shelf ready i (omega arith) f key name count cs in
+    record {
+      size = long ∙ size;
+      rest =
+          told
+          ∙ ap (putControls next) rest
+          ∙ put-put controlsPlace controlsWords cs next ws₀ (omega (arith, ready .size)) many
+          ∙ ap (λ (l : List ℕ). putControls l ws₀) (sym here);
+      left =
+          ap (changeAll f key name count (decode ws₀ shelf .slots) (take (to - (i + 1)) (drop (i + 1) (nodesIn ws₀)))) (here ∙ step)
+          ∙ sym (all-turn f key name count (decode ws₀ shelf .slots) ws₀ to i cs h k);
+    }
+
+-- a change looks at no depth
+module _ (f : ControlValue → ControlValue) (key : Key) (name : List ℕ) (count : ℕ) (slots : List Slot) where
+  pub all-sink : (k : ℕ) (l : List Node) (xs : List ℕ) → changeAll f key name count slots (sink k l) xs ≡ changeAll f key name count slots l xs
+  unfolding changeAll sink
+  all-sink k [] xs = refl
+  all-sink k (r ∷ l) xs = all-sink k l (changeOne f key name count slots r xs)
+
+  -- the node n and all below it are the records from its place to the end of its run
+  pub all-run : (c : ℕ) (us : List ℕ) (n at : ℕ) → at ≡ place n (rows c us) → at < c → (d e : ℕ) → d ≡ getD us (width * at + 1) 0 → e ≡ at + 1 + deeper d (drop (at + 1) (rows c us))
+      → (xs : List ℕ) → changeAll f key name count slots (runOf n (rows c us)) xs ≡ changeAll f key name count slots (take (e - at) (drop at (rows c us))) xs
+  all-run c us n at here live d e deep end xs =
+      let t = rows c us in
+      let many : e - at ≡ suc (deeper d (drop (at + 1) t)) = omega arith in
+      ap (λ (l : List Node). changeAll f key name count slots l xs) (runOf-at c us n at here live d e deep end)
+      ∙ all-sink d (nodeFrom us (width * at) ∷ take (deeper d (drop (at + 1) t)) (drop (at + 1) t)) xs
+      ∙ sym (ap₂ (λ (k : ℕ) (l : List Node). changeAll f key name count slots (take k l) xs) many (row-from c us at live))

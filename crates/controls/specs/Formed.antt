@@ -1,0 +1,69 @@
+-- The state check's part on controls, node by node.
+use Prim.Native.Nat.{ℕ, _+_, _*_, _≤_, _<_}
+use mathlib.Core.Bool.{Bool, true, false}
+use mathlib.Core.Path.{_≡_, refl, ap, ap₂, _∙_}
+use mathlib.Core.List.{List}
+use native.Mathlib.Omega.{arith}
+use lib.ListN.{length, drop, getD}
+use Rattle.words.specs.Choice.{pick, both}
+use Rattle.words.specs.Parts.{region}
+use Rattle.synthdef.specs.Definition.{Front}
+use Rattle.nodes.specs.Table.{row-from, rows-end}
+use Rattle.nodes.specs.Place.{groupSlot, isGroup}
+use Rattle.nodes.specs.Formed.{mostNodes}
+use Rattle.model.specs.Layout.{nodesPlace, nodesWords, rowWords, countIn, nodesIn, controlsIn}
+use Rattle.model.specs.Engine.{decode, definitionOf}
+use Rattle.model.specs.Formed.{mappingsFormed, controlsFormed}
+use Rattle.controls.specs.Encoded.{frontIn}
+use Rattle.controls.specs.Ready.{Ready, nodeIn, slotBytes, synth-ready}
+use Rattle.controls.specs.Synth.{Bounds, slot-word, row-word, is-group, is-synth}
+
+-- a row's mapping words, by a definition's bytes
+abbrev pub rowFormed : List ℕ → ℕ → List ℕ → Bool
+rowFormed s row cs = mappingsFormed (length (frontIn s .values)) (drop (rowWords * row) cs)
+
+-- of the node at a place of the table
+abbrev pub nodeFormed : List ℕ → List ℕ → ℕ → Bool
+nodeFormed ws shelf i = pick (isGroup (nodeIn ws i)) true (rowFormed (slotBytes ws shelf (nodeIn ws i .slot)) (nodeIn ws i .row) (controlsIn ws))
+
+-- the node's test, by the words
+module _ (ws shelf : List ℕ) (i : ℕ) (few : i < mostNodes) where
+  pub formed-group : getD ws (nodesPlace + 5 * i + 3) 0 ≡ groupSlot → nodeFormed ws shelf i ≡ true
+  formed-group e = rw (is-group ws i few e)
+
+  pub formed-synth : (getD ws (nodesPlace + 5 * i + 3) 0 ≡ groupSlot → ⊥)
+      → nodeFormed ws shelf i ≡ rowFormed (slotBytes ws shelf (getD ws (nodesPlace + 5 * i + 3) 0)) (getD ws (nodesPlace + 5 * i + 4) 0) (controlsIn ws)
+  formed-synth other =
+      rw (is-synth ws i few other)
+      (ap₂ (λ (slot row : ℕ). rowFormed (slotBytes ws shelf slot) row (controlsIn ws)) (slot-word ws i few) (row-word ws i few))
+
+-- a run of the table: one node more, and the end
+module _ (ws shelf : List ℕ) (ready : Ready ws shelf) where
+  same-test : (i : ℕ) → i < countIn ws → (b : Bool) → isGroup (nodeIn ws i) ≡ b
+      → pick b true (mappingsFormed (length (definitionOf (decode ws shelf .slots) (nodeIn ws i) .front .values)) (drop (rowWords * nodeIn ws i .row) (controlsIn ws)))
+      ≡ pick b true (rowFormed (slotBytes ws shelf (nodeIn ws i .slot)) (nodeIn ws i .row) (controlsIn ws))
+  same-test i few true e = refl
+  same-test i few false e =
+      ap (λ (f : Front). mappingsFormed (length (f .values)) (drop (rowWords * nodeIn ws i .row) (controlsIn ws))) (synth-ready ws shelf ready i few e .front)
+
+  pub formed-turn : (i : ℕ) → i < countIn ws
+      → controlsFormed (decode ws shelf .slots) (controlsIn ws) (drop i (nodesIn ws))
+      ≡ both (nodeFormed ws shelf i) (controlsFormed (decode ws shelf .slots) (controlsIn ws) (drop (i + 1) (nodesIn ws)))
+  unfolding controlsFormed
+  formed-turn i few =
+      ap (controlsFormed (decode ws shelf .slots) (controlsIn ws)) (row-from (countIn ws) (region nodesPlace nodesWords ws) i few)
+      ∙ ap (λ (b : Bool). both b (controlsFormed (decode ws shelf .slots) (controlsIn ws) (drop (i + 1) (nodesIn ws)))) (same-test i few (isGroup (nodeIn ws i)) refl)
+
+  pub formed-end : (i : ℕ) → countIn ws ≤ i → controlsFormed (decode ws shelf .slots) (controlsIn ws) (drop i (nodesIn ws)) ≡ true
+  unfolding controlsFormed
+  formed-end i h = ap (controlsFormed (decode ws shelf .slots) (controlsIn ws)) (rows-end (countIn ws) (region nodesPlace nodesWords ws) i h)
+
+  pub bounds-ready : (i : ℕ) → i < countIn ws → Bounds ws shelf i
+  bounds-ready i few =
+      record {
+        size = ready .size;
+        shelfSize = ready .shelfSize;
+        place = omega (arith, ready .few);
+        slot = λ e. synth-ready ws shelf ready i few e .slot;
+        row = λ e. synth-ready ws shelf ready i few e .row;
+      }

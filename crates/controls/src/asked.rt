@@ -1,0 +1,83 @@
+// What is asked of a node's controls: whether they are there, and what reading one gives.
+use crate::definition::control_start;
+use crate::definition::has_controls;
+use crate::definition::parameter_count;
+use crate::synth::read_at;
+use crate::table::node_definition;
+use crate::table::node_is_group;
+use crate::table::node_row;
+use synthdef::Found;
+use values::Key;
+use words::wide;
+ghost use Prim.Native.Nat.{_<_};
+ghost use mathlib.Core.Bool.{false};
+ghost use mathlib.Core.Path.{_≡_};
+ghost use lib.ListN.{length};
+ghost use Rattle.nodes.specs.Place.{isGroup};
+ghost use Rattle.values.specs.Controls.{shownBy};
+ghost use Rattle.model.specs.Layout.{wordsLength, countIn, controlsIn, busesIn};
+ghost use Rattle.model.specs.Engine.{decode, definitionOf, controlsOf};
+ghost use Rattle.model.specs.Meaning.{negativeKey, startOf};
+ghost use Rattle.model.specs.Replies.{readAt};
+ghost use Rattle.controls.specs.Ready.{Ready, nodeIn};
+ghost use Rattle.controls.specs.Asked.{controlsMissing, controlIn};
+
+// "Negative indices are always refused."
+fn negative_key(key: Key) -> bool
+    ensures { λ r. ⌜ r ≡ negativeKey key ⌝ }
+{
+    match key {
+        Key::Index(i) => 2147483648 <= i,
+        Key::Name => false,
+    }
+}
+
+// Refusal 21's test on the node at a place: a negative index or count always; on a synth, controls that it lacks; on a group no more.
+pub fn controls_missing(
+    words: &[u32],
+    shelf: &[u8],
+    place: usize,
+    key: Key,
+    name: &[u8],
+    count: u32,
+) -> bool
+    requires { ⌜ (Ready (now words) (now shelf)) × (place < countIn (now words)) ⌝ }
+    ensures { λ r. ⌜ r ≡ controlsMissing key count (now (name .entry)) (decode (now (words .entry)) (now (shelf .entry)) .slots) (nodeIn (now (words .entry)) place) ⌝ }
+{
+    if negative_key(key) {
+        return true;
+    }
+    if 2147483648 <= count {
+        return true;
+    }
+    if node_is_group(words, place) {
+        return false;
+    }
+    !has_controls(node_definition(words, shelf, place), key, name, count)
+}
+
+// What reading a control of a row gives: the bus where it is mapped, otherwise its own float.
+pub fn read_control(words: &[u32], row: u32, index: u32) -> u32
+    requires { ⌜ (length (now words) ≡ wordsLength) × (row < 256) × (index < 32) ⌝ }
+    ensures { λ r. ⌜ r ≡ shownBy (busesIn (now (words .entry))) (controlIn (controlsIn (now (words .entry))) row index) ⌝ }
+{
+    let at = 64 * wide(row) + 2 * wide(index);
+    read_at(&words[1603..17987], &words[17987..22083], at)
+}
+
+// What reading the control that a key names gives, of the synth at a place; 0 where it lacks it.
+pub fn read_key(words: &[u32], shelf: &[u8], place: usize, key: Key, name: &[u8]) -> u32
+    requires { ⌜ (Ready (now words) (now shelf)) × (place < countIn (now words)) × (isGroup (nodeIn (now words) place) ≡ false) ⌝ }
+    ensures { λ r. ⌜ r ≡ readAt (busesIn (now (words .entry))) (controlsOf (decode (now (words .entry)) (now (shelf .entry)) .slots) (controlsIn (now (words .entry))) (nodeIn (now (words .entry)) place)) (startOf key (now (name .entry)) (definitionOf (decode (now (words .entry)) (now (shelf .entry)) .slots) (nodeIn (now (words .entry)) place))) ⌝ }
+{
+    let definition = node_definition(words, shelf, place);
+    match control_start(definition, key, name) {
+        Found::At(start) => {
+            if parameter_count(definition) <= start {
+                return 0;
+            }
+            read_control(words, node_row(words, place), start)
+        }
+        Found::Nothing => 0,
+    }
+}

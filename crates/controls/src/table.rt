@@ -1,0 +1,99 @@
+// The controls of the synths of the node table.
+use crate::control::Change;
+use crate::synth::change_node;
+use crate::synth::row_formed;
+use crate::synth::slot_bytes;
+use values::Key;
+use words::wide;
+ghost use Prim.Native.Nat.{_-_, _≤_, _<_};
+ghost use mathlib.Core.Path.{_≡_};
+ghost use lib.ListN.{length, take, drop};
+ghost use Rattle.nodes.specs.Formed.{mostNodes};
+ghost use Rattle.nodes.specs.Place.{isGroup};
+ghost use Rattle.model.specs.Layout.{slotCount, wordsLength, countIn, nodesIn, controlsIn, putControls};
+ghost use Rattle.model.specs.Engine.{decode};
+ghost use Rattle.model.specs.Effects.{changeAll};
+ghost use Rattle.model.specs.Formed.{controlsFormed};
+ghost use Rattle.controls.specs.Change.{changeOf};
+ghost use Rattle.controls.specs.Ready.{Ready, nodeIn, slotBytes};
+ghost use Rattle.controls.specs.Synth.{Bounds};
+ghost use Rattle.controls.specs.Formed.{nodeFormed};
+
+// The controls of the synths among the nodes from one place of the table to another.
+pub fn change_all(
+    words: &mut [u32],
+    shelf: &[u8],
+    from: usize,
+    to: usize,
+    key: Key,
+    name: &[u8],
+    count: u32,
+    change: Change,
+)
+    requires { ⌜ (Ready (now words) (now shelf)) × (to ≤ countIn (now words)) ⌝ }
+    ensures { λ r. ⌜ now (words .exit) ≡ putControls (changeAll (changeOf change) key (now (name .entry)) count (decode (now (words .entry)) (now (shelf .entry)) .slots) (take (to - from) (drop from (nodesIn (now (words .entry))))) (controlsIn (now (words .entry)))) (now (words .entry)) ⌝ }
+{
+    let mut i = from;
+    while i < to {
+        change_node(words, shelf, i, key, name, count, change);
+        i += 1;
+    }
+}
+
+// The bytes of the definition of the synth at a place.
+pub fn node_definition<'a, 'b>(words: &'b [u32], shelf: &'a [u8], place: usize) -> &'a [u8]
+    requires { ⌜ (length (now words) ≡ wordsLength) × (place < mostNodes) × (nodeIn (now words) place .slot < slotCount) ⌝ }
+    ensures { λ r. ⌜ now r ≡ slotBytes (now (words .entry)) (now (shelf .entry)) (nodeIn (now (words .entry)) place .slot) ⌝ }
+{
+    let slot = words[68 + 5 * place + 3];
+    let size = words[4 + wide(slot)];
+    slot_bytes(shelf, slot, size)
+}
+
+// The node at a place is a group.
+pub fn node_is_group(words: &[u32], place: usize) -> bool
+    requires { ⌜ (length (now words) ≡ wordsLength) × (place < mostNodes) ⌝ }
+    ensures { λ r. ⌜ r ≡ isGroup (nodeIn (now (words .entry)) place) ⌝ }
+{
+    words[68 + 5 * place + 3] == 32
+}
+
+// The row of the node at a place.
+pub fn node_row(words: &[u32], place: usize) -> u32
+    requires { ⌜ (length (now words) ≡ wordsLength) × (place < mostNodes) ⌝ }
+    ensures { λ r. ⌜ r ≡ nodeIn (now (words .entry)) place .row ⌝ }
+{
+    words[68 + 5 * place + 4]
+}
+
+// The state check's part on controls, of one node: a synth's own mapping words, and nothing at a group.
+fn node_formed(words: &[u32], shelf: &[u8], place: usize) -> bool
+    requires { ⌜ Bounds (now words) (now shelf) place ⌝ }
+    ensures { λ r. ⌜ r ≡ nodeFormed (now (words .entry)) (now (shelf .entry)) place ⌝ }
+{
+    if node_is_group(words, place) {
+        return true;
+    }
+    let row = node_row(words, place);
+    row_formed(
+        &words[1603..17987],
+        node_definition(words, shelf, place),
+        row,
+    )
+}
+
+// The state check's part on controls: the mapping words of each synth's own controls.
+pub fn controls_formed(words: &[u32], shelf: &[u8]) -> bool
+    requires { ⌜ Ready (now words) (now shelf) ⌝ }
+    ensures { λ r. ⌜ r ≡ controlsFormed (decode (now (words .entry)) (now (shelf .entry)) .slots) (controlsIn (now (words .entry))) (nodesIn (now (words .entry))) ⌝ }
+{
+    let count = wide(words[0]);
+    let mut i = 0;
+    while i < count {
+        if !node_formed(words, shelf, i) {
+            return false;
+        }
+        i += 1;
+    }
+    true
+}
