@@ -6,4 +6,9 @@ pub mod Storing
 pub mod Names
 pub mod Naming
 pub mod Retiring
+pub mod Retired
 pub mod Loading
+pub mod Checking
+pub mod Exporting
+pub mod Lent
+pub mod Exported

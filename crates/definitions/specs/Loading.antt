@@ -16,7 +16,8 @@ use Rattle.synthdef.specs.Writer.{writeDefinition}
 use Rattle.nodes.specs.declared.Node.{Node}
 use Rattle.model.specs.Layout.{slotCount, slotRoom, shelfLength}
 use Rattle.model.specs.Engine.{Slot, slotsFrom, slotAt, held, slotTaken}
-use Rattle.model.specs.Effects.{freeFrom, placed, loaded}
+use Rattle.model.specs.Effects.{freeFrom, placed, loaded, retired}
+use Rattle.model.specs.Checks.{namesOf}
 use Rattle.model.specs.After.{flagsOf, lengthsOf, shelfOf}
 use Rattle.definitions.specs.Holders.{holders}
 use Rattle.definitions.specs.Slots.{tableWords, lengthsOn, flagsOn, slotsOn, slotOn, bytesOn, residentOn, slots-length, Sized, Formed}
@@ -24,6 +25,7 @@ use Rattle.definitions.specs.Files.{Held, Run, firstPlace, definitionsOn
 use Rattle.definitions.specs.Storing.{tableOf, flags-size, lengths-size, table-size, table-set, Short, shelf-set, shelf-same, flags-back, free-flags}
 use Rattle.definitions.specs.Naming.{Next, run-last}
 use Rattle.definitions.specs.Retiring.{slot-is, table-same}
+use Rattle.definitions.specs.Retired.{table-flags, retired-lengths, retired-slots}
 
 free-most : (j : ℕ) (slots : List Slot) (t : List Node) → j ≤ freeFrom j slots t
 unfolding freeFrom
@@ -53,14 +55,14 @@ free-slot j (s ∷ more) t i e h = by (slotTaken j s t) refl i e h (λ n. free-s
     by false q zero e h ih = first q
     by false q (suc i) e h ih = absurd (omega arith)
 
+-- a definition placed leaves as many slots
+pub placed-many : (d : Definition) (slots : List Slot) (t : List Node) → length slots ≡ slotCount → length (placed d slots t) ≡ slotCount
+placed-many d slots t many = length-set slots (freeFrom 0 slots t) (record { bytes = writeDefinition d; resident = true }) ∙ many
+
 -- the flags in a table of slots
-table-flags : (slots : List Slot) (table shelf : List ℕ) → length slots ≡ slotCount → flagsOf (slotsOn (tableOf slots table) shelf) ≡ flagsOf slots
-table-flags slots table shelf many =
-    let size : length (lengthsOf slots (lengthsOn table)) ≡ slotCount = lengths-size slots (lengthsOn table) ∙ many in
-    let flags : flagsOn (tableOf slots table) ≡ flagsOf slots =
-    ap (λ (l : List ℕ). take slotCount l) (drop-at (lengthsOf slots (lengthsOn table)) (flagsOf slots) slotCount size)
-    ∙ take-all slotCount (flagsOf slots) (rw (flags-size slots, many) (omega arith)) in
-    ap (λ (l : List ℕ). flagsOf (slotsFrom slotCount (lengthsOn (tableOf slots table)) l shelf)) flags
+flags-in : (slots : List Slot) (table shelf : List ℕ) → length slots ≡ slotCount → flagsOf (slotsOn (tableOf slots table) shelf) ≡ flagsOf slots
+flags-in slots table shelf many =
+    ap (λ (l : List ℕ). flagsOf (slotsFrom slotCount (lengthsOn (tableOf slots table)) l shelf)) (table-flags slots table many)
     ∙ ap (λ (n : ℕ). flagsOf (slotsFrom n (lengthsOn (tableOf slots table)) (flagsOf slots) shelf)) (sym many)
     ∙ flags-back slots (lengthsOn (tableOf slots table)) shelf
 
@@ -75,6 +77,10 @@ pub record Loading (table₀ shelf₀ file : List ℕ) (tests : List Bool) (at :
   pub tableNow : table ≡ tableOf slots table₀
   pub shelfNow : shelf ≡ shelfOf slots shelf₀
   pub sized : Sized table shelf
+
+-- the slots after a load: "A load first retires residents whose names are in the file, then puts the new ones in the lowest free slots, in file order."
+abbrev pub loadedOn : List ℕ → List ℕ → List Bool → List ℕ → List Slot
+loadedOn table shelf tests file = loaded (definitionsOn file) (retired (namesOf (definitionsOn file)) (slotsOn table shelf)) (holders tests)
 
 -- what a load leaves
 pub record Loaded (table₀ shelf₀ table shelf : List ℕ) (slots : List Slot) : Type 0 where
@@ -137,7 +143,7 @@ module _ (table₀ shelf₀ file : List ℕ) (tests : List Bool) (at : ℕ) (tab
   found-in =
       found shelf
       ∙ ap (λ (l : List ℕ). freeFrom 0 (slotsOn l shelf) (holders tests)) (m .tableNow)
-      ∙ free-flags 0 (slotsOn (tableOf (m .slots) table₀) shelf) (m .slots) (holders tests) (table-flags (m .slots) table₀ shelf (m .many))
+      ∙ free-flags 0 (slotsOn (tableOf (m .slots) table₀) shelf) (m .slots) (holders tests) (flags-in (m .slots) table₀ shelf (m .many))
 
   next-left : loaded (n .rest) (set (m .slots) k (newSlot (n .first))) (holders tests) ≡ loaded (definitionsOn file) (slotsOn table₀ shelf₀) (holders tests)
   unfolding loaded
@@ -193,3 +199,18 @@ loading-last table₀ shelf₀ file tests at table shelf m h =
     let same : m .slots ≡ loaded (definitionsOn file) (slotsOn table₀ shelf₀) (holders tests) =
     sym (ap (λ (ds : List Definition). loaded ds (m .slots) (holders tests)) (run-last (m .run) h)) ∙ m .left in
     record { words = m .tableNow ∙ ap (λ (l : List Slot). tableOf l table₀) same; bytes = m .shelfNow ∙ ap (λ (l : List Slot). shelfOf l shelf₀) same }
+
+-- the retirement and then the placing
+pub load-whole : (table shelf file : List ℕ) (tests : List Bool) (mid table′ shelf′ : List ℕ) → Formed table shelf
+    → mid ≡ tableOf (retired (namesOf (definitionsOn file)) (slotsOn table shelf)) table
+    → Loaded mid shelf table′ shelf′ (loaded (definitionsOn file) (slotsOn mid shelf) (holders tests))
+    → Loaded table shelf table′ shelf′ (loadedOn table shelf tests file)
+load-whole table shelf file tests mid table′ shelf′ f e l =
+    let names = namesOf (definitionsOn file) in
+    let slots : slotsOn mid shelf ≡ retired names (slotsOn table shelf) = ap (λ (m : List ℕ). slotsOn m shelf) e ∙ retired-slots table shelf names f in
+    let all : loaded (definitionsOn file) (slotsOn mid shelf) (holders tests) ≡ loadedOn table shelf tests file = ap (λ (s : List Slot). loaded (definitionsOn file) s (holders tests)) slots in
+    let lengths : lengthsOn mid ≡ lengthsOn table = ap (λ (m : List ℕ). lengthsOn m) e ∙ retired-lengths table shelf names f in
+    record {
+      words = l .words ∙ ap₂ (λ (s : List Slot) (ls : List ℕ). lengthsOf s ls ++ flagsOf s) all lengths;
+      bytes = l .bytes ∙ ap (λ (s : List Slot). shelfOf s shelf) all;
+    }

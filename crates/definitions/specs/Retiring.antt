@@ -86,7 +86,7 @@ module _ (table shelf : List ℕ) (f : Formed table shelf) where
       (λ k h. rw (slot-is table shelf k h) (size-told k h))
       (λ k h. rw (slot-is table shelf k h) (flag-told (getD table (slotCount + k) 0) (f .flag k h))))
 
-retired-length : (names : List (List ℕ)) (slots : List Slot) → length (retired names slots) ≡ length slots
+pub retired-length : (names : List (List ℕ)) (slots : List Slot) → length (retired names slots) ≡ length slots
 unfolding retired
 retired-length names [] = refl
 retired-length names (s ∷ more) = ap suc (retired-length names more)
@@ -153,7 +153,7 @@ module _ (table : List ℕ) (marks : List Bool) (k : ℕ) (now : List ℕ) (m : 
 
 module _ (table shelf : List ℕ) (names : List (List ℕ)) (f : Formed table shelf) where
   -- retired slots keep their lengths
-  retired-size : (k : ℕ) → k < slotCount
+  pub retired-size : (k : ℕ) → k < slotCount
       → getD table k 0 ≡ pick (slotAt (retired names (slotsOn table shelf)) k .resident) (length (slotAt (retired names (slotsOn table shelf)) k .bytes)) (getD table k 0)
   retired-size k h = rw (retired-is table shelf names k h) (by (residentOn table k) refl (not (among (nameOn table shelf k) names)))
     where

@@ -80,13 +80,18 @@ pub slots-end : (table shelf : List ℕ) (k : ℕ) → slotCount ≤ k → drop 
 slots-end table shelf k h = drop-of-length-le (slotsOn table shelf) {i = k} (rw (slots-length slotCount (lengthsOn table) (flagsOn table) shelf) h)
 
 -- the table lent from the words holds the engine's slots
+pub lengths-lent : (ws : List ℕ) → lengthsOn (region lengthsPlace tableWords ws) ≡ lengthsIn ws
+lengths-lent ws = take-take slotCount tableWords (drop lengthsPlace ws) (omega arith)
+
+pub flags-lent : (ws : List ℕ) → flagsOn (region lengthsPlace tableWords ws) ≡ residentIn ws
+flags-lent ws =
+    ap (λ (l : List ℕ). take slotCount l) (drop-take slotCount slotCount (drop lengthsPlace ws))
+    ∙ take-take slotCount slotCount (drop slotCount (drop lengthsPlace ws)) (omega arith)
+    ∙ ap (λ (l : List ℕ). take slotCount l) (drop-drop slotCount lengthsPlace ws)
+
 pub slots-lent : (ws shelf : List ℕ) → slotsOn (region lengthsPlace tableWords ws) shelf ≡ decode ws shelf .slots
 unfolding decode
-slots-lent ws shelf =
-    let flags : flagsOn (region lengthsPlace tableWords ws) ≡ residentIn ws =
-    ap (λ (l : List ℕ). take slotCount l) (drop-take slotCount slotCount (drop lengthsPlace ws)) ∙ take-take slotCount slotCount (drop slotCount (drop lengthsPlace ws)) (omega arith)
-    ∙ ap (λ (l : List ℕ). take slotCount l) (drop-drop slotCount lengthsPlace ws) in
-    rw (take-take slotCount tableWords (drop lengthsPlace ws) (omega arith), flags)
+slots-lent ws shelf = rw (lengths-lent ws, flags-lent ws)
 
 -- the sizes of the table and the shelf
 pub record Sized (table shelf : List ℕ) : Type 0 where

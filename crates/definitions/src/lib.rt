@@ -7,28 +7,34 @@ use words::wide;
 ghost use Prim.Native.Nat.{ℕ, _+_, _-_, _*_, _≤_, _<_};
 ghost use mathlib.Core.Bool.{not};
 ghost use mathlib.Core.Path.{_≡_};
-ghost use mathlib.Core.List.{List};
+ghost use mathlib.Core.List.{List, _++_};
 ghost use lib.ListN.{length, take, drop, getD, set};
-ghost use lib.Dec.{eqb};
+ghost use lib.Dec.{leb, eqb};
 ghost use Rattle.words.specs.Choice.{both, either};
 ghost use Rattle.words.specs.Parts.{put};
 ghost use Rattle.synthdef.specs.Definition.{Definition};
 ghost use Rattle.synthdef.specs.Read.{got};
-ghost use Rattle.synthdef.specs.Reader.{readDefinition};
+ghost use Rattle.synthdef.specs.Reader.{readDefinition, sizeLimit};
 ghost use Rattle.synthdef.specs.Fields.{stringAt};
-ghost use Rattle.model.specs.Layout.{slotCount, slotRoom};
+ghost use Rattle.model.specs.Layout.{slotCount, slotRoom, shelfLength};
+ghost use Rattle.nodes.specs.declared.Node.{Node};
 ghost use Rattle.nodes.specs.Table.{width, rows};
 ghost use Rattle.model.specs.Checks.{namesOf, staying};
 ghost use Rattle.model.specs.Effects.{freeFrom, retired, loaded};
 ghost use Rattle.model.specs.Effects as effects;
 ghost use Rattle.definitions.specs.Holders.{HeldBy, holders};
-ghost use Rattle.model.specs.Engine.{residentOf};
+ghost use Rattle.model.specs.Engine.{residents, residentOf};
+ghost use Rattle.model.specs.Engine as engine;
+ghost use Rattle.model.specs.Formed.{flagsFormed, isWhole, slotsFormed, nameResident, namesApart};
+ghost use Rattle.model.specs.Replies.{exportFile};
+ghost use Rattle.definitions.specs.Exporting.{headOf};
+ghost use Rattle.definitions.specs.Checking.{formedOn};
 ghost use Rattle.definitions.specs.Files.{Accepted, definitionsOn};
-ghost use Rattle.definitions.specs.Loading.{Loaded};
+ghost use Rattle.definitions.specs.Loading.{Loaded, loadedOn};
 ghost use Rattle.definitions.specs.Naming.{NamedBy};
 ghost use Rattle.definitions.specs.Storing.{tableOf};
 ghost use Rattle.definitions.specs.Names.{MarkedMore, namedOn};
-ghost use Rattle.definitions.specs.Slots.{Formed, Sized, tableWords, slotsOn};
+ghost use Rattle.definitions.specs.Slots.{Formed, Sized, tableWords, lengthsOn, flagsOn, slotsOn};
 
 // For each slot, whether a live synth holds it.
 pub fn held_slots(nodes: &[u32], count: usize) -> [bool; 32]
@@ -246,5 +252,181 @@ fn place_all(table: &mut [u32], shelf: &mut [u8], held: [bool; 32], file: &[u8])
             place(table, shelf, k, &file[at..next]);
         }
         at = next;
+    }
+}
+
+// An accepted file loaded: residents under its names retired, then its definitions in the lowest free slots.
+pub fn load(table: &mut [u32], shelf: &mut [u8], held: [bool; 32], file: &[u8])
+    requires { ⌜ Formed (now table) (now shelf) × Accepted (now file) ⌝ }
+    ensures { λ r. ⌜ Loaded (now (table .entry)) (now (shelf .entry)) (now (table .exit)) (now (shelf .exit)) (loadedOn (now (table .entry)) (now (shelf .entry)) held (now (file .entry))) ⌝ }
+{
+    retire_named(table, shelf, file);
+    place_all(table, shelf, held, file);
+}
+
+// Each flag is 0 or 1.
+fn flags_formed(table: &[u32]) -> bool
+    requires { ⌜ length (now table) ≡ tableWords ⌝ }
+    ensures { λ r. ⌜ r ≡ flagsFormed (flagsOn (now (table .entry))) ⌝ }
+{
+    let mut k = 0;
+    while k < 32 {
+        if 1 < table[32 + k] {
+            return false;
+        }
+        k += 1;
+    }
+    true
+}
+
+// A slot's length is at most the limit, and its bytes are one readable definition.
+fn bytes_formed(shelf: &[u8], k: usize, size: usize) -> bool
+    requires { ⌜ (length (now shelf) ≡ shelfLength) × (k < slotCount) ⌝ }
+    ensures { λ r. ⌜ r ≡ both (leb size sizeLimit) (isWhole size (readDefinition (take size (take slotRoom (drop (slotRoom * k) (now (shelf .entry))))) 0)) ⌝ }
+{
+    if 2048 < size {
+        return false;
+    }
+    let start = 2048 * k;
+    let end = start + size;
+    match read_definition(&shelf[start..end], Cursor { at: 0 }) {
+        Step::Next(next) => next.at == size,
+        Step::Bad(refusal, place) => false,
+    }
+}
+
+// Of a taken slot that it holds a definition; of a free slot nothing is asked.
+fn slot_formed(table: &[u32], shelf: &[u8], held: bool, k: usize) -> bool
+    requires { ⌜ Sized (now table) (now shelf) × (k < slotCount) ⌝ }
+    ensures { λ r. ⌜ ((t : List Node) → held ≡ engine.held k t → r ≡ formedOn (now (table .entry)) (now (shelf .entry)) t k) ⌝ }
+{
+    if table[32 + k] != 1 {
+        if !held {
+            return true;
+        }
+    }
+    bytes_formed(shelf, k, wide(table[k]))
+}
+
+// The same of each slot.
+fn each_formed(table: &[u32], shelf: &[u8], held: [bool; 32]) -> bool
+    requires { ⌜ Sized (now table) (now shelf) ⌝ }
+    ensures { λ r. ⌜ r ≡ slotsFormed 0 (lengthsOn (now (table .entry))) (slotsOn (now (table .entry)) (now (shelf .entry))) (holders held) ⌝ }
+{
+    let mut k = 0;
+    while k < 32 {
+        if !slot_formed(table, shelf, held[k], k) {
+            return false;
+        }
+        k += 1;
+    }
+    true
+}
+
+// No slot from k on is resident under a name.
+fn name_apart(table: &[u32], shelf: &[u8], name: &[u8], from: usize) -> bool
+    requires { ⌜ Formed (now table) (now shelf) × (from ≤ slotCount) ⌝ }
+    ensures { λ r. ⌜ r ≡ not (nameResident (now (name .entry)) (drop from (slotsOn (now (table .entry)) (now (shelf .entry))))) ⌝ }
+{
+    let mut k = from;
+    while k < 32 {
+        if slot_named(table, shelf, k, name) {
+            return false;
+        }
+        k += 1;
+    }
+    true
+}
+
+// No two residents share a name.
+fn names_apart(table: &[u32], shelf: &[u8]) -> bool
+    requires { ⌜ Formed (now table) (now shelf) ⌝ }
+    ensures { λ r. ⌜ r ≡ namesApart (slotsOn (now (table .entry)) (now (shelf .entry))) ⌝ }
+{
+    let mut k = 0;
+    while k < 32 {
+        if table[32 + k] == 1 {
+            if !name_apart(table, shelf, name_at(shelf, 2048 * k), k + 1) {
+                return false;
+            }
+        }
+        k += 1;
+    }
+    true
+}
+
+// The state check's part on slots.
+pub fn slots_formed(table: &[u32], shelf: &[u8], held: [bool; 32]) -> bool
+    requires { ⌜ Sized (now table) (now shelf) ⌝ }
+    ensures { λ r. ⌜ r ≡ both (flagsFormed (flagsOn (now (table .entry)))) (both (slotsFormed 0 (lengthsOn (now (table .entry))) (slotsOn (now (table .entry)) (now (shelf .entry))) (holders held)) (namesApart (slotsOn (now (table .entry)) (now (shelf .entry))))) ⌝ }
+{
+    if !flags_formed(table) {
+        return false;
+    }
+    if !each_formed(table, shelf, held) {
+        return false;
+    }
+    names_apart(table, shelf)
+}
+
+// How many definitions are resident.
+pub fn resident_count(table: &[u32]) -> u32
+    requires { ⌜ length (now table) ≡ tableWords ⌝ }
+    ensures { λ r. ⌜ ((shelf : List ℕ) → r ≡ length (residents (slotsOn (now (table .entry)) shelf))) ⌝ }
+{
+    let mut n: u32 = 0;
+    let mut k = 0;
+    while k < 32 {
+        if table[32 + k] == 1 {
+            n += 1;
+        }
+        k += 1;
+    }
+    n
+}
+
+// The length of the export.
+pub fn export_length(table: &[u32], shelf: &[u8]) -> usize
+    requires { ⌜ Formed (now table) (now shelf) ⌝ }
+    ensures { λ r. ⌜ r ≡ length (exportFile (slotsOn (now (table .entry)) (now (shelf .entry)))) ⌝ }
+{
+    let mut n = 10;
+    let mut k = 0;
+    while k < 32 {
+        if table[32 + k] == 1 {
+            n += wide(table[k]);
+        }
+        k += 1;
+    }
+    n
+}
+
+// The head of a file of so many definitions.
+fn write_head(out: &mut [u8], count: u8)
+    requires { ⌜ 10 ≤ length (now out) ⌝ }
+    ensures { λ r. ⌜ now (out .exit) ≡ put 0 10 (headOf count) (now (out .entry)) ⌝ }
+{
+    let head: [u8; 10] = [83, 67, 103, 102, 0, 0, 0, 2, 0, count];
+    copy_in(out, 0, &head);
+}
+
+// A version 2 file of all residents in slot order, from the buffer's first byte; bytes past it stay.
+pub fn export(table: &[u32], shelf: &[u8], out: &mut [u8])
+    requires { ⌜ Formed (now table) (now shelf) × (length (exportFile (slotsOn (now table) (now shelf))) ≤ length (now out)) ⌝ }
+    ensures { λ r. ⌜ now (out .exit) ≡ exportFile (slotsOn (now (table .entry)) (now (shelf .entry))) ++ drop (length (exportFile (slotsOn (now (table .entry)) (now (shelf .entry))))) (now (out .entry)) ⌝ }
+{
+    write_head(out, resident_count(table) as u8);
+    let mut at = 10;
+    let mut k = 0;
+    while k < 32 {
+        let flag = table[32 + k];
+        if flag == 1 {
+            let size = wide(table[k]);
+            let start = 2048 * k;
+            let end = start + size;
+            copy_in(out, at, &shelf[start..end]);
+            at += size;
+        }
+        k += 1;
     }
 }

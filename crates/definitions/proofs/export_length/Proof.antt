@@ -1,0 +1,108 @@
+use Rattle.definitions.specs.Exporting.{bodyFrom, size-turn, body-end, export-size}
+use Rattle.definitions.specs.Slots.{residentOn}
+use Rattle.words.specs.Choice.{pick}
+use mathlib.Core.Logic.{⊎-elim}
+use Prim.Native.Nat.{ℕ, zero, suc, _+_, _*_, _-_, _≤_, _<_}
+use mathlib.Core.Bool.{Bool, true, false, not}
+use mathlib.Core.Path.{_≡_, refl, sym, ap, _∙_}
+use mathlib.Core.List.{List, [], _∷_, _++_, append-assoc}
+use native.Mathlib.Omega.{arith}
+use native.Mathlib.Numerals.{add-one}
+use borrow.Author.Needs.{needs}
+use borrow.Author.Tests.{lt-ltb, le-ltb, le-leb, lt-leb, eq-eqb, ne-eqb}
+use lib.ListN.{length, take, drop, getD, set, length-set, length-drop}
+use Rattle.definitions.proofs.export_length.Statement.{statement}
+use Rattle.definitions.proofs.export_length.Tie as tie
+use Rattle.definitions.proofs.export_length.Reads as reads
+use Rattle.definitions.proofs.export_length.Lts as lts
+use Rattle.words.proofs.wide.Reads as wide-reads
+
+abbrev Inv-loop : tie.InvT-loop
+Inv-loop table shelf n₀ k₀ n k = (k ≤ 32) × ((n ≤ 10 + 2048 * k) × (n + length (bodyFrom table shelf k) ≡ 10 + length (bodyFrom table shelf 0)))
+
+abbrev μ-loop : tie.MeasureT-loop
+μ-loop table shelf n₀ k₀ n k = 32 - k
+
+loop-holds : tie.Need-loop-holds Inv-loop μ-loop
+loop-holds c = (omega arith, (omega arith, refl))
+
+add-if1 : tie.Need-add-if1 Inv-loop μ-loop
+add-if1 c = omega arith
+
+mul-if1 : tie.Need-mul-if1 Inv-loop μ-loop
+mul-if1 c = omega arith
+
+shared-slice-read-if1 : tie.Need-shared-slice-read-if1 Inv-loop μ-loop
+shared-slice-read-if1 c = omega arith
+
+mul-wide : tie.Need-mul-wide Inv-loop μ-loop
+mul-wide c = omega arith
+
+shared-slice-read-wide : tie.Need-shared-slice-read-wide Inv-loop μ-loop
+shared-slice-read-wide c = omega arith
+
+wide-requires : tie.Need-wide-requires Inv-loop μ-loop
+wide-requires c κs = tt
+
+add-n : tie.Need-add-n Inv-loop μ-loop
+add-n c = let s = c .before .before .before .before .before .before .before .before in
+    let table = s .args .table .now in
+    let k = c .before .before .before .before .before .loop .k in
+    let in-slot = eq-eqb (getD table (32 + k) 0) 1 (c .before .before .if1 .taken) in
+    let small = s .pre .resident k (omega arith) in-slot .small in
+    let size = c .wide .ensures in
+    omega arith
+
+add-k : tie.Need-add-k Inv-loop μ-loop
+add-k c = omega arith
+
+loop-less : tie.Need-loop-less Inv-loop μ-loop
+loop-less c = omega arith
+
+loop-again : tie.Need-loop-again Inv-loop μ-loop
+loop-again c = let s = c .before .before .before .before .before .before in
+    let table = s .args .table .now in
+    let shelf = s .args .shelf .now in
+    let k = c .before .before .before .loop .k in
+    let before = c .before .before .before .loop .n in
+    let inv = c .before .before .before .loop .inv in
+    let step = size-turn table shelf (λ i. c .before .before .before .before .shared-slice-known2 .given i .fits) (s .pre) k (omega arith) in
+    ⊎-elim
+    (λ w.
+    let in-slot = eq-eqb (getD table (32 + k) 0) 1 (w .0 .taken) in
+    let small = s .pre .resident k (omega arith) in-slot .small in
+    let turn = rw in-slot at step in
+    let size = w .2 .ensures in
+    let n = w .3 in
+    (omega arith, (omega arith, omega arith)))
+    (λ w.
+    let turn = rw (ne-eqb (getD table (32 + k) 0) 1 (w .0 .left)) at step in
+    let n = w .1 in
+    (omega arith, (omega arith, omega arith)))
+    (c .if1 .came)
+
+returns : tie.Need-returns Inv-loop μ-loop
+returns c = let a = c .before .before .before .before .args in
+    let all = c .before .loop .inv .1 .1 in
+    let none = ap length (body-end (a .table .now) (a .shelf .now) (c .before .loop .k) (omega arith)) in
+    let whole = export-size (a .table .now) (a .shelf .now) in
+    omega arith
+
+pub export-length-spec : {M : Type 1} → statement M
+export-length-spec =
+    tie.close
+    (tie.spec
+    Inv-loop
+    μ-loop
+    loop-holds
+    add-if1
+    mul-if1
+    shared-slice-read-if1
+    mul-wide
+    shared-slice-read-wide
+    wide-requires
+    add-n
+    add-k
+    loop-less
+    loop-again
+    returns)

@@ -1,0 +1,73 @@
+use Rattle.definitions.specs.Checking.{flags-turn, flags-end}
+use Rattle.definitions.specs.Slots.{flagsOn}
+use lib.Dec.{leb}
+use Rattle.model.specs.Formed.{flagsFormed}
+use Rattle.words.specs.Choice.{both}
+use Prim.Native.Nat.{ℕ, zero, suc, _+_, _*_, _-_, _≤_, _<_}
+use mathlib.Core.Bool.{Bool, true, false, not}
+use mathlib.Core.Path.{_≡_, refl, sym, ap, _∙_}
+use mathlib.Core.List.{List, [], _∷_, _++_, append-assoc}
+use native.Mathlib.Omega.{arith}
+use native.Mathlib.Numerals.{add-one}
+use borrow.Author.Needs.{needs}
+use borrow.Author.Tests.{lt-ltb, le-ltb, le-leb, lt-leb, eq-eqb, ne-eqb}
+use lib.ListN.{length, take, drop, getD, set, length-set, length-drop}
+use Rattle.definitions.proofs.flags_formed.Statement.{statement}
+use Rattle.definitions.proofs.flags_formed.Tie as tie
+use Rattle.definitions.proofs.flags_formed.Reads as reads
+use Rattle.definitions.proofs.flags_formed.Lts as lts
+
+abbrev Inv-loop : tie.InvT-loop
+Inv-loop table k₀ k = (k ≤ 32) × (flagsFormed (drop k (flagsOn table)) ≡ flagsFormed (flagsOn table))
+
+abbrev μ-loop : tie.MeasureT-loop
+μ-loop table k₀ k = 32 - k
+
+loop-holds : tie.Need-loop-holds Inv-loop μ-loop
+loop-holds c = (omega arith, refl)
+
+add-if1 : tie.Need-add-if1 Inv-loop μ-loop
+add-if1 c = omega arith
+
+mul-if1 : tie.Need-mul-if1 Inv-loop μ-loop
+mul-if1 c = omega arith
+
+shared-slice-read-if1 : tie.Need-shared-slice-read-if1 Inv-loop μ-loop
+shared-slice-read-if1 c = omega arith
+
+returns : tie.Need-returns Inv-loop μ-loop
+returns c = let table = c .before .before .before .before .args .table .now in
+    let k = c .before .before .before .loop .k in
+    let rest = flagsFormed (drop (k + 1) (flagsOn table)) in
+    sym (flags-turn table (c .before .before .before .before .pre) k (omega arith) ∙ ap (λ (b : Bool). both b rest) (lt-leb (getD table (32 + k) 0) 1 (c .if1 .taken))) ∙ c .before .before .before .loop .inv .1
+
+add-k : tie.Need-add-k Inv-loop μ-loop
+add-k c = omega arith
+
+loop-less : tie.Need-loop-less Inv-loop μ-loop
+loop-less c = omega arith
+
+loop-again : tie.Need-loop-again Inv-loop μ-loop
+loop-again c = let table = c .before .before .before .before .args .table .now in
+    let k = c .before .before .before .loop .k in
+    let rest = flagsFormed (drop (k + 1) (flagsOn table)) in
+    (omega arith, sym (flags-turn table (c .before .before .before .before .pre) k (omega arith) ∙ ap (λ (b : Bool). both b rest) (le-leb (getD table (32 + k) 0) 1 (c .if1 .left))) ∙ c .before .before .before .loop .inv .1)
+
+returns-2 : tie.Need-returns-2 Inv-loop μ-loop
+returns-2 c = sym (flags-end (c .before .before .args .table .now) (c .before .before .pre) (c .before .loop .k) (omega arith)) ∙ c .before .loop .inv .1
+
+pub flags-formed-spec : {M : Type 1} → statement M
+flags-formed-spec =
+    tie.close
+    (tie.spec
+    Inv-loop
+    μ-loop
+    loop-holds
+    add-if1
+    mul-if1
+    shared-slice-read-if1
+    returns
+    add-k
+    loop-less
+    loop-again
+    returns-2)

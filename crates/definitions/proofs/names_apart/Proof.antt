@@ -1,0 +1,118 @@
+use borrow.Author.Tests.{not-true, not-false}
+use mathlib.Core.Logic.{⊎-elim}
+use Rattle.definitions.specs.Checking.{apart-turn, apart-end}
+use Rattle.definitions.specs.Names.{nameOn, NamedThere, named-there}
+use Rattle.definitions.specs.Slots.{slotsOn, residentOn}
+use Rattle.model.specs.Formed.{nameResident, namesApart}
+use Rattle.words.specs.Choice.{pick, both}
+use Prim.Native.Nat.{ℕ, zero, suc, _+_, _*_, _-_, _≤_, _<_}
+use mathlib.Core.Bool.{Bool, true, false, not}
+use mathlib.Core.Path.{_≡_, refl, sym, ap, _∙_}
+use mathlib.Core.List.{List, [], _∷_, _++_, append-assoc}
+use native.Mathlib.Omega.{arith}
+use native.Mathlib.Numerals.{add-one}
+use borrow.Author.Needs.{needs}
+use borrow.Author.Tests.{lt-ltb, le-ltb, le-leb, lt-leb, eq-eqb, ne-eqb}
+use lib.ListN.{length, take, drop, getD, set, length-set, length-drop}
+use Rattle.definitions.proofs.names_apart.Statement.{statement}
+use Rattle.definitions.proofs.names_apart.Tie as tie
+use Rattle.definitions.proofs.names_apart.Reads as reads
+use Rattle.definitions.proofs.names_apart.Lts as lts
+use Rattle.definitions.proofs.name_apart.Reads as name-apart-reads
+use Rattle.definitions.proofs.name_at.Reads as name-at-reads
+
+abbrev Inv-loop : tie.InvT-loop
+Inv-loop table shelf k₀ k = (k ≤ 32) × (namesApart (drop k (slotsOn table shelf)) ≡ namesApart (slotsOn table shelf))
+
+abbrev μ-loop : tie.MeasureT-loop
+μ-loop table shelf k₀ k = 32 - k
+
+loop-holds : tie.Need-loop-holds Inv-loop μ-loop
+loop-holds c = (omega arith, refl)
+
+add-if1 : tie.Need-add-if1 Inv-loop μ-loop
+add-if1 c = omega arith
+
+mul-if1 : tie.Need-mul-if1 Inv-loop μ-loop
+mul-if1 c = omega arith
+
+shared-slice-read-if1 : tie.Need-shared-slice-read-if1 Inv-loop μ-loop
+shared-slice-read-if1 c = omega arith
+
+mul-name-at : tie.Need-mul-name-at Inv-loop μ-loop
+mul-name-at c = omega arith
+
+name-at-requires : tie.Need-name-at-requires Inv-loop μ-loop
+name-at-requires c κs = let s = c .before .before .before .before .before .before in
+    let a = s .args in
+    let k = c .before .before .before .loop .k in
+    let less : k < 32 = omega arith in
+    let in-slot : residentOn (a .table .now) k ≡ true = eq-eqb (getD (a .table .now) (32 + k) 0) 1 (c .if1 .taken) in
+    named-there (a .table .now) (a .shelf .now) k (s .pre .sized) less (s .pre .resident k less in-slot) .inside
+
+add-name-apart : tie.Need-add-name-apart Inv-loop μ-loop
+add-name-apart c = omega arith
+
+name-apart-requires : tie.Need-name-apart-requires Inv-loop μ-loop
+name-apart-requires c κs = (c .before .before .before .before .before .before .before .pre, omega arith)
+
+returns : tie.Need-returns Inv-loop μ-loop
+returns c = let s = c .before .before .before .before .before .before .before .before .before in
+    let a = s .args in
+    let k = c .before .before .before .before .before .before .loop .k in
+    let table = a .table .now in
+    let shelf = a .shelf .now in
+    let less : k < 32 = omega arith in
+    let in-slot : residentOn table k ≡ true = eq-eqb (getD table (32 + k) 0) 1 (c .before .before .before .if1 .taken) in
+    let name = named-there table shelf k (s .pre .sized) less (s .pre .resident k less in-slot) .same in
+    let test : not (nameResident (nameOn table shelf k) (drop (k + 1) (slotsOn table shelf))) ≡ false =
+    ap (λ (n : List ℕ). not (nameResident n (drop (k + 1) (slotsOn table shelf)))) (name ∙ sym (c .before .before .name-at .ensures)) ∙ sym (c .before .name-apart .ensures) ∙ not-true (c .before .name-apart .result) (c .if2 .taken) in
+    sym (rw (in-slot, test) at (apart-turn table shelf k less)) ∙ c .before .before .before .before .before .before .loop .inv .1
+
+add-k : tie.Need-add-k Inv-loop μ-loop
+add-k c = omega arith
+
+loop-less : tie.Need-loop-less Inv-loop μ-loop
+loop-less c = omega arith
+
+loop-again : tie.Need-loop-again Inv-loop μ-loop
+loop-again c = let s = c .before .before .before .before .before .before in
+    let a = s .args in
+    let k = c .before .before .before .loop .k in
+    let table = a .table .now in
+    let shelf = a .shelf .now in
+    let less : k < 32 = omega arith in
+    let rest = namesApart (drop (k + 1) (slotsOn table shelf)) in
+    let test : pick (residentOn table k) (not (nameResident (nameOn table shelf k) (drop (k + 1) (slotsOn table shelf)))) true ≡ true =
+    ⊎-elim
+    (λ w.
+    let in-slot : residentOn table k ≡ true = eq-eqb (getD table (32 + k) 0) 1 (w .0 .taken) in
+    let name = named-there table shelf k (s .pre .sized) less (s .pre .resident k less in-slot) .same in
+    rw in-slot (ap (λ (n : List ℕ). not (nameResident n (drop (k + 1) (slotsOn table shelf)))) (name ∙ sym (w .1 .ensures)) ∙ sym (w .2 .ensures) ∙ not-false (w .2 .result) (w .3 .left)))
+    (λ w. rw (ne-eqb (getD table (32 + k) 0) 1 (w .left)))
+    (c .if1 .came) in
+    (omega arith, sym (apart-turn table shelf k less ∙ ap (λ (b : Bool). both b rest) test) ∙ c .before .before .before .loop .inv .1)
+
+returns-2 : tie.Need-returns-2 Inv-loop μ-loop
+returns-2 c = let a = c .before .before .before .before .args in
+    sym (apart-end (a .table .now) (a .shelf .now) (c .before .loop .k) (omega arith)) ∙ c .before .loop .inv .1
+
+pub names-apart-spec : {M : Type 1} → statement M
+names-apart-spec =
+    tie.close
+    (tie.spec
+    Inv-loop
+    μ-loop
+    loop-holds
+    add-if1
+    mul-if1
+    shared-slice-read-if1
+    mul-name-at
+    name-at-requires
+    add-name-apart
+    name-apart-requires
+    returns
+    add-k
+    loop-less
+    loop-again
+    returns-2)
