@@ -12,3 +12,4 @@ pub mod Plain
 pub mod Demands
 pub mod Script
 pub mod Examples
+pub mod Traps

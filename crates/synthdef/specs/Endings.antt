@@ -1,19 +1,17 @@
 -- Laws of readings of which only a part of the value is told.
 use Prim.{Unit, tt}
 use Prim.Native.Nat.{ℕ, zero, suc, _+_, _*_, _-_, _≤_, _<_}
-use mathlib.Core.Bool.{Bool, true, false}
 use mathlib.Core.Path.{_≡_, refl, sym, ap, _∙_}
-use mathlib.Core.List.{List, [], _∷_}
+use mathlib.Core.List.{List}
 use native.Mathlib.Omega.{arith}
 use native.Mathlib.Nat.{mul-suc}
 use lib.ListN.{length}
-use lib.Dec.{leb}
-use borrow.Author.Tests.{leb-true}
-use Rattle.words.specs.Choice.{pick}
 use Rattle.words.specs.declared.Refusal.{Refusal}
-use Rattle.synthdef.specs.Read.{Read, got, bad, andThen, checked, repeat, ending}
+use Rattle.synthdef.specs.Read.{Read, got, bad, andThen, repeat, ending}
 use Rattle.synthdef.specs.Fields.{whole}
 use Rattle.synthdef.specs.Front.{mapRead}
+use Rattle.synthdef.specs.FieldLaws.{whole-got}
+use Rattle.synthdef.specs.RepeatLaws.{went-on, ending-turn, repeat-length}
 
 module _ {A B : Type 0} where
   -- what was told was read
@@ -33,11 +31,6 @@ module _ {A B : Type 0} where
 
   pub then-bad : {r : Read A} {q : Refusal} {at : ℕ} (more : A → ℕ → Read B) → r ≡ bad q at → andThen r more ≡ bad q at
   then-bad more e = ap (λ (q : Read A). andThen q more) e
-
-  -- the rest reads the same
-  pub then-same : (r : Read A) (f g : A → ℕ → Read B) → ((x : A) (n : ℕ) → f x n ≡ g x n) → andThen r f ≡ andThen r g
-  then-same (got x n) f g h = h x n
-  then-same (bad q at) f g h = refl
 
   -- the rest takes only the place
   pub then-ending : (r : Read A) (f : A → ℕ → Read B) (g : ℕ → Read B) → ((x : A) (n : ℕ) → f x n ≡ g n) → andThen r f ≡ andThen (ending r) (λ u n. g n)
@@ -70,37 +63,14 @@ module _ {A B : Type 0} where
   ending-keeps (got x n) f = refl
   ending-keeps (bad q at) f = refl
 
-  -- a reading whose parts were all read: what follows from its parts follows
-  pub parts : (r : Read A) (more : A → ℕ → Read B) {y : B} {end : ℕ} {P : Type 0} → andThen r more ≡ got y end
-      → ((x : A) (next : ℕ) → r ≡ got x next → more x next ≡ got y end → P)
-      → P
-  parts (got x n) more h go = go x n refl h
-  parts (bad q at) more h go = absurd (let z : _≡_ {A = ℕ} 0 1 = cc in omega arith)
-
 module _ {A : Type 0} where
   pub ending-got : (r : Read A) {u : Unit {0}} {end : ℕ} → ending r ≡ got u end → Told (λ (x : A). tt {0}) r tt end
   ending-got (got x n) h = record { value = x; read = cc; same = refl }
   ending-got (bad q at) h = absurd (let z : _≡_ {A = ℕ} 0 1 = cc in omega arith)
 
-  pub pick-got : (b : Bool) (v : A) (n : ℕ) (r : Refusal) (at : ℕ) {x : A} {m : ℕ} → pick b (got v n) (bad r at) ≡ got x m → (b ≡ true) × (v ≡ x) × (n ≡ m)
-  pick-got true v n r at h = (refl, (cc), (cc))
-  pick-got false v n r at h = absurd (let z : _≡_ {A = ℕ} 0 1 = cc in omega arith)
-
-  pub pick-some : (b : Bool) (read : Read A) (r : Refusal) (at : ℕ) {x : A} {m : ℕ} → pick b read (bad r at) ≡ got x m → (b ≡ true) × (read ≡ got x m)
-  pick-some true read r at h = (refl, h)
-  pick-some false read r at h = absurd (let z : _≡_ {A = ℕ} 0 1 = cc in omega arith)
-
-  pub checked-got : (r : Refusal) (test : A → Bool) (at : ℕ) (read : Read A) {x : A} {n : ℕ} → checked r test at read ≡ got x n → (read ≡ got x n) × (test x ≡ true)
-  checked-got r test at read {x} {n} h =
-      parts read _ h (λ y m e rest.
-      let q = pick-got (test y) y m r at rest in
-      (e ∙ ap (λ (z : A). got z m) (q .1) ∙ ap (λ (k : ℕ). got x k) (q .2), ap test (sym (q .1)) ∙ q .0))
-
   -- a field of so many bytes that was read
-  pub whole-got : (size : ℕ) (s : List ℕ) (at : ℕ) (v : A) {x : A} {n : ℕ} → whole size s at v ≡ got x n → (v ≡ x) × (n ≡ at + size) × (n ≤ length s)
-  whole-got size s at v h =
-      let q = pick-got (leb (at + size) (length s)) v (at + size) _ at h in
-      let m = leb-true (at + size) (length s) (q .0) in (q .1, sym (q .2), omega arith)
+  pub field-got : (size : ℕ) (s : List ℕ) (at : ℕ) (v : A) {x : A} {n : ℕ} → whole size s at v ≡ got x n → (v ≡ x) × (n ≡ at + size) × (n ≤ length s)
+  field-got size s at v h = let w = whole-got size s at v h in (w .1 .0, sym (w .1 .1), omega arith)
 
   -- readings of one size each, all of which end within a bound
   abbrev pub Sized : (ℕ → Read A) → ℕ → ℕ → Type 0
@@ -114,44 +84,28 @@ module _ {A : Type 0} where
   pub repeat-got : (read : ℕ → Read A) (size most : ℕ) → Sized read size most → (n at : ℕ) {xs : List A} {end : ℕ} → repeat read n at ≡ got xs end → Repeated size most n at xs end
   unfolding repeat
   repeat-got read size most z zero at {xs} {end} h =
-      let e : xs ≡ [] = cc in
       let f : end ≡ at = cc in
-      record { many = ap length e; past = omega arith; within = λ w. omega arith }
+      record { many = repeat-length read zero at h; past = omega arith; within = λ w. omega arith }
   repeat-got read size most z (suc n) at {xs} {end} h =
-      parts (read at) _ h (λ y m e rest.
-      parts (repeat read n m) _ rest (λ ys k f last.
-      let a : xs ≡ y ∷ ys = cc in
+      went-on (read at) _ h (λ y m e rest.
+      went-on (repeat read n m) _ rest (λ ys k f last.
       let b : end ≡ k = cc in
       let one = z at y m e in
       let more = repeat-got read size most z n m f in
       record {
-        many = ap length a ∙ ap suc (more .many);
+        many = repeat-length read (suc n) at h;
         past = omega (arith, mul-suc size n);
         within = λ w. omega (arith, more .within (one .1));
       }))
 
-  -- one reading of several, and none
-  pub ending-repeat : (read : ℕ → Read A) (n at : ℕ) → ending (repeat read (suc n) at) ≡ andThen (ending (read at)) (λ u next. ending (repeat read n next))
-  unfolding repeat
-  ending-repeat read n at =
-      ending-then (read at) _ (λ x next. ending (repeat read n next)) (λ x next. ending-keeps (repeat read n next) (λ xs. x ∷ xs))
-      ∙ then-ending (read at) _ (λ next. ending (repeat read n next)) (λ x next. refl)
+  turn : (read : ℕ → Read A) (n i at : ℕ) → i < n → ending (repeat read (n - i) at) ≡ andThen (ending (read at)) (λ u next. ending (repeat read (n - (i + 1)) next))
+  turn read n i at h = ending-turn read n i at h ∙ then-ending (read at) _ (λ next. ending (repeat read (n - (i + 1)) next)) (λ x next. refl)
 
   -- the turns of a loop that reads n values one by one: the one that reads number i, and the end
   pub repeat-next : (read : ℕ → Read A) (n i at : ℕ) {u : Unit {0}} {next : ℕ} → i < n → ending (read at) ≡ got u next
       → ending (repeat read (n - i) at) ≡ ending (repeat read (n - (i + 1)) next)
-  repeat-next read n i at h e =
-      let more : n - i ≡ suc (n - (i + 1)) = omega arith in
-      rw more (ending-repeat read (n - (i + 1)) at ∙ then-got (λ u next. ending (repeat read (n - (i + 1)) next)) e)
+  repeat-next read n i at h e = turn read n i at h ∙ then-got (λ u next. ending (repeat read (n - (i + 1)) next)) e
 
   pub repeat-bad : (read : ℕ → Read A) (n i at : ℕ) {q : Refusal} {place : ℕ} → i < n → ending (read at) ≡ bad q place
       → ending (repeat read (n - i) at) ≡ bad q place
-  repeat-bad read n i at h e =
-      let more : n - i ≡ suc (n - (i + 1)) = omega arith in
-      rw more (ending-repeat read (n - (i + 1)) at ∙ then-bad (λ u next. ending (repeat read (n - (i + 1)) next)) e)
-
-  pub repeat-done : (read : ℕ → Read A) (n i at : ℕ) → n ≤ i → ending (repeat read (n - i) at) ≡ got tt at
-  unfolding repeat
-  repeat-done read n i at h =
-      let none : n - i ≡ 0 = omega arith in
-      rw none
+  repeat-bad read n i at h e = turn read n i at h ∙ then-bad (λ u next. ending (repeat read (n - (i + 1)) next)) e

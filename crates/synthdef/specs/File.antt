@@ -1,15 +1,12 @@
 -- What the functions on a whole file answer.
-use Prim.{Unit, tt}
-use Prim.Native.Nat.{ℕ, zero, suc, _+_, _-_, _≤_}
+use Prim.{Unit}
+use Prim.Native.Nat.{ℕ, suc, _+_, _≤_}
 use mathlib.Core.Path.{_≡_}
-use mathlib.Core.Bool.{Bool, true, false}
-use mathlib.Core.List.{List, [], _∷_, map}
+use mathlib.Core.List.{List, map}
 use lib.ListN.{length, getD}
 use lib.Dec.{ltb}
 use Rattle.words.specs.Choice.{pick}
-use Rattle.words.specs.declared.Refusal.{Refusal}
 use Rattle.words.specs.Refusals as refusals
-use Rattle.words.specs.declared.Refusal.the-variants.{TooLong, NameTwice}
 use Rattle.synthdef.specs.declared.file.Checked.{Checked}
 use Rattle.synthdef.specs.declared.file.Checked.the-variants.{Accepted, Refused}
 use Rattle.synthdef.specs.declared.file.Span.{Span}
@@ -17,7 +14,7 @@ use Rattle.synthdef.specs.declared.file.Span.the-variants.{Between, Nowh
 use Rattle.synthdef.specs.Read.{Read, got, bad, andThen, repeat, ending}
 use Rattle.synthdef.specs.Fields.{stringAt}
 use Rattle.synthdef.specs.Definition.{Definition}
-use Rattle.synthdef.specs.Reader.{mostDefinitions, sizeLimit, among, fits, readDefinition, readFile}
+use Rattle.synthdef.specs.Reader.{mostDefinitions, fits, readDefinition, readFile}
 
 -- how many definitions a file has, or why it is refused and at which place
 abbrev pub verdict : Read (List Definition) → Checked
@@ -55,19 +52,19 @@ unfoldable pub definitionSpan : List ℕ → ℕ → Span
 definitionSpan s i = spanIn s i (readFile s)
 
 -- 0, or the refusal's number
-abbrev pub refusalNumber : Read (List Definition) → ℕ
-refusalNumber (got ds end) = 0
-refusalNumber (bad r at) = refusals.numberOf r
+abbrev pub refusalNumber : Checked → ℕ
+refusalNumber (Accepted n) = 0
+refusalNumber (Refused r at) = refusals.numberOf r
 
 -- the refusal's place, or 0
-abbrev pub refusalPlace : Read (List Definition) → ℕ
-refusalPlace (got ds end) = 0
-refusalPlace (bad r at) = at
+abbrev pub refusalPlace : Checked → ℕ
+refusalPlace (Accepted n) = 0
+refusalPlace (Refused r at) = at
 
 -- how many definitions are in an accepted file
-abbrev pub definitionCount : Read (List Definition) → ℕ
-definitionCount (got ds end) = length ds
-definitionCount (bad r at) = 0
+abbrev pub definitionCount : Checked → ℕ
+definitionCount (Accepted n) = n
+definitionCount (Refused r at) = 0
 
 -- the place of a definition's name, behind the byte that is its length, and the place past it; or 0
 abbrev pub nameStart : Span → ℕ

@@ -14,12 +14,14 @@ use borrow.Author.Tests.{lt-ltb, le-ltb, leb-true}
 use Rattle.words.specs.Choice.{pick, either}
 use Rattle.words.specs.declared.Refusal.{Refusal}
 use Rattle.words.specs.declared.Refusal.the-variants.{NotSynthDef, BadVersion, BadCount, TooLong, NameTwice, BytesLeft}
-use Rattle.synthdef.specs.Read.{Read, got, bad, andThen, checked, repeat, ending}
+use Rattle.synthdef.specs.Read.{Read, got, bad, andThen, checked, ending}
 use Rattle.synthdef.specs.Fields.{int16, int32, stringAt}
 use Rattle.synthdef.specs.Definition.{Definition}
 use Rattle.synthdef.specs.Reader.{fileType, fileVersion, sizeLimit, mostDefinitions, sameName, among, fits, readDefinition, readDefinitions, readHeader, readFile}
-use Rattle.synthdef.specs.Endings.{parts, checked-got, whole-got, then-got, then-bad, ending-then, then-ending, ending-keeps, ending-got}
-use Rattle.synthdef.specs.Forward.{Whole, definition-whole}
+use Rattle.synthdef.specs.Endings.{then-got, then-bad, ending-keeps, ending-got, field-got}
+use Rattle.synthdef.specs.RepeatLaws.{went-on}
+use Rattle.synthdef.specs.FieldLaws.{checked-got}
+use Rattle.synthdef.specs.Forward.{definition-whole}
 use Rattle.synthdef.specs.File.{Begun, namesFrom, skipFitting, verdict, firstPlace}
 use Rattle.synthdef.specs.declared.file.Checked.the-variants.{Accepted, Refused}
 
@@ -53,7 +55,7 @@ fits-got names at d next h = picks (ltb sizeLimit (next - at)) (among (d .front 
 pub fitting-got : (s : List ℕ) (names : List (List ℕ)) (at : ℕ) {d : Definition} {end : ℕ}
     → andThen (readDefinition s at) (λ d next. fits names at d next) ≡ got d end → readDefinition s at ≡ got d end
 fitting-got s names at {d} {end} h =
-    parts (readDefinition s at) _ h (λ x next e1 r1.
+    went-on (readDefinition s at) _ h (λ x next e1 r1.
     let f = fits-got names at x next r1 in
     e1 ∙ ap (λ (y : Definition). got y next) (f .0) ∙ ap (λ (m : ℕ). got d m) (f .1))
 
@@ -75,7 +77,7 @@ map-snoc f [] a = refl
 map-snoc {B = B} f (x ∷ xs) a = ap (λ (l : List B). f x ∷ l) (map-snoc f xs a)
 
 names-more : (s starts : List ℕ) (i at : ℕ) → i < length starts → namesFrom s (take (i + 1) (set starts i at)) ≡ namesFrom s (take i starts) ++ (stringAt s at ∷ [])
-names-more s starts i at h = rw (add-one, take-suc-set starts i at h) (map-snoc (stringAt s) (take i starts) at)
+names-more s starts i at h = rw (add-one i, take-suc-set starts i at h) (map-snoc (stringAt s) (take i starts) at)
 
 -- The turns of a loop that reads definitions one by one, behind i of them, which start at the first i of starts.
 pub record Walked (s : List ℕ) (first count : ℕ) (starts : List ℕ) (at i : ℕ) : Type 0 where
@@ -136,8 +138,8 @@ definitions-length s zero names at {ds} h =
     let e : ds ≡ [] = cc in
     ap length e
 definitions-length s (suc n) names at {ds} {end} h =
-    parts (andThen (readDefinition s at) (λ d next. fits names at d next)) _ h (λ d next e1 r1.
-    parts (readDefinitions s n (names ++ (d .front .name ∷ [])) next) _ r1 (λ rest last e2 r2.
+    went-on (andThen (readDefinition s at) (λ d next. fits names at d next)) _ h (λ d next e1 r1.
+    went-on (readDefinitions s n (names ++ (d .front .name ∷ [])) next) _ r1 (λ rest last e2 r2.
     let e : ds ≡ d ∷ rest = cc in
     ap length e ∙ ap suc (definitions-length s n (names ++ (d .front .name ∷ [])) next e2)))
 
@@ -150,12 +152,12 @@ module _ (s : List ℕ) where
   module _ {n first : ℕ} (e : readHeader s ≡ got n first) where
     pub head-few : (n ≤ mostDefinitions) × (first ≡ firstPlace)
     head-few =
-        parts (checked NotSynthDef (λ t. eqb t fileType) 0 (int32 s 0)) _ e (λ t p1 e1 r1.
-        parts (checked BadVersion (λ v. eqb v fileVersion) p1 (int32 s p1)) _ r1 (λ v p2 e2 r2.
-        let a = whole-got 4 s 0 _ (checked-got NotSynthDef (λ t. eqb t fileType) 0 (int32 s 0) e1 .0) in
-        let b = whole-got 4 s p1 _ (checked-got BadVersion (λ v. eqb v fileVersion) p1 (int32 s p1) e2 .0) in
+        went-on (checked NotSynthDef (λ t. eqb t fileType) 0 (int32 s 0)) _ e (λ t p1 e1 r1.
+        went-on (checked BadVersion (λ v. eqb v fileVersion) p1 (int32 s p1)) _ r1 (λ v p2 e2 r2.
+        let a = field-got 4 s 0 _ (checked-got NotSynthDef (λ t. eqb t fileType) 0 (int32 s 0) e1 .0) in
+        let b = field-got 4 s p1 _ (checked-got BadVersion (λ v. eqb v fileVersion) p1 (int32 s p1) e2 .0) in
         let c = checked-got BadCount (λ n. leb n mostDefinitions) p2 (int16 s p2) r2 in
-        let d = whole-got 2 s p2 _ (c .0) in
+        let d = field-got 2 s p2 _ (c .0) in
         let few = leb-true n mostDefinitions (c .1) in (omega arith, omega arith)))
 
     pub file-bad : {q : Refusal} {place : ℕ} → ending (readDefinitions s n [] first) ≡ bad q place → verdict (readFile s) ≡ Refused q place

@@ -1,13 +1,12 @@
 -- Parts of a definition of which only the end is told, field by field.
-use Prim.{Unit, tt}
+use Prim.{Unit}
 use Prim.Native.Nat.{ℕ}
-use mathlib.Core.Path.{_≡_, refl, sym, ap, _∙_}
-use mathlib.Core.List.{List, [], _∷_}
+use mathlib.Core.Path.{_≡_, refl, _∙_}
+use mathlib.Core.List.{List, []}
 use lib.ListN.{length}
 use Rattle.synthdef.specs.declared.front.Counts.{Counts}
-use Rattle.synthdef.specs.Read.{Read, got, bad, andThen, repeat, ending}
+use Rattle.synthdef.specs.Read.{Read, andThen, repeat, ending}
 use Rattle.synthdef.specs.Fields.{float32, name, count, shortCountTo, highest16}
-use Rattle.synthdef.specs.Definition.{Front, Variant, Definition}
 use Rattle.synthdef.specs.Reader.{readFront, readUnits, variant, readDefinition}
 use Rattle.synthdef.specs.Front.{mapRead, told}
 use Rattle.synthdef.specs.Endings.{ending-told, ending-then, then-ending, ending-keeps}

@@ -1,5 +1,5 @@
 -- Where the definitions of an accepted file start and end.
-use Prim.{Unit, tt}
+use Prim.{Unit}
 use Prim.Native.Nat.{ℕ, zero, suc, _+_, _≤_, _<_}
 use mathlib.Core.Bool.{Bool, true, false}
 use mathlib.Core.Path.{_≡_, refl, sym, ap, ap₂, _∙_}
@@ -12,12 +12,11 @@ use Rattle.words.specs.Choice.{pick}
 use Rattle.words.specs.declared.Refusal.{Refusal}
 use Rattle.words.specs.declared.Refusal.the-variants.{BytesLeft}
 use Rattle.synthdef.specs.declared.file.Checked.the-variants.{Accepted, Refused}
-use Rattle.synthdef.specs.declared.file.Span.{Span}
 use Rattle.synthdef.specs.declared.file.Span.the-variants.{Between, Nowhere}
 use Rattle.synthdef.specs.Read.{Read, got, bad, andThen, repeat, ending}
 use Rattle.synthdef.specs.Definition.{Definition}
 use Rattle.synthdef.specs.Reader.{fits, readDefinition, readDefinitions, readHeader, readFile}
-use Rattle.synthdef.specs.Endings.{parts}
+use Rattle.synthdef.specs.RepeatLaws.{went-on}
 use Rattle.synthdef.specs.Forward.{definition-whole}
 use Rattle.synthdef.specs.File.{verdict, firstPlace, endOf, definitionStart, spanIn, definitionSpan}
 use Rattle.synthdef.specs.FileLaws.{fitting-got, definitions-length, head-few}
@@ -32,10 +31,10 @@ module _ {A : Type 0} (read : ℕ → Read A) where
       → ((ys : List A) (p : ℕ) (x : A) (q : ℕ) → repeat read i at ≡ got ys p → read p ≡ got x q → P) → P
   unfolding repeat
   split i zero at l h go = absurd (omega arith)
-  split zero (suc n) at l h go = parts (read at) _ h (λ x next e r. go [] at x next refl e)
+  split zero (suc n) at l h go = went-on (read at) _ h (λ x next e r. go [] at x next refl e)
   split (suc i) (suc n) at l h go =
-      parts (read at) _ h (λ x next e1 r1.
-      parts (repeat read n next) _ r1 (λ zs last e2 r2.
+      went-on (read at) _ h (λ x next e1 r1.
+      went-on (repeat read n next) _ r1 (λ zs last e2 r2.
       split i n next (omega arith) e2 (λ ys p y q e3 e4. go (x ∷ ys) p y q (rw (e1, e3)) e4)))
 
   -- one more behind the first i
@@ -45,8 +44,8 @@ module _ {A : Type 0} (read : ℕ → Read A) where
       let same : at ≡ p = cc in
       rw (same, e)
   repeat-last (suc i) at {ys} {p} {x} {q} h e =
-      parts (read at) _ h (λ y next e1 r1.
-      parts (repeat read i next) _ r1 (λ zs last e2 r2.
+      went-on (read at) _ h (λ y next e1 r1.
+      went-on (repeat read i next) _ r1 (λ zs last e2 r2.
       let same : p ≡ last = cc in
       let e3 : read last ≡ got x q = rw same at e in
       rw e1 (end-keeps (repeat read (suc i) next) (λ xs. y ∷ xs) ∙ repeat-last i next e2 e3)))
@@ -56,15 +55,15 @@ definitions-walk : (s : List ℕ) (n : ℕ) (names : List (List ℕ)) (at : ℕ)
 unfolding readDefinitions repeat
 definitions-walk s zero names at h = h
 definitions-walk s (suc n) names at h =
-    parts (andThen (readDefinition s at) (λ d next. fits names at d next)) _ h (λ d next e1 r1.
-    parts (readDefinitions s n (names ++ (d .front .name ∷ [])) next) _ r1 (λ rest last e2 r2.
+    went-on (andThen (readDefinition s at) (λ d next. fits names at d next)) _ h (λ d next e1 r1.
+    went-on (readDefinitions s n (names ++ (d .front .name ∷ [])) next) _ r1 (λ rest last e2 r2.
     rw (fitting-got s names at e1, definitions-walk s n (names ++ (d .front .name ∷ [])) next e2) r2))
 
 file-walk : (s : List ℕ) {ds : List Definition} {end : ℕ} → readFile s ≡ got ds end → repeat (readDefinition s) (length ds) firstPlace ≡ got ds end
 unfolding readFile
 file-walk s {ds} {end} h =
-    parts (readHeader s) _ h (λ n first e1 r1.
-    parts (readDefinitions s n [] first) _ r1 (λ rest last e2 r2.
+    went-on (readHeader s) _ h (λ n first e1 r1.
+    went-on (readDefinitions s n [] first) _ r1 (λ rest last e2 r2.
     let w = picked (ltb last (length s)) rest last r2 in
     let many : n ≡ length ds = sym (definitions-length s n [] first e2) ∙ ap length (w .0) in
     ap₂ (repeat (readDefinition s)) (sym many) (sym (head-few s e1 .1))

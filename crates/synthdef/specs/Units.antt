@@ -1,5 +1,5 @@
 -- Units by their shape: how many outputs a unit has and where it ends, from its counts alone; and the outputs of the units before one.
-use Prim.{Unit, tt}
+use Prim.{tt}
 use Prim.Native.Nat.{ℕ, zero, suc, _+_, _*_, _-_, _/_, _≤_, _<_}
 use mathlib.Core.Bool.{Bool, true, false}
 use mathlib.Core.Path.{_≡_, refl, sym, ap, _∙_}
@@ -15,26 +15,24 @@ use borrow.Author.Tests.{eq-eqb, ne-eqb, lt-ltb, le-ltb}
 use Rattle.words.specs.Choice.{pick}
 use Rattle.words.specs.declared.Refusal.{Refusal}
 use Rattle.words.specs.declared.Refusal.the-variants.{BadIndex, BadRate, BadCount, BadName, Truncated}
-use Rattle.synthdef.specs.Read.{Read, got, bad, andThen, checked, repeat, ending}
-use Rattle.synthdef.specs.Fields.{int8, int16, int32, name, count, rate, integer, indexBelow, pstring, stringAt, whole, nameBytes, highest32, highestRate}
-use Rattle.synthdef.specs.Definition.{Input, constant, output, UnitSpec}
+use Rattle.synthdef.specs.Read.{Read, got, bad, andThen, repeat, ending}
+use Rattle.synthdef.specs.Fields.{int8, int16, name, count, rate, integer, indexBelow, pstring, stringAt, nameBytes, highest32, highestRate}
+use Rattle.synthdef.specs.Definition.{constant, output, UnitSpec}
 use Rattle.synthdef.specs.Reader.{input, readUnit, readUnits, minusOne, sizeLimit}
 use Rattle.synthdef.specs.Front.{mapRead}
-use Rattle.synthdef.specs.Endings.{then-got, then-bad, Told, told-got, told-then, told-ending, ending-told, ending-keeps, parts, checked-got, whole-got, pick-got, pick-some, Sized, Repeated, repeat-got}
-
--- the number of four bytes at a place
-abbrev pub word32 : List ℕ → ℕ → ℕ
-word32 s at = 16777216 * getD s at 0 + 65536 * getD s (at + 1) 0 + 256 * getD s (at + 2) 0 + getD s (at + 3) 0
+use Rattle.synthdef.specs.Endings.{then-got, then-bad, told-got, told-then, told-ending, ending-told, ending-keeps, Sized, repeat-got, field-got}
+use Rattle.synthdef.specs.RepeatLaws.{went-on}
+use Rattle.synthdef.specs.FieldLaws.{word, checked-got, picked}
 
 -- behind a unit's class and rate: the counts of its inputs and outputs, the special index, the inputs and the rates
 unfoldable pub unitCounts : List ℕ → ℕ → ℕ
 unitCounts s at = at + 2 + getD s at 0
 
 unfoldable pub unitOutputs : List ℕ → ℕ → ℕ
-unitOutputs s at = word32 s (unitCounts s at + 4)
+unitOutputs s at = word s (unitCounts s at + 4)
 
 unfoldable pub unitEnd : List ℕ → ℕ → ℕ
-unitEnd s at = unitCounts s at + 10 + 8 * word32 s (unitCounts s at) + unitOutputs s at
+unitEnd s at = unitCounts s at + 10 + 8 * word s (unitCounts s at) + unitOutputs s at
 
 -- where the unit number n starts, where the first one starts at a place
 unfoldable pub unitPlace : List ℕ → ℕ → ℕ → ℕ
@@ -76,22 +74,22 @@ place-up s start u (suc n) h =
 pub index-sized : (bound : ℕ) (s : List ℕ) → Sized (indexBelow bound s) 4 (length s)
 index-sized bound s at x next h =
     let p = checked-got BadIndex (λ i. ltb i bound) at (integer s at) h in
-    let w = whole-got 4 s at _ (p .0) in (w .1, w .2)
+    let w = field-got 4 s at _ (p .0) in (w .1, w .2)
 
 pub input-sized : (k : ℕ) (outs s : List ℕ) → Sized (input k outs s) 8 (length s)
 input-sized k outs s at x next h =
-    parts (integer s at) _ h (λ u n e rest.
-    let w = whole-got 4 s at _ e in
+    went-on (integer s at) _ h (λ u n e rest.
+    let w = field-got 4 s at _ e in
     behind (eqb u minusOne) (ltb u (length outs)) u (getD outs u 0) (w .1) rest) where
       behind : (c d : Bool) (u b : ℕ) {n : ℕ} → n ≡ at + 4
           → pick c (andThen (indexBelow k s n) (λ i end. got (constant i) end)) (pick d (andThen (indexBelow b s n) (λ o end. got (output u o) end)) (bad BadIndex at)) ≡ got x next
           → (next ≡ at + 8) × (next ≤ length s)
       behind true d u b {n = n} e r =
-          parts (indexBelow k s n) _ r (λ i m f last.
+          went-on (indexBelow k s n) _ r (λ i m f last.
           let q = index-sized k s n i m f in
           let g : m ≡ next = cc in (omega arith, omega arith))
       behind false true u b {n = n} e r =
-          parts (indexBelow b s n) _ r (λ i m f last.
+          went-on (indexBelow b s n) _ r (λ i m f last.
           let q = index-sized b s n i m f in
           let g : m ≡ next = cc in (omega arith, omega arith))
       behind false false u b e r = absurd (let z : _≡_ {A = ℕ} 0 1 = cc in omega arith)
@@ -99,15 +97,15 @@ input-sized k outs s at x next h =
 pub rate-sized : (s : List ℕ) → Sized (rate s) 1 (length s)
 rate-sized s at x next h =
     let p = checked-got BadRate (λ r. leb r highestRate) at (int8 s at) h in
-    let w = whole-got 1 s at _ (p .0) in (w .1, w .2)
+    let w = field-got 1 s at _ (p .0) in (w .1, w .2)
 
-pub count-got : (s : List ℕ) (at : ℕ) {n next : ℕ} → count s at ≡ got n next → (n ≡ word32 s at) × (next ≡ at + 4)
+pub count-got : (s : List ℕ) (at : ℕ) {n next : ℕ} → count s at ≡ got n next → (n ≡ word s at) × (next ≡ at + 4)
 count-got s at h =
     let p = checked-got BadCount (λ n. leb n highest32) at (integer s at) h in
-    let w = whole-got 4 s at _ (p .0) in (sym (w .0), w .1)
+    let w = field-got 4 s at _ (p .0) in (sym (w .0), w .1)
 
 pub string-got : (s : List ℕ) (at : ℕ) {n : List ℕ} {next : ℕ} → pstring s at ≡ got n next → (stringAt s at ≡ n) × (next ≡ at + (1 + getD s at 0)) × (next ≤ length s)
-string-got s at h = whole-got (1 + getD s at 0) s at (stringAt s at) (pick-some (ltb at (length s)) _ Truncated at h .1)
+string-got s at h = field-got (1 + getD s at 0) s at (stringAt s at) (picked (ltb at (length s)) _ Truncated at h .1)
 
 pub name-got : (s : List ℕ) (at : ℕ) {n : List ℕ} {next : ℕ} → name s at ≡ got n next → (stringAt s at ≡ n) × (next ≡ at + (1 + getD s at 0)) × (next ≤ length s)
 name-got s at h = string-got s at (checked-got BadName nameBytes at (pstring s at) h .0)
@@ -122,18 +120,18 @@ pub unit-shape : (k : ℕ) (outs s : List ℕ) (at : ℕ) {out end : ℕ} → ma
 unfolding readUnit unitCounts unitOutputs unitEnd
 unit-shape k outs s at {out} {end} h =
     let t = told-got _ (readUnit k outs s at) h in
-    parts (name s at) _ (t .read) (λ class p1 e1 r1.
-    parts (rate s p1) _ r1 (λ r p2 e2 r2.
-    parts (count s p2) _ r2 (λ many p3 e3 r3.
-    parts (count s p3) _ r3 (λ o p4 e4 r4.
-    parts (int16 s p4) _ r4 (λ special p5 e5 r5.
-    parts (repeat (input k outs s) many p5) _ r5 (λ inputs p6 e6 r6.
-    parts (repeat (rate s) o p6) _ r6 (λ outputs p7 e7 r7.
+    went-on (name s at) _ (t .read) (λ class p1 e1 r1.
+    went-on (rate s p1) _ r1 (λ r p2 e2 r2.
+    went-on (count s p2) _ r2 (λ many p3 e3 r3.
+    went-on (count s p3) _ r3 (λ o p4 e4 r4.
+    went-on (int16 s p4) _ r4 (λ special p5 e5 r5.
+    went-on (repeat (input k outs s) many p5) _ r5 (λ inputs p6 e6 r6.
+    went-on (repeat (rate s) o p6) _ r6 (λ outputs p7 e7 r7.
     let a = name-got s at e1 in
     let b = rate-sized s p1 r p2 e2 in
     let c = count-got s p2 e3 in
     let d = count-got s p3 e4 in
-    let e = whole-got 2 s p4 _ e5 in
+    let e = field-got 2 s p4 _ e5 in
     let f = repeat-got (input k outs s) 8 (length s) (input-sized k outs s) many p5 e6 in
     let g = repeat-got (rate s) 1 (length s) (rate-sized s) o p6 e7 in
     let l : got (length outputs) p7 ≡ got (length (t .value .outputs)) end = ap (mapRead (λ (u : UnitSpec). length (u .outputs))) r7 in
@@ -142,8 +140,8 @@ unit-shape k outs s at {out} {end} h =
     let o1 : out ≡ o = sym (t .same) ∙ sym m ∙ g .many in
     let q2 : p2 ≡ at + 2 + getD s at 0 = omega arith in
     let q3 : p3 ≡ at + 2 + getD s at 0 + 4 = omega arith in
-    let ins : many ≡ word32 s (at + 2 + getD s at 0) = c .0 ∙ ap (λ (p : ℕ). word32 s p) q2 in
-    let out1 : o ≡ word32 s (at + 2 + getD s at 0 + 4) = d .0 ∙ ap (λ (p : ℕ). word32 s p) q3 in
+    let ins : many ≡ word s (at + 2 + getD s at 0) = c .0 ∙ ap (λ (p : ℕ). word s p) q2 in
+    let out1 : o ≡ word s (at + 2 + getD s at 0 + 4) = d .0 ∙ ap (λ (p : ℕ). word s p) q3 in
     record { outputs = o1 ∙ out1; past = omega (arith, f .past, g .past); within = omega (arith, g .within (f .within (e .2))) })))))))
 
 -- a unit of which the outputs are told, field by field
@@ -178,8 +176,8 @@ unfolding readUnits
 skip-units k s n outs at =
     ending-told _ (readUnit k outs s at) _ _ (λ u next. ending-keeps (readUnits k s n (outs ++ (length (u .outputs) ∷ [])) next) (λ us. u ∷ us))
 
--- How many units' outputs are remembered while a definition is read. A unit takes at least 12 bytes, and a definition 20 besides: its name, its five counts
--- of four bytes or two. So a definition within the size limit has at most 169.
+-- How many units' outputs are remembered while a definition is read. A unit takes at least 12 bytes, and a definition 20 besides: a name of one byte, four
+-- counts of four bytes and one of two. So a definition within the size limit has fewer units than this (`units-remembered` of Forward).
 abbrev pub remembered : ℕ
 remembered = (sizeLimit - 20) / 12 + 1
 

@@ -1,4 +1,5 @@
 // The place in a file: it goes in and comes back by value. Each method reads one field.
+use crate::limits::HIGHEST_RATE;
 use words::Refusal;
 ghost use Prim.Native.Nat.{_+_, _*_, _-_};
 ghost use mathlib.Core.Path.{_≡_};
@@ -153,7 +154,7 @@ impl Cursor {
         let at = self.at;
         match self.int8(s) {
             Number::Value(n, next) => {
-                if n <= 2 {
+                if n <= HIGHEST_RATE {
                     return Number::Value(n, next);
                 }
                 Number::Bad(Refusal::BadRate, at)

@@ -6,17 +6,14 @@ use crate::cursor::Text;
 use crate::front::FrontRead;
 use crate::front::read_front;
 use crate::front::skip_floats;
+use crate::limits::HIGHEST;
+use crate::limits::HIGHEST_SHORT;
 use crate::units::read_units;
 use words::Refusal;
 ghost use mathlib.Core.Path.{_≡_};
 ghost use Rattle.synthdef.specs.Answers.{stepOf};
 ghost use Rattle.synthdef.specs.Read.{ending, repeat};
 ghost use Rattle.synthdef.specs.Reader.{variant, readDefinition};
-
-// The highest counts of four bytes and of two.
-const HIGHEST: u32 = 2147483647;
-
-const HIGHEST_SHORT: u32 = 32767;
 
 // One variant, in a definition of so many parameters.
 pub fn read_variant(s: &[u8], cursor: Cursor, parameters: u32) -> Step

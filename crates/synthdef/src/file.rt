@@ -3,19 +3,23 @@ use crate::cursor::Cursor;
 use crate::cursor::Number;
 use crate::cursor::Step;
 use crate::definition::read_definition;
+use crate::limits::FILE_TYPE;
+use crate::limits::FILE_VERSION;
+use crate::limits::FIRST_PLACE;
+use crate::limits::MOST_DEFINITIONS;
+use crate::limits::SIZE_LIMIT;
 use crate::lookup::same_name;
 use words::Refusal;
-use words::refusal_number;
 use words::wide;
 ghost use mathlib.Core.Path.{_≡_};
 ghost use Prim.Native.Nat.{_≤_};
 ghost use mathlib.Core.List.{[]};
-ghost use lib.ListN.{take, length};
+ghost use lib.ListN.{take};
 ghost use Rattle.synthdef.specs.Answers.{numberOf, stepOf};
 ghost use Rattle.synthdef.specs.Fields.{stringAt};
 ghost use Rattle.synthdef.specs.Read.{ending, repeat};
 ghost use Rattle.synthdef.specs.Reader.{mostDefinitions, among, readDefinition, readHeader, readDefinitions, readFile};
-ghost use Rattle.synthdef.specs.File.{Begun, verdict, namesFrom, skipFitting, definitionSpan, refusalNumber, refusalPlace, definitionCount, nameStart, nameEnd};
+ghost use Rattle.synthdef.specs.File.{Begun, verdict, namesFrom, skipFitting, definitionSpan};
 
 // A file is accepted, and has so many definitions; or it is refused, at a place.
 pub enum Checked {
@@ -28,19 +32,6 @@ pub enum Span {
     Between(usize, usize),
     Nowhere,
 }
-
-// "SCgf" as a number.
-const FILE_TYPE: u32 = 0x5343_6766;
-
-const FILE_VERSION: u32 = 2;
-
-const MOST_DEFINITIONS: usize = 32;
-
-// A definition takes at most so many bytes.
-const SIZE_LIMIT: usize = 2048;
-
-// Where the first definition starts.
-const FIRST_PLACE: usize = 10;
 
 // The file's head: how many definitions there are, and the cursor at the first.
 fn read_header(s: &[u8]) -> Number
@@ -58,7 +49,7 @@ fn read_header(s: &[u8]) -> Number
                     if version != FILE_VERSION {
                         return Number::Bad(Refusal::BadVersion, at);
                     }
-                    p2.short_count_to(s, 32)
+                    p2.short_count_to(s, MOST_DEFINITIONS as u32)
                 }
                 Number::Bad(refusal, place) => Number::Bad(refusal, place),
             }

@@ -3,6 +3,8 @@ use crate::cursor::Cursor;
 use crate::cursor::Number;
 use crate::cursor::Step;
 use crate::cursor::Text;
+use crate::limits::HIGHEST;
+use crate::limits::MOST_PARAMETERS;
 use words::Refusal;
 use words::wide;
 ghost use mathlib.Core.Path.{_≡_};
@@ -11,9 +13,6 @@ ghost use Rattle.synthdef.specs.Front.{entryOf, floatsOf, countedFloats,
 ghost use Rattle.synthdef.specs.Fields.{float32};
 ghost use Rattle.synthdef.specs.Read.{repeat, ending};
 ghost use Rattle.synthdef.specs.Reader.{parameterName, readFront};
-
-// The highest count of four bytes.
-const HIGHEST: u32 = 2147483647;
 
 // A parameter name: where its bytes start and end, its index and the next cursor, or the refusal and its place.
 pub enum Entry {
@@ -135,7 +134,7 @@ pub fn read_counts(s: &[u8], cursor: Cursor) -> FrontRead
             let past = named.at;
             match counted_floats(s, named, HIGHEST) {
                 FloatsRead::Value(constants, before_values) => {
-                    match counted_floats(s, before_values, 32) {
+                    match counted_floats(s, before_values, MOST_PARAMETERS) {
                         FloatsRead::Value(values, before_names) => {
                             match before_names.count_to(s, HIGHEST) {
                                 Number::Value(names, first) => {

@@ -1,8 +1,10 @@
 // SynthDef2 files: read, refused, looked up.
 mod cursor;
 mod definition;
+mod exports;
 mod file;
 mod front;
+mod limits;
 mod lookup;
 mod units;
 
@@ -11,6 +13,16 @@ pub use cursor::Number;
 pub use cursor::Step;
 pub use cursor::Text;
 pub use definition::read_definition;
+pub use exports::synthdef_count;
+pub use exports::synthdef_name_end;
+pub use exports::synthdef_name_start;
+pub use exports::synthdef_place;
+pub use exports::synthdef_refusal;
+pub use file::Checked;
+pub use file::Span;
+pub use file::check_file;
+pub use file::definition_at;
+pub use file::name_at;
 pub use front::Counts;
 pub use front::Entry;
 pub use front::FrontRead;

@@ -4,35 +4,25 @@ use super::cursor::Number;
 use super::cursor::Step;
 use super::cursor::Text;
 use super::cursor::number32;
+use crate::limits::HIGHEST;
+use crate::limits::MINUS_ONE;
+use crate::limits::REMEMBERED;
 use words::Refusal;
 ghost use Prim.Native.Nat.{suc, _+_, _≤_};
 ghost use mathlib.Core.Path.{_≡_};
 ghost use mathlib.Core.List.{[]};
 ghost use lib.ListN.{length};
 ghost use Rattle.synthdef.specs.Answers.{numberOf, stepOf};
+ghost use Rattle.synthdef.specs.FieldLaws.{word};
 ghost use Rattle.synthdef.specs.Fields.{rate, indexBelow};
 ghost use Rattle.synthdef.specs.Read.{ending, repeat};
 ghost use Rattle.synthdef.specs.Reader.{input, readUnits};
-ghost use Rattle.synthdef.specs.Units.{word32, unitCounts, unitOutputs, unitEnd, unitPlace, outsFrom, skipUnit, Remembered};
-
-// A definition takes at most so many bytes.
-const SIZE_LIMIT: usize = 2048;
-
-// How many units' outputs are remembered: a unit takes at least 12 bytes and a definition 20 besides, so a
-// definition within the size limit has fewer units than this. The outputs of a unit past these are found by a
-// walk from the first unit, in time that is linear in the unit's number.
-const REMEMBERED: usize = (SIZE_LIMIT - 20) / 12 + 1;
-
-// The highest count of four bytes.
-const HIGHEST: u32 = 2147483647;
-
-// An input's unit where it names a constant.
-const MINUS_ONE: u32 = 0xFFFF_FFFF;
+ghost use Rattle.synthdef.specs.Units.{unitCounts, unitOutputs, unitEnd, unitPlace, outsFrom, skipUnit, Remembered};
 
 // The number of four bytes at a place.
 fn word_at(s: &[u8], at: usize) -> u32
     requires { ⌜ at + 4 ≤ length (now s) ⌝ }
-    ensures { λ r. ⌜ r ≡ word32 (now (s .entry)) at ⌝ }
+    ensures { λ r. ⌜ r ≡ word (now (s .entry)) at ⌝ }
 {
     number32(s[at], s[at + 1], s[at + 2], s[at + 3])
 }

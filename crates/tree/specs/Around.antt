@@ -85,38 +85,38 @@ nextOf-split n (x ∷ l) r rest h = go (nextOf-split n l r rest) (eqb (x .number
     go ih false e = ih e
 
 -- the numbers of the children among the records that follow a node at the depth d
-unfoldable pub kids : ℕ → List Node → List ℕ
-kids d [] = []
-kids d (r ∷ l) = pick (ltb d (r .depth)) (pick (eqb (r .depth - d) 1) (r .number ∷ kids d l) (kids d l)) []
+unfoldable pub childNumbers : ℕ → List Node → List ℕ
+childNumbers d [] = []
+childNumbers d (r ∷ l) = pick (ltb d (r .depth)) (pick (eqb (r .depth - d) 1) (r .number ∷ childNumbers d l) (childNumbers d l)) []
 
-kids-run : (d : ℕ) (l : List Node) → atDepth 1 (sink d (take (deeper d l) l)) ≡ kids d l
-unfolding atDepth sink deeper kids
-kids-run d [] = refl
-kids-run d (r ∷ l) = go (kids-run d l) (ltb d (r .depth))
+childNumbers-run : (d : ℕ) (l : List Node) → atDepth 1 (sink d (take (deeper d l) l)) ≡ childNumbers d l
+unfolding atDepth sink deeper childNumbers
+childNumbers-run d [] = refl
+childNumbers-run d (r ∷ l) = go (childNumbers-run d l) (ltb d (r .depth))
   where
-    go : atDepth 1 (sink d (take (deeper d l) l)) ≡ kids d l → (b : Bool)
-        → atDepth 1 (sink d (take (pick b (suc (deeper d l)) 0) (r ∷ l))) ≡ pick b (pick (eqb (r .depth - d) 1) (r .number ∷ kids d l) (kids d l)) []
+    go : atDepth 1 (sink d (take (deeper d l) l)) ≡ childNumbers d l → (b : Bool)
+        → atDepth 1 (sink d (take (pick b (suc (deeper d l)) 0) (r ∷ l))) ≡ pick b (pick (eqb (r .depth - d) 1) (r .number ∷ childNumbers d l) (childNumbers d l)) []
     go ih true = ap (λ (m : List ℕ). pick (eqb (r .depth - d) 1) (r .number ∷ m) m) ih
     go ih false = refl
 
 module _ (n : ℕ) (us : List ℕ) (d i : ℕ) (inside : i < n) where
-  kids-turn : kids d (drop i (rows n us)) ≡ pick (ltb d (depthAt us i)) (pick (eqb (depthAt us i - d) 1) (getD us (width * i) 0 ∷ kids d (drop (i + 1) (rows n us))) (kids d (drop (i + 1) (rows n us)))) []
-  unfolding kids
-  kids-turn = ap (λ (l : List Node). kids d l) (row-from n us i inside)
+  childNumbers-turn : childNumbers d (drop i (rows n us)) ≡ pick (ltb d (depthAt us i)) (pick (eqb (depthAt us i - d) 1) (getD us (width * i) 0 ∷ childNumbers d (drop (i + 1) (rows n us))) (childNumbers d (drop (i + 1) (rows n us)))) []
+  unfolding childNumbers
+  childNumbers-turn = ap (λ (l : List Node). childNumbers d l) (row-from n us i inside)
 
   -- a record that is no deeper, a child, and what is below a child
-  pub kids-stop : depthAt us i ≤ d → kids d (drop i (rows n us)) ≡ []
-  kids-stop h = rw (le-ltb d (depthAt us i) h) at kids-turn
+  pub childNumbers-stop : depthAt us i ≤ d → childNumbers d (drop i (rows n us)) ≡ []
+  childNumbers-stop h = rw (le-ltb d (depthAt us i) h) at childNumbers-turn
 
-  pub kids-child : d < depthAt us i → depthAt us i - d ≡ 1 → kids d (drop i (rows n us)) ≡ getD us (width * i) 0 ∷ kids d (drop (i + 1) (rows n us))
-  kids-child h e = rw (lt-ltb d (depthAt us i) h, eq-eqb (depthAt us i - d) 1 e) at kids-turn
+  pub childNumbers-child : d < depthAt us i → depthAt us i - d ≡ 1 → childNumbers d (drop i (rows n us)) ≡ getD us (width * i) 0 ∷ childNumbers d (drop (i + 1) (rows n us))
+  childNumbers-child h e = rw (lt-ltb d (depthAt us i) h, eq-eqb (depthAt us i - d) 1 e) at childNumbers-turn
 
-  pub kids-skip : d < depthAt us i → (depthAt us i - d ≡ 1 → ⊥) → kids d (drop i (rows n us)) ≡ kids d (drop (i + 1) (rows n us))
-  kids-skip h e = rw (lt-ltb d (depthAt us i) h, ne-eqb (depthAt us i - d) 1 e) at kids-turn
+  pub childNumbers-skip : d < depthAt us i → (depthAt us i - d ≡ 1 → ⊥) → childNumbers d (drop i (rows n us)) ≡ childNumbers d (drop (i + 1) (rows n us))
+  childNumbers-skip h e = rw (lt-ltb d (depthAt us i) h, ne-eqb (depthAt us i - d) 1 e) at childNumbers-turn
 
-pub kids-end : (n : ℕ) (us : List ℕ) (d i : ℕ) → n ≤ i → kids d (drop i (rows n us)) ≡ []
-unfolding kids
-kids-end n us d i h = ap (λ (l : List Node). kids d l) (rows-end n us i h)
+pub childNumbers-end : (n : ℕ) (us : List ℕ) (d i : ℕ) → n ≤ i → childNumbers d (drop i (rows n us)) ≡ []
+unfolding childNumbers
+childNumbers-end n us d i h = ap (λ (l : List Node). childNumbers d l) (rows-end n us i h)
 
 -- the node n, found at the place at of the first c records of us
 module _ (c : ℕ) (us : List ℕ) (n at : ℕ) (here : at ≡ place n (rows c us)) (live : at < c) where
@@ -140,7 +140,7 @@ module _ (c : ℕ) (us : List ℕ) (n at : ℕ) (here : at ≡ place n (rows c u
       nextOf-split n (rows c us) (nodeFrom us (width * at)) (drop (at + 1) (rows c us)) found
       ∙ ap (λ (l : List Node). firstBeside (depthAt us at) l) (dropDeeper-at (depthAt us at) (drop (at + 1) (rows c us)) ∙ drop-drop (deeper (depthAt us at) (drop (at + 1) (rows c us))) (at + 1) (rows c us))
 
-  pub childrenOf-at : childrenOf n (rows c us) ≡ kids (depthAt us at) (drop (at + 1) (rows c us))
+  pub childrenOf-at : childrenOf n (rows c us) ≡ childNumbers (depthAt us at) (drop (at + 1) (rows c us))
   unfolding atDepth sink
   childrenOf-at =
       let d = depthAt us at in
@@ -148,7 +148,7 @@ module _ (c : ℕ) (us : List ℕ) (n at : ℕ) (here : at ≡ place n (rows c u
       let itself : d - d ≡ 0 = omega arith in
       ap (λ (m : List Node). atDepth 1 m) (runOf-at c us n at here live d (endAt c us at) refl refl)
       ∙ ap (λ (k : ℕ). pick (eqb k 1) (getD us (width * at) 0 ∷ atDepth 1 (sink d (take (deeper d l) l))) (atDepth 1 (sink d (take (deeper d l) l)))) itself
-      ∙ kids-run d l
+      ∙ childNumbers-run d l
 
 -- what follows a run, where there is something, and where there is nothing
 pub beside-turn : (n : ℕ) (us : List ℕ) (d i : ℕ) → i < n → firstBeside d (drop i (rows n us)) ≡ pick (eqb (depthAt us i) d) (getD us (width * i) 0) noNode

@@ -13,7 +13,7 @@ use Rattle.nodes.specs.declared.Node.{Node}
 use Rattle.nodes.specs.Table.{width, nodeFrom, rows, row-from}
 use Rattle.nodes.specs.Place.{deeper, nested, end-most}
 use Rattle.tree.specs.Sizes.{depthAt, endAt}
-use Rattle.tree.specs.MoveRun.{landing}
+use Rattle.tree.specs.MoveRun.{placeWithout}
 use Rattle.tree.specs.Places.{deeper-drop, deeper-all}
 
 -- a place is in the run of the node at another
@@ -30,7 +30,7 @@ pub record Moving (us : List ℕ) (count a b : ℕ) : Type 0 where
   pub shallow : (i : ℕ) → i < count → depthAt us i ≤ 256
 
 -- a node and a place that is not inside its run
-pub record Aimed (us : List ℕ) (count a place depth : ℕ) : Type 0 where
+pub record MoveTo (us : List ℕ) (count a place depth : ℕ) : Type 0 where
   pub room : width * count ≤ length us
   pub few : count ≤ 256
   pub live : a < count
@@ -42,8 +42,8 @@ pub record Aimed (us : List ℕ) (count a place depth : ℕ) : Type 0 where
 pub outside-run : (c : ℕ) (us : List ℕ) (a b : ℕ) → inRun c us b a ≡ false → a ≤ b → endAt c us a ≤ b
 outside-run c us a b h le = ltb-false b (endAt c us a) (rw (le-leb a b le) at h)
 
-pub landing-fits : (from to p c : ℕ) → from ≤ to → to ≤ c → p ≤ c → (from < p → to ≤ p) → landing from to p + (to - from) ≤ c
-landing-fits from to p c order end fits outside = go (leb p from) refl
+pub placeWithout-fits : (from to p c : ℕ) → from ≤ to → to ≤ c → p ≤ c → (from < p → to ≤ p) → placeWithout from to p + (to - from) ≤ c
+placeWithout-fits from to p c order end fits outside = go (leb p from) refl
   where
     go : (b : Bool) → leb p from ≡ b → pick b p (p - (to - from)) + (to - from) ≤ c
     go true q = let h = leb-true p from q in omega arith
@@ -92,8 +92,8 @@ end-outside c us a b live outside h = go (ltb b a) refl
 
 -- a move's node and the place that it goes to: one that is not inside its run, or the end of the other's run
 module _ (us : List ℕ) (c a b : ℕ) (both : Moving us c a b) where
-  pub aim : (place depth : ℕ) → place ≤ c → (a < place → endAt c us a ≤ place) → depth ≤ depthAt us b + 1 → Aimed us c a place depth
-  aim place depth fits outside deep = record {
+  pub moveTo : (place depth : ℕ) → place ≤ c → (a < place → endAt c us a ≤ place) → depth ≤ depthAt us b + 1 → MoveTo us c a place depth
+  moveTo place depth fits outside deep = record {
     room = both .room;
     few = both .few;
     live = both .live;
@@ -103,8 +103,8 @@ module _ (us : List ℕ) (c a b : ℕ) (both : Moving us c a b) where
     shallow = both .shallow;
   }
 
-  pub aim-end : (e depth : ℕ) → e ≡ endAt c us b → depth ≤ depthAt us b + 1 → Aimed us c a e depth
-  aim-end e depth same deep =
-      aim e depth (omega (arith, both .target, end-most c us (depthAt us b) (b + 1) (omega (arith, both .target))))
+  pub moveTo-end : (e depth : ℕ) → e ≡ endAt c us b → depth ≤ depthAt us b + 1 → MoveTo us c a e depth
+  moveTo-end e depth same deep =
+      moveTo e depth (omega (arith, both .target, end-most c us (depthAt us b) (b + 1) (omega (arith, both .target))))
       (λ h. omega (arith, end-outside c us a b (both .target) (both .outside) (omega arith)))
       deep

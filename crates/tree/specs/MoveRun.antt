@@ -98,5 +98,5 @@ module _ (us : List ℕ) (c from to at old new : ℕ) (order : from ≤ to) (end
       ∙ ap₂ (λ (m : List ℕ) (k : ℕ). m ++ drop (width * k) us) (sym (encode-append (take at w) back)) (sym size)
 
 -- a place of the table as it is without the records from one place up to another
-abbrev pub landing : ℕ → ℕ → ℕ → ℕ
-landing from to p = pick (leb p from) p (p - (to - from))
+abbrev pub placeWithout : ℕ → ℕ → ℕ → ℕ
+placeWithout from to p = pick (leb p from) p (p - (to - from))

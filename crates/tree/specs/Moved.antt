@@ -16,7 +16,7 @@ use Rattle.nodes.specs.Edit.{lift, sink, runOf, cut, addBefore, addAfter, addHe
 use Rattle.nodes.specs.Split.{cut-at, runOf-at, addBefore-at, addAfter-at, addHead-at, addTail-at}
 use Rattle.tree.specs.Sizes.{depthAt, endAt}
 use Rattle.tree.specs.Moves.{without, putIn, drop-take}
-use Rattle.tree.specs.MoveRun.{movedRun, landing}
+use Rattle.tree.specs.MoveRun.{movedRun, placeWithout}
 use Rattle.tree.specs.Places.{place-front, place-behind, place-drop, deeper-without}
 
 -- the nodes m and n, found at the places a and b of the first c records of us, where b is not in the run of a
@@ -38,7 +38,7 @@ module _ (c : ℕ) (us : List ℕ) (m n a b : ℕ) (here-a : a ≡ place m (rows
   c′ = length left
 
   b′ : ℕ
-  b′ = landing a e b
+  b′ = placeWithout a e b
 
   size : length t ≡ c
   unfolding t
@@ -127,7 +127,7 @@ module _ (c : ℕ) (us : List ℕ) (m n a b : ℕ) (here-a : a ≡ place m (rows
       (λ h. ap (λ (r : Node). r .depth) (sym (found (nodeFrom us (width * b)) (take (a - (b + 1)) (drop (b + 1) t) ++ drop e t) (found-left h) .0)))
       (λ h. ap (λ (r : Node). r .depth) (sym (found (nodeFrom us (width * b)) (drop (b + 1) t) (found-behind h) .0)))
 
-  end-left : landing a e (endAt c us b) ≡ b′ + 1 + deeper (depthAt us b) rest
+  end-left : placeWithout a e (endAt c us b) ≡ b′ + 1 + deeper (depthAt us b) rest
   unfolding t e
   end-left = cases
       (λ h.
@@ -169,21 +169,21 @@ module _ (c : ℕ) (us : List ℕ) (m n a b : ℕ) (here-a : a ≡ place m (rows
   here-left : b′ ≡ place n (rows c′ us′)
   here-left = place-left ∙ ap (λ (l : List Node). place n l) (sym table)
 
-  end-here : landing a e (endAt c us b) ≡ b′ + 1 + deeper (depthAt us b) (drop (b′ + 1) (rows c′ us′))
+  end-here : placeWithout a e (endAt c us b) ≡ b′ + 1 + deeper (depthAt us b) (drop (b′ + 1) (rows c′ us′))
   unfolding rest
   end-here = end-left ∙ ap (λ (l : List Node). b′ + 1 + deeper (depthAt us b) (drop (b′ + 1) l)) (sym table)
 
-  next-left : b′ + 1 ≡ landing a e (b + 1)
+  next-left : b′ + 1 ≡ placeWithout a e (b + 1)
   next-left = cases (λ h. rw (le-leb (b + 1) a (omega arith)) (omega (arith, before h))) (λ h. rw (lt-leb (b + 1) a (omega (arith, e-past))) (omega (arith, behind h, e-past)))
 
-  pub moveBefore-at : moveBefore m n (rows c us) ≡ movedRun a (endAt c us a) (landing a (endAt c us a) b) (depthAt us a) (depthAt us b) (rows c us)
+  pub moveBefore-at : moveBefore m n (rows c us) ≡ movedRun a (endAt c us a) (placeWithout a (endAt c us a) b) (depthAt us a) (depthAt us b) (rows c us)
   unfolding xs t e left b′
   moveBefore-at =
       ap₂ (λ (ys l : List Node). addBefore ys n l) run gone
       ∙ addBefore-at c′ us′ n b′ here-left live-left xs
       ∙ ap₂ (λ (d : ℕ) (l : List Node). putIn b′ (lift d xs) l) (sym deep) table
 
-  pub moveHead-at : moveHead m n (rows c us) ≡ movedRun a (endAt c us a) (landing a (endAt c us a) (b + 1)) (depthAt us a) (depthAt us b + 1) (rows c us)
+  pub moveHead-at : moveHead m n (rows c us) ≡ movedRun a (endAt c us a) (placeWithout a (endAt c us a) (b + 1)) (depthAt us a) (depthAt us b + 1) (rows c us)
   unfolding xs t e left
   moveHead-at =
       ap₂ (λ (ys l : List Node). addHead ys n l) run gone
@@ -191,16 +191,16 @@ module _ (c : ℕ) (us : List ℕ) (m n a b : ℕ) (here-a : a ≡ place m (rows
       ∙ ap₂ (λ (d : ℕ) (l : List Node). putIn (b′ + 1) (lift (d + 1) xs) l) (sym deep) table
       ∙ ap (λ (k : ℕ). putIn k (lift (depthAt us b + 1) xs) left) next-left
 
-  pub moveAfter-at : moveAfter m n (rows c us) ≡ movedRun a (endAt c us a) (landing a (endAt c us a) (endAt c us b)) (depthAt us a) (depthAt us b) (rows c us)
+  pub moveAfter-at : moveAfter m n (rows c us) ≡ movedRun a (endAt c us a) (placeWithout a (endAt c us a) (endAt c us b)) (depthAt us a) (depthAt us b) (rows c us)
   unfolding xs t e left
   moveAfter-at =
       ap₂ (λ (ys l : List Node). addAfter ys n l) run gone
-      ∙ addAfter-at c′ us′ n b′ here-left live-left (depthAt us b) (landing a e (endAt c us b)) deep end-here xs
-      ∙ ap (λ (l : List Node). putIn (landing a e (endAt c us b)) (lift (depthAt us b) xs) l) table
+      ∙ addAfter-at c′ us′ n b′ here-left live-left (depthAt us b) (placeWithout a e (endAt c us b)) deep end-here xs
+      ∙ ap (λ (l : List Node). putIn (placeWithout a e (endAt c us b)) (lift (depthAt us b) xs) l) table
 
-  pub moveTail-at : moveTail m n (rows c us) ≡ movedRun a (endAt c us a) (landing a (endAt c us a) (endAt c us b)) (depthAt us a) (depthAt us b + 1) (rows c us)
+  pub moveTail-at : moveTail m n (rows c us) ≡ movedRun a (endAt c us a) (placeWithout a (endAt c us a) (endAt c us b)) (depthAt us a) (depthAt us b + 1) (rows c us)
   unfolding xs t e left
   moveTail-at =
       ap₂ (λ (ys l : List Node). addTail ys n l) run gone
-      ∙ addTail-at c′ us′ n b′ here-left live-left (depthAt us b) (landing a e (endAt c us b)) deep end-here xs
-      ∙ ap (λ (l : List Node). putIn (landing a e (endAt c us b)) (lift (depthAt us b + 1) xs) l) table
+      ∙ addTail-at c′ us′ n b′ here-left live-left (depthAt us b) (placeWithout a e (endAt c us b)) deep end-here xs
+      ∙ ap (λ (l : List Node). putIn (placeWithout a e (endAt c us b)) (lift (depthAt us b + 1) xs) l) table

@@ -9,10 +9,10 @@ ghost use lib.ListN.{length, take, drop, getD};
 ghost use Rattle.nodes.specs.Place.{place};
 ghost use Rattle.nodes.specs.Edit.{moveBefore, moveAfter, moveHead, moveTail};
 ghost use Rattle.tree.specs.Sizes.{depthAt, endAt};
-ghost use Rattle.tree.specs.Ends.{Aimed, Moving};
+ghost use Rattle.tree.specs.Ends.{MoveTo, Moving};
 ghost use Rattle.tree.specs.Depths.{Levels, releveled};
 ghost use Rattle.nodes.specs.Table.{width, rows, fill};
-ghost use Rattle.tree.specs.MoveRun.{Movable, movedRun, landing};
+ghost use Rattle.tree.specs.MoveRun.{Movable, movedRun, placeWithout};
 ghost use Rattle.tree.specs.Moves.{without, putIn, Opened};
 
 // Room made at a place for the words from `from` up to `to`: those between come over them.
@@ -63,7 +63,7 @@ fn move_run(nodes: &mut [u32], from: usize, to: usize, at: usize, old: u32, new:
 // A place of the table as it is without the records from `from` up to `to`, which it is not inside of.
 fn place_without(place: usize, from: usize, to: usize) -> usize
     requires { ⌜ (from ≤ to) × ((from < place) → to ≤ place) ⌝ }
-    ensures { λ r. ⌜ r ≡ landing from to place ⌝ }
+    ensures { λ r. ⌜ r ≡ placeWithout from to place ⌝ }
 {
     if place <= from {
         place
@@ -74,8 +74,8 @@ fn place_without(place: usize, from: usize, to: usize) -> usize
 
 // The run of the node at a place moved to another place, which is not inside the run, to stand there at a depth.
 fn move_to(nodes: &mut [u32], count: usize, at: usize, place: usize, depth: u32)
-    requires { ⌜ Aimed (now nodes) count at place depth ⌝ }
-    ensures { λ r. ⌜ now (nodes .exit) ≡ fill (now (nodes .entry)) (movedRun at (endAt count (now (nodes .entry)) at) (landing at (endAt count (now (nodes .entry)) at) place) (depthAt (now (nodes .entry)) at) depth (rows count (now (nodes .entry)))) ⌝ }
+    requires { ⌜ MoveTo (now nodes) count at place depth ⌝ }
+    ensures { λ r. ⌜ now (nodes .exit) ≡ fill (now (nodes .entry)) (movedRun at (endAt count (now (nodes .entry)) at) (placeWithout at (endAt count (now (nodes .entry)) at) place) (depthAt (now (nodes .entry)) at) depth (rows count (now (nodes .entry)))) ⌝ }
 {
     let end = subtree_end(nodes, count, at);
     let old = nodes[5 * at + 1];

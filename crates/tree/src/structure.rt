@@ -7,7 +7,7 @@ ghost use Rattle.nodes.specs.Table.{width, rows};
 ghost use Rattle.nodes.specs.Place.{place};
 ghost use Rattle.nodes.specs.Structure.{parentOf, previousOf, nextOf, headOf, tailOf, childCount};
 ghost use Rattle.tree.specs.Sizes.{Placed};
-ghost use Rattle.tree.specs.Below.{Pair, Told};
+ghost use Rattle.tree.specs.Below.{TwoPlaces, LiesBelow};
 
 const NONE: u32 = 4294967295;
 
@@ -125,8 +125,8 @@ pub fn child_count(nodes: &[u32], count: usize, at: usize) -> u32
 
 // Whether the node at the place a is the one at the place b or lies below it.
 pub fn lies_below(nodes: &[u32], count: usize, a: usize, b: usize) -> bool
-    requires { ⌜ Pair (now nodes) count a b ⌝ }
-    ensures { λ r. ⌜ Told (now (nodes .entry)) count a b r ⌝ }
+    requires { ⌜ TwoPlaces (now nodes) count a b ⌝ }
+    ensures { λ r. ⌜ LiesBelow (now (nodes .entry)) count a b r ⌝ }
 {
     if a < b {
         return false;

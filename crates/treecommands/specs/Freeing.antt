@@ -57,9 +57,6 @@ module _ (n flag : ℕ) (ws : List ℕ) where
       left : (m : ℕ) → at ≡ place m (rows count (nodeWords ws)) → Leaves (nodeWords ws) (setRun m flag (rows count (nodeWords ws))) us count
       left m h = record { words = does m h; size = sym (size m) }
 
-      pub run-ready : (length (put nodesPlace nodesWords us ws) ≡ wordsLength) × (count ≤ mostNodes)
-      run-ready = edited-ready n ws k count same at run-at (λ m t. setRun m flag t) run-few us count left
-
       pub run-done : (out : List ℕ) → out ≡ renewed count (put nodesPlace nodesWords us ws) → Steps (tree.Run n flag) ws Done out
       unfolding answerIn firstOf decode wordsAfter effect
       run-done out o bytes bs =

@@ -4,3 +4,8 @@ pub mod Settle
 pub mod Steps
 pub mod Freeing
 pub mod Emptying
+pub mod Sighting
+pub mod SightingInto
+pub mod Moving
+pub mod Adding
+pub mod Grouping

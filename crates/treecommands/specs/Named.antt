@@ -81,7 +81,7 @@ module _ (a : ℕ) (ws : List ℕ) (at : ℕ) (told : at ≡ placeNamed a ws) wh
       go false e q = e
 
 -- the root stands first, and no other node does
-root-first : (n : ℕ) (t : List Node) → rooted t ≡ true → eqb n 0 ≡ eqb (place n t) 0
+pub root-first : (n : ℕ) (t : List Node) → rooted t ≡ true → eqb n 0 ≡ eqb (place n t) 0
 unfolding rooted place
 root-first n [] h = cc
 root-first n (r ∷ l) h = go (eqb (r .number) n) refl

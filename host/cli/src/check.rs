@@ -1,7 +1,7 @@
 //! `limudvek check FILE...`: a line for each file says whether it is a SynthDef2 file.
 
-use crate::show;
 use crate::UNREADABLE;
+use cli::show;
 use limudvek::synthdef;
 use std::ffi::OsString;
 use std::fs;

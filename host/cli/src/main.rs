@@ -1,7 +1,6 @@
 //! The program `limudvek`.
 
 mod check;
-mod show;
 
 use std::env;
 use std::process::ExitCode;

@@ -1,14 +1,23 @@
-//! SynthDef2 files as the papers describe them, written without a look at the proved reader:
-//! the two are compared on many files, so neither is to copy the other's mistakes.
+//! SynthDef2 files and the engine as the papers describe them, written without a look at the proved
+//! code: the two are compared on many files and commands, so neither is to copy the other's mistakes.
 
+mod after;
+mod command;
 mod definition;
+pub mod engine;
+mod formed;
+pub mod layout;
 mod random;
 mod read;
 mod write;
 
+pub use after::leave;
+pub use command::{Call, Command, Key, Value};
 pub use definition::{Definition, Input, Unit, Variant};
+pub use engine::{Answer, Engine, View};
+pub use formed::{running, well_formed};
 pub use random::{Random, Shape};
-pub use read::{check, read};
+pub use read::{check, read, read_definition};
 pub use write::{write, Field, Rule, Written};
 
 /// Bounds of the paper.

@@ -15,6 +15,17 @@ pub fn read(file: &[u8]) -> Result<Vec<Definition>, Fault> {
     Ok(definitions)
 }
 
+/// The one definition that these bytes are, if they are one and no more. Any length will do.
+pub fn read_definition(bytes: &[u8]) -> Option<Definition> {
+    let mut reader = Reader {
+        length: bytes.len(),
+        rest: bytes,
+    };
+    let mut definitions = Vec::with_capacity(1);
+    definition(&mut reader, &mut Vec::new(), &mut definitions).ok()?;
+    definitions.pop().filter(|_| reader.rest.is_empty())
+}
+
 /// Is told each part of a file as it is read. Runs of floats come as their bytes.
 trait Listener {
     fn definition(&mut self, _name: &[u8], _constants: &[u8], _initial: &[u8]) {}

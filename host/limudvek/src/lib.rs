@@ -1,3 +1,5 @@
-//! Safe functions over the proved static library. A module stands for each of its crates.
+//! Safe functions over the proved static library, a module for each of its crates, and the refusals
+//! in plain words.
 
+pub mod refusal;
 pub mod synthdef;

@@ -1,5 +1,6 @@
 //! SynthDef2 files: accepted, or refused with a number and a place.
 
+use crate::refusal::reason;
 use std::fmt;
 
 /// The exported functions of the Rattle crate `synthdef`. A slice passes as pointer and length.
@@ -23,19 +24,7 @@ pub struct Refused {
 impl Refused {
     /// The refusal in plain words.
     pub fn reason(&self) -> &'static str {
-        match self.number {
-            2 => "the file ends before this field does",
-            3 => "it does not begin with SCgf, so it is no synth definition file",
-            4 => "the version is not 2",
-            5 => "this count is out of bounds",
-            6 => "this is no name: a definition's is empty, or a byte is not from 1 to 127",
-            7 => "this rate is not 0, 1 or 2",
-            8 => "this index names nothing that stands before it",
-            9 => "this definition is longer than 2,048 bytes",
-            10 => "an earlier definition has this name too",
-            11 => "bytes follow the last definition",
-            _ => "the reason has no words yet",
-        }
+        reason(self.number)
     }
 }
 

@@ -1,25 +1,9 @@
-use Prim.Native.Nat.{ℕ, zero, suc, _+_, _*_, _-_, _≤_, _<_}
-use mathlib.Core.Bool.{Bool, true, false, not}
-use mathlib.Core.Path.{_≡_, refl, sym, ap, _∙_}
-use mathlib.Core.List.{List, [], _∷_, _++_, append-assoc}
-use native.Mathlib.Omega.{arith}
-use native.Mathlib.Numerals.{add-one}
+use Prim.Native.Nat.{_-_}
+use mathlib.Core.Path.{sym}
 use borrow.Author.Needs.{needs}
-use borrow.Author.Tests.{lt-ltb, le-ltb, le-leb, lt-leb, eq-eqb, ne-eqb}
-use lib.ListN.{length, take, drop, getD, set, length-set, length-drop}
-use borrow.Author.Needs.{needs}
-use Rattle.synthdef.specs.Answers.{numberOf, stepOf}
-use Rattle.synthdef.specs.Front.{frontOf}
 use Rattle.synthdef.specs.Skips.{skip-definition}
 use Rattle.synthdef.proofs.definition.read_definition.Statement.{statement}
 use Rattle.synthdef.proofs.definition.read_definition.Tie as tie
-use Rattle.synthdef.proofs.definition.read_definition.Reads as reads
-use Rattle.synthdef.proofs.definition.read_definition.Lts as lts
-use Rattle.synthdef.proofs.cursor.Cursor.count_to.Reads as count-to-reads
-use Rattle.synthdef.proofs.cursor.Cursor.short_count_to.Reads as short-count-to-reads
-use Rattle.synthdef.proofs.definition.read_variants.Reads as read-variants-reads
-use Rattle.synthdef.proofs.front.read_front.Reads as read-front-reads
-use Rattle.synthdef.proofs.units.read_units.Reads as read-units-reads
 
 read-front-requires : tie.Need-read-front-requires
 read-front-requires c κs = search needs

@@ -1,21 +1,9 @@
-use Prim.Native.Nat.{ℕ, zero, suc, _+_, _*_, _-_, _≤_, _<_}
-use mathlib.Core.Bool.{Bool, true, false, not}
-use mathlib.Core.Path.{_≡_, refl, sym, ap, _∙_}
-use mathlib.Core.List.{List, [], _∷_, _++_, append-assoc}
-use native.Mathlib.Omega.{arith}
-use native.Mathlib.Numerals.{add-one}
+use Prim.Native.Nat.{_-_}
+use mathlib.Core.Path.{sym}
 use borrow.Author.Needs.{needs}
-use borrow.Author.Tests.{lt-ltb, le-ltb, le-leb, lt-leb, eq-eqb, ne-eqb}
-use lib.ListN.{length, take, drop, getD, set, length-set, length-drop}
-use borrow.Author.Needs.{needs}
-use Rattle.synthdef.specs.Answers.{numberOf, stepOf}
 use Rattle.synthdef.specs.FileLaws.{head-few, file-head, file-bad, file-left, file-accepted}
 use Rattle.synthdef.proofs.file.check_file.Statement.{statement}
 use Rattle.synthdef.proofs.file.check_file.Tie as tie
-use Rattle.synthdef.proofs.file.check_file.Reads as reads
-use Rattle.synthdef.proofs.file.check_file.Lts as lts
-use Rattle.synthdef.proofs.file.read_definitions.Reads as read-definitions-reads
-use Rattle.synthdef.proofs.file.read_header.Reads as read-header-reads
 
 read-header-requires : tie.Need-read-header-requires
 read-header-requires c κs = search needs

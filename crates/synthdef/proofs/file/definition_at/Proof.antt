@@ -1,22 +1,9 @@
-use Prim.Native.Nat.{ℕ, zero, suc, _+_, _*_, _-_, _≤_, _<_}
-use mathlib.Core.Bool.{Bool, true, false, not}
-use mathlib.Core.Path.{_≡_, refl, sym, ap, _∙_}
-use mathlib.Core.List.{List, [], _∷_, _++_, append-assoc}
-use native.Mathlib.Omega.{arith}
-use native.Mathlib.Numerals.{add-one}
+use Prim.Native.Nat.{_-_}
+use mathlib.Core.Path.{sym}
 use borrow.Author.Needs.{needs}
-use borrow.Author.Tests.{lt-ltb, le-ltb, le-leb, lt-leb, eq-eqb, ne-eqb}
-use lib.ListN.{length, take, drop, getD, set, length-set, length-drop}
-use borrow.Author.Needs.{needs}
-use Rattle.synthdef.specs.Answers.{stepOf}
 use Rattle.synthdef.specs.Spans.{spanned, span-past, span-refused, span-found, never-stops, never-bad}
 use Rattle.synthdef.proofs.file.definition_at.Statement.{statement}
 use Rattle.synthdef.proofs.file.definition_at.Tie as tie
-use Rattle.synthdef.proofs.file.definition_at.Reads as reads
-use Rattle.synthdef.proofs.file.definition_at.Lts as lts
-use Rattle.synthdef.proofs.definition.read_definition.Reads as read-definition-reads
-use Rattle.synthdef.proofs.file.check_file.Reads as check-file-reads
-use Rattle.synthdef.proofs.file.skip_definitions.Reads as skip-definitions-reads
 
 check-file-requires : tie.Need-check-file-requires
 check-file-requires c κs = search needs

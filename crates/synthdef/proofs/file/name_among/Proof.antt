@@ -1,12 +1,8 @@
-use Prim.Native.Nat.{ℕ, zero, suc, _+_, _*_, _-_, _≤_, _<_}
-use mathlib.Core.Bool.{Bool, true, false, not}
+use Prim.Native.Nat.{_+_, _-_, _≤_}
+use mathlib.Core.Bool.{Bool}
 use mathlib.Core.Path.{_≡_, refl, sym, ap, _∙_}
-use mathlib.Core.List.{List, [], _∷_, _++_, append-assoc}
 use native.Mathlib.Omega.{arith}
-use native.Mathlib.Numerals.{add-one}
-use borrow.Author.Needs.{needs}
-use borrow.Author.Tests.{lt-ltb, le-ltb, le-leb, lt-leb, eq-eqb, ne-eqb}
-use lib.ListN.{length, take, drop, getD, set, length-set, length-drop}
+use lib.ListN.{take, drop}
 use mathlib.Core.Path.{ap₂}
 use Rattle.words.specs.Choice.{either}
 use Rattle.synthdef.specs.Fields.{stringAt}
@@ -15,10 +11,6 @@ use Rattle.synthdef.specs.File.{namesFrom}
 use Rattle.synthdef.specs.FileLaws.{among-turn, among-done}
 use Rattle.synthdef.proofs.file.name_among.Statement.{statement}
 use Rattle.synthdef.proofs.file.name_among.Tie as tie
-use Rattle.synthdef.proofs.file.name_among.Reads as reads
-use Rattle.synthdef.proofs.file.name_among.Lts as lts
-use Rattle.synthdef.proofs.file.name_at.Reads as name-at-reads
-use Rattle.synthdef.proofs.lookup.same_name.Reads as same-name-reads
 
 abbrev Inv-loop : tie.InvT-loop
 Inv-loop s at starts count i₀ i =

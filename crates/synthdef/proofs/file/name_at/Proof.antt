@@ -1,20 +1,13 @@
-use Prim.Native.Nat.{ℕ, zero, suc, _+_, _*_, _-_, _≤_, _<_}
-use mathlib.Core.Bool.{Bool, true, false, not}
-use mathlib.Core.Path.{_≡_, refl, sym, ap, _∙_}
-use mathlib.Core.List.{List, [], _∷_, _++_, append-assoc}
+use Prim.Native.Nat.{_+_, _-_}
+use mathlib.Core.Path.{_≡_, sym, _∙_}
 use native.Mathlib.Omega.{arith}
-use native.Mathlib.Numerals.{add-one}
 use borrow.Author.Needs.{needs}
-use borrow.Author.Tests.{lt-ltb, le-ltb, le-leb, lt-leb, eq-eqb, ne-eqb}
-use lib.ListN.{length, take, drop, getD, set, length-set, length-drop}
-use borrow.Author.Needs.{needs}
+use lib.ListN.{length, drop, getD, length-drop}
 use Rattle.synthdef.specs.NameLaws.{region-past}
 use lib.Seq.{take-all, take-take}
 use lib.ListN.{length-take}
 use Rattle.synthdef.proofs.file.name_at.Statement.{statement}
 use Rattle.synthdef.proofs.file.name_at.Tie as tie
-use Rattle.synthdef.proofs.file.name_at.Reads as reads
-use Rattle.synthdef.proofs.file.name_at.Lts as lts
 
 slice-aggregate-result : tie.Need-slice-aggregate-result
 slice-aggregate-result c = search needs

@@ -1,20 +1,10 @@
-use Prim.Native.Nat.{ℕ, zero, suc, _+_, _*_, _-_, _≤_, _<_}
-use mathlib.Core.Bool.{Bool, true, false, not}
-use mathlib.Core.Path.{_≡_, refl, sym, ap, _∙_}
-use mathlib.Core.List.{List, [], _∷_, _++_, append-assoc}
+use Prim.Native.Nat.{_-_, _≤_, _<_}
+use mathlib.Core.Path.{refl, sym}
 use native.Mathlib.Omega.{arith}
-use native.Mathlib.Numerals.{add-one}
 use borrow.Author.Needs.{needs}
-use borrow.Author.Tests.{lt-ltb, le-ltb, le-leb, lt-leb, eq-eqb, ne-eqb}
-use lib.ListN.{length, take, drop, getD, set, length-set, length-drop}
-use Rattle.synthdef.specs.Answers.{stepOf}
 use Rattle.synthdef.specs.FileLaws.{Walked, walked-first, walked-next, walked-bad, walked-done}
 use Rattle.synthdef.proofs.file.read_definitions.Statement.{statement}
 use Rattle.synthdef.proofs.file.read_definitions.Tie as tie
-use Rattle.synthdef.proofs.file.read_definitions.Reads as reads
-use Rattle.synthdef.proofs.file.read_definitions.Lts as lts
-use Rattle.synthdef.proofs.file.read_fitting.Reads as read-fitting-reads
-use Rattle.words.proofs.wide.Reads as wide-reads
 
 abbrev Inv-loop : tie.InvT-loop
 Inv-loop s count many starts₀ at₀ i₀ starts at i = Walked s at₀ count starts at i

@@ -1,22 +1,13 @@
-use Prim.Native.Nat.{ℕ, zero, suc, _+_, _*_, _-_, _≤_, _<_}
-use mathlib.Core.Bool.{Bool, true, false, not}
-use mathlib.Core.Path.{_≡_, refl, sym, ap, _∙_}
-use mathlib.Core.List.{List, [], _∷_, _++_, append-assoc}
+use Prim.Native.Nat.{_-_}
+use mathlib.Core.Path.{sym, _∙_}
 use native.Mathlib.Omega.{arith}
-use native.Mathlib.Numerals.{add-one}
 use borrow.Author.Needs.{needs}
-use borrow.Author.Tests.{lt-ltb, le-ltb, le-leb, lt-leb, eq-eqb, ne-eqb}
-use lib.ListN.{length, take, drop, getD, set, length-set, length-drop}
-use borrow.Author.Needs.{needs}
-use Rattle.synthdef.specs.Answers.{stepOf}
+use borrow.Author.Tests.{lt-ltb, le-ltb}
+use lib.ListN.{take}
 use Rattle.synthdef.specs.File.{namesFrom}
 use Rattle.synthdef.specs.FileLaws.{skip-fitting, end-forward}
 use Rattle.synthdef.proofs.file.read_fitting.Statement.{statement}
 use Rattle.synthdef.proofs.file.read_fitting.Tie as tie
-use Rattle.synthdef.proofs.file.read_fitting.Reads as reads
-use Rattle.synthdef.proofs.file.read_fitting.Lts as lts
-use Rattle.synthdef.proofs.definition.read_definition.Reads as read-definition-reads
-use Rattle.synthdef.proofs.file.name_among.Reads as name-among-reads
 
 read-definition-requires : tie.Need-read-definition-requires
 read-definition-requires c κs = search needs

@@ -1,20 +1,11 @@
-use Prim.Native.Nat.{ℕ, zero, suc, _+_, _*_, _-_, _≤_, _<_}
-use mathlib.Core.Bool.{Bool, true, false, not}
-use mathlib.Core.Path.{_≡_, refl, sym, ap, _∙_}
-use mathlib.Core.List.{List, [], _∷_, _++_, append-assoc}
+use Prim.Native.Nat.{suc, _-_, _≤_}
+use mathlib.Core.Path.{_≡_, refl, ap, _∙_}
 use native.Mathlib.Omega.{arith}
 use native.Mathlib.Numerals.{add-one}
-use borrow.Author.Needs.{needs}
-use borrow.Author.Tests.{lt-ltb, le-ltb, le-leb, lt-leb, eq-eqb, ne-eqb}
-use lib.ListN.{length, take, drop, getD, set, length-set, length-drop}
-use Rattle.synthdef.specs.Units.{unitCounts, unitOutputs, unitEnd, unitPlace, place-up, word32}
+use Rattle.synthdef.specs.Units.{unitOutputs, unitEnd, unitPlace, place-up}
 use native.Mathlib.Nat.{le-trans}
 use Rattle.synthdef.proofs.units.far_outputs.Statement.{statement}
 use Rattle.synthdef.proofs.units.far_outputs.Tie as tie
-use Rattle.synthdef.proofs.units.far_outputs.Reads as reads
-use Rattle.synthdef.proofs.units.far_outputs.Lts as lts
-use Rattle.synthdef.proofs.units.unit_end.Reads as unit-end-reads
-use Rattle.synthdef.proofs.units.unit_outputs.Reads as unit-outputs-reads
 
 abbrev Inv-loop : tie.InvT-loop
 Inv-loop s start unit at₀ i₀ at i = (i ≤ unit) × (at ≡ unitPlace s start i)

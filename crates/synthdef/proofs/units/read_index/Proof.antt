@@ -1,20 +1,9 @@
-use Prim.Native.Nat.{ℕ, zero, suc, _+_, _*_, _-_, _≤_, _<_}
-use mathlib.Core.Bool.{Bool, true, false, not}
-use mathlib.Core.Path.{_≡_, refl, sym, ap, _∙_}
-use mathlib.Core.List.{List, [], _∷_, _++_, append-assoc}
-use native.Mathlib.Omega.{arith}
-use native.Mathlib.Numerals.{add-one}
-use borrow.Author.Needs.{needs}
-use borrow.Author.Tests.{lt-ltb, le-ltb, le-leb, lt-leb, eq-eqb, ne-eqb}
-use lib.ListN.{length, take, drop, getD, set, length-set, length-drop}
+use Prim.Native.Nat.{_-_}
+use mathlib.Core.Path.{ap}
 use borrow.Author.Needs.{needs}
 use Rattle.synthdef.specs.Read.{ending}
-use Rattle.synthdef.specs.Answers.{numberOf}
 use Rattle.synthdef.proofs.units.read_index.Statement.{statement}
 use Rattle.synthdef.proofs.units.read_index.Tie as tie
-use Rattle.synthdef.proofs.units.read_index.Reads as reads
-use Rattle.synthdef.proofs.units.read_index.Lts as lts
-use Rattle.synthdef.proofs.cursor.Cursor.index_below.Reads as index-below-reads
 
 index-below-requires : tie.Need-index-below-requires
 index-below-requires c κs = search needs

@@ -1,25 +1,13 @@
-use Prim.Native.Nat.{ℕ, zero, suc, _+_, _*_, _-_, _≤_, _<_}
-use mathlib.Core.Bool.{Bool, true, false, not}
-use mathlib.Core.Path.{_≡_, refl, sym, ap, _∙_}
-use mathlib.Core.List.{List, [], _∷_, _++_, append-assoc}
+use Prim.Native.Nat.{ℕ, suc, _-_, _<_}
+use mathlib.Core.Path.{sym, ap, _∙_}
 use native.Mathlib.Omega.{arith}
-use native.Mathlib.Numerals.{add-one}
 use borrow.Author.Needs.{needs}
-use borrow.Author.Tests.{lt-ltb, le-ltb, le-leb, lt-leb, eq-eqb, ne-eqb}
-use lib.ListN.{length, take, drop, getD, set, length-set, length-drop}
-use borrow.Author.Needs.{needs}
-use Rattle.synthdef.specs.Units.{unitOutputs, unitPlace, outsFrom, outs-length, outs-at, place-up, input-cut, input-constant, input-output, input-bad}
-use Rattle.synthdef.specs.Answers.{numberOf, stepOf}
-use Rattle.synthdef.specs.Read.{Read, got, bad, ending}
-use Rattle.synthdef.specs.Fields.{integer, indexBelow}
+use Rattle.synthdef.specs.Units.{outsFrom, outs-length, outs-at, place-up, input-cut, input-constant, input-output, input-bad}
+use Rattle.synthdef.specs.Read.{ending}
+use Rattle.synthdef.specs.Fields.{indexBelow}
 use native.Mathlib.Nat.{le-trans}
 use Rattle.synthdef.proofs.units.read_input.Statement.{statement}
 use Rattle.synthdef.proofs.units.read_input.Tie as tie
-use Rattle.synthdef.proofs.units.read_input.Reads as reads
-use Rattle.synthdef.proofs.units.read_input.Lts as lts
-use Rattle.synthdef.proofs.cursor.Cursor.int32.Reads as int32-reads
-use Rattle.synthdef.proofs.units.far_outputs.Reads as far-outputs-reads
-use Rattle.synthdef.proofs.units.read_index.Reads as read-index-reads
 
 int32-requires : tie.Need-int32-requires
 int32-requires c κs = search needs
@@ -40,7 +28,7 @@ returns-2 : tie.Need-returns-2
 returns-2 c =
     let a = c .before .before .before .before .before .before .before .args in
     let read = sym (rw (c .before .before .before .unit .given .1) at (c .before .before .before .before .before .int32 .ensures)) in
-    sym (input-bad (a .constants) (outsFrom (a .s .now) (a .start) (a .units)) (a .s .now) (a .cursor .at) read (c .before .if1 .left) (rw outs-length (c .if2 .taken)))
+    sym (input-bad (a .constants) (outsFrom (a .s .now) (a .start) (a .units)) (a .s .now) (a .cursor .at) read (c .before .if1 .left) (rw outs-length (omega arith)))
 
 cast-index : tie.Need-cast-index
 cast-index c = search needs

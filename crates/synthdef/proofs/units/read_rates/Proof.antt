@@ -1,22 +1,14 @@
-use Prim.Native.Nat.{ℕ, zero, suc, _+_, _*_, _-_, _≤_, _<_}
-use mathlib.Core.Bool.{Bool, true, false, not}
-use mathlib.Core.Path.{_≡_, refl, sym, ap, _∙_}
-use mathlib.Core.List.{List, [], _∷_, _++_, append-assoc}
+use Prim.Native.Nat.{_-_, _≤_}
+use mathlib.Core.Path.{_≡_, sym, _∙_}
 use native.Mathlib.Omega.{arith}
-use native.Mathlib.Numerals.{add-one}
 use borrow.Author.Needs.{needs}
-use borrow.Author.Tests.{lt-ltb, le-ltb, le-leb, lt-leb, eq-eqb, ne-eqb}
-use lib.ListN.{length, take, drop, getD, set, length-set, length-drop}
-use Rattle.synthdef.specs.Endings.{repeat-next, repeat-bad, repeat-done}
-use Rattle.synthdef.specs.Answers.{stepOf}
-use Rattle.synthdef.specs.Read.{Read, got, bad, ending, repeat}
+use Rattle.synthdef.specs.Endings.{repeat-next, repeat-bad}
+use Rattle.synthdef.specs.RepeatLaws.{ending-none}
+use Rattle.synthdef.specs.Read.{ending, repeat}
 use native.Mathlib.Nat.{sub-zero}
 use Rattle.synthdef.specs.Fields.{rate}
 use Rattle.synthdef.proofs.units.read_rates.Statement.{statement}
 use Rattle.synthdef.proofs.units.read_rates.Tie as tie
-use Rattle.synthdef.proofs.units.read_rates.Reads as reads
-use Rattle.synthdef.proofs.units.read_rates.Lts as lts
-use Rattle.synthdef.proofs.units.read_rate.Reads as read-rate-reads
 
 abbrev Inv-loop : tie.InvT-loop
 Inv-loop s count at₀ i₀ at i = (i ≤ count) × (ending (repeat (rate s) (count - i) at) ≡ ending (repeat (rate s) count at₀))
@@ -60,7 +52,7 @@ returns-2 : tie.Need-returns-2 Inv-loop μ-loop
 returns-2 c =
     let a = c .before .before .before .args in
     let l = c .before .loop in
-    sym (repeat-done (rate (a .s .now)) (a .count) (l .i) (l .at) (omega arith)) ∙ l .inv .1
+    sym (ending-none (rate (a .s .now)) (a .count) (l .i) (l .at) (omega arith)) ∙ l .inv .1
 
 pub read-rates-spec : {M : Type 1} → statement M
 read-rates-spec =

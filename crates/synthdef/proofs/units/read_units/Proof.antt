@@ -1,21 +1,11 @@
-use Prim.Native.Nat.{ℕ, zero, suc, _+_, _*_, _-_, _≤_, _<_}
-use mathlib.Core.Bool.{Bool, true, false, not}
-use mathlib.Core.Path.{_≡_, refl, sym, ap, _∙_}
-use mathlib.Core.List.{List, [], _∷_, _++_, append-assoc}
+use Prim.Native.Nat.{_-_}
+use mathlib.Core.Path.{refl, sym}
 use native.Mathlib.Omega.{arith}
-use native.Mathlib.Numerals.{add-one}
 use borrow.Author.Needs.{needs}
-use borrow.Author.Tests.{lt-ltb, le-ltb, le-leb, lt-leb, eq-eqb, ne-eqb}
-use lib.ListN.{length, take, drop, getD, set, length-set, length-drop}
-use Rattle.synthdef.specs.Answers.{numberOf, stepOf}
 use Rattle.synthdef.specs.Units.{Standing, stands-first, stands-set, stands-past, stands-bad, stands-done}
-use Rattle.synthdef.specs.Read.{Read, got, bad}
 use mathlib.Core.Logic.{⊎-elim}
 use Rattle.synthdef.proofs.units.read_units.Statement.{statement}
 use Rattle.synthdef.proofs.units.read_units.Tie as tie
-use Rattle.synthdef.proofs.units.read_units.Reads as reads
-use Rattle.synthdef.proofs.units.read_units.Lts as lts
-use Rattle.synthdef.proofs.units.read_unit.Reads as read-unit-reads
 
 abbrev Inv-loop : tie.InvT-loop
 Inv-loop s constants count start outs₀ at₀ i₀ outs at i = Standing constants s start count outs at i

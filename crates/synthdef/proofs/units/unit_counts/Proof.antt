@@ -1,17 +1,9 @@
-use Prim.Native.Nat.{ℕ, zero, suc, _+_, _*_, _-_, _≤_, _<_}
-use mathlib.Core.Bool.{Bool, true, false, not}
-use mathlib.Core.Path.{_≡_, refl, sym, ap, _∙_}
-use mathlib.Core.List.{List, [], _∷_, _++_, append-assoc}
+use Prim.Native.Nat.{_-_}
+use mathlib.Core.Path.{refl}
 use native.Mathlib.Omega.{arith}
-use native.Mathlib.Numerals.{add-one}
-use borrow.Author.Needs.{needs}
-use borrow.Author.Tests.{lt-ltb, le-ltb, le-leb, lt-leb, eq-eqb, ne-eqb}
-use lib.ListN.{length, take, drop, getD, set, length-set, length-drop}
-use Rattle.synthdef.specs.Units.{unitCounts, unitOutputs, unitEnd, unitPlace, place-up, word32}
+use Rattle.synthdef.specs.Units.{unitCounts, unitEnd}
 use Rattle.synthdef.proofs.units.unit_counts.Statement.{statement}
 use Rattle.synthdef.proofs.units.unit_counts.Tie as tie
-use Rattle.synthdef.proofs.units.unit_counts.Reads as reads
-use Rattle.synthdef.proofs.units.unit_counts.Lts as lts
 
 shared-slice-read-size : tie.Need-shared-slice-read-size
 unfolding unitCounts unitEnd

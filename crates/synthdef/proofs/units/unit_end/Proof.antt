@@ -1,21 +1,11 @@
-use Prim.Native.Nat.{ℕ, zero, suc, _+_, _*_, _-_, _≤_, _<_}
-use mathlib.Core.Bool.{Bool, true, false, not}
-use mathlib.Core.Path.{_≡_, refl, sym, ap, _∙_}
-use mathlib.Core.List.{List, [], _∷_, _++_, append-assoc}
+use Prim.Native.Nat.{ℕ, _-_}
+use mathlib.Core.Path.{ap, _∙_}
 use native.Mathlib.Omega.{arith}
-use native.Mathlib.Numerals.{add-one}
 use borrow.Author.Needs.{needs}
-use borrow.Author.Tests.{lt-ltb, le-ltb, le-leb, lt-leb, eq-eqb, ne-eqb}
-use lib.ListN.{length, take, drop, getD, set, length-set, length-drop}
-use borrow.Author.Needs.{needs}
-use Rattle.synthdef.specs.Units.{unitCounts, unitOutputs, unitEnd, unitPlace, place-up, word32}
+use Rattle.synthdef.specs.Units.{unitEnd}
+use Rattle.synthdef.specs.FieldLaws.{word}
 use Rattle.synthdef.proofs.units.unit_end.Statement.{statement}
 use Rattle.synthdef.proofs.units.unit_end.Tie as tie
-use Rattle.synthdef.proofs.units.unit_end.Reads as reads
-use Rattle.synthdef.proofs.units.unit_end.Lts as lts
-use Rattle.synthdef.proofs.units.unit_counts.Reads as unit-counts-reads
-use Rattle.synthdef.proofs.units.unit_outputs.Reads as unit-outputs-reads
-use Rattle.synthdef.proofs.units.word_at.Reads as word-at-reads
 
 unit-counts-requires : tie.Need-unit-counts-requires
 unit-counts-requires c κs = search needs
@@ -42,7 +32,7 @@ unfolding unitEnd
 add-result-2 c =
     let s = c .before .before .before .before .args .s .now in
     let counts = c .before .before .unit-counts .ensures in
-    let inputs = c .before .word-at .ensures ∙ ap (λ (p : ℕ). word32 s p) counts in
+    let inputs = c .before .word-at .ensures ∙ ap (λ (p : ℕ). word s p) counts in
     omega arith
 
 cast-result-2 : tie.Need-cast-result-2
@@ -53,7 +43,7 @@ unfolding unitEnd
 add-result-3 c =
     let s = c .before .before .before .before .args .s .now in
     let counts = c .before .before .unit-counts .ensures in
-    let inputs = c .before .word-at .ensures ∙ ap (λ (p : ℕ). word32 s p) counts in
+    let inputs = c .before .word-at .ensures ∙ ap (λ (p : ℕ). word s p) counts in
     omega arith
 
 returns : tie.Need-returns
@@ -61,7 +51,7 @@ unfolding unitEnd
 returns c =
     let s = c .before .before .before .before .args .s .now in
     let counts = c .before .before .unit-counts .ensures in
-    let inputs = c .before .word-at .ensures ∙ ap (λ (p : ℕ). word32 s p) counts in
+    let inputs = c .before .word-at .ensures ∙ ap (λ (p : ℕ). word s p) counts in
     omega arith
 
 pub unit-end-spec : {M : Type 1} → statement M

@@ -5,7 +5,7 @@ use mathlib.Core.List.{List}
 use native.Mathlib.Omega.{arith}
 use borrow.Author.Needs.{needs}
 use Rattle.tree.specs.Sizes.{depthAt}
-use Rattle.tree.specs.Ends.{aim}
+use Rattle.tree.specs.Ends.{moveTo}
 use Rattle.nodes.specs.declared.Node.{Node}
 use Rattle.nodes.specs.Table.{fill}
 use Rattle.tree.specs.Moved.{moveHead-at}
@@ -36,7 +36,7 @@ move-to-requires : tie.Need-move-to-requires
 move-to-requires c κs =
     let s = c .before .before .before in
     let a = s .args in
-    aim (a .nodes .now) (a .count) (a .a) (a .b) (s .pre) (a .b + 1) (depthAt (a .nodes .now) (a .b) + 1) (omega arith) (λ h. omega (arith, s .pre .outside (omega arith))) (omega arith)
+    moveTo (a .nodes .now) (a .count) (a .a) (a .b) (s .pre) (a .b + 1) (depthAt (a .nodes .now) (a .b) + 1) (omega arith) (λ h. omega (arith, s .pre .outside (omega arith))) (omega arith)
 
 same-length : tie.Need-same-length
 same-length c = search needs

@@ -5,10 +5,10 @@ use mathlib.Core.List.{List}
 use native.Mathlib.Omega.{arith}
 use borrow.Author.Needs.{needs}
 use Rattle.tree.specs.Sizes.{depthAt, endAt}
-use Rattle.tree.specs.Ends.{aim-end}
+use Rattle.tree.specs.Ends.{moveTo-end}
 use Rattle.nodes.specs.declared.Node.{Node}
 use Rattle.nodes.specs.Table.{rows, fill}
-use Rattle.tree.specs.MoveRun.{movedRun, landing}
+use Rattle.tree.specs.MoveRun.{movedRun, placeWithout}
 use Rattle.tree.specs.Moved.{moveTail-at}
 use Rattle.tree.proofs.moves.move_tail.Statement.{statement}
 use Rattle.tree.proofs.moves.move_tail.Tie as tie
@@ -38,7 +38,7 @@ move-to-requires c κs =
     let s = c .before .before .before .before .before in
     let a = s .args in
     let e = c .before .subtree-end in
-    aim-end (a .nodes .now) (a .count) (a .a) (a .b) (s .pre) (e .result) (depthAt (a .nodes .now) (a .b) + 1) (e .ensures) (omega arith)
+    moveTo-end (a .nodes .now) (a .count) (a .a) (a .b) (s .pre) (e .result) (depthAt (a .nodes .now) (a .b) + 1) (e .ensures) (omega arith)
 
 same-length : tie.Need-same-length
 same-length c = search needs
@@ -50,7 +50,7 @@ returns c = λ m n here-a here-b.
     let a = s .args in
     let us = a .nodes .now in
     c .before .before .move-to .ensures
-    ∙ ap (λ (k : ℕ). fill us (movedRun (a .a) (endAt (a .count) us (a .a)) (landing (a .a) (endAt (a .count) us (a .a)) k) (depthAt us (a .a)) (depthAt us (a .b) + 1) (rows (a .count) us))) (f .subtree-end .ensures)
+    ∙ ap (λ (k : ℕ). fill us (movedRun (a .a) (endAt (a .count) us (a .a)) (placeWithout (a .a) (endAt (a .count) us (a .a)) k) (depthAt us (a .a)) (depthAt us (a .b) + 1) (rows (a .count) us))) (f .subtree-end .ensures)
     ∙ ap (λ (l : List Node). fill us l) (sym (moveTail-at (a .count) us m n (a .a) (a .b) here-a here-b (s .pre .live) (s .pre .target) (s .pre .outside)))
 
 pub move-tail-spec : {M : Type 1} → statement M

@@ -5,12 +5,12 @@ use mathlib.Core.Path.{_≡_, ap}
 use native.Mathlib.Omega.{arith}
 use lib.ListN.{length, drop, getD}
 use Rattle.nodes.specs.Table.{rows}
-use Rattle.tree.specs.Around.{kids, kids-stop, kids-child, kids-skip, kids-end, childrenOf-at}
+use Rattle.tree.specs.Around.{childNumbers, childNumbers-stop, childNumbers-child, childNumbers-skip, childNumbers-end, childrenOf-at}
 use Rattle.tree.proofs.structure.child_count.Statement.{statement}
 use Rattle.tree.proofs.structure.child_count.Tie as tie
 
 abbrev Inv-loop : tie.InvT-loop
-Inv-loop nodes count at depth children₀ i₀ children i = (i ≤ count) × (children ≤ i) × (children + length (kids depth (drop i (rows count nodes))) ≡ length (kids depth (drop (at + 1) (rows count nodes))))
+Inv-loop nodes count at depth children₀ i₀ children i = (i ≤ count) × (children ≤ i) × (children + length (childNumbers depth (drop i (rows count nodes))) ≡ length (childNumbers depth (drop (at + 1) (rows count nodes))))
 
 abbrev μ-loop : tie.MeasureT-loop
 μ-loop nodes count at depth children₀ i₀ children i = count - i
@@ -51,7 +51,7 @@ returns c = λ n here.
     let a = l .before .before .args in
     let us = a .nodes .now in
     let d = getD us (5 * a .at + 1) 0 in
-    let none = ap length (kids-stop (a .count) us d (l .loop .i) (omega arith) (c .if1 .taken)) in
+    let none = ap length (childNumbers-stop (a .count) us d (l .loop .i) (omega arith) (c .if1 .taken)) in
     omega (arith, ap length (childrenOf-at (a .count) us n (a .at) here (omega arith)))
 
 sub-if2 : tie.Need-sub-if2 Inv-loop μ-loop
@@ -73,8 +73,8 @@ loop-again c =
     let us = a .nodes .now in
     let d = getD us (5 * a .at + 1) 0 in
     ⊎-elim
-    (λ w. let on = ap length (kids-child (a .count) us d (l .loop .i) (omega arith) (omega arith) (w .0 .taken)) in (omega arith, omega arith, omega arith))
-    (λ w. let on = ap length (kids-skip (a .count) us d (l .loop .i) (omega arith) (omega arith) (w .0 .left)) in (omega arith, omega arith, omega arith))
+    (λ w. let on = ap length (childNumbers-child (a .count) us d (l .loop .i) (omega arith) (omega arith) (w .0 .taken)) in (omega arith, omega arith, omega arith))
+    (λ w. let on = ap length (childNumbers-skip (a .count) us d (l .loop .i) (omega arith) (omega arith) (w .0 .left)) in (omega arith, omega arith, omega arith))
     (c .if2 .came)
 
 returns-2 : tie.Need-returns-2 Inv-loop μ-loop
@@ -83,7 +83,7 @@ returns-2 c = λ n here.
     let a = l .before .before .args in
     let us = a .nodes .now in
     let d = getD us (5 * a .at + 1) 0 in
-    let none = ap length (kids-end (a .count) us d (l .loop .i) (omega arith)) in
+    let none = ap length (childNumbers-end (a .count) us d (l .loop .i) (omega arith)) in
     omega (arith, ap length (childrenOf-at (a .count) us n (a .at) here (omega arith)))
 
 pub child-count-spec : {M : Type 1} → statement M

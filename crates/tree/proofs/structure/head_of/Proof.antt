@@ -6,12 +6,12 @@ use native.Mathlib.Omega.{arith}
 use lib.ListN.{drop, getD}
 use Rattle.nodes.specs.Table.{rows}
 use Rattle.nodes.specs.Structure.{noNode, firstOr}
-use Rattle.tree.specs.Around.{kids, kids-stop, kids-child, kids-skip, kids-end, childrenOf-at}
+use Rattle.tree.specs.Around.{childNumbers, childNumbers-stop, childNumbers-child, childNumbers-skip, childNumbers-end, childrenOf-at}
 use Rattle.tree.proofs.structure.head_of.Statement.{statement}
 use Rattle.tree.proofs.structure.head_of.Tie as tie
 
 abbrev Inv-loop : tie.InvT-loop
-Inv-loop nodes count at depth i₀ i = (i ≤ count) × (firstOr noNode (kids depth (drop i (rows count nodes))) ≡ firstOr noNode (kids depth (drop (at + 1) (rows count nodes))))
+Inv-loop nodes count at depth i₀ i = (i ≤ count) × (firstOr noNode (childNumbers depth (drop i (rows count nodes))) ≡ firstOr noNode (childNumbers depth (drop (at + 1) (rows count nodes))))
 
 abbrev μ-loop : tie.MeasureT-loop
 μ-loop nodes count at depth i₀ i = count - i
@@ -53,7 +53,7 @@ returns c = λ n here.
     let a = l .before .before .args in
     let us = a .nodes .now in
     let d = getD us (5 * a .at + 1) 0 in
-    ap (λ (k : List ℕ). firstOr noNode k) (sym (kids-stop (a .count) us d (l .loop .i) (omega arith) (c .if1 .taken)))
+    ap (λ (k : List ℕ). firstOr noNode k) (sym (childNumbers-stop (a .count) us d (l .loop .i) (omega arith) (c .if1 .taken)))
     ∙ l .loop .inv .1
     ∙ ap (λ (k : List ℕ). firstOr noNode k) (sym (childrenOf-at (a .count) us n (a .at) here (omega arith)))
 
@@ -76,7 +76,7 @@ returns-2 c = λ n here.
     let a = l .before .before .args in
     let us = a .nodes .now in
     let d = getD us (5 * a .at + 1) 0 in
-    ap (λ (k : List ℕ). firstOr noNode k) (sym (kids-child (a .count) us d (l .loop .i) (omega arith) (omega arith) (c .before .if2 .taken)))
+    ap (λ (k : List ℕ). firstOr noNode k) (sym (childNumbers-child (a .count) us d (l .loop .i) (omega arith) (omega arith) (c .before .if2 .taken)))
     ∙ l .loop .inv .1
     ∙ ap (λ (k : List ℕ). firstOr noNode k) (sym (childrenOf-at (a .count) us n (a .at) here (omega arith)))
 
@@ -92,7 +92,7 @@ loop-again c =
     let a = l .before .before .args in
     let us = a .nodes .now in
     let d = getD us (5 * a .at + 1) 0 in
-    (omega arith, ap (λ (k : List ℕ). firstOr noNode k) (sym (kids-skip (a .count) us d (l .loop .i) (omega arith) (omega arith) (c .if2 .left))) ∙ l .loop .inv .1)
+    (omega arith, ap (λ (k : List ℕ). firstOr noNode k) (sym (childNumbers-skip (a .count) us d (l .loop .i) (omega arith) (omega arith) (c .if2 .left))) ∙ l .loop .inv .1)
 
 returns-3 : tie.Need-returns-3 Inv-loop μ-loop
 unfolding firstOr
@@ -101,7 +101,7 @@ returns-3 c = λ n here.
     let a = l .before .before .args in
     let us = a .nodes .now in
     let d = getD us (5 * a .at + 1) 0 in
-    ap (λ (k : List ℕ). firstOr noNode k) (sym (kids-end (a .count) us d (l .loop .i) (omega arith)))
+    ap (λ (k : List ℕ). firstOr noNode k) (sym (childNumbers-end (a .count) us d (l .loop .i) (omega arith)))
     ∙ l .loop .inv .1
     ∙ ap (λ (k : List ℕ). firstOr noNode k) (sym (childrenOf-at (a .count) us n (a .at) here (omega arith)))
 

@@ -6,14 +6,14 @@ use mathlib.Core.Path.{ap}
 use native.Mathlib.Omega.{arith}
 use borrow.Author.Needs.{needs}
 use borrow.Author.Tests.{le-leb, lt-leb}
-use Rattle.tree.specs.Below.{told}
+use Rattle.tree.specs.Below.{lies-below}
 use Rattle.tree.proofs.structure.lies_below.Statement.{statement}
 use Rattle.tree.proofs.structure.lies_below.Tie as tie
 
 returns : tie.Need-returns
 returns c =
     let a = c .before .before .args in
-    told (a .count) (a .nodes .now) (a .a) (a .b) false (omega arith) (omega arith) (rw (lt-leb (a .b) (a .a) (c .if1 .taken)))
+    lies-below (a .count) (a .nodes .now) (a .a) (a .b) false (omega arith) (omega arith) (rw (lt-leb (a .b) (a .a) (c .if1 .taken)))
 
 subtree-end-requires : tie.Need-subtree-end-requires
 subtree-end-requires c κs = search needs
@@ -21,7 +21,7 @@ subtree-end-requires c κs = search needs
 returns-2 : tie.Need-returns-2
 returns-2 c =
     let a = c .before .before .before .args in
-    told (a .count) (a .nodes .now) (a .a) (a .b) (ltb (a .a) (c .subtree-end .result)) (omega arith) (omega arith)
+    lies-below (a .count) (a .nodes .now) (a .a) (a .b) (ltb (a .a) (c .subtree-end .result)) (omega arith) (omega arith)
     (rw (le-leb (a .b) (a .a) (omega arith)) (ap (λ (e : ℕ). ltb (a .a) e) (c .subtree-end .ensures)))
 
 pub lies-below-spec : {M : Type 1} → statement M

@@ -7,12 +7,12 @@ use native.Mathlib.Omega.{arith}
 use lib.ListN.{drop, getD}
 use Rattle.nodes.specs.Table.{rows}
 use Rattle.nodes.specs.Structure.{noNode, lastOr}
-use Rattle.tree.specs.Around.{kids, kids-stop, kids-child, kids-skip, kids-end, childrenOf-at}
+use Rattle.tree.specs.Around.{childNumbers, childNumbers-stop, childNumbers-child, childNumbers-skip, childNumbers-end, childrenOf-at}
 use Rattle.tree.proofs.structure.tail_of.Statement.{statement}
 use Rattle.tree.proofs.structure.tail_of.Tie as tie
 
 abbrev Inv-loop : tie.InvT-loop
-Inv-loop nodes count at depth last₀ i₀ last i = (i ≤ count) × (lastOr last (kids depth (drop i (rows count nodes))) ≡ lastOr noNode (kids depth (drop (at + 1) (rows count nodes))))
+Inv-loop nodes count at depth last₀ i₀ last i = (i ≤ count) × (lastOr last (childNumbers depth (drop i (rows count nodes))) ≡ lastOr noNode (childNumbers depth (drop (at + 1) (rows count nodes))))
 
 abbrev μ-loop : tie.MeasureT-loop
 μ-loop nodes count at depth last₀ i₀ last i = count - i
@@ -54,7 +54,7 @@ returns c = λ n here.
     let a = l .before .before .args in
     let us = a .nodes .now in
     let d = getD us (5 * a .at + 1) 0 in
-    ap (λ (k : List ℕ). lastOr (l .loop .last) k) (sym (kids-stop (a .count) us d (l .loop .i) (omega arith) (c .if1 .taken)))
+    ap (λ (k : List ℕ). lastOr (l .loop .last) k) (sym (childNumbers-stop (a .count) us d (l .loop .i) (omega arith) (c .if1 .taken)))
     ∙ l .loop .inv .1
     ∙ ap (λ (k : List ℕ). lastOr noNode k) (sym (childrenOf-at (a .count) us n (a .at) here (omega arith)))
 
@@ -83,11 +83,11 @@ loop-again c =
     let a = l .before .before .args in
     let us = a .nodes .now in
     let d = getD us (5 * a .at + 1) 0 in
-    let rest = kids d (drop (l .loop .i + 1) (rows (a .count) us)) in (
+    let rest = childNumbers d (drop (l .loop .i + 1) (rows (a .count) us)) in (
       omega arith,
       ⊎-elim
-          (λ w. ap (λ (x : ℕ). lastOr x rest) (w .2) ∙ ap (λ (k : List ℕ). lastOr (l .loop .last) k) (sym (kids-child (a .count) us d (l .loop .i) (omega arith) (omega arith) (w .0 .taken))))
-          (λ w. ap (λ (x : ℕ). lastOr x rest) (w .1) ∙ ap (λ (k : List ℕ). lastOr (l .loop .last) k) (sym (kids-skip (a .count) us d (l .loop .i) (omega arith) (omega arith) (w .0 .left))))
+          (λ w. ap (λ (x : ℕ). lastOr x rest) (w .2) ∙ ap (λ (k : List ℕ). lastOr (l .loop .last) k) (sym (childNumbers-child (a .count) us d (l .loop .i) (omega arith) (omega arith) (w .0 .taken))))
+          (λ w. ap (λ (x : ℕ). lastOr x rest) (w .1) ∙ ap (λ (k : List ℕ). lastOr (l .loop .last) k) (sym (childNumbers-skip (a .count) us d (l .loop .i) (omega arith) (omega arith) (w .0 .left))))
           (c .if2 .came)
           ∙ l .loop .inv .1,
     )
@@ -99,7 +99,7 @@ returns-2 c = λ n here.
     let a = l .before .before .args in
     let us = a .nodes .now in
     let d = getD us (5 * a .at + 1) 0 in
-    ap (λ (k : List ℕ). lastOr (l .loop .last) k) (sym (kids-end (a .count) us d (l .loop .i) (omega arith)))
+    ap (λ (k : List ℕ). lastOr (l .loop .last) k) (sym (childNumbers-end (a .count) us d (l .loop .i) (omega arith)))
     ∙ l .loop .inv .1
     ∙ ap (λ (k : List ℕ). lastOr noNode k) (sym (childrenOf-at (a .count) us n (a .at) here (omega arith)))
 

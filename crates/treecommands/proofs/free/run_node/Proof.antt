@@ -3,7 +3,7 @@ use native.Mathlib.Omega.{arith}
 use borrow.Author.Needs.{needs}
 use Prim.Native.Nat.{ℕ}
 use mathlib.Core.Path.{_≡_, sym, _∙_}
-use Rattle.treecommands.specs.Freeing.{run-flag, run-unknown, run-ready, run-done}
+use Rattle.treecommands.specs.Freeing.{run-flag, run-unknown, run-done}
 use Rattle.treecommands.proofs.free.run_node.Statement.{statement}
 use Rattle.treecommands.proofs.free.run_node.Tie as tie
 
@@ -43,10 +43,7 @@ set-run-requires : tie.Need-set-run-requires
 set-run-requires c κs = search needs
 
 renew-requires : tie.Need-renew-requires
-renew-requires c κs =
-    let s = c .before .before .before .before .before .before .before .before .before .before .before .before in
-    let a = s .args in
-    run-ready (a .node) (a .flag) (a .words .now) (s .pre) (c .before .before .before .before .before .before .before .before .wide .result) (c .before .before .before .before .before .before .before .before .wide .ensures) (c .before .before .before .before .before .before .node-place .result) (c .before .before .before .before .before .before .node-place .ensures) (omega arith) (c .before .before .before .set-run .last .0) (omega arith) (c .before .before .before .set-run .ensures)
+renew-requires c κs = search needs
 
 same-length-2 : tie.Need-same-length-2
 same-length-2 c = search needs

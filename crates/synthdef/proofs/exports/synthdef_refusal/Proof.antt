@@ -1,0 +1,35 @@
+use Prim.Native.Nat.{_-_}
+use mathlib.Core.Path.{ap, _∙_}
+use borrow.Author.Needs.{needs}
+use Rattle.synthdef.specs.File.{refusalNumber}
+use Rattle.synthdef.proofs.exports.synthdef_refusal.Statement.{statement}
+use Rattle.synthdef.proofs.exports.synthdef_refusal.Tie as tie
+
+check-file-requires : tie.Need-check-file-requires
+check-file-requires c κs = search needs
+
+enum-known-count : tie.Need-enum-known-count
+enum-known-count c = search needs
+
+enum-known-refusal : tie.Need-enum-known-refusal
+enum-known-refusal c = search needs
+
+refusal-number-requires : tie.Need-refusal-number-requires
+refusal-number-requires c κs = search needs
+
+returns : tie.Need-returns
+returns c = ap refusalNumber (rw (c .before .count .given .1) at (c .before .before .before .check-file .ensures))
+
+returns-2 : tie.Need-returns-2
+returns-2 c = c .refusal-number .ensures ∙ ap refusalNumber (rw (c .before .before .refusal .given .1) at (c .before .before .before .before .check-file .ensures))
+
+pub synthdef-refusal-spec : {M : Type 1} → statement M
+synthdef-refusal-spec =
+    tie.close
+    (tie.spec
+    check-file-requires
+    enum-known-count
+    enum-known-refusal
+    refusal-number-requires
+    returns
+    returns-2)

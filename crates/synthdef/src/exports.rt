@@ -1,0 +1,67 @@
+// What Rust calls.
+use crate::file::Checked;
+use crate::file::Span;
+use crate::file::check_file;
+use crate::file::definition_at;
+use words::refusal_number;
+ghost use mathlib.Core.Path.{_≡_};
+ghost use Rattle.synthdef.specs.Reader.{readFile};
+ghost use Rattle.synthdef.specs.File.{verdict, definitionSpan, refusalNumber, refusalPlace, definitionCount, nameStart, nameEnd};
+
+// 0 where the file is accepted, or the refusal's number.
+#[no_mangle]
+pub extern "C" fn synthdef_refusal(file: &[u8]) -> u32
+    ensures { λ r. ⌜ r ≡ refusalNumber (verdict (readFile (now (file .entry)))) ⌝ }
+{
+    match check_file(file) {
+        Checked::Accepted(count) => 0,
+        Checked::Refused(refusal, place) => refusal_number(refusal),
+    }
+}
+
+// The refusal's place; 0 where the file is accepted.
+#[no_mangle]
+pub extern "C" fn synthdef_place(file: &[u8]) -> u64
+    ensures { λ r. ⌜ r ≡ refusalPlace (verdict (readFile (now (file .entry)))) ⌝ }
+{
+    match check_file(file) {
+        Checked::Accepted(count) => 0,
+        Checked::Refused(refusal, place) => place as u64,
+    }
+}
+
+// How many definitions an accepted file has; 0 where it is refused.
+#[no_mangle]
+pub extern "C" fn synthdef_count(file: &[u8]) -> u32
+    ensures { λ r. ⌜ r ≡ definitionCount (verdict (readFile (now (file .entry)))) ⌝ }
+{
+    match check_file(file) {
+        Checked::Accepted(count) => count,
+        Checked::Refused(refusal, place) => 0,
+    }
+}
+
+// The place of the first byte of a definition's name; 0 where an accepted file has no such definition.
+#[no_mangle]
+pub extern "C" fn synthdef_name_start(file: &[u8], index: u32) -> u64
+    ensures { λ r. ⌜ r ≡ nameStart (definitionSpan (now (file .entry)) index) ⌝ }
+{
+    match definition_at(file, index) {
+        Span::Between(start, end) => (start + 1) as u64,
+        Span::Nowhere => 0,
+    }
+}
+
+// The place past it.
+#[no_mangle]
+pub extern "C" fn synthdef_name_end(file: &[u8], index: u32) -> u64
+    ensures { λ r. ⌜ r ≡ nameEnd (now (file .entry)) (definitionSpan (now (file .entry)) index) ⌝ }
+{
+    match definition_at(file, index) {
+        Span::Between(start, end) => {
+            let size = file[start] as usize;
+            (start + 1 + size) as u64
+        }
+        Span::Nowhere => 0,
+    }
+}

@@ -1,0 +1,4 @@
+//! The parts of the program `limudvek` that are tested apart from it.
+
+pub mod play;
+pub mod show;

@@ -1,0 +1,255 @@
+//! A line of a script: a command in the reference's notation, a comment, or nothing.
+
+use crate::show;
+
+/// The kinds of commands that the player looks at, by their numbers.
+pub const D_RECV: u32 = 1;
+pub const QUERY_TREE: u32 = 25;
+pub const EXPORT: u32 = 27;
+
+/// A command as the exported function takes it.
+#[derive(Clone, Debug, Default, PartialEq, Eq)]
+pub struct Call {
+    pub op: u32,
+    pub numbers: [u32; 5],
+    pub bytes: Vec<u8>,
+}
+
+impl Call {
+    pub fn new(op: u32, bytes: Vec<u8>) -> Call {
+        Call {
+            op,
+            bytes,
+            ..Call::default()
+        }
+    }
+}
+
+/// `text` is the line as it is shown.
+#[derive(Debug, PartialEq, Eq)]
+pub enum Line {
+    Tree,
+    Load { text: String, file: Vec<u8> },
+    Call { text: String, call: Call },
+}
+
+/// What stands after a command's address.
+#[derive(Clone, Copy)]
+enum Argument {
+    /// A definition's name, as the command's bytes.
+    Name,
+    /// An integer, as one of the command's numbers.
+    Int(usize),
+    /// A control: an index as the second number, or a name as the bytes. A name makes the kind one
+    /// more.
+    Control,
+    /// A float or an integer, as the last two numbers.
+    Value,
+}
+
+/// Each command's kind and what it takes.
+fn command(address: &[u8]) -> Option<(u32, &'static [Argument])> {
+    use Argument::{Control, Int, Name, Value};
+    Some(match address {
+        b"/d_free" => (2, &[Name]),
+        b"/s_new" => (3, &[Name, Int(0), Int(1), Int(2)]),
+        b"/g_new" => (4, &[Int(0), Int(1), Int(2)]),
+        b"/n_free" => (5, &[Int(0)]),
+        b"/g_freeAll" => (6, &[Int(0)]),
+        b"/g_deepFree" => (7, &[Int(0)]),
+        b"/n_before" => (8, &[Int(0), Int(1)]),
+        b"/n_after" => (9, &[Int(0), Int(1)]),
+        b"/g_head" => (10, &[Int(0), Int(1)]),
+        b"/g_tail" => (11, &[Int(0), Int(1)]),
+        b"/n_run" => (12, &[Int(0), Int(1)]),
+        b"/n_set" => (13, &[Int(0), Control, Value]),
+        b"/n_fill" => (15, &[Int(0), Control, Int(2), Value]),
+        b"/n_map" => (17, &[Int(0), Control, Int(2)]),
+        b"/c_set" => (19, &[Int(0), Value]),
+        b"/c_fill" => (20, &[Int(0), Int(2), Value]),
+        b"/s_get" => (21, &[Int(0), Control]),
+        b"/c_get" => (23, &[Int(0)]),
+        b"/n_query" => (24, &[Int(0)]),
+        b"/g_queryTree" => (QUERY_TREE, &[Int(0), Int(1)]),
+        b"/status" => (26, &[]),
+        b"export" => (EXPORT, &[]),
+        _ => return None,
+    })
+}
+
+/// A word of a line, and whether it stood in quotes.
+struct Word {
+    bytes: Vec<u8>,
+    quoted: bool,
+}
+
+/// The line, none where it holds nothing to do, or why it can't be read.
+pub fn read(text: &[u8]) -> Result<Option<Line>, String> {
+    let words = words(text)?;
+    let Some((first, arguments)) = words.split_first() else {
+        return Ok(None);
+    };
+    let text: Vec<String> = words.iter().map(Word::shown).collect();
+    let text = text.join(" ");
+    let address = first.bytes.as_slice();
+    let expect = |count: usize| {
+        if arguments.len() == count {
+            Ok(())
+        } else {
+            let (shown, given) = (show::path(address), arguments.len());
+            Err(format!(
+                "{shown} takes {count} arguments, and here are {given}"
+            ))
+        }
+    };
+    match address {
+        b"tree" => {
+            expect(0)?;
+            return Ok(Some(Line::Tree));
+        }
+        b"/d_recv" => {
+            expect(1)?;
+            let file = arguments[0].bytes.clone();
+            return Ok(Some(Line::Load { text, file }));
+        }
+        _ => {}
+    }
+    let Some((op, kinds)) = command(address) else {
+        return Err(format!("{} is no command", show::path(address)));
+    };
+    expect(kinds.len())?;
+    let mut call = Call::new(op, Vec::new());
+    for (word, kind) in arguments.iter().zip(kinds) {
+        put(word, *kind, &mut call)?;
+    }
+    Ok(Some(Line::Call { text, call }))
+}
+
+fn put(word: &Word, kind: Argument, call: &mut Call) -> Result<(), String> {
+    match kind {
+        Argument::Name => call.bytes = word.bytes.clone(),
+        Argument::Int(place) => call.numbers[place] = word.integer()? as u32,
+        Argument::Control if word.looks_integer() => call.numbers[1] = word.integer()? as u32,
+        Argument::Control => {
+            call.op += 1;
+            call.bytes = word.bytes.clone();
+        }
+        Argument::Value if word.looks_integer() => {
+            call.numbers[3] = 1;
+            call.numbers[4] = word.integer()? as u32;
+        }
+        Argument::Value => call.numbers[4] = word.float()?.to_bits(),
+    }
+    Ok(())
+}
+
+impl Word {
+    fn shown(&self) -> String {
+        if self.quoted {
+            in_quotes(&self.bytes)
+        } else {
+            show::path(&self.bytes)
+        }
+    }
+
+    /// Digits, maybe after a sign, and not in quotes.
+    fn looks_integer(&self) -> bool {
+        let digits = match self.bytes.split_first() {
+            Some((b'-' | b'+', digits)) => digits,
+            _ => &self.bytes,
+        };
+        !self.quoted && !digits.is_empty() && digits.iter().all(u8::is_ascii_digit)
+    }
+
+    fn parsed<T: std::str::FromStr>(&self, what: &str) -> Result<T, String> {
+        let number = std::str::from_utf8(&self.bytes)
+            .ok()
+            .filter(|_| !self.quoted)
+            .and_then(|text| text.parse().ok());
+        number.ok_or_else(|| format!("{} is no {what}", show::path(&self.bytes)))
+    }
+
+    fn integer(&self) -> Result<i32, String> {
+        self.parsed("integer of 32 bits")
+    }
+
+    fn float(&self) -> Result<f32, String> {
+        self.parsed("number")
+    }
+}
+
+/// The words of a line, up to its comment.
+fn words(text: &[u8]) -> Result<Vec<Word>, String> {
+    let mut words = Vec::new();
+    let mut at = 0;
+    loop {
+        match text.get(at) {
+            None | Some(b'#') => return Ok(words),
+            Some(byte) if byte.is_ascii_whitespace() => at += 1,
+            Some(b'"') => {
+                let (bytes, end) = until_quote(text, at + 1)?;
+                words.push(Word {
+                    bytes,
+                    quoted: true,
+                });
+                at = end;
+            }
+            Some(_) => {
+                let ends = |byte: &u8| byte.is_ascii_whitespace() || matches!(byte, b'#' | b'"');
+                let length = text[at..].iter().position(ends).unwrap_or(text.len() - at);
+                words.push(Word {
+                    bytes: text[at..at + length].to_vec(),
+                    quoted: false,
+                });
+                at += length;
+            }
+        }
+    }
+}
+
+/// A name in quotes from after the first, and where the line goes on. `\"`, `\\` and `\xNN` stand for
+/// a quote, a backslash and any byte.
+fn until_quote(text: &[u8], start: usize) -> Result<(Vec<u8>, usize), String> {
+    let mut bytes = Vec::new();
+    let mut at = start;
+    loop {
+        let rest = text.get(at..).unwrap_or(&[]);
+        let (byte, length) = match rest {
+            [] => return Err("a quote is not closed".to_string()),
+            [b'"', ..] => return Ok((bytes, at + 1)),
+            [b'\\', byte @ (b'"' | b'\\'), ..] => (*byte, 2),
+            [b'\\', b'x', high, low, ..] => match (digit(*high), digit(*low)) {
+                (Some(high), Some(low)) => (16 * high + low, 4),
+                _ => return Err("after \\x come two hexadecimal digits".to_string()),
+            },
+            [b'\\', ..] => {
+                return Err("a backslash in quotes stands before \", \\ or x".to_string())
+            }
+            [byte, ..] => (*byte, 1),
+        };
+        bytes.push(byte);
+        at += length;
+    }
+}
+
+fn digit(byte: u8) -> Option<u8> {
+    char::from(byte).to_digit(16).map(|digit| digit as u8)
+}
+
+/// A name as a script can hold it: in quotes unless it reads as a name without.
+pub fn quoted(name: &[u8]) -> String {
+    let plain = |byte: &u8| byte.is_ascii_graphic() && !matches!(byte, b'"' | b'#' | b'\\');
+    let word = Word {
+        bytes: name.to_vec(),
+        quoted: false,
+    };
+    if !name.is_empty() && name.iter().all(plain) && !word.looks_integer() {
+        String::from_utf8_lossy(name).into_owned()
+    } else {
+        in_quotes(name)
+    }
+}
+
+fn in_quotes(name: &[u8]) -> String {
+    format!("\"{}\"", show::name(name).replace('"', "\\\""))
+}

@@ -1,0 +1,202 @@
+//! `play` on the independent engine.
+
+use cli::play::{play, Door};
+use independent::engine::packed;
+use independent::{layout, Call, Engine};
+use std::fs;
+use std::path::Path;
+
+/// The independent engine, with its state as words.
+struct Independent {
+    engine: Engine,
+    words: Vec<u32>,
+}
+
+impl Independent {
+    fn new() -> Independent {
+        let engine = Engine::new();
+        let (words, _) = layout::state(&engine.view());
+        Independent { engine, words }
+    }
+}
+
+impl Door for Independent {
+    fn apply(&mut self, op: u32, numbers: [u32; 5], bytes: &[u8], reply: &mut [u8]) -> u64 {
+        let call = Call {
+            op,
+            numbers,
+            bytes: bytes.to_vec(),
+        };
+        let command = call.command().expect("a script has known commands only");
+        let answer = self.engine.apply(&command, reply);
+        (self.words, _) = layout::state(&self.engine.view());
+        packed(answer)
+    }
+
+    fn words(&self) -> &[u32] {
+        &self.words
+    }
+}
+
+fn examples() -> std::path::PathBuf {
+    Path::new(env!("CARGO_MANIFEST_DIR")).join("../../examples")
+}
+
+/// Plays a script beside the examples. Answers what is printed, and whether each line could be read.
+fn played(script: &[u8]) -> (String, bool) {
+    let mut out = Vec::new();
+    let read = play(script, &examples(), &mut Independent::new(), &mut out);
+    let text = String::from_utf8(out).expect("it prints text");
+    (text, read.expect("a list can be written to"))
+}
+
+/// Plays a script whose lines can be read.
+fn prints(script: &str, expected: &str) {
+    assert_eq!(played(script.as_bytes()), (expected.to_string(), true));
+}
+
+/// A line that can't be read, between two that can.
+fn unread(line: &str, why: &str) {
+    let script = format!("/status\n{line}\n/n_free 5\n");
+    let expected = format!(
+        "/status: ok\n  /status.reply 0 0 1 0\nline 2: {why}\n\
+         /n_free 5: refused 17: there is no such node\n"
+    );
+    assert_eq!(played(script.as_bytes()), (expected, false), "{line}");
+}
+
+#[test]
+fn the_evening_goes_as_it_is_kept() {
+    let script = fs::read(examples().join("evening.txt")).expect("the script");
+    let (text, read) = played(&script);
+    if std::env::var_os("LIMUDVEK_WRITE_EXAMPLES").is_some() {
+        fs::write(examples().join("evening.out"), &text).expect("it can be written");
+    }
+    let kept = fs::read_to_string(examples().join("evening.out")).expect("its output");
+    assert_eq!(text, kept);
+    assert!(read);
+}
+
+#[test]
+fn nothing_and_comments() {
+    prints("", "");
+    prints("\n  \n\t# /status\n#\n", "");
+    let status = "/status: ok\n  /status.reply 0 0 1 0\n";
+    prints("  /status   # now", status);
+    prints("/status#now", status);
+    prints(
+        "/n_free\t 5\r\n",
+        "/n_free 5: refused 17: there is no such node\n",
+    );
+}
+
+#[test]
+fn names_in_quotes() {
+    let script = "/d_recv strings.scsyndef\n/s_new \"great hall\" 1 0 0\n\
+                  /s_get 1 \"room size\"\n/s_get 1 \"room\\x20size\"\n/s_get 1 \"2\"\n\
+                  /s_new \"a # \\\"b\\\\\" 2 0 0\n";
+    prints(
+        script,
+        "/d_recv strings.scsyndef: ok\n\
+         /s_new \"great hall\" 1 0 0: ok\n\
+         /s_get 1 \"room size\": ok\n  /n_set 1 \"room size\" 0.75\n\
+         /s_get 1 \"room size\": ok\n  /n_set 1 \"room size\" 0.75\n\
+         /s_get 1 \"2\": refused 21: there is no such control\n\
+         /s_new \"a # \\\"b\\\\\" 2 0 0: refused 16: no resident definition has this name\n",
+    );
+}
+
+#[test]
+fn values_are_integers_or_floats() {
+    let script = "/c_set 0 16777216\n/c_set 0 16777217\n/c_set 0 16777218.0\n/c_get 0\n\
+                  /c_set 0 -1e-3\n/c_get 0\n/c_set 0 +5\n/c_get 0\n/c_set 0 -inf\n/c_get 0\n\
+                  /c_set 0 nan\n/c_get 0\n";
+    prints(
+        script,
+        "/c_set 0 16777216: ok\n\
+         /c_set 0 16777217: refused 23: an integer value is from -16,777,216 to 16,777,216\n\
+         /c_set 0 16777218.0: ok\n/c_get 0: ok\n  /c_set 0 16777218.0\n\
+         /c_set 0 -1e-3: ok\n/c_get 0: ok\n  /c_set 0 -0.001\n\
+         /c_set 0 +5: ok\n/c_get 0: ok\n  /c_set 0 5.0\n\
+         /c_set 0 -inf: ok\n/c_get 0: ok\n  /c_set 0 -inf\n\
+         /c_set 0 nan: ok\n/c_get 0: ok\n  /c_set 0 NaN\n",
+    );
+}
+
+#[test]
+fn lines_that_cannot_be_read() {
+    unread("/quit", "/quit is no command");
+    unread("status", "status is no command");
+    unread("/n_free", "/n_free takes 1 arguments, and here are 0");
+    unread("/n_free 5 6", "/n_free takes 1 arguments, and here are 2");
+    unread("tree 0", "tree takes 0 arguments, and here are 1");
+    unread("/d_recv", "/d_recv takes 1 arguments, and here are 0");
+    unread("/n_free five", "five is no integer of 32 bits");
+    unread("/n_free 1.0", "1.0 is no integer of 32 bits");
+    unread("/n_free \"5\"", "5 is no integer of 32 bits");
+    unread("/n_free 2147483648", "2147483648 is no integer of 32 bits");
+    unread("/c_set 0 4294967296", "4294967296 is no integer of 32 bits");
+    unread("/c_set 0 loud", "loud is no number");
+    unread(
+        "/n_set 0 2147483648 1",
+        "2147483648 is no integer of 32 bits",
+    );
+    unread("/d_free \"rain", "a quote is not closed");
+    unread(
+        "/d_free \"rain\\",
+        "a backslash in quotes stands before \", \\ or x",
+    );
+    unread("/d_free \"\\x4g\"", "after \\x come two hexadecimal digits");
+    unread("\x1b[2J 5", "\\x1b[2J is no command");
+    let (text, read) = played(b"/d_recv no/such file\n/d_recv \"no such file\"\n/d_free \xff\n");
+    let lines: Vec<&str> = text.lines().collect();
+    assert_eq!(
+        lines[0],
+        "line 1: /d_recv takes 1 arguments, and here are 2"
+    );
+    assert!(lines[1].starts_with("line 2: no such file: "), "{text}");
+    assert_eq!(
+        lines[2],
+        "/d_free \\xff: refused 16: no resident definition has this name"
+    );
+    assert!(!read);
+}
+
+#[test]
+fn a_refused_file_has_its_place() {
+    // The script itself is no synth definition file.
+    prints(
+        "/d_recv evening.txt",
+        "/d_recv evening.txt: refused 3: it does not begin with SCgf, so it is no synth definition \
+         file, at byte 0\n",
+    );
+}
+
+#[test]
+fn every_command_has_its_kind() {
+    let script = "/d_recv ping.scsyndef\n/g_new 1 0 0\n/g_new 2 1 0\n/s_new ping 10 0 1\n\
+                  /s_new ping 11 1 1\n/n_before 11 10\n/n_after 11 10\n/g_head 2 11\n/g_tail 2 10\n\
+                  /n_run 11 0\n/n_set 10 0 1\n/n_set 10 freq 2\n/n_fill 10 0 1 3\n\
+                  /n_fill 10 freq 1 4\n/n_map 11 0 5\n/n_map 11 freq 6\n/c_set 6 0.5\n\
+                  /c_fill 7 2 0.25\n/c_get 8\n/s_get 11 0\n/s_get 11 freq\n/n_query 2\n\
+                  /g_queryTree 2 1\n/g_queryTree 2 0\ntree\nexport\n/g_deepFree 0\n/g_freeAll 0\n\
+                  /d_free ping\n/status\ntree\n";
+    let (text, read) = played(script.as_bytes());
+    assert!(read && !text.contains("refused"), "{text}");
+    let commands: Vec<&str> = text.lines().filter(|line| !line.starts_with(' ')).collect();
+    let expected: Vec<String> = script.lines().map(|line| format!("{line}: ok")).collect();
+    assert_eq!(commands, expected);
+    for replies in [
+        "/c_get 8: ok\n  /c_set 8 0.25\n/s_get 11 0: ok\n  /n_set 11 0 0.5\n\
+         /s_get 11 freq: ok\n  /n_set 11 freq 0.5\n/n_query 2: ok\n  /n_info 2 0 1 -1 1 11 10\n",
+        "/g_queryTree 2 1: ok\n  /g_queryTree.reply\n  2 group of 2\n    11 ping: freq c6\n\
+         \x20   10 ping: freq 4.0\n",
+        "/g_queryTree 2 0: ok\n  /g_queryTree.reply\n  2 group of 2\n    11 ping\n    10 ping\n",
+        "tree: ok\n  0 group\n    1 group\n    2 group\n      11 ping, off\n\
+         \x20       freq 0.5 from bus 6, own 440.0\n      10 ping\n        freq 4.0\n  running: 10\n",
+        "export: ok\n  46 bytes, 1 definitions: ping\n",
+        "/status: ok\n  /status.reply 0 0 1 0\ntree: ok\n  0 group\n  running:\n",
+    ] {
+        assert!(text.contains(replies), "{replies}\nis not in\n{text}");
+    }
+}

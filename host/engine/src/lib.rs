@@ -1,0 +1,153 @@
+//! Safe functions over the proved engine. An engine lives in two lent runs, which docs/LAYOUT.md
+//! describes: words, and bytes called the shelf.
+
+/// The exported functions of the Rattle crate `engine`. A slice passes as pointer and length.
+mod proved {
+    extern "C" {
+        pub fn engine_words() -> u64;
+        pub fn engine_shelf() -> u64;
+        pub fn engine_fresh(
+            words: *mut u32,
+            words_length: usize,
+            shelf: *mut u8,
+            shelf_length: usize,
+        ) -> u32;
+        pub fn engine_apply(
+            op: u32,
+            a: u32,
+            b: u32,
+            c: u32,
+            d: u32,
+            e: u32,
+            bytes: *const u8,
+            bytes_length: usize,
+            words: *mut u32,
+            words_length: usize,
+            shelf: *mut u8,
+            shelf_length: usize,
+            reply: *mut u8,
+            reply_length: usize,
+        ) -> u64;
+    }
+}
+
+/// The answer to an `op` that is no command's, and to a value that is marked neither as a float (0)
+/// nor as an integer (1). It comes before every refusal, and nothing changes.
+pub const UNKNOWN: u64 = 255;
+
+/// How many words an engine takes.
+pub fn words() -> usize {
+    // SAFETY: it takes nothing.
+    unsafe { proved::engine_words() as usize }
+}
+
+/// How many bytes its shelf takes.
+pub fn shelf() -> usize {
+    // SAFETY: as above.
+    unsafe { proved::engine_shelf() as usize }
+}
+
+/// Makes a fresh engine of the two runs, or refuses their sizes. Answers 0 or the refusal.
+pub fn fresh(words: &mut [u32], shelf: &mut [u8]) -> u32 {
+    // SAFETY: each pointer and length are those of one slice, lent until the call returns.
+    unsafe {
+        proved::engine_fresh(
+            words.as_mut_ptr(),
+            words.len(),
+            shelf.as_mut_ptr(),
+            shelf.len(),
+        )
+    }
+}
+
+/// Does a command, or refuses it and changes nothing. Answers the refusal's number, or 0, and 256
+/// times the place (refusals 2 to 11) or the length that was written (queries and export).
+pub fn apply(
+    op: u32,
+    numbers: [u32; 5],
+    bytes: &[u8],
+    words: &mut [u32],
+    shelf: &mut [u8],
+    reply: &mut [u8],
+) -> u64 {
+    let [a, b, c, d, e] = numbers;
+    // SAFETY: as above.
+    unsafe {
+        proved::engine_apply(
+            op,
+            a,
+            b,
+            c,
+            d,
+            e,
+            bytes.as_ptr(),
+            bytes.len(),
+            words.as_mut_ptr(),
+            words.len(),
+            shelf.as_mut_ptr(),
+            shelf.len(),
+            reply.as_mut_ptr(),
+            reply.len(),
+        )
+    }
+}
+
+/// A refusal: its number, and for a file (2 to 11) the place of the first byte at fault.
+#[derive(Clone, Copy, Debug, PartialEq, Eq)]
+pub struct Refused {
+    pub number: u32,
+    pub place: u64,
+}
+
+/// An engine with runs of its own.
+#[derive(Clone, Debug)]
+pub struct Engine {
+    words: Vec<u32>,
+    shelf: Vec<u8>,
+}
+
+impl Default for Engine {
+    fn default() -> Engine {
+        Engine::new()
+    }
+}
+
+impl Engine {
+    /// A fresh engine.
+    pub fn new() -> Engine {
+        let mut engine = Engine {
+            words: vec![0; words()],
+            shelf: vec![0; shelf()],
+        };
+        let refusal = fresh(&mut engine.words, &mut engine.shelf);
+        assert_eq!(refusal, 0, "the runs have the sizes that were asked for");
+        engine
+    }
+
+    /// Does a command, or refuses it and changes nothing. Answers the length of what was written to
+    /// `reply`.
+    pub fn apply(
+        &mut self,
+        op: u32,
+        numbers: [u32; 5],
+        bytes: &[u8],
+        reply: &mut [u8],
+    ) -> Result<usize, Refused> {
+        let answer = apply(op, numbers, bytes, &mut self.words, &mut self.shelf, reply);
+        match answer % 256 {
+            0 => Ok((answer / 256) as usize),
+            number => Err(Refused {
+                number: number as u32,
+                place: answer / 256,
+            }),
+        }
+    }
+
+    pub fn words(&self) -> &[u32] {
+        &self.words
+    }
+
+    pub fn shelf(&self) -> &[u8] {
+        &self.shelf
+    }
+}

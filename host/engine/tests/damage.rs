@@ -1,0 +1,297 @@
+//! Damaged states: refusal 1 is given exactly where the independent checker finds a rule broken, and
+//! changes nothing; else both engines go on alike from what the damaged state holds.
+
+mod common;
+
+use common::{say, seed, shuffle, Pair};
+use independent::engine::{Commands, Theme, BUSES, MOST_NODES, SLOTS};
+use independent::layout::{self, record, row_words, Record};
+use independent::layout::{BUS, CONTROL, COUNT, LATEST, LENGTH, NEXT, NODE, ORDER, ORDER_LENGTH};
+use independent::layout::{RECORD, RESIDENT, ROW, SHELF, WORDS};
+use independent::{running, well_formed, Call, Engine, Random, MOST_BYTES, MOST_PARAMETERS};
+use std::sync::atomic::{AtomicUsize, Ordering};
+use std::sync::Mutex;
+use std::thread;
+
+const STATES: usize = 420;
+const DAMAGES: usize = 500;
+
+/// Values at the edges of what words can be.
+const EDGES: [u32; 28] = [
+    0,
+    1,
+    2,
+    3,
+    5,
+    31,
+    32,
+    33,
+    254,
+    255,
+    256,
+    257,
+    2047,
+    2048,
+    2049,
+    4095,
+    4096,
+    4097,
+    0x7fff_fffe,
+    0x7fff_ffff,
+    0x8000_0000,
+    0x8000_0001,
+    0xffff_fff6,
+    0xffff_fff7,
+    0xffff_fff8,
+    0xffff_fff9,
+    0xffff_fffe,
+    0xffff_ffff,
+];
+
+#[test]
+fn refusal_1_and_the_checker_agree() {
+    let seed = seed();
+    say(&format!("LIMUDVEK_SEED={seed}"));
+    let next = AtomicUsize::new(0);
+    let counts = Mutex::new([0; 2]);
+    let workers = thread::available_parallelism().map_or(1, |count| count.get());
+    thread::scope(|scope| {
+        for _ in 0..workers {
+            scope.spawn(|| loop {
+                let place = next.fetch_add(1, Ordering::Relaxed);
+                if place >= STATES {
+                    break;
+                }
+                let own = damages(seed, place);
+                let mut counts = counts.lock().expect("no state failed");
+                counts[0] += own[0];
+                counts[1] += own[1];
+            });
+        }
+    });
+    let [refused, formed] = counts.into_inner().expect("no state failed");
+    say(&format!(
+        "{refused} damaged states refused, {formed} still well formed"
+    ));
+    assert!(refused + formed >= 200_000);
+    assert!(refused >= 60_000 && formed >= 20_000);
+}
+
+/// A state that commands lead to, the model that holds the same, and more commands.
+fn reach(random: &mut Random, place: usize) -> (Pair, Commands) {
+    let theme = Theme::ALL[place % Theme::ALL.len()];
+    let mut commands = Commands::new(Random::new(random.bits()), theme);
+    let mut pair = Pair::fresh(random);
+    let length = random.one_of(&[3, 30, 100, 300, 600]);
+    for _ in 0..length {
+        let call = commands.next(&pair.model);
+        if let Err(what) = pair.send(&call, random) {
+            panic!("{what}: {call:?}");
+        }
+    }
+    assert_eq!(pair.compare_views(), Ok(()));
+    if random.below(3) == 0 {
+        let (mut words, mut shelf) = (pair.words, pair.shelf);
+        shuffle(&mut words, &mut shelf, random);
+        pair = Pair::new(pair.model, words, shelf);
+    }
+    (pair, commands)
+}
+
+/// Damages one state in many ways. Answers how many were refused, and how many not.
+fn damages(seed: u64, place: usize) -> [usize; 2] {
+    let mut random = Random::new(seed.wrapping_add((place as u64) << 32));
+    let (mut pair, mut commands) = reach(&mut random, place);
+    let model = pair.model.clone();
+    let words = pair.words.clone();
+    let shelf = pair.shelf.clone();
+    let mut counts = [0; 2];
+    for at in 0..DAMAGES {
+        for _ in 0..random.one_of(&[1, 1, 1, 2, 2, 3, 4]) {
+            damage(&mut random, &mut pair.words, &mut pair.shelf);
+        }
+        if random.below(4) == 0 {
+            mend_order(&mut pair.words);
+        }
+        pair.expected_words.copy_from_slice(&pair.words);
+        pair.expected_shelf.copy_from_slice(&pair.shelf);
+        let call = match random.below(3) {
+            0 => commands.next(&model),
+            1 => commands.kind(25, &model),
+            _ => commands.kind(26, &model),
+        };
+        let outcome = if well_formed(&pair.words, &pair.shelf) {
+            counts[1] += 1;
+            pair.model = Engine::of(&layout::view(&pair.words, &pair.shelf));
+            pair.send(&call, &mut random).map(drop)
+        } else {
+            counts[0] += 1;
+            pair.refuse(&call)
+        };
+        if let Err(what) = outcome {
+            panic!("LIMUDVEK_SEED={seed}, state {place}, damage {at}: {what}: {call:?}");
+        }
+        pair.words.copy_from_slice(&words);
+        pair.shelf.copy_from_slice(&shelf);
+    }
+    counts
+}
+
+/// Changes a word or a byte, mostly one that is looked at.
+fn damage(random: &mut Random, words: &mut [u32], shelf: &mut [u8]) {
+    let count = (words[COUNT] as usize).clamp(1, MOST_NODES);
+    let node = random.below(count);
+    let other = record(words, random.below(count));
+    let Record { slot, row, .. } = record(words, node);
+    let slot = (slot as usize).min(SLOTS - 1);
+    let (word, neighbour) = match random.below(40) {
+        0 => (COUNT, 0),
+        1 => (ORDER_LENGTH, 0),
+        2 => (NEXT, other.number),
+        3 => (LATEST, other.number),
+        4 => (LENGTH + random.below(SLOTS), 0),
+        5 => (LENGTH + slot, words[LENGTH + random.below(SLOTS)]),
+        6 => (RESIDENT + random.below(SLOTS), 1),
+        7 => (RESIDENT + slot, 1),
+        8..=10 => (NODE + RECORD * node, other.number),
+        11..=14 => (NODE + RECORD * node + 1, other.depth),
+        15..=16 => (NODE + RECORD * node + 2, 1),
+        17..=19 => (NODE + RECORD * node + 3, other.slot),
+        20..=22 => (NODE + RECORD * node + 4, other.row),
+        // Just past the records.
+        23 => (
+            (NODE + RECORD * count + random.below(RECORD)).min(ORDER - 1),
+            other.number,
+        ),
+        24..=25 => {
+            let length = (words[ORDER_LENGTH] as usize).min(MOST_NODES - 2);
+            (ORDER + random.up_to(length), other.number)
+        }
+        26 => (ORDER + random.below(MOST_NODES - 1), other.number),
+        27..=29 => {
+            let row = (row as usize).min(MOST_NODES - 1);
+            let index = match random.below(4) {
+                0 => random.below(MOST_PARAMETERS),
+                _ => random.below(4),
+            };
+            let word = row_words(row, index).end + usize::from(random.below(4) > 0);
+            (word, (BUSES + random.below(3)) as u32)
+        }
+        30 => (CONTROL + random.below(ROW * MOST_NODES), 0),
+        31 => (BUS + random.below(BUSES), 0),
+        32 => (random.below(WORDS), 0),
+        // Bytes.
+        33..=37 => {
+            let length = (words[LENGTH + slot] as usize).clamp(1, MOST_BYTES);
+            let place = MOST_BYTES * slot + random.below(length);
+            shelf[place] = new_byte(random, shelf[place]);
+            return;
+        }
+        38 => {
+            // One definition over another.
+            let from = MOST_BYTES * random.below(SLOTS);
+            shelf.copy_within(from..from + MOST_BYTES, MOST_BYTES * slot);
+            return;
+        }
+        _ => {
+            let place = random.below(SHELF);
+            shelf[place] = new_byte(random, shelf[place]);
+            return;
+        }
+    };
+    words[word] = match random.below(8) {
+        0 => words[word].wrapping_add(1),
+        1 => words[word].wrapping_sub(1),
+        2 => words[word] ^ (1 << random.below(32)),
+        3 => random.bits() as u32,
+        4 => random.below(300) as u32,
+        5 => random.one_of(&EDGES),
+        _ => neighbour,
+    };
+}
+
+fn new_byte(random: &mut Random, old: u8) -> u8 {
+    match random.below(4) {
+        0 => random.byte(),
+        1 => old ^ (1 << random.below(8)),
+        2 => old.wrapping_add(1),
+        _ => random.one_of(&[0, 1, 2, 3, 127, 128, 255]),
+    }
+}
+
+/// Writes the running order of the records, whatever they are.
+fn mend_order(words: &mut [u32]) {
+    let count = (words[COUNT] as usize).min(MOST_NODES);
+    let mut records: Vec<Record> = (0..count).map(|place| record(words, place)).collect();
+    for record in &mut records {
+        record.depth = record.depth.min(MOST_NODES as u32);
+    }
+    let order = running(&records);
+    words[ORDER_LENGTH] = order.len() as u32;
+    for (word, number) in words[ORDER..CONTROL].iter_mut().zip(order) {
+        *word = number;
+    }
+}
+
+/// Runs of other lengths are refused whatever they hold, by every command.
+#[test]
+fn wrong_sizes_are_refused() {
+    let mut random = Random::new(seed());
+    let (pair, _) = reach(&mut random, 0);
+    let lengths = |right: usize| [0, 1, right - 1, right, right + 1, 2 * right];
+    for words_length in lengths(WORDS) {
+        for shelf_length in lengths(SHELF) {
+            if (words_length, shelf_length) == (WORDS, SHELF) {
+                continue;
+            }
+            let mut words = pair.words.clone();
+            let mut shelf = pair.shelf.clone();
+            words.resize(words_length, 0);
+            shelf.resize(shelf_length, 0);
+            let (old_words, old_shelf) = (words.clone(), shelf.clone());
+            for op in 0..=28 {
+                let mut reply = [7; 200];
+                let file = b"SCgf\0\0\0\x02\0\0";
+                let answer = engine::apply(op, [0; 5], file, &mut words, &mut shelf, &mut reply);
+                let expected = match op {
+                    1..=27 => 1,
+                    _ => engine::UNKNOWN,
+                };
+                assert_eq!(answer, expected, "op {op}, {words_length} {shelf_length}");
+                assert!(words == old_words && shelf == old_shelf && reply == [7; 200]);
+            }
+            assert_eq!(engine::fresh(&mut words, &mut shelf), 1);
+            assert!(words == old_words && shelf == old_shelf);
+        }
+    }
+    assert_eq!((engine::words(), engine::shelf()), (WORDS, SHELF));
+}
+
+impl Pair {
+    /// Sends a command that must be refused by 1, or be unknown.
+    fn refuse(&mut self, call: &Call) -> Result<(), String> {
+        let expected = match call.command() {
+            Some(_) => 1,
+            None => engine::UNKNOWN,
+        };
+        let mut reply = [7; 300];
+        let answer = engine::apply(
+            call.op,
+            call.numbers,
+            &call.bytes,
+            &mut self.words,
+            &mut self.shelf,
+            &mut reply,
+        );
+        if answer != expected {
+            let parts = (answer % 256, answer / 256);
+            return Err(format!("answer {parts:?}, but a rule is broken"));
+        }
+        let same = self.words == self.expected_words && self.shelf == self.expected_shelf;
+        if same && reply == [7; 300] {
+            Ok(())
+        } else {
+            Err("refused by 1, but something changed".to_string())
+        }
+    }
+}

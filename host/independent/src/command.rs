@@ -1,0 +1,182 @@
+//! The commands of the paper, decoded, and the numbers by which they pass to the exported function.
+
+/// A control by its index or by its name.
+#[derive(Clone, Copy, Debug, PartialEq, Eq)]
+pub enum Key<'a> {
+    Index(i32),
+    Name(&'a [u8]),
+}
+
+/// A value as it was sent. A float is its 32 bits.
+#[derive(Clone, Copy, Debug, PartialEq, Eq)]
+pub enum Value {
+    Float(u32),
+    Integer(i32),
+}
+
+#[derive(Clone, Copy, Debug, PartialEq, Eq)]
+pub enum Command<'a> {
+    /// `/d_recv`
+    Receive(&'a [u8]),
+    /// `/d_free`
+    Delete(&'a [u8]),
+    /// `/s_new`
+    NewSynth {
+        definition: &'a [u8],
+        number: i32,
+        action: i32,
+        target: i32,
+    },
+    /// `/g_new`
+    NewGroup {
+        number: i32,
+        action: i32,
+        target: i32,
+    },
+    /// `/n_free`
+    Free(i32),
+    /// `/g_freeAll`
+    FreeAll(i32),
+    /// `/g_deepFree`
+    DeepFree(i32),
+    /// `/n_before`
+    Before(i32, i32),
+    /// `/n_after`
+    After(i32, i32),
+    /// `/g_head`: the group first.
+    Head(i32, i32),
+    /// `/g_tail`: the group first.
+    Tail(i32, i32),
+    /// `/n_run`
+    Run(i32, i32),
+    /// `/n_set`
+    Set {
+        node: i32,
+        key: Key<'a>,
+        value: Value,
+    },
+    /// `/n_fill`
+    Fill {
+        node: i32,
+        key: Key<'a>,
+        count: i32,
+        value: Value,
+    },
+    /// `/n_map`
+    Map { node: i32, key: Key<'a>, bus: i32 },
+    /// `/c_set`
+    SetBus { bus: i32, value: Value },
+    /// `/c_fill`
+    FillBuses {
+        start: i32,
+        count: i32,
+        value: Value,
+    },
+    /// `/s_get`
+    Get { node: i32, key: Key<'a> },
+    /// `/c_get`
+    GetBus(i32),
+    /// `/n_query`
+    Query(i32),
+    /// `/g_queryTree`
+    QueryTree { group: i32, flag: i32 },
+    /// `/status`
+    Status,
+    /// Has no address.
+    Export,
+}
+
+/// A command as the exported function takes it: a number for its kind, five numbers and bytes.
+/// Those that the kind has no use for may be anything.
+#[derive(Clone, Debug, Default, PartialEq, Eq)]
+pub struct Call {
+    pub op: u32,
+    pub numbers: [u32; 5],
+    pub bytes: Vec<u8>,
+}
+
+impl Call {
+    /// The command, or none where the kind is unknown, or a value is marked neither float nor integer.
+    pub fn command(&self) -> Option<Command<'_>> {
+        let [a, b, c, mark, pattern] = self.numbers;
+        let [a, b, c] = [a, b, c].map(|pattern| pattern as i32);
+        let bytes = self.bytes.as_slice();
+        let index = Key::Index(b);
+        let name = Key::Name(bytes);
+        let value = match mark {
+            0 => Some(Value::Float(pattern)),
+            1 => Some(Value::Integer(pattern as i32)),
+            _ => None,
+        };
+        let set = |key| {
+            value.map(|value| Command::Set {
+                node: a,
+                key,
+                value,
+            })
+        };
+        let fill = |key| {
+            value.map(|value| Command::Fill {
+                node: a,
+                key,
+                count: c,
+                value,
+            })
+        };
+        let map = |key| Command::Map {
+            node: a,
+            key,
+            bus: c,
+        };
+        Some(match self.op {
+            1 => Command::Receive(bytes),
+            2 => Command::Delete(bytes),
+            3 => Command::NewSynth {
+                definition: bytes,
+                number: a,
+                action: b,
+                target: c,
+            },
+            4 => Command::NewGroup {
+                number: a,
+                action: b,
+                target: c,
+            },
+            5 => Command::Free(a),
+            6 => Command::FreeAll(a),
+            7 => Command::DeepFree(a),
+            8 => Command::Before(a, b),
+            9 => Command::After(a, b),
+            10 => Command::Head(a, b),
+            11 => Command::Tail(a, b),
+            12 => Command::Run(a, b),
+            13 => return set(index),
+            14 => return set(name),
+            15 => return fill(index),
+            16 => return fill(name),
+            17 => map(index),
+            18 => map(name),
+            19 => {
+                return value.map(|value| Command::SetBus { bus: a, value });
+            }
+            20 => {
+                return value.map(|value| Command::FillBuses {
+                    start: a,
+                    count: c,
+                    value,
+                });
+            }
+            21 => Command::Get {
+                node: a,
+                key: index,
+            },
+            22 => Command::Get { node: a, key: name },
+            23 => Command::GetBus(a),
+            24 => Command::Query(a),
+            25 => Command::QueryTree { group: a, flag: b },
+            26 => Command::Status,
+            27 => Command::Export,
+            _ => return None,
+        })
+    }
+}

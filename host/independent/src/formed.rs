@@ -1,0 +1,142 @@
+//! When a state is well formed: the ten rules of docs/LAYOUT.md, one function for a rule or two.
+
+use crate::engine::{BUSES, FIRST_GENERATED, MOST_NODES, SLOTS};
+use crate::layout::{record, row_words, slot_bytes, Record};
+use crate::layout::{COUNT, GROUP, LATEST, LENGTH, NEXT, NONE_LEFT, ORDER, ORDER_LENGTH, RESIDENT};
+use crate::layout::{MOST_ORDER, SHELF, WORDS};
+use crate::{read_definition, Definition, MOST_BYTES};
+use std::collections::HashSet;
+
+/// Whether refusal 1 is not given.
+pub fn well_formed(words: &[u32], shelf: &[u8]) -> bool {
+    // Rules 1 and 2.
+    if words.len() != WORDS || shelf.len() != SHELF {
+        return false;
+    }
+    let count = words[COUNT] as usize;
+    if !(1..=MOST_NODES).contains(&count) {
+        return false;
+    }
+    let records: Vec<Record> = (0..count).map(|place| record(words, place)).collect();
+    let synths = || records.iter().filter(|record| !record.is_group());
+    if !(depths(&records)
+        && numbers(&records, words[NEXT])
+        && flags(&records)
+        && all_differ(synths().map(|synth| synth.row))
+        && next_and_latest(&records, words))
+    {
+        return false;
+    }
+    // Rule 8.
+    let Some(order) = words[ORDER..ORDER + MOST_ORDER].get(..words[ORDER_LENGTH] as usize) else {
+        return false;
+    };
+    if order != running(&records) {
+        return false;
+    }
+    let Some(definitions) = definitions(&records, words, shelf) else {
+        return false;
+    };
+    // Rule 10.
+    synths().all(|synth| {
+        let parameters = definitions[synth.slot as usize]
+            .as_ref()
+            .map_or(0, |definition| definition.initial.len());
+        words[row_words(synth.row as usize, parameters)]
+            .chunks_exact(2)
+            .all(|pair| pair[1] <= BUSES as u32)
+    })
+}
+
+fn all_differ<T: Eq + std::hash::Hash>(mut things: impl Iterator<Item = T>) -> bool {
+    let mut seen = HashSet::new();
+    things.all(|thing| seen.insert(thing))
+}
+
+/// Rule 3.
+fn depths(records: &[Record]) -> bool {
+    let root = &records[0];
+    root.number == 0
+        && root.depth == 0
+        && root.is_group()
+        && records.windows(2).all(|pair| {
+            let most = if pair[0].is_group() {
+                u64::from(pair[0].depth) + 1
+            } else {
+                u64::from(pair[0].depth)
+            };
+            pair[1].depth >= 1 && u64::from(pair[1].depth) <= most
+        })
+}
+
+/// Rules 4 and 5.
+fn numbers(records: &[Record], next: u32) -> bool {
+    let generated = |record: &Record| {
+        !record.is_group() && record.number <= FIRST_GENERATED as u32 && record.number > next
+    };
+    all_differ(records.iter().map(|record| record.number))
+        && records
+            .iter()
+            .all(|record| record.number <= i32::MAX as u32 || generated(record))
+}
+
+/// Rule 6, but for the rows' being different.
+fn flags(records: &[Record]) -> bool {
+    records.iter().all(|record| {
+        record.run <= 1
+            && record.slot <= GROUP
+            && (record.is_group() || record.row < MOST_NODES as u32)
+    })
+}
+
+/// Rule 7.
+fn next_and_latest(records: &[Record], words: &[u32]) -> bool {
+    let latest = words[LATEST];
+    (NONE_LEFT..=FIRST_GENERATED as u32).contains(&words[NEXT])
+        && (latest == 0
+            || records
+                .iter()
+                .any(|record| record.number == latest && !record.is_group()))
+}
+
+/// The running order worked out afresh.
+pub fn running(records: &[Record]) -> Vec<u32> {
+    let mut order = Vec::new();
+    // Of the node in hand and each of its ancestors, whether it is on.
+    let mut line: Vec<bool> = Vec::new();
+    for record in records {
+        line.truncate(record.depth as usize);
+        line.push(record.run == 1);
+        if !record.is_group() && line.iter().all(|&on| on) {
+            order.push(record.number);
+        }
+    }
+    order
+}
+
+/// Rule 9: the definitions of the taken slots.
+fn definitions(records: &[Record], words: &[u32], shelf: &[u8]) -> Option<Vec<Option<Definition>>> {
+    let mut definitions = Vec::with_capacity(SLOTS);
+    let mut names = HashSet::new();
+    for slot in 0..SLOTS {
+        let resident = match words[RESIDENT + slot] {
+            0 => false,
+            1 => true,
+            _ => return None,
+        };
+        let held = records.iter().any(|record| record.slot == slot as u32);
+        if !resident && !held {
+            definitions.push(None);
+            continue;
+        }
+        if words[LENGTH + slot] > MOST_BYTES as u32 {
+            return None;
+        }
+        let definition = read_definition(slot_bytes(words, shelf, slot))?;
+        if resident && !names.insert(definition.name.clone()) {
+            return None;
+        }
+        definitions.push(Some(definition));
+    }
+    Some(definitions)
+}
