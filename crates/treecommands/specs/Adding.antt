@@ -27,7 +27,7 @@ use Rattle.tree.specs.Add.{Room}
 use Rattle.tree.specs.Add as tree
 use Rattle.tree.specs.Shallow.{addable}
 use Rattle.treecommands.specs.Ready.{Ready, nodeWords, nodeIn, words-long}
-use Rattle.treecommands.specs.Named.{meantIn, Found, root-first, named-here}
+use Rattle.treecommands.specs.Finding.{meantIn, Found, root-first, named-here}
 
 -- the target, by its place
 abbrev pub badAt : ℕ → List ℕ → ℕ → Bool

@@ -28,12 +28,13 @@ use Rattle.model.specs.After.{wordsAfter}
 use Rattle.model.specs.Door.{answerIn}
 use Rattle.state.specs.Does.{step-refused, step-done}
 use Rattle.tree.specs.Sizes.{Leaves}
+use Rattle.names.specs.Named.{Named}
 use Rattle.treecommands.specs.Ready.{Ready, nodeWords, nodeIn}
-use Rattle.treecommands.specs.Named.{meantIn, placeNamed, Found, found, missing, is-root, not-root, named-here}
+use Rattle.treecommands.specs.Finding.{meantIn, Found, found, missing, is-root, not-root, named-here}
 use Rattle.treecommands.specs.Settle.{renewed}
 use Rattle.treecommands.specs.Steps.{Steps, left-few, edited-ready, edited-left}
 
-module _ (g : ℕ) (ws : List ℕ) (k : Ready ws) (count : ℕ) (same : count ≡ countIn ws) (at : ℕ) (told : at ≡ placeNamed g ws) where
+module _ (g : ℕ) (ws : List ℕ) (k : Ready ws) (count : ℕ) (same : count ≡ countIn ws) (at : ℕ) (told : Named g ws at) where
   -- the answer by their checks, which are the same
   abbrev groupAnswer : List ℕ → Answer
   groupAnswer bs = firstOf (check NoNode (not (known g (decode ws bs))) ∷ (check WrongKind (notGroup g (decode ws bs)) ∷ [])) Done

@@ -28,8 +28,9 @@ use Rattle.model.specs.After.{wordsAfter}
 use Rattle.model.specs.Door.{answerIn}
 use Rattle.state.specs.Does.{step-refused, step-done}
 use Rattle.tree.specs.Sizes.{Leaves}
+use Rattle.names.specs.Named.{Named}
 use Rattle.treecommands.specs.Ready.{Ready, nodeWords, nodeIn}
-use Rattle.treecommands.specs.Named.{meantIn, placeNamed, Found, found, missing, is-root, not-root, named-here}
+use Rattle.treecommands.specs.Finding.{meantIn, Found, found, missing, is-root, not-root, named-here}
 use Rattle.treecommands.specs.Settle.{renewed}
 use Rattle.treecommands.specs.Steps.{Steps, left-few, edited-ready, edited-left}
 
@@ -39,7 +40,7 @@ module _ (n flag : ℕ) (ws : List ℕ) where
   unfolding answerIn firstOf
   run-flag h bytes bs = step-refused (command.Tree (tree.Run n flag)) bytes ws bs BadFlag (rw (lt-ltb 1 flag h))
 
-  module _ (k : Ready ws) (count : ℕ) (same : count ≡ countIn ws) (at : ℕ) (told : at ≡ placeNamed n ws) (low : flag ≤ 1) where
+  module _ (k : Ready ws) (count : ℕ) (same : count ≡ countIn ws) (at : ℕ) (told : Named n ws at) (low : flag ≤ 1) where
     pub run-unknown : count ≤ at → Steps (tree.Run n flag) ws (Refused NoNode) ws
     unfolding answerIn firstOf decode
     run-unknown h bytes bs = step-refused (command.Tree (tree.Run n flag)) bytes ws bs NoNode (rw (le-ltb 1 flag low, missing n ws at told (omega arith)))
@@ -63,7 +64,7 @@ module _ (n flag : ℕ) (ws : List ℕ) where
           step-done (command.Tree (tree.Run n flag)) bytes ws bs out (rw (le-ltb 1 flag low, run-at .known)) (edited-left n ws k count same at run-at (λ m t. setRun m flag t) run-few us count left out o bs)
 
 -- /n_free
-module _ (n : ℕ) (ws : List ℕ) (k : Ready ws) (count : ℕ) (same : count ≡ countIn ws) (at : ℕ) (told : at ≡ placeNamed n ws) where
+module _ (n : ℕ) (ws : List ℕ) (k : Ready ws) (count : ℕ) (same : count ≡ countIn ws) (at : ℕ) (told : Named n ws at) where
   pub free-unknown : count ≤ at → Steps (tree.Free n) ws (Refused NoNode) ws
   unfolding answerIn firstOf decode
   free-unknown h bytes bs = step-refused (command.Tree (tree.Free n)) bytes ws bs NoNode (rw (missing n ws at told (omega arith)))

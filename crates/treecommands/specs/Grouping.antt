@@ -32,8 +32,9 @@ use Rattle.tree.specs.Add.{Room}
 use Rattle.tree.specs.Add as table
 use Rattle.treecommands.specs.declared.group.Spot.{Spot}
 use Rattle.treecommands.specs.declared.group.Spot.the-variants as spot
+use Rattle.names.specs.Named.{Named}
 use Rattle.treecommands.specs.Ready.{Ready, nodeWords}
-use Rattle.treecommands.specs.Named.{meantIn, placeNamed, Found, found, missing}
+use Rattle.treecommands.specs.Finding.{meantIn, Found, found, missing}
 use Rattle.treecommands.specs.Settle.{renewed}
 use Rattle.treecommands.specs.Steps.{Steps, edited-ready, edited-left}
 use Rattle.treecommands.specs.Adding.{badAt, fullAt, bad-target, is-full, room, same-add, after-few}
@@ -70,7 +71,7 @@ module _ (number action target : ℕ) (ws : List ℕ) where
           let here : lives number (nodesIn ws) ≡ true = rw same at (nodes.found count (nodeWords ws) number (omega arith)) in
           rw (le-ltb 4 action low, lt-leb firstNegative number positive, here)
 
-      module _ (new : count ≤ seen) (at : ℕ) (at-target : at ≡ placeNamed target ws) where
+      module _ (new : count ≤ seen) (at : ℕ) (at-target : Named target ws at) where
         fresh : lives number (nodesIn ws) ≡ false
         fresh = rw same at (nodes.not-found count (nodeWords ws) number (omega arith))
 

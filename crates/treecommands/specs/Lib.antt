@@ -1,5 +1,5 @@
 pub mod Ready
-pub mod Named
+pub mod Finding
 pub mod Settle
 pub mod Steps
 pub mod Freeing

@@ -28,7 +28,7 @@ use Rattle.state.specs.Does.{step-refused, step-done}
 use Rattle.keep.specs.TreeSteps.{still-lives}
 use Rattle.tree.specs.Sizes.{Leaves}
 use Rattle.treecommands.specs.Ready.{Ready, nodeWords}
-use Rattle.treecommands.specs.Named.{meantIn}
+use Rattle.treecommands.specs.Finding.{meantIn}
 use Rattle.treecommands.specs.Settle.{renewed, renewed-left}
 use Rattle.treecommands.specs.Steps.{Steps}
 use Rattle.treecommands.specs.Sighting.{besideChecks, intoChecks, Answers, Clear}

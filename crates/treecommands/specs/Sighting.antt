@@ -17,11 +17,12 @@ use Rattle.model.specs.Meaning.{meant, known}
 use Rattle.model.specs.Checks.{Check, check, firstOf, isRoot, notGroup, inside}
 use Rattle.tree.specs.Ends.{Moving}
 use Rattle.tree.specs.Shallow.{moving}
-use Rattle.tree.specs.Below.{Told}
+use Rattle.tree.specs.Below.{LiesBelow}
 use Rattle.treecommands.specs.declared.moves.Pair.{Pair}
 use Rattle.treecommands.specs.declared.moves.Pair.the-variants as pair
+use Rattle.names.specs.Named.{Named}
 use Rattle.treecommands.specs.Ready.{Ready, nodeWords, nodeIn, words-long}
-use Rattle.treecommands.specs.Named.{meantIn, placeNamed, Found, found, missing, is-root, not-root, named-here}
+use Rattle.treecommands.specs.Finding.{meantIn, Found, found, missing, is-root, not-root, named-here}
 
 -- "Moves: 17 and then 18, each by argument order, then 19."
 abbrev pub besideChecks : ℕ → ℕ → Engine → List Check
@@ -59,7 +60,7 @@ Sighted checks moved to ws (pair.At a b) = Clear checks moved to ws a b
 Sighted checks moved to ws (pair.Refused r) = Answers checks ws r
 
 -- whether the place named lies inside the moved node, as it was told
-module _ (moved to : ℕ) (ws : List ℕ) (k : Ready ws) (count : ℕ) (same : count ≡ countIn ws) (a b : ℕ) (f : Found moved ws a) (g : Found to ws b) (r : Bool) (told : Told (nodeWords ws) count b a r) where
+module _ (moved to : ℕ) (ws : List ℕ) (k : Ready ws) (count : ℕ) (same : count ≡ countIn ws) (a b : ℕ) (f : Found moved ws a) (g : Found to ws b) (r : Bool) (told : LiesBelow (nodeWords ws) count b a r) where
   pub told-inside : r ≡ isBelow (meantIn to ws) (meantIn moved ws) (nodesIn ws)
   told-inside = (rw same at (told .numbers)) (meantIn to ws) (meantIn moved ws) (g .here) (f .here) (k .tree .distinct)
 
@@ -73,12 +74,12 @@ module _ (moved to : ℕ) (ws : List ℕ) (k : Ready ws) (count : ℕ) (same : c
   }
 
 -- /n_before and /n_after
-module _ (a b : ℕ) (ws : List ℕ) (k : Ready ws) (count : ℕ) (same : count ≡ countIn ws) (i : ℕ) (at-a : i ≡ placeNamed a ws) where
+module _ (a b : ℕ) (ws : List ℕ) (k : Ready ws) (count : ℕ) (same : count ≡ countIn ws) (i : ℕ) (at-a : Named a ws i) where
   pub beside-first : count ≤ i → Answers (besideChecks a b) ws NoNode
   unfolding firstOf decode
   beside-first h bs = rw (missing a ws i at-a (omega arith))
 
-  module _ (live-a : i < count) (j : ℕ) (at-b : j ≡ placeNamed b ws) where
+  module _ (live-a : i < count) (j : ℕ) (at-b : Named b ws j) where
     f : Found a ws i
     f = found a ws i at-a (omega arith)
 
@@ -99,7 +100,7 @@ module _ (a b : ℕ) (ws : List ℕ) (k : Ready ws) (count : ℕ) (same : count 
         unfolding firstOf decode
         beside-root-2 z bs = rw (f .known, g .known, not-root a ws i f k deep-a, is-root b ws j g k z)
 
-        module _ (deep-b : j ≡ 0 → ⊥) (r : Bool) (told : Told (nodeWords ws) count j i r) where
+        module _ (deep-b : j ≡ 0 → ⊥) (r : Bool) (told : LiesBelow (nodeWords ws) count j i r) where
           pub beside-inside : r ≡ true → Answers (besideChecks a b) ws InsideItself
           unfolding firstOf decode
           beside-inside q bs =

@@ -10,17 +10,18 @@ use Rattle.model.specs.declared.Answer.the-variants.{Done}
 use Rattle.model.specs.Layout.{countIn}
 use Rattle.model.specs.Engine.{decode}
 use Rattle.model.specs.Checks.{firstOf}
-use Rattle.tree.specs.Below.{Told}
+use Rattle.tree.specs.Below.{LiesBelow}
+use Rattle.names.specs.Named.{Named}
 use Rattle.treecommands.specs.Ready.{Ready, nodeWords, nodeIn}
-use Rattle.treecommands.specs.Named.{placeNamed, Found, found, missing, is-root, not-root, named-here}
+use Rattle.treecommands.specs.Finding.{Found, found, missing, is-root, not-root, named-here}
 use Rattle.treecommands.specs.Sighting.{intoChecks, Answers, Clear, told-inside, clear}
 
-module _ (b a : ℕ) (ws : List ℕ) (k : Ready ws) (count : ℕ) (same : count ≡ countIn ws) (j : ℕ) (at-b : j ≡ placeNamed b ws) where
+module _ (b a : ℕ) (ws : List ℕ) (k : Ready ws) (count : ℕ) (same : count ≡ countIn ws) (j : ℕ) (at-b : Named b ws j) where
   pub into-first : count ≤ j → Answers (intoChecks b a) ws NoNode
   unfolding firstOf decode
   into-first h bs = rw (missing b ws j at-b (omega arith))
 
-  module _ (live-b : j < count) (i : ℕ) (at-a : i ≡ placeNamed a ws) where
+  module _ (live-b : j < count) (i : ℕ) (at-a : Named a ws i) where
     g : Found b ws j
     g = found b ws j at-b (omega arith)
 
@@ -41,7 +42,7 @@ module _ (b a : ℕ) (ws : List ℕ) (k : Ready ws) (count : ℕ) (same : count 
         unfolding firstOf decode
         into-root z bs = rw (g .known, f .known, named-here b ws j g, group, is-root a ws i f k z)
 
-        module _ (deep-a : i ≡ 0 → ⊥) (r : Bool) (told : Told (nodeWords ws) count j i r) where
+        module _ (deep-a : i ≡ 0 → ⊥) (r : Bool) (told : LiesBelow (nodeWords ws) count j i r) where
           pub into-inside : r ≡ true → Answers (intoChecks b a) ws InsideItself
           unfolding firstOf decode
           into-inside q bs =

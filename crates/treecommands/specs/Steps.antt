@@ -21,7 +21,7 @@ use Rattle.model.specs.After.{putTree}
 use Rattle.state.specs.Does.{WordsStep}
 use Rattle.tree.specs.Sizes.{Leaves}
 use Rattle.treecommands.specs.Ready.{Ready, nodeWords}
-use Rattle.treecommands.specs.Named.{meantIn, Found}
+use Rattle.treecommands.specs.Finding.{meantIn, Found}
 use Rattle.treecommands.specs.Settle.{renewed, ready-left, renewed-left}
 
 abbrev pub Steps : TreeCommand → List ℕ → Answer → List ℕ → Type 0

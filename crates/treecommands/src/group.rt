@@ -2,8 +2,8 @@
 use crate::adding::bad_target;
 use crate::adding::is_full;
 use crate::finish::renew;
-use crate::place::node_place;
 use model::Answer;
+use names::node_place;
 use nodes::Node;
 use words::Refusal;
 use words::wide;

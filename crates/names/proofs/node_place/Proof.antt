@@ -1,18 +1,13 @@
--- `treecommands::place::node_place` meets its contract, by what the argument names.
-use native.Mathlib.Omega.{arith}
-use borrow.Author.Needs.{needs}
-use mathlib.Core.Path.{_≡_, sym, ap, _∙_}
 use Prim.Native.Nat.{ℕ}
+use mathlib.Core.Path.{sym, ap, _∙_}
+use borrow.Author.Needs.{needs}
+use Rattle.words.specs.Parts.{region}
+use Rattle.nodes.specs.Table.{rows}
 use Rattle.nodes.specs.Place.{place}
-use Rattle.nodes.specs.Table.{rows, rows-length}
-use Rattle.values.specs.declared.Target.{Target}
-use Rattle.values.specs.declared.Target.the-variants.{Latest, Number, Reserved}
-use Rattle.values.specs.Targets.{targetOf}
-use Rattle.model.specs.Layout.{countIn, latestIn, nodesIn}
-use Rattle.treecommands.specs.Ready.{nodeWords}
-use Rattle.treecommands.specs.Named.{placeBy, by-number, by-latest, by-none}
-use Rattle.treecommands.proofs.place.node_place.Statement.{statement}
-use Rattle.treecommands.proofs.place.node_place.Tie as tie
+use Rattle.model.specs.Layout.{latestIn, nodesPlace, nodesWords}
+use Rattle.names.specs.Named.{named-number, named-latest, named-none, named-reserved}
+use Rattle.names.proofs.node_place.Statement.{statement}
+use Rattle.names.proofs.node_place.Tie as tie
 
 shared-slice-read-wide : tie.Need-shared-slice-read-wide
 shared-slice-read-wide c = search needs
@@ -32,9 +27,8 @@ shared-slice-read-latest c = search needs
 returns : tie.Need-returns
 returns c =
     let a = c .before .before .before .before .before .before .before .before .args in
-    let ws = a .words .now in
-    let told : targetOf (a .argument) ≡ Latest = cc in
-    rw told (c .before .before .before .before .before .wide .ensures ∙ by-none (latestIn ws) (countIn ws) (nodesIn ws) (rows-length (countIn ws) (nodeWords ws)) (c .if1 .taken))
+    rw (c .before .before .before .before .before .wide .ensures)
+    (named-none (a .argument) (a .words .now) (sym (c .before .before .before .before .target-of .ensures) ∙ c .before .before .enum-told .given .1) (c .if1 .taken))
 
 sub-find : tie.Need-sub-find
 sub-find c = search needs
@@ -69,27 +63,20 @@ enum-told-2 c = search needs
 returns-2 : tie.Need-returns-2
 returns-2 c =
     let a = c .before .before .before .before .before .before .before .before .before .before .args in
-    let ws = a .words .now in
-    let told : targetOf (a .argument) ≡ Latest = cc in
-    rw told
-    (c .find .ensures ∙ ap (λ (k : ℕ). place (latestIn ws) (rows k (nodeWords ws))) (c .before .before .before .before .before .before .before .wide .ensures)
-    ∙ by-latest (latestIn ws) (countIn ws) (nodesIn ws) (rows-length (countIn ws) (nodeWords ws)) (c .before .before .if1 .left))
+    named-latest (a .argument) (a .words .now) (c .find .result) (sym (c .before .before .before .before .before .before .target-of .ensures) ∙ c .before .before .before .before .enum-told .given .1) (c .before .before .if1 .left)
+    (c .find .ensures ∙ ap (λ (k : ℕ). place (latestIn (a .words .now)) (rows k (region nodesPlace nodesWords (a .words .now)))) (c .before .before .before .before .before .before .before .wide .ensures))
 
 returns-3 : tie.Need-returns-3
 returns-3 c =
     let a = c .before .before .before .before .before .before .before .before .before .args in
-    let ws = a .words .now in
-    let n = c .before .before .before .target .given .0 .0 in
-    let told : targetOf (a .argument) ≡ Number n = cc in
-    rw told
-    (c .find2 .ensures ∙ ap (λ (k : ℕ). place n (rows k (nodeWords ws))) (c .before .before .before .before .before .before .wide .ensures)
-    ∙ by-number (latestIn ws) (countIn ws) (nodesIn ws) (rows-length (countIn ws) (nodeWords ws)) n)
+    let m = c .before .before .before .target .given .0 .0 in
+    named-number (a .argument) (a .words .now) m (c .find2 .result) (sym (c .before .before .before .before .before .target-of .ensures) ∙ c .before .before .before .target .given .1)
+    (c .find2 .ensures ∙ ap (λ (k : ℕ). place m (rows k (region nodesPlace nodesWords (a .words .now)))) (c .before .before .before .before .before .before .wide .ensures))
 
 returns-4 : tie.Need-returns-4
 returns-4 c =
     let a = c .before .before .before .before .before .before .args in
-    let told : targetOf (a .argument) ≡ Reserved = cc in
-    rw told (c .before .before .before .wide .ensures)
+    rw (c .before .before .before .wide .ensures) (named-reserved (a .argument) (a .words .now) (sym (c .before .before .target-of .ensures) ∙ c .enum-told2 .given .1))
 
 pub node-place-spec : {M : Type 1} → statement M
 node-place-spec =
