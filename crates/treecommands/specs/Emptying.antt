@@ -1,20 +1,17 @@
 -- /g_freeAll and /g_deepFree.
 use Prim.Native.Nat.{ℕ, _≤_, _<_}
-use mathlib.Core.Bool.{Bool, true, false, not}
-use mathlib.Core.Path.{_≡_, sym, _∙_}
+use mathlib.Core.Bool.{true, false, not}
+use mathlib.Core.Path.{_≡_}
 use mathlib.Core.List.{List, [], _∷_}
 use native.Mathlib.Omega.{arith}
 use lib.ListN.{length}
-use borrow.Author.Tests.{lt-ltb, le-ltb}
 use Rattle.words.specs.Parts.{put}
-use Rattle.words.specs.declared.Refusal.the-variants.{BadFlag, NoNode, WrongKind}
-use Rattle.nodes.specs.declared.Node.{Node}
-use Rattle.nodes.specs.Table.{rows, rows-length, fill}
+use Rattle.words.specs.declared.Refusal.the-variants.{NoNode, WrongKind}
+use Rattle.nodes.specs.Table.{rows}
 use Rattle.nodes.specs.Place.{isGroup, place}
-use Rattle.nodes.specs.Edit.{cut, cutBelow, deepFree, setRun}
+use Rattle.nodes.specs.Edit.{cutBelow, deepFree}
 use Rattle.nodes.specs.Formed.{mostNodes}
-use Rattle.bridge.specs.Tally.{cut-within, cutBelow-within, deepFree-within}
-use Rattle.bridge.specs.Keep.{setRun-length}
+use Rattle.bridge.specs.Tally.{cutBelow-within, deepFree-within}
 use Rattle.model.specs.declared.TreeCommand.the-variants as tree
 use Rattle.model.specs.declared.Command.the-variants as command
 use Rattle.model.specs.declared.Answer.{Answer}
@@ -30,7 +27,7 @@ use Rattle.state.specs.Does.{step-refused, step-done}
 use Rattle.tree.specs.Sizes.{Leaves}
 use Rattle.names.specs.Named.{Named}
 use Rattle.treecommands.specs.Ready.{Ready, nodeWords, nodeIn}
-use Rattle.treecommands.specs.Finding.{meantIn, Found, found, missing, is-root, not-root, named-here}
+use Rattle.treecommands.specs.Finding.{meantIn, Found, found, missing, named-here}
 use Rattle.treecommands.specs.Settle.{renewed}
 use Rattle.treecommands.specs.Steps.{Steps, left-few, edited-ready, edited-left}
 

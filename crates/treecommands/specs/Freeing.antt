@@ -1,36 +1,33 @@
 -- /n_run and /n_free.
 use Prim.Native.Nat.{ℕ, _≤_, _<_}
-use mathlib.Core.Bool.{Bool, true, false, not}
 use mathlib.Core.Path.{_≡_, sym, _∙_}
-use mathlib.Core.List.{List, [], _∷_}
+use mathlib.Core.List.{List}
 use native.Mathlib.Omega.{arith}
 use lib.ListN.{length}
 use borrow.Author.Tests.{lt-ltb, le-ltb}
 use Rattle.words.specs.Parts.{put}
 use Rattle.words.specs.declared.Refusal.the-variants.{BadFlag, NoNode, WrongKind}
-use Rattle.nodes.specs.declared.Node.{Node}
 use Rattle.nodes.specs.Table.{rows, rows-length, fill}
-use Rattle.nodes.specs.Place.{isGroup, place}
-use Rattle.nodes.specs.Edit.{cut, cutBelow, deepFree, setRun}
+use Rattle.nodes.specs.Place.{place}
+use Rattle.nodes.specs.Edit.{cut, setRun}
 use Rattle.nodes.specs.Formed.{mostNodes}
-use Rattle.bridge.specs.Tally.{cut-within, cutBelow-within, deepFree-within}
+use Rattle.bridge.specs.Tally.{cut-within}
 use Rattle.bridge.specs.Keep.{setRun-length}
 use Rattle.model.specs.declared.TreeCommand.the-variants as tree
 use Rattle.model.specs.declared.Command.the-variants as command
-use Rattle.model.specs.declared.Answer.{Answer}
 use Rattle.model.specs.declared.Answer.the-variants.{Done, Refused}
 use Rattle.model.specs.Layout.{wordsLength, nodesPlace, nodesWords, countIn, nodesIn}
 use Rattle.model.specs.Engine.{decode}
 use Rattle.model.specs.Meaning.{known}
-use Rattle.model.specs.Checks.{check, firstOf, notGroup}
+use Rattle.model.specs.Checks.{firstOf}
 use Rattle.model.specs.Effects.{effect}
 use Rattle.model.specs.After.{wordsAfter}
 use Rattle.model.specs.Door.{answerIn}
 use Rattle.state.specs.Does.{step-refused, step-done}
 use Rattle.tree.specs.Sizes.{Leaves}
 use Rattle.names.specs.Named.{Named}
-use Rattle.treecommands.specs.Ready.{Ready, nodeWords, nodeIn}
-use Rattle.treecommands.specs.Finding.{meantIn, Found, found, missing, is-root, not-root, named-here}
+use Rattle.treecommands.specs.Ready.{Ready, nodeWords}
+use Rattle.treecommands.specs.Finding.{meantIn, Found, found, missing, is-root, not-root}
 use Rattle.treecommands.specs.Settle.{renewed}
 use Rattle.treecommands.specs.Steps.{Steps, left-few, edited-ready, edited-left}
 

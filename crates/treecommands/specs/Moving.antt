@@ -1,12 +1,10 @@
 -- A move accepted: the words after it.
-use Prim.Native.Nat.{ℕ, _≤_, _<_}
+use Prim.Native.Nat.{ℕ, _≤_}
 use mathlib.Core.Bool.{true}
-use mathlib.Core.Path.{_≡_, refl, sym, ap, _∙_}
+use mathlib.Core.Path.{_≡_, refl, sym, _∙_}
 use mathlib.Core.List.{List}
 use native.Mathlib.Omega.{arith}
 use lib.ListN.{length}
-use lib.Dec.{ltb}
-use borrow.Author.Tests.{lt-ltb}
 use Rattle.words.specs.Parts.{put}
 use Rattle.words.specs.declared.Refusal.{Refusal}
 use Rattle.nodes.specs.declared.Node.{Node}
@@ -22,7 +20,7 @@ use Rattle.model.specs.Layout.{nodesPlace, nodesWords, countIn, nodesIn}
 use Rattle.model.specs.Engine.{Engine, decode}
 use Rattle.model.specs.Effects.{withNodes, effect}
 use Rattle.model.specs.After.{putTree, wordsAfter}
-use Rattle.model.specs.Checks.{Check, firstOf}
+use Rattle.model.specs.Checks.{Check}
 use Rattle.model.specs.Door.{answerIn}
 use Rattle.state.specs.Does.{step-refused, step-done}
 use Rattle.keep.specs.TreeSteps.{still-lives}

@@ -9,7 +9,7 @@ use lib.Seq.{getD-take, getD-drop}
 use lib.Dec.{eqb}
 use Rattle.words.specs.Parts.{region, region-length}
 use Rattle.nodes.specs.declared.Node.{Node}
-use Rattle.nodes.specs.Table.{width, rows, nodeFrom}
+use Rattle.nodes.specs.Table.{width, nodeFrom}
 use Rattle.nodes.specs.Place.{isGroup}
 use Rattle.nodes.specs.Formed.{mostNodes}
 use Rattle.model.specs.Layout.{wordsLength, nodesPlace, nodesWords, countIn, nextIn, latestIn, nodesIn}

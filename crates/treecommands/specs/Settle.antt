@@ -1,17 +1,16 @@
 -- What is derived from the tree is written afresh after each command: the running order and the first words.
-use Prim.Native.Nat.{ℕ, suc, _+_, _*_, _≤_, _<_}
+use Prim.Native.Nat.{ℕ, _≤_, _<_}
 use mathlib.Core.Path.{_≡_, refl, sym, ap, ap₂, _∙_}
 use mathlib.Core.List.{List, [], _∷_, _++_}
 use native.Mathlib.Omega.{arith}
 use lib.ListN.{length, take, drop, getD, set, take-append-drop}
-use Rattle.words.specs.Choice.{pick}
-use Rattle.words.specs.Parts.{region, put, region-length, region-put}
+use Rattle.words.specs.Parts.{region, put, region-put}
 use Rattle.nodes.specs.declared.Node.{Node}
-use Rattle.nodes.specs.Table.{width, rows, fill, rows-length, fill-length, rows-fill}
+use Rattle.nodes.specs.Table.{rows, fill, rows-length, fill-length, rows-fill}
 use Rattle.nodes.specs.Order.{order}
 use Rattle.nodes.specs.Formed.{mostNodes}
 use Rattle.model.specs.Layout.{wordsLength, nodesPlace, nodesWords, orderPlace, orderWords, controlsPlace, controlsWords, nextIn, latestIn, controlsIn, putNodes, putOrder, orderRegion, putControls, putHeader}
-use Rattle.model.specs.Engine.{Slot, Engine, decode}
+use Rattle.model.specs.Engine.{decode}
 use Rattle.model.specs.Effects.{latestAmong, withNodes}
 use Rattle.model.specs.After.{putTree}
 use Rattle.state.specs.Regions.{region-past, word-before, put-size}

@@ -1,15 +1,12 @@
 -- The checks of moves: the places of both nodes, or the first refusal.
 use Prim.Native.Nat.{ℕ, _≤_, _<_}
 use mathlib.Core.Bool.{Bool, true, false, not}
-use mathlib.Core.Path.{_≡_, refl, sym, ap, _∙_}
+use mathlib.Core.Path.{_≡_, sym, _∙_}
 use mathlib.Core.List.{List, [], _∷_}
 use native.Mathlib.Omega.{arith}
-use lib.ListN.{length}
 use Rattle.words.specs.declared.Refusal.{Refusal}
 use Rattle.words.specs.declared.Refusal.the-variants.{NoNode, WrongKind, InsideItself}
-use Rattle.nodes.specs.Place.{isGroup, place}
 use Rattle.nodes.specs.Edit.{isBelow}
-use Rattle.nodes.specs.Table.{rows}
 use Rattle.model.specs.declared.Answer.the-variants.{Done, Refused}
 use Rattle.model.specs.Layout.{countIn, nodesIn}
 use Rattle.model.specs.Engine.{Engine, decode}
@@ -21,8 +18,8 @@ use Rattle.tree.specs.Below.{LiesBelow}
 use Rattle.treecommands.specs.declared.moves.Pair.{Pair}
 use Rattle.treecommands.specs.declared.moves.Pair.the-variants as pair
 use Rattle.names.specs.Named.{Named}
-use Rattle.treecommands.specs.Ready.{Ready, nodeWords, nodeIn, words-long}
-use Rattle.treecommands.specs.Finding.{meantIn, Found, found, missing, is-root, not-root, named-here}
+use Rattle.treecommands.specs.Ready.{Ready, nodeWords, words-long}
+use Rattle.treecommands.specs.Finding.{meantIn, Found, found, missing, is-root, not-root}
 
 -- "Moves: 17 and then 18, each by argument order, then 19."
 abbrev pub besideChecks : ℕ → ℕ → Engine → List Check

@@ -1,5 +1,4 @@
 -- `treecommands::adding::bad_target` meets its contract.
-use native.Mathlib.Omega.{arith}
 use borrow.Author.Needs.{needs}
 use borrow.Author.Tests.{lt-ltb, le-ltb}
 use Rattle.treecommands.proofs.adding.bad_target.Statement.{statement}

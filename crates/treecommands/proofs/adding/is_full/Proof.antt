@@ -1,6 +1,4 @@
 -- `treecommands::adding::is_full` meets its contract.
-use native.Mathlib.Omega.{arith}
-use borrow.Author.Needs.{needs}
 use borrow.Author.Tests.{eq-eqb, ne-eqb}
 use Rattle.treecommands.proofs.adding.is_full.Statement.{statement}
 use Rattle.treecommands.proofs.adding.is_full.Tie as tie

@@ -1,12 +1,10 @@
 -- `treecommands::finish::renew` meets its contract: the latest stays where its number was found.
 use native.Mathlib.Omega.{arith}
 use borrow.Author.Needs.{needs}
-use mathlib.Core.Path.{ap, _∙_}
-use Rattle.words.specs.Choice.{pick}
+use mathlib.Core.Path.{_∙_}
 use Rattle.nodes.specs.Place.{found, not-found}
-use Rattle.model.specs.Layout.{latestIn, nextIn}
+use Rattle.model.specs.Layout.{latestIn}
 use Rattle.treecommands.specs.Ready.{nodeWords}
-use Rattle.treecommands.specs.Settle.{settled}
 use Rattle.treecommands.proofs.finish.renew.Statement.{statement}
 use Rattle.treecommands.proofs.finish.renew.Tie as tie
 

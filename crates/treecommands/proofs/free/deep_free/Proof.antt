@@ -1,8 +1,7 @@
 -- `treecommands::free::deep_free` meets its contract: each refusal by the check that fires, the rest by the law of the edit.
 use native.Mathlib.Omega.{arith}
 use borrow.Author.Needs.{needs}
-use Prim.Native.Nat.{ℕ}
-use mathlib.Core.Path.{_≡_, sym, _∙_}
+use mathlib.Core.Path.{sym, _∙_}
 use Rattle.treecommands.specs.Emptying.{deep-unknown, deep-wrong, deep-ready, deep-done}
 use Rattle.treecommands.proofs.free.deep_free.Statement.{statement}
 use Rattle.treecommands.proofs.free.deep_free.Tie as tie

@@ -1,8 +1,6 @@
 -- `treecommands::free::run_node` meets its contract: each refusal by the check that fires, the rest by the law of the edit.
 use native.Mathlib.Omega.{arith}
 use borrow.Author.Needs.{needs}
-use Prim.Native.Nat.{ℕ}
-use mathlib.Core.Path.{_≡_, sym, _∙_}
 use Rattle.treecommands.specs.Freeing.{run-flag, run-unknown, run-done}
 use Rattle.treecommands.proofs.free.run_node.Statement.{statement}
 use Rattle.treecommands.proofs.free.run_node.Tie as tie

@@ -1,8 +1,7 @@
 -- `treecommands::group::group_spot` meets its contract: each refusal by the check that fires.
 use native.Mathlib.Omega.{arith}
 use borrow.Author.Needs.{needs}
-use Prim.Native.Nat.{ℕ}
-use mathlib.Core.Path.{_≡_, sym, _∙_}
+use mathlib.Core.Path.{sym, _∙_}
 use Rattle.treecommands.specs.Grouping.{group-action, group-negative, group-live, group-unknown, group-kind, group-full, group-ground}
 use Rattle.treecommands.proofs.group.group_spot.Statement.{statement}
 use Rattle.treecommands.proofs.group.group_spot.Tie as tie

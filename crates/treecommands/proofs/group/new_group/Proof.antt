@@ -1,8 +1,6 @@
 -- `treecommands::group::new_group` meets its contract: the checks' refusal, or the law of the add action.
-use native.Mathlib.Omega.{arith}
 use borrow.Author.Needs.{needs}
-use Prim.Native.Nat.{ℕ}
-use mathlib.Core.Path.{_≡_, sym, _∙_}
+use mathlib.Core.Path.{_≡_}
 use Rattle.treecommands.specs.declared.group.Spot.the-variants as spot
 use Rattle.treecommands.specs.Grouping.{GroupGround, Answers, group-refused, group-ready, group-done}
 use Rattle.treecommands.proofs.group.new_group.Statement.{statement}

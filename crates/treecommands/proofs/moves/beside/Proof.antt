@@ -1,8 +1,6 @@
 -- `treecommands::moves::beside` meets its contract: each refusal by the check that fires.
 use native.Mathlib.Omega.{arith}
 use borrow.Author.Needs.{needs}
-use Prim.Native.Nat.{ℕ}
-use mathlib.Core.Path.{_≡_, sym, _∙_}
 use Rattle.treecommands.specs.Sighting.{beside-first, beside-second, beside-root, beside-root-2, beside-inside, beside-clear}
 use Rattle.treecommands.proofs.moves.beside.Statement.{statement}
 use Rattle.treecommands.proofs.moves.beside.Tie as tie

@@ -1,8 +1,7 @@
 -- `treecommands::moves::into` meets its contract: each refusal by the check that fires.
 use native.Mathlib.Omega.{arith}
 use borrow.Author.Needs.{needs}
-use Prim.Native.Nat.{ℕ}
-use mathlib.Core.Path.{_≡_, sym, _∙_}
+use mathlib.Core.Path.{sym, _∙_}
 use Rattle.treecommands.specs.SightingInto.{into-first, into-second, into-synth, into-root, into-inside, into-clear}
 use Rattle.treecommands.proofs.moves.into.Statement.{statement}
 use Rattle.treecommands.proofs.moves.into.Tie as tie

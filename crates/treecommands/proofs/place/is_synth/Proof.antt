@@ -1,8 +1,6 @@
 -- `treecommands::place::is_synth` meets its contract: the slot word of the record.
 use native.Mathlib.Omega.{arith}
 use borrow.Author.Needs.{needs}
-use Prim.Native.Nat.{_+_, _*_}
-use mathlib.Core.Path.{_≡_, sym, ap}
 use Rattle.treecommands.specs.Ready.{node-slot}
 use Rattle.treecommands.proofs.place.is_synth.Statement.{statement}
 use Rattle.treecommands.proofs.place.is_synth.Tie as tie
