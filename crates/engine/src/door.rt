@@ -2,26 +2,16 @@
 use buscommands::bus_step;
 use controlcommands::control_step;
 use definitioncommands::definition_step;
+use making::tree_step;
 use model::Answer;
 use model::Command;
-use model::TreeCommand;
 use crate::query::query_step;
 use statecheck::well_formed;
 use words::Refusal;
 ghost use mathlib.Core.Bool.{true};
 ghost use mathlib.Core.Path.{_≡_};
-ghost use Rattle.model.specs.declared.Command.{Command};
 ghost use Rattle.model.specs.Formed.{formed};
 ghost use Rattle.model.specs.Door.{Does};
-ghost use Rattle.state.specs.Known.{Known};
-ghost use Rattle.state.specs.Does.{WordsStep};
-
-fn tree_step(command: TreeCommand, bytes: &[u8], words: &mut [u32], shelf: &[u8]) -> Answer
-    requires { ⌜ Known (now words) (now shelf) ⌝ }
-    ensures { λ r. ⌜ WordsStep (Command.Tree command) (now (bytes .entry)) (now (words .entry)) (now (shelf .entry)) r (now (words .exit)) ⌝ }
-{
-    Answer::Done
-}
 
 // A command in a well-formed state.
 pub fn step(
