@@ -1,11 +1,14 @@
 -- An answer as one number of 64 bits.
 use Prim.Native.Nat.{ℕ, _+_, _*_, _%_, _<_}
+use mathlib.Core.Path.{_≡_, refl, ap}
 use native.Mathlib.Omega.{arith}
+use native.Mathlib.Nat.{mod-eq-of-lt}
 use Rattle.words.specs.Refusals.{numberOf}
 use Rattle.words.specs.declared.Refusal.{Refusal}
 use Rattle.words.specs.declared.Refusal.the-variants.{BadState, Truncated, NotSynthDef, BadVersion, BadCount, BadName, BadRate, BadIndex, TooLong, NameTwice, BytesLeft, NoSlot, BadFlag, BadNumber, NumberLive, NoDefinition, NoNode, WrongKind, InsideItself, NodesFull, NoControl, NoBus, BadValue, NoRoom, NoNumber}
 use Rattle.model.specs.declared.Answer.{Answer}
 use Rattle.model.specs.declared.Answer.the-variants.{Done, Replied, Refused, RefusedAt}
+use Rattle.model.specs.Door.{answerNumber}
 
 -- what the 64 bits leave for a place or a length: 2^56
 abbrev pub room : ℕ
@@ -17,6 +20,19 @@ callNumber Done = 0
 callNumber (Replied n) = 256 * (n % room)
 callNumber (Refused r) = numberOf r
 callNumber (RefusedAt r at) = numberOf r + 256 * (at % room)
+
+-- what no machine's files and buffers reach: a place and a length within the room are given whole
+abbrev pub reach : Answer → ℕ
+reach Done = 0
+reach (Replied n) = n
+reach (Refused r) = 0
+reach (RefusedAt r at) = at
+
+pub number-whole : (a : Answer) → reach a < room → callNumber a ≡ answerNumber a
+number-whole Done h = refl
+number-whole (Replied n) h = ap (λ (k : ℕ). 256 * k) (mod-eq-of-lt h)
+number-whole (Refused r) h = refl
+number-whole (RefusedAt r at) h = ap (λ (k : ℕ). numberOf r + 256 * k) (mod-eq-of-lt h)
 
 pub number-small : (r : Refusal) → numberOf r < 256
 number-small BadState = omega arith
