@@ -73,18 +73,18 @@ slot-bytes ws shelf k h =
     ∙ ap (λ (j : ℕ). take j (take slotRoom (drop (slotRoom * k) shelf))) (part-word lengthsPlace slotCount k ws h)
 
 -- a record of the table: its fields are formed, and it holds its slot
-fields-at : (next : ℕ) (t : List Node) (i : ℕ) (r : Node) (rest : List Node) → drop i t ≡ r ∷ rest → allFormed next t ≡ true → fieldsFormed next r ≡ true
+pub fields-at : (next : ℕ) (t : List Node) (i : ℕ) (r : Node) (rest : List Node) → drop i t ≡ r ∷ rest → allFormed next t ≡ true → fieldsFormed next r ≡ true
 unfolding allFormed
 fields-at next [] zero r rest e h = absurd (nil≢cons e)
 fields-at next [] (suc i) r rest e h = absurd (nil≢cons e)
 fields-at next (x ∷ t) zero r rest e h = ap (fieldsFormed next) (sym (head-eq-of-cons-eq e)) ∙ both-true (fieldsFormed next x) (allFormed next t) h .0
 fields-at next (x ∷ t) (suc i) r rest e h = fields-at next t i r rest e (both-true (fieldsFormed next x) (allFormed next t) h .1)
 
-either-true : (b : Bool) → either b true ≡ true
+pub either-true : (b : Bool) → either b true ≡ true
 either-true true = refl
 either-true false = refl
 
-held-at : (t : List Node) (i : ℕ) (r : Node) (rest : List Node) → drop i t ≡ r ∷ rest → held (r .slot) t ≡ true
+pub held-at : (t : List Node) (i : ℕ) (r : Node) (rest : List Node) → drop i t ≡ r ∷ rest → held (r .slot) t ≡ true
 unfolding held
 held-at [] zero r rest e = absurd (nil≢cons e)
 held-at [] (suc i) r rest e = absurd (nil≢cons e)
@@ -92,7 +92,7 @@ held-at (x ∷ t) zero r rest e = rw (eq-eqb (x .slot) (r .slot) (ap (λ (y : No
 held-at (x ∷ t) (suc i) r rest e = rw (held-at t i r rest e) (either-true (eqb (x .slot) (r .slot)))
 
 -- a slot that a synth holds is one definition
-slot-formed : (k j : ℕ) (sizes : List ℕ) (slots : List Slot) (t : List Node) → j < length slots → slotsFormed k sizes slots t ≡ true
+pub slot-formed : (k j : ℕ) (sizes : List ℕ) (slots : List Slot) (t : List Node) → j < length slots → slotsFormed k sizes slots t ≡ true
     → slotFormed (k + j) (getD sizes j 0) (slotAt slots j) t ≡ true
 unfolding slotsFormed
 slot-formed k j sizes [] t l h = absurd (omega arith)
@@ -110,7 +110,7 @@ unfolding slotsFrom
 slots-many zero lengths flags shelf = refl
 slots-many (suc n) lengths flags shelf = ap suc (slots-many n (drop 1 lengths) (drop 1 flags) (drop slotRoom shelf))
 
-decoded-many : (ws shelf : List ℕ) → length (decode ws shelf .slots) ≡ slotCount
+pub decoded-many : (ws shelf : List ℕ) → length (decode ws shelf .slots) ≡ slotCount
 unfolding decode
 decoded-many ws shelf = slots-many slotCount (lengthsIn ws) (residentIn ws) shelf
 

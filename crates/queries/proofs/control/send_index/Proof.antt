@@ -1,0 +1,40 @@
+use Prim.Native.Nat.{ℕ}
+use mathlib.Core.Path.{subst}
+use mathlib.Core.List.{List, []}
+use borrow.Author.Needs.{needs}
+use Rattle.replies.specs.Sent.{Sends}
+use Rattle.queries.specs.Control.{index-message}
+use Rattle.queries.proofs.control.send_index.Statement.{statement}
+use Rattle.queries.proofs.control.send_index.Tie as tie
+
+slice-aggregate-send-words : tie.Need-slice-aggregate-send-words
+slice-aggregate-send-words c = search needs
+
+slice-aggregate-send-words-2 : tie.Need-slice-aggregate-send-words-2
+slice-aggregate-send-words-2 c = search needs
+
+slice-aggregate-send-words-3 : tie.Need-slice-aggregate-send-words-3
+slice-aggregate-send-words-3 c = search needs
+
+send-words-requires : tie.Need-send-words-requires
+send-words-requires c κs = search needs
+
+same-length : tie.Need-same-length
+same-length c = search needs
+
+returns : tie.Need-returns
+returns c =
+    let a = c .before .before .before .before .before .before .before .before .args in
+    let r = c .before .before .send-words in
+    subst (λ (m : List ℕ). Sends m (a .out .now) (r .result) (r .last .0)) (index-message (a .number) (a .index) (a .value) []) (r .ensures)
+
+pub send-index-spec : {M : Type 1} → statement M
+send-index-spec =
+    tie.close
+    (tie.spec
+    slice-aggregate-send-words
+    slice-aggregate-send-words-2
+    slice-aggregate-send-words-3
+    send-words-requires
+    same-length
+    returns)

@@ -1,0 +1,195 @@
+use Prim.Native.Nat.{ℕ, _+_, _*_}
+use mathlib.Core.Path.{_≡_, subst}
+use mathlib.Core.List.{[], _∷_}
+use native.Mathlib.Omega.{arith}
+use borrow.Author.Needs.{needs}
+use borrow.Author.Tests.{eq-eqb, ne-eqb}
+use lib.ListN.{getD}
+use Rattle.words.specs.Parts.{region}
+use Rattle.words.specs.declared.Refusal.the-variants.{NoNode}
+use Rattle.nodes.specs.Table.{rows}
+use Rattle.nodes.specs.Place.{groupSlot, place}
+use Rattle.nodes.specs.Structure.{headOf, tailOf, nextOf}
+use Rattle.model.specs.declared.Query.the-variants as query
+use Rattle.model.specs.Layout.{countIn, nodesIn, nodesPlace, nodesWords}
+use Rattle.model.specs.Replies.{infoAddress}
+use Rattle.replies.specs.Sent.{wordMessage}
+use Rattle.controls.specs.Ready.{nodeIn}
+use Rattle.queries.specs.Answers.{reply-refused, reply-sent}
+use Rattle.queries.specs.Held.{At}
+use Rattle.queries.specs.Info.{Around, groupTags, synthTags, here-number, group-info, synth-info, node-fires, node-passes}
+use Rattle.queries.proofs.node.node_query.Statement.{statement}
+use Rattle.queries.proofs.node.node_query.Tie as tie
+
+node-place-requires : tie.Need-node-place-requires
+node-place-requires c κs = search needs
+
+shared-slice-read-wide : tie.Need-shared-slice-read-wide
+shared-slice-read-wide c = search needs
+
+wide-requires : tie.Need-wide-requires
+wide-requires c κs = search needs
+
+returns : tie.Need-returns
+returns c =
+    let a = c .before .before .before .before .before .before .before .before .args in
+    let n = c .before .before .before .node-place in
+    reply-refused (query.Node (a .node)) (a .bytes .now) (a .words .now) (a .shelf .now) (a .out .now) NoNode
+    (node-fires (a .node) (a .bytes .now) (a .words .now) (a .shelf .now) (n .result) (n .ensures) (omega (arith, c .before .wide .ensures)))
+
+sub-nodes : tie.Need-sub-nodes
+sub-nodes c = search needs
+
+part-nodes-start : tie.Need-part-nodes-start
+part-nodes-start c = search needs
+
+part-nodes-end : tie.Need-part-nodes-end
+part-nodes-end c = search needs
+
+mul-number : tie.Need-mul-number
+mul-number c = search needs
+
+mul-number-2 : tie.Need-mul-number-2
+mul-number-2 c = search needs
+
+shared-slice-read-number : tie.Need-shared-slice-read-number
+shared-slice-read-number c = search needs
+
+parent-of-requires : tie.Need-parent-of-requires
+parent-of-requires c κs = search needs
+
+previous-of-requires : tie.Need-previous-of-requires
+previous-of-requires c κs = search needs
+
+next-of-requires : tie.Need-next-of-requires
+next-of-requires c κs = search needs
+
+mul-if2 : tie.Need-mul-if2
+mul-if2 c = search needs
+
+add-if2 : tie.Need-add-if2
+add-if2 c = search needs
+
+mul-if2-2 : tie.Need-mul-if2-2
+mul-if2-2 c = search needs
+
+shared-slice-read-if2 : tie.Need-shared-slice-read-if2
+shared-slice-read-if2 c = search needs
+
+head-of-requires : tie.Need-head-of-requires
+head-of-requires c κs = search needs
+
+tail-of-requires : tie.Need-tail-of-requires
+tail-of-requires c κs = search needs
+
+slice-aggregate-send-words : tie.Need-slice-aggregate-send-words
+slice-aggregate-send-words c = search needs
+
+slice-aggregate-send-words-2 : tie.Need-slice-aggregate-send-words-2
+slice-aggregate-send-words-2 c = search needs
+
+slice-aggregate-send-words-3 : tie.Need-slice-aggregate-send-words-3
+slice-aggregate-send-words-3 c = search needs
+
+send-words-requires : tie.Need-send-words-requires
+send-words-requires c κs = search needs
+
+same-length : tie.Need-same-length
+same-length c = search needs
+
+returns-2 : tie.Need-returns-2
+returns-2 c =
+    let s = c .before .before .before .before .before .before .before .before .before .before .before .before .before .before .before .before .before .before .before .before .before .before .before .before in
+    let ws = s .args .words .now in
+    let bs = s .args .shelf .now in
+    let us = region nodesPlace nodesWords ws in
+    let n = c .before .before .before .before .before .before .before .before .before .before .before .before .before .before .before .before .before .before .before .node-place in
+    let w = c .before .before .before .before .before .before .before .before .before .before .before .before .before .before .before .before .before .wide in
+    let at : ℕ = n .result in
+    let a : At ws bs at = record { state = s .pre; live = omega (arith, w .ensures) } in
+    let m : ℕ = nodeIn ws at .number in
+    let here : at ≡ place m (nodesIn ws) = here-number (s .args .node) ws bs at (n .ensures) a in
+    let next : c .before .before .before .before .before .before .before .before .before .before .before .next-of .result ≡ nextOf m (nodesIn ws) = subst (λ (k : ℕ). (j : ℕ) → at ≡ place j (rows k us) → c .before .before .before .before .before .before .before .before .before .before .before .next-of .result ≡ nextOf j (rows k us)) (w .ensures) (c .before .before .before .before .before .before .before .before .before .before .before .next-of .ensures) m here in
+    let around : Around m (nodesIn ws) (c .before .before .before .before .before .before .before .before .before .before .before .before .before .parent-of .result) (c .before .before .before .before .before .before .before .before .before .before .before .before .previous-of .result) (c .before .before .before .before .before .before .before .before .before .before .before .next-of .result) =
+    record { isParent = c .before .before .before .before .before .before .before .before .before .before .before .before .before .parent-of .ensures (countIn ws) m (a .live) here; isPrevious = c .before .before .before .before .before .before .before .before .before .before .before .before .previous-of .ensures (countIn ws) m (a .live) here; isNext = next } in
+    let head : c .before .before .before .before .before .before .before .before .head-of .result ≡ headOf m (nodesIn ws) = subst (λ (k : ℕ). (j : ℕ) → at ≡ place j (rows k us) → c .before .before .before .before .before .before .before .before .head-of .result ≡ headOf j (rows k us)) (w .ensures) (c .before .before .before .before .before .before .before .before .head-of .ensures) m here in
+    let tail : c .before .before .before .before .before .before .before .tail-of .result ≡ tailOf m (nodesIn ws) = subst (λ (k : ℕ). (j : ℕ) → at ≡ place j (rows k us) → c .before .before .before .before .before .before .before .tail-of .result ≡ tailOf j (rows k us)) (w .ensures) (c .before .before .before .before .before .before .before .tail-of .ensures) m here in
+    reply-sent (query.Node (s .args .node)) (s .args .bytes .now) ws bs (s .args .out .now)
+    (wordMessage infoAddress groupTags (m ∷ (c .before .before .before .before .before .before .before .before .before .before .before .before .before .parent-of .result ∷ (c .before .before .before .before .before .before .before .before .before .before .before .before .previous-of .result ∷ (c .before .before .before .before .before .before .before .before .before .before .before .next-of .result ∷ (1 ∷ (c .before .before .before .before .before .before .before .before .head-of .result ∷ (c .before .before .before .before .before .before .before .tail-of .result ∷ []))))))))
+    (c .before .before .send-words .result) (c .before .before .send-words .last .0)
+    (node-passes (s .args .node) (s .args .bytes .now) ws bs at (n .ensures) (a .live))
+    (group-info (s .args .node) (s .args .bytes .now) ws bs at (n .ensures) a (eq-eqb (getD us (5 * at + 3) 0) groupSlot (c .before .before .before .before .before .before .before .before .before .if2 .taken)) (c .before .before .before .before .before .before .before .before .before .before .before .before .before .parent-of .result) (c .before .before .before .before .before .before .before .before .before .before .before .before .previous-of .result) (c .before .before .before .before .before .before .before .before .before .before .before .next-of .result) (c .before .before .before .before .before .before .before .before .head-of .result) (c .before .before .before .before .before .before .before .tail-of .result) around head tail)
+    (c .before .before .send-words .ensures)
+
+slice-aggregate-send-words-4 : tie.Need-slice-aggregate-send-words-4
+slice-aggregate-send-words-4 c = search needs
+
+slice-aggregate-send-words-5 : tie.Need-slice-aggregate-send-words-5
+slice-aggregate-send-words-5 c = search needs
+
+slice-aggregate-send-words-6 : tie.Need-slice-aggregate-send-words-6
+slice-aggregate-send-words-6 c = search needs
+
+send-words-requires-2 : tie.Need-send-words-requires-2
+send-words-requires-2 c κs = search needs
+
+same-length-2 : tie.Need-same-length-2
+same-length-2 c = search needs
+
+returns-3 : tie.Need-returns-3
+returns-3 c =
+    let s = c .before .before .before .before .before .before .before .before .before .before .before .before .before .before .before .before .before .before .before .before .before .before in
+    let ws = s .args .words .now in
+    let bs = s .args .shelf .now in
+    let us = region nodesPlace nodesWords ws in
+    let n = c .before .before .before .before .before .before .before .before .before .before .before .before .before .before .before .before .before .node-place in
+    let w = c .before .before .before .before .before .before .before .before .before .before .before .before .before .before .before .wide in
+    let at : ℕ = n .result in
+    let a : At ws bs at = record { state = s .pre; live = omega (arith, w .ensures) } in
+    let m : ℕ = nodeIn ws at .number in
+    let here : at ≡ place m (nodesIn ws) = here-number (s .args .node) ws bs at (n .ensures) a in
+    let next : c .before .before .before .before .before .before .before .before .before .next-of .result ≡ nextOf m (nodesIn ws) = subst (λ (k : ℕ). (j : ℕ) → at ≡ place j (rows k us) → c .before .before .before .before .before .before .before .before .before .next-of .result ≡ nextOf j (rows k us)) (w .ensures) (c .before .before .before .before .before .before .before .before .before .next-of .ensures) m here in
+    let around : Around m (nodesIn ws) (c .before .before .before .before .before .before .before .before .before .before .before .parent-of .result) (c .before .before .before .before .before .before .before .before .before .before .previous-of .result) (c .before .before .before .before .before .before .before .before .before .next-of .result) =
+    record { isParent = c .before .before .before .before .before .before .before .before .before .before .before .parent-of .ensures (countIn ws) m (a .live) here; isPrevious = c .before .before .before .before .before .before .before .before .before .before .previous-of .ensures (countIn ws) m (a .live) here; isNext = next } in
+    reply-sent (query.Node (s .args .node)) (s .args .bytes .now) ws bs (s .args .out .now)
+    (wordMessage infoAddress synthTags (m ∷ (c .before .before .before .before .before .before .before .before .before .before .before .parent-of .result ∷ (c .before .before .before .before .before .before .before .before .before .before .previous-of .result ∷ (c .before .before .before .before .before .before .before .before .before .next-of .result ∷ (0 ∷ []))))))
+    (c .before .before .send-words2 .result) (c .before .before .send-words2 .last .0)
+    (node-passes (s .args .node) (s .args .bytes .now) ws bs at (n .ensures) (a .live))
+    (synth-info (s .args .node) (s .args .bytes .now) ws bs at (n .ensures) a (ne-eqb (getD us (5 * at + 3) 0) groupSlot (c .before .before .before .before .before .before .before .if2 .left)) (c .before .before .before .before .before .before .before .before .before .before .before .parent-of .result) (c .before .before .before .before .before .before .before .before .before .before .previous-of .result) (c .before .before .before .before .before .before .before .before .before .next-of .result) around)
+    (c .before .before .send-words2 .ensures)
+
+pub node-query-spec : {M : Type 1} → statement M
+node-query-spec =
+    tie.close
+    (tie.spec
+    node-place-requires
+    shared-slice-read-wide
+    wide-requires
+    returns
+    sub-nodes
+    part-nodes-start
+    part-nodes-end
+    mul-number
+    mul-number-2
+    shared-slice-read-number
+    parent-of-requires
+    previous-of-requires
+    next-of-requires
+    mul-if2
+    add-if2
+    mul-if2-2
+    shared-slice-read-if2
+    head-of-requires
+    tail-of-requires
+    slice-aggregate-send-words
+    slice-aggregate-send-words-2
+    slice-aggregate-send-words-3
+    send-words-requires
+    same-length
+    returns-2
+    slice-aggregate-send-words-4
+    slice-aggregate-send-words-5
+    slice-aggregate-send-words-6
+    send-words-requires-2
+    same-length-2
+    returns-3)

@@ -1,0 +1,102 @@
+use mathlib.Core.Path.{sym, ap, _∙_}
+use mathlib.Core.List.{List}
+use Prim.Native.Nat.{ℕ}
+use native.Mathlib.Omega.{arith}
+use borrow.Author.Needs.{needs}
+use Rattle.synthdef.specs.Lookup.{unitsIn}
+use Rattle.controls.specs.Encoded.{numberOr}
+use Rattle.controls.specs.Synth.{is-group, is-synth}
+use Rattle.queries.specs.Held.{bounds, bytes-told, slot-low}
+use Rattle.queries.specs.Status.{units-group, units-synth}
+use Rattle.queries.proofs.status.units_at.Statement.{statement}
+use Rattle.queries.proofs.status.units_at.Tie as tie
+
+mul-slot : tie.Need-mul-slot
+mul-slot c = search needs
+
+add-slot : tie.Need-add-slot
+add-slot c = search needs
+
+add-slot-2 : tie.Need-add-slot-2
+add-slot-2 c = search needs
+
+mul-slot-2 : tie.Need-mul-slot-2
+mul-slot-2 c = search needs
+
+shared-slice-read-slot : tie.Need-shared-slice-read-slot
+shared-slice-read-slot c = search needs
+
+returns : tie.Need-returns
+returns c =
+    let s = c .before .before .before .before in
+    let ws = s .args .words .now in
+    sym (units-group ws (s .args .shelf .now) (s .args .place) (is-group ws (s .args .place) (bounds ws (s .args .shelf .now) (s .args .place) (s .pre) .place) (c .if1 .taken)))
+
+wide-requires : tie.Need-wide-requires
+wide-requires c κs = search needs
+
+add-size : tie.Need-add-size
+add-size c = omega (arith, slot-low (c .before .before .before .before .before .args .words .now) (c .before .before .before .before .before .args .shelf .now) (c .before .before .before .before .before .args .place) (c .before .before .before .before .before .pre) (c .before .if1 .left))
+
+mul-size : tie.Need-mul-size
+mul-size c = omega (arith, slot-low (c .before .before .before .before .before .args .words .now) (c .before .before .before .before .before .args .shelf .now) (c .before .before .before .before .before .args .place) (c .before .before .before .before .before .pre) (c .before .if1 .left))
+
+shared-slice-read-size : tie.Need-shared-slice-read-size
+shared-slice-read-size c = omega (arith, slot-low (c .before .before .before .before .before .before .args .words .now) (c .before .before .before .before .before .before .args .shelf .now) (c .before .before .before .before .before .before .args .place) (c .before .before .before .before .before .before .pre) (c .before .before .if1 .left))
+
+slot-bytes-requires : tie.Need-slot-bytes-requires
+slot-bytes-requires c κs = search needs
+
+units-in-requires : tie.Need-units-in-requires
+units-in-requires c κs = search needs
+
+enum-known-units : tie.Need-enum-known-units
+enum-known-units c = search needs
+
+enum-told : tie.Need-enum-told
+enum-told c = search needs
+
+returns-2 : tie.Need-returns-2
+returns-2 c =
+    let s = c .before .before .before .before .before .before .before .before .before .before .before in
+    let ws = s .args .words .now in
+    let bs = s .args .shelf .now in
+    let i = s .args .place in
+    let single = is-synth ws i (bounds ws bs i (s .pre) .place) (c .before .before .before .before .before .before .before .if1 .left) in
+    sym (ap numberOr (c .before .units .given .1))
+    ∙ ap numberOr (c .before .before .before .units-in .ensures)
+    ∙ ap (λ (l : List ℕ). numberOr (unitsIn l)) (c .before .before .before .before .slot-bytes .ensures ∙ bytes-told ws bs i (c .before .before .before .before .before .before .wide .result) (s .pre) (c .before .before .before .before .before .before .wide .ensures))
+    ∙ sym (units-synth ws bs i (s .pre) single)
+
+returns-3 : tie.Need-returns-3
+returns-3 c =
+    let s = c .before .before .before .before .before .before .before .before .before .before in
+    let ws = s .args .words .now in
+    let bs = s .args .shelf .now in
+    let i = s .args .place in
+    let single = is-synth ws i (bounds ws bs i (s .pre) .place) (c .before .before .before .before .before .before .if1 .left) in
+    sym (ap numberOr (c .enum-told .given .1))
+    ∙ ap numberOr (c .before .before .units-in .ensures)
+    ∙ ap (λ (l : List ℕ). numberOr (unitsIn l)) (c .before .before .before .slot-bytes .ensures ∙ bytes-told ws bs i (c .before .before .before .before .before .wide .result) (s .pre) (c .before .before .before .before .before .wide .ensures))
+    ∙ sym (units-synth ws bs i (s .pre) single)
+
+pub units-at-spec : {M : Type 1} → statement M
+units-at-spec =
+    tie.close
+    (tie.spec
+    mul-slot
+    add-slot
+    add-slot-2
+    mul-slot-2
+    shared-slice-read-slot
+    returns
+    wide-requires
+    add-size
+    mul-size
+    shared-slice-read-size
+    slot-bytes-requires
+    units-in-requires
+    enum-known-units
+    enum-told
+    returns-2
+    returns-3)

@@ -1,0 +1,98 @@
+-- The nodes of a well-formed state by their places, and the definitions that synths hold, by their slots' bytes.
+use Prim.Native.Nat.{ℕ, zero, suc, _+_, _*_, _≤_, _<_}
+use mathlib.Core.Bool.{Bool, true, false}
+use mathlib.Core.Path.{_≡_, refl, sym, ap, ap₂, _∙_}
+use mathlib.Core.List.{List, [], _∷_}
+use native.Mathlib.Omega.{arith}
+use native.Mathlib.Nat.{zero-add}
+use lib.ListN.{length, take, drop, getD}
+use lib.Dec.{leb}
+use Rattle.words.specs.Choice.{pick, both, both-true}
+use Rattle.words.specs.Parts.{region}
+use Rattle.synthdef.specs.declared.lookup.Found.the-variants as found
+use Rattle.synthdef.specs.Read.{Read, got, bad}
+use Rattle.synthdef.specs.Definition.{Definition}
+use Rattle.synthdef.specs.Reader.{sizeLimit, readDefinition}
+use Rattle.synthdef.specs.Lookup.{unitsIn, nameIn, nameOfIn, firstName}
+use Rattle.synthdef.specs.LookupOf.{units-of, name-of, first-name-of}
+use Rattle.nodes.specs.declared.Node.{Node}
+use Rattle.nodes.specs.Table.{row-from}
+use Rattle.nodes.specs.Place.{groupSlot, isGroup}
+use Rattle.model.specs.Layout.{slotCount, slotRoom, lengthsPlace, nodesPlace, nodesWords, countIn, lengthsIn, nodesIn, controlsIn}
+use Rattle.model.specs.Engine.{Slot, decode, noDefinition, valueOr, definitionIn, slotAt, definitionOf, held, slotTaken}
+use Rattle.model.specs.Formed.{isWhole, slotFormed}
+use Rattle.model.specs.View.{Kind, group, synth, kindIn}
+use Rattle.state.specs.Known.{Known}
+use Rattle.controls.specs.Encoded.{frontIn}
+use Rattle.controls.specs.Ready.{Ready, Synth, nodeIn, slotBytes, slot-bytes, held-at, slot-formed, decoded-many, either-true, synth-ready}
+use Rattle.controls.specs.Synth.{Bounds, slot-word, slot-bound}
+
+-- a node at a place of the table of a well-formed state
+pub record At (ws bs : List ℕ) (i : ℕ) : Type 0 where
+  pub state : Known ws bs
+  pub live : i < countIn ws
+
+pub ready : (ws bs : List ℕ) → Known ws bs → Ready ws bs
+ready ws bs k = record { size = k .size; shelfSize = k .shelfSize; few = k .few; fields = k .tree .fields; slots = k .slots }
+
+pub bounds : (ws bs : List ℕ) (i : ℕ) → At ws bs i → Bounds ws bs i
+bounds ws bs i a = record {
+  size = a .state .size;
+  shelfSize = a .state .shelfSize;
+  place = omega (arith, a .live, a .state .few);
+  slot = λ e. synth-ready ws bs (ready ws bs (a .state)) i (a .live) e .slot;
+  row = λ e. synth-ready ws bs (ready ws bs (a .state)) i (a .live) e .row;
+}
+
+-- a record and what follows it
+pub node-there : (ws bs : List ℕ) (i : ℕ) → At ws bs i → drop i (nodesIn ws) ≡ nodeIn ws i ∷ drop (i + 1) (nodesIn ws)
+node-there ws bs i a = row-from (countIn ws) (region nodesPlace nodesWords ws) i (a .live)
+
+whole-read : (s : Slot) (size : ℕ) (r : Read Definition) → readDefinition (s .bytes) 0 ≡ r → isWhole size r ≡ true
+    → {E : Type 0} → ((next : ℕ) → readDefinition (s .bytes) 0 ≡ got (definitionIn s) next → E) → E
+whole-read s size (got d next) e h k = k next (e ∙ ap (λ (x : Definition). got x next) (sym (ap (valueOr noDefinition) e)))
+whole-read s size (bad q place) e h k = absurd (let z : _≡_ {A = ℕ} 0 1 = cc in omega arith)
+
+module _ (ws bs : List ℕ) (i : ℕ) (a : At ws bs i) (single : isGroup (nodeIn ws i) ≡ false) where
+  abbrev slots : List Slot
+  slots = decode ws bs .slots
+
+  abbrev slot : ℕ
+  slot = nodeIn ws i .slot
+
+  low : slot < slotCount
+  low = bounds ws bs i a .slot single
+
+  -- a synth's slot has one whole definition
+  pub held-whole : {E : Type 0} → ((next : ℕ) → readDefinition (slotBytes ws bs slot) 0 ≡ got (definitionOf slots (nodeIn ws i)) next → E) → E
+  held-whole k =
+      let formed : slotFormed slot (getD (lengthsIn ws) slot 0) (slotAt slots slot) (nodesIn ws) ≡ true =
+      rw zero-add at (slot-formed 0 slot (lengthsIn ws) slots (nodesIn ws) (rw (decoded-many ws bs) low) (a .state .slots)) in
+      let taken : slotTaken slot (slotAt slots slot) (nodesIn ws) ≡ true =
+      rw (held-at (nodesIn ws) i (nodeIn ws i) (drop (i + 1) (nodesIn ws)) (node-there ws bs i a)) (either-true (slotAt slots slot .resident)) in
+      let whole : both (leb (getD (lengthsIn ws) slot 0) sizeLimit) (isWhole (getD (lengthsIn ws) slot 0) (readDefinition (slotAt slots slot .bytes) 0)) ≡ true = rw taken at formed in
+      whole-read (slotAt slots slot) (getD (lengthsIn ws) slot 0) (readDefinition (slotAt slots slot .bytes) 0) refl (both-true (leb (getD (lengthsIn ws) slot 0) sizeLimit) _ whole .1)
+      (λ next e. k next (ap (λ (s : List ℕ). readDefinition s 0) (sym (slot-bytes ws bs slot low)) ∙ e))
+
+  -- what its bytes tell is what its definition has
+  pub held-units : unitsIn (slotBytes ws bs slot) ≡ found.At (length (definitionOf slots (nodeIn ws i) .units))
+  held-units = held-whole (λ next e. units-of (slotBytes ws bs slot) e)
+
+  pub held-name : nameIn (slotBytes ws bs slot) ≡ definitionOf slots (nodeIn ws i) .front .name
+  held-name = held-whole (λ next e. name-of (slotBytes ws bs slot) e)
+
+  pub held-first-name : (j : ℕ) → nameOfIn j (slotBytes ws bs slot) ≡ firstName j (definitionOf slots (nodeIn ws i) .front .names)
+  held-first-name j = held-whole (λ next e. first-name-of (slotBytes ws bs slot) e j)
+
+  pub held-front : definitionOf slots (nodeIn ws i) .front ≡ frontIn (slotBytes ws bs slot)
+  held-front = synth-ready ws bs (ready ws bs (a .state)) i (a .live) single .front
+
+-- a slot's bytes as a function reads them
+pub bytes-told : (ws bs : List ℕ) (i w : ℕ) → At ws bs i → w ≡ getD ws (nodesPlace + 5 * i + 3) 0
+    → take (getD ws (lengthsPlace + w) 0) (take slotRoom (drop (slotRoom * getD ws (nodesPlace + 5 * i + 3) 0) bs)) ≡ slotBytes ws bs (nodeIn ws i .slot)
+bytes-told ws bs i w a e =
+    let word = slot-word ws i (bounds ws bs i a .place) in
+    ap₂ (λ (j k : ℕ). take (getD ws (lengthsPlace + j) 0) (take slotRoom (drop (slotRoom * k) bs))) (e ∙ sym word) (sym word)
+
+pub slot-low : (ws bs : List ℕ) (i : ℕ) → At ws bs i → (getD ws (nodesPlace + 5 * i + 3) 0 ≡ groupSlot → ⊥) → getD ws (nodesPlace + 5 * i + 3) 0 < slotCount
+slot-low ws bs i a other = slot-bound (bounds ws bs i a) other

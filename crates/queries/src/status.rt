@@ -1,0 +1,95 @@
+// /status
+use controls::slot_bytes;
+use model::Answer;
+use replies::send_words;
+use synthdef::Found;
+use synthdef::units_in;
+use words::wide;
+ghost use mathlib.Core.Path.{_≡_};
+ghost use Prim.Native.Nat.{ℕ};
+ghost use lib.ListN.{length};
+ghost use Rattle.model.specs.declared.Query.the-variants as query;
+ghost use Rattle.model.specs.Layout.{wordsLength, slotCount, residentIn};
+ghost use Rattle.model.specs.Replies.{unitsOf, unitCount, groupCount};
+ghost use Rattle.state.specs.Known.{Known};
+ghost use Rattle.state.specs.Does.{Reply};
+ghost use Rattle.queries.specs.Held.{At};
+ghost use Rattle.queries.specs.Status.{kindAt, viewFrom, flagCount};
+
+// The units of the definition that a synth holds; none at a group.
+fn units_at(words: &[u32], shelf: &[u8], place: usize) -> u32
+    requires { ⌜ At (now words) (now shelf) place ⌝ }
+    ensures { λ r. ⌜ r ≡ unitsOf (kindAt (now (words .entry)) (now (shelf .entry)) place) ⌝ }
+{
+    let slot = words[68 + 5 * place + 3];
+    if slot == 32 {
+        return 0;
+    }
+    let size = words[4 + wide(slot)];
+    match units_in(slot_bytes(shelf, slot, size)) {
+        Found::At(units) => units,
+        Found::Nothing => 0,
+    }
+}
+
+// Units over live synths.
+fn unit_count(words: &[u32], shelf: &[u8]) -> usize
+    requires { ⌜ Known (now words) (now shelf) ⌝ }
+    ensures { λ r. ⌜ r ≡ unitCount (viewFrom (now (words .entry)) (now (shelf .entry)) 0) ⌝ }
+{
+    let count = wide(words[0]);
+    let mut units: usize = 0;
+    let mut i = 0;
+    while i < count {
+        let more = wide(units_at(words, shelf, i));
+        units += more;
+        i += 1;
+    }
+    units
+}
+
+// Groups with the root.
+fn group_count(words: &[u32], shelf: &[u8]) -> u32
+    requires { ⌜ Known (now words) (now shelf) ⌝ }
+    ensures { λ r. ⌜ r ≡ groupCount (viewFrom (now (words .entry)) (now (shelf .entry)) 0) ⌝ }
+{
+    let count = wide(words[0]);
+    let mut groups: u32 = 0;
+    let mut i = 0;
+    while i < count {
+        if words[68 + 5 * i + 3] == 32 {
+            groups += 1;
+        }
+        i += 1;
+    }
+    groups
+}
+
+// Residents.
+fn resident_count(words: &[u32]) -> u32
+    requires { ⌜ length (now words) ≡ wordsLength ⌝ }
+    ensures { λ r. ⌜ r ≡ flagCount slotCount (residentIn (now (words .entry))) ⌝ }
+{
+    let mut names: u32 = 0;
+    let mut i = 0;
+    while i < 32 {
+        if words[36 + i] == 1 {
+            names += 1;
+        }
+        i += 1;
+    }
+    names
+}
+
+// Units over live synths, synths, groups with the root, residents, as /status.reply.
+pub fn status_query(words: &[u32], shelf: &[u8], bytes: &[u8], out: &mut [u8]) -> Answer
+    requires { ⌜ Known (now words) (now shelf) ⌝ }
+    ensures { λ r. ⌜ Reply query.Status (now (bytes .entry)) (now (words .entry)) (now (shelf .entry)) (now (out .entry)) r (now (out .exit)) ⌝ }
+{
+    let units = unit_count(words, shelf);
+    let groups = group_count(words, shelf);
+    let synths = words[0] - groups;
+    let names = resident_count(words);
+    let told = [(units % 4294967296) as u32, synths, groups, names];
+    send_words(out, b"/status.reply", b",iiii", &told)
+}

@@ -1,0 +1,100 @@
+use Prim.Native.Nat.{_+_, _≤_}
+use mathlib.Core.Path.{_≡_, refl, sym, _∙_}
+use mathlib.Core.List.{[], _∷_}
+use native.Mathlib.Omega.{arith}
+use borrow.Author.Needs.{needs}
+use lib.ListN.{length}
+use Rattle.words.specs.Bytes.{bytes32}
+use Rattle.osc.specs.Message.{padded}
+use Rattle.osc.specs.Lengths.{padded-size}
+use Rattle.replies.specs.Words.{wordBytes, three-pieces}
+use Rattle.replies.specs.Sent.{setAddress, namedTags, wordMessage, namedMessage, named-size, sends-none, sends-all}
+use Rattle.replies.proofs.send_named.Statement.{statement}
+use Rattle.replies.proofs.send_named.Tie as tie
+
+returns : tie.Need-returns
+returns c =
+    let a = c .before .before .before .args in
+    sends-none (namedMessage (a .number) (a .name .now) (a .value)) (a .out .now) (omega (arith, named-size (a .number) (a .name .now) (a .value)))
+
+returns-2 : tie.Need-returns-2
+returns-2 c =
+    let a = c .before .before .before .before .args in
+    sends-none (namedMessage (a .number) (a .name .now) (a .value)) (a .out .now) (omega (arith, named-size (a .number) (a .name .now) (a .value)))
+
+sub-if3 : tie.Need-sub-if3
+sub-if3 c = search needs
+
+sub-if3-2 : tie.Need-sub-if3-2
+sub-if3-2 c = search needs
+
+returns-3 : tie.Need-returns-3
+returns-3 c =
+    let a = c .before .before .before .before .before .args in
+    sends-none (namedMessage (a .number) (a .name .now) (a .value)) (a .out .now) (omega (arith, named-size (a .number) (a .name .now) (a .value)))
+
+padded-length-requires : tie.Need-padded-length-requires
+padded-length-requires c κs = search needs
+
+add-end : tie.Need-add-end
+add-end c = search needs
+
+slice-aggregate-put-message : tie.Need-slice-aggregate-put-message
+slice-aggregate-put-message c = search needs
+
+slice-aggregate-put-message-2 : tie.Need-slice-aggregate-put-message-2
+slice-aggregate-put-message-2 c = search needs
+
+slice-aggregate-put-message-3 : tie.Need-slice-aggregate-put-message-3
+slice-aggregate-put-message-3 c = search needs
+
+put-message-requires : tie.Need-put-message-requires
+put-message-requires c κs = search needs
+
+put-padded-requires : tie.Need-put-padded-requires
+put-padded-requires c κs = omega (arith, padded-size (c .before .before .before .before .before .before .before .before .before .before .before .before .before .before .args .name .now))
+
+put-int-requires : tie.Need-put-int-requires
+put-int-requires c κs = search needs
+
+add-t15 : tie.Need-add-t15
+add-t15 c = search needs
+
+same-length : tie.Need-same-length
+same-length c = search needs
+
+returns-4 : tie.Need-returns-4
+unfolding wordBytes
+returns-4 c =
+    let a = c .before .before .before .before .before .before .before .before .before .before .before .before .before .before .before .before .before .before .before .before .before .args in
+    let size = length (a .name .now) in
+    let end = 20 + c .before .before .before .before .before .before .before .before .before .before .before .before .before .before .before .padded-length .result in
+    let text : c .before .before .before .before .before .before .before .before .before .before .before .before .before .before .before .padded-length .result ≡ length (padded (a .name .now)) = c .before .before .before .before .before .before .before .before .before .before .before .before .before .before .before .padded-length .ensures ∙ sym (padded-size (a .name .now)) in
+    let far : end + length (bytes32 (a .value)) ≤ length (a .out .now) = omega (arith, c .before .before .before .before .before .before .before .before .before .before .before .before .before .before .before .padded-length .ensures) in
+    sends-all (namedMessage (a .number) (a .name .now) (a .value)) (a .out .now) (end + 4) (c .before .before .put-int .last .0)
+    (omega (arith, named-size (a .number) (a .name .now) (a .value), c .before .before .before .before .before .before .before .before .before .before .before .before .before .before .before .padded-length .ensures))
+    (omega (arith, named-size (a .number) (a .name .now) (a .value), c .before .before .before .before .before .before .before .before .before .before .before .before .before .before .before .padded-length .ensures))
+    (three-pieces (wordMessage setAddress namedTags (a .number ∷ [])) (padded (a .name .now)) (bytes32 (a .value)) (a .out .now) (c .before .before .before .before .before .before .before .before .before .before .put-message .last .0) (c .before .before .before .before .before .before .put-padded .last .0) (c .before .before .put-int .last .0)
+    20 end refl (omega arith) far
+    (c .before .before .before .before .before .before .before .before .before .before .put-message .ensures) (c .before .before .before .before .before .before .put-padded .ensures) (c .before .before .put-int .ensures))
+
+pub send-named-spec : {M : Type 1} → statement M
+send-named-spec =
+    tie.close
+    (tie.spec
+    returns
+    returns-2
+    sub-if3
+    sub-if3-2
+    returns-3
+    padded-length-requires
+    add-end
+    slice-aggregate-put-message
+    slice-aggregate-put-message-2
+    slice-aggregate-put-message-3
+    put-message-requires
+    put-padded-requires
+    put-int-requires
+    add-t15
+    same-length
+    returns-4)

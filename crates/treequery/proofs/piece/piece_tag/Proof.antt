@@ -1,0 +1,52 @@
+use mathlib.Core.Path.{sym, ap}
+use borrow.Author.Needs.{needs}
+use Rattle.osc.specs.Message.{tagOf}
+use Rattle.treequery.specs.declared.piece.Piece.{Piece}
+use Rattle.treequery.specs.Pieces.{pieceArgument}
+use Rattle.treequery.proofs.piece.piece_tag.Statement.{statement}
+use Rattle.treequery.proofs.piece.piece_tag.Tie as tie
+
+enum-known-piece : tie.Need-enum-known-piece
+enum-known-piece c = search needs
+
+enum-known-piece-2 : tie.Need-enum-known-piece-2
+enum-known-piece-2 c = search needs
+
+enum-known-piece-3 : tie.Need-enum-known-piece-3
+enum-known-piece-3 c = search needs
+
+enum-told : tie.Need-enum-told
+enum-told c = search needs
+
+enum-known-piece-4 : tie.Need-enum-known-piece-4
+enum-known-piece-4 c = search needs
+
+returns : tie.Need-returns
+returns c = λ s. sym (ap (λ (p : Piece). tagOf (pieceArgument s p)) (c .before .piece .given .1))
+
+returns-2 : tie.Need-returns-2
+returns-2 c = λ s. sym (ap (λ (p : Piece). tagOf (pieceArgument s p)) (c .before .piece2 .given .1))
+
+returns-3 : tie.Need-returns-3
+returns-3 c = λ s. sym (ap (λ (p : Piece). tagOf (pieceArgument s p)) (c .before .piece3 .given .1))
+
+returns-4 : tie.Need-returns-4
+returns-4 c = λ s. sym (ap (λ (p : Piece). tagOf (pieceArgument s p)) (c .enum-told .given .1))
+
+returns-5 : tie.Need-returns-5
+returns-5 c = λ s. sym (ap (λ (p : Piece). tagOf (pieceArgument s p)) (c .before .piece4 .given .1))
+
+pub piece-tag-spec : {M : Type 1} → statement M
+piece-tag-spec =
+    tie.close
+    (tie.spec
+    enum-known-piece
+    enum-known-piece-2
+    enum-known-piece-3
+    enum-told
+    enum-known-piece-4
+    returns
+    returns-2
+    returns-3
+    returns-4
+    returns-5)

@@ -1,0 +1,58 @@
+use native.Mathlib.Omega.{arith}
+use borrow.Author.Needs.{needs}
+use Rattle.osc.specs.Lengths.{padded-size}
+use Rattle.treequery.specs.Pieces.{mappedText, digits-few, mapped-put}
+use Rattle.treequery.proofs.piece.put_mapped.Statement.{statement}
+use Rattle.treequery.proofs.piece.put_mapped.Tie as tie
+
+decimal-length-requires : tie.Need-decimal-length-requires
+decimal-length-requires c κs = search needs
+
+put-byte-requires : tie.Need-put-byte-requires
+put-byte-requires c κs = search needs
+
+add-put-decimal : tie.Need-add-put-decimal
+add-put-decimal c = search needs
+
+put-decimal-requires : tie.Need-put-decimal-requires
+put-decimal-requires c κs = record { small = c .before .before .before .before .before .before .before .pre .small; room = omega (arith, c .before .before .before .before .before .decimal-length .ensures, padded-size (mappedText (c .before .before .before .before .before .before .before .args .bus)), digits-few (c .before .before .before .before .before .before .before .args .bus)) }
+
+add-put-zeros : tie.Need-add-put-zeros
+add-put-zeros c = search needs
+
+add-put-zeros-2 : tie.Need-add-put-zeros-2
+add-put-zeros-2 c = omega (arith, c .before .before .before .before .before .before .before .before .before .decimal-length .ensures, padded-size (mappedText (c .before .before .before .before .before .before .before .before .before .before .before .args .bus)), digits-few (c .before .before .before .before .before .before .before .before .before .before .before .args .bus))
+
+add-put-zeros-3 : tie.Need-add-put-zeros-3
+add-put-zeros-3 c = omega (arith, c .before .before .before .before .before .before .before .before .before .decimal-length .ensures, padded-size (mappedText (c .before .before .before .before .before .before .before .before .before .before .before .args .bus)), digits-few (c .before .before .before .before .before .before .before .before .before .before .before .args .bus))
+
+sub-put-zeros : tie.Need-sub-put-zeros
+sub-put-zeros c = search needs
+
+put-zeros-requires : tie.Need-put-zeros-requires
+put-zeros-requires c κs = omega (arith, c .before .before .before .before .before .before .before .before .before .decimal-length .ensures, padded-size (mappedText (c .before .before .before .before .before .before .before .before .before .before .before .args .bus)), digits-few (c .before .before .before .before .before .before .before .before .before .before .before .args .bus))
+
+same-length : tie.Need-same-length
+same-length c = search needs
+
+returns : tie.Need-returns
+returns c =
+    let a = c .before .before .before .before .before .before .before .before .before .before .before .before .before .before .args in
+    mapped-put (a .bus) (a .at) (a .out .now) (c .before .before .before .before .before .before .before .before .before .before .put-byte .last .0) (c .before .before .before .before .before .before .put-decimal .last .0) (c .before .before .put-zeros .last .0) (c .before .before .before .before .before .before .before .before .before .before .before .before .decimal-length .result)
+    (c .before .before .before .before .before .before .before .before .before .before .before .before .decimal-length .ensures) (c .before .before .before .before .before .before .before .before .before .before .before .before .before .before .pre .room) (c .before .before .before .before .before .before .before .before .before .before .put-byte .ensures) (c .before .before .before .before .before .before .put-decimal .ensures) (c .before .before .put-zeros .ensures)
+
+pub put-mapped-spec : {M : Type 1} → statement M
+put-mapped-spec =
+    tie.close
+    (tie.spec
+    decimal-length-requires
+    put-byte-requires
+    add-put-decimal
+    put-decimal-requires
+    add-put-zeros
+    add-put-zeros-2
+    add-put-zeros-3
+    sub-put-zeros
+    put-zeros-requires
+    same-length
+    returns)

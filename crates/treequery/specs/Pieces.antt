@@ -1,0 +1,123 @@
+-- An argument of /g_queryTree's reply, as the code knows it: a number, a float, a name of a definition's bytes, its own name, or a bus.
+use Prim.Native.Nat.{ℕ, _+_, _-_, _/_, _%_, _≤_, _<_}
+use mathlib.Core.Bool.{Bool, true, false}
+use mathlib.Core.Path.{_≡_, refl, sym, ap, _∙_}
+use mathlib.Core.List.{List, [], _∷_, _++_}
+use native.Mathlib.Omega.{arith}
+use lib.ListN.{length, replicate, length-take, length-drop, length-replicate}
+use lib.Dec.{ltb}
+use Rattle.words.specs.Choice.{pick, both}
+use Rattle.words.specs.Parts.{region}
+use Rattle.words.specs.declared.Refusal.the-variants.{BadName}
+use Rattle.synthdef.specs.Read.{Read, got, bad, repeat}
+use Rattle.synthdef.specs.Fields.{nameBytes, pstring, definitionName, count, countTo, float32}
+use Rattle.synthdef.specs.FieldLaws.{checked-got, pstring-got}
+use Rattle.synthdef.specs.RepeatLaws.{got-value, went-on}
+use Rattle.synthdef.specs.Definition.{Front}
+use Rattle.synthdef.specs.Reader.{mostParameters, parameterName, readFront}
+use Rattle.synthdef.specs.Lookup.{onRead, nameIn}
+use Rattle.osc.specs.Message.{Argument, int, float, text, tagOf, argumentBytes, padded, decimal}
+use Rattle.osc.specs.Over.{over, over-over}
+use Rattle.osc.specs.Lengths.{padded-size}
+use Rattle.treequery.specs.declared.piece.Piece.{Piece}
+use Rattle.treequery.specs.declared.piece.Piece.the-variants.{Whole, Pattern, Part, Title, Mapped}
+
+-- "a mapped control shows 'c' and the decimal bus"
+abbrev pub mappedText : ℕ → List ℕ
+mappedText bus = 99 ∷ decimal bus
+
+abbrev pub pieceArgument : List ℕ → Piece → Argument
+pieceArgument s (Whole n) = int n
+pieceArgument s (Pattern p) = float p
+pieceArgument s (Part start end) = text (region start (end - start) s)
+pieceArgument s Title = text (nameIn s)
+pieceArgument s (Mapped bus) = text (mappedText bus)
+
+abbrev pub pieceBytes : List ℕ → Piece → List ℕ
+pieceBytes s p = argumentBytes (pieceArgument s p)
+
+-- a bus has at most four digits
+abbrev pub isSmall : Piece → Bool
+isSmall (Whole n) = true
+isSmall (Pattern p) = true
+isSmall (Part start end) = true
+isSmall Title = true
+isSmall (Mapped bus) = ltb bus 10000
+
+-- a definition's bytes
+abbrev pub mostBytes : ℕ
+mostBytes = 65536
+
+pub record Sized (s : List ℕ) (p : Piece) (size : ℕ) : Type 0 where
+  pub is : size ≡ length (pieceBytes s p)
+  pub most : size ≤ 65540
+
+pub record Puts (s : List ℕ) (p : Piece) (at : ℕ) (out : List ℕ) : Type 0 where
+  pub short : length s ≤ mostBytes
+  pub small : isSmall p ≡ true
+  pub room : at + length (pieceBytes s p) ≤ length out
+
+-- a part is no longer than the whole, and so is a name
+pub part-short : (a n : ℕ) (s : List ℕ) → length (region a n s) ≤ length s
+part-short a n s = simp (length-take, length-drop) (omega arith)
+
+name-read : (s : List ℕ) {f : Front} {next : ℕ} → readFront s 0 ≡ got f next → length (f .name) ≤ length s
+unfolding readFront
+name-read s {f} {next} h =
+    went-on (definitionName s 0) _ h (λ n p1 e1 h1.
+    went-on (count s p1) _ h1 (λ k p2 e2 h2.
+    went-on (repeat (float32 s) k p2) _ h2 (λ constants p3 e3 h3.
+    went-on (countTo mostParameters s p3) _ h3 (λ p p4 e4 h4.
+    went-on (repeat (float32 s) p p4) _ h4 (λ values p5 e5 h5.
+    went-on (count s p5) _ h5 (λ many p6 e6 h6.
+    went-on (repeat (parameterName p s) many p6) _ h6 (λ names p7 e7 h7.
+    let same : n ≡ f .name = ap (λ (x : Front). x .name) (got-value h7) in
+    let read = pstring-got s 0 (checked-got BadName (λ (l : List ℕ). both (ltb 0 (length l)) (nameBytes l)) 0 (pstring s 0) e1 .0) in
+    let short : length n ≤ length s = omega (arith, read .0, read .1 .1) in
+    rw (sym same) short)))))))
+
+name-or : (s : List ℕ) (r : Read Front) → readFront s 0 ≡ r → length (onRead r [] (λ f next. f .name)) ≤ length s
+name-or s (got f next) e = name-read s e
+name-or s (bad q place) e = omega arith
+
+pub name-short : (s : List ℕ) → length (nameIn s) ≤ length s
+name-short s = name-or s (readFront s 0) refl
+
+-- room for 'c' and a bus's digits
+pub record MappedRoom (bus at : ℕ) (out : List ℕ) : Type 0 where
+  pub small : bus < 10000
+  pub room : at + length (padded (mappedText bus)) ≤ length out
+
+pub digits-few : (n : ℕ) → length (decimal n) ≤ 4
+digits-few n = go (ltb n 10) (ltb n 100) (ltb n 1000)
+  where
+    go : (a b d : Bool) → length (pick a ((48 + n) ∷ [])
+        (pick b ((48 + n / 10) ∷ ((48 + n % 10) ∷ []))
+        (pick d ((48 + n / 100) ∷ ((48 + n / 10 % 10) ∷ ((48 + n % 10) ∷ [])))
+        ((48 + n / 1000) ∷ ((48 + n / 100 % 10) ∷ ((48 + n / 10 % 10) ∷ ((48 + n % 10) ∷ []))))))) ≤ 4
+    go true b d = omega arith
+    go false true d = omega arith
+    go false false true = omega arith
+    go false false false = omega arith
+
+-- a string's size and bytes, by what the piece is
+pub sized-text : (s : List ℕ) (p : Piece) (t : List ℕ) (n size : ℕ) → pieceArgument s p ≡ text t → n ≡ length t → length t ≤ mostBytes → size ≡ n + (4 - n % 4) → Sized s p size
+sized-text s p t n size e l few h =
+    let bytes : pieceBytes s p ≡ padded t = ap argumentBytes e in
+    let long : length (pieceBytes s p) ≡ length t + (4 - length t % 4) = ap (length {A = ℕ}) bytes ∙ padded-size t in
+    let is : size ≡ length t + (4 - length t % 4) = h ∙ ap (λ (k : ℕ). k + (4 - k % 4)) l in
+    record { is = is ∙ sym long; most = omega arith }
+
+-- the three parts of a mapped control's text
+pub mapped-put : (bus at : ℕ) (us o1 o2 o3 : List ℕ) (digits : ℕ) → digits ≡ length (decimal bus) → at + length (padded (mappedText bus)) ≤ length us
+    → o1 ≡ over at (99 ∷ []) us → o2 ≡ over (at + 1) (decimal bus) o1 → o3 ≡ over (at + 1 + digits) (replicate (4 - (1 + digits) % 4) 0) o2 → o3 ≡ over at (padded (mappedText bus)) us
+mapped-put bus at us o1 o2 o3 digits d room e1 e2 e3 =
+    let size : length (padded (mappedText bus)) ≡ length (mappedText bus) + (4 - length (mappedText bus) % 4) = padded-size (mappedText bus) in
+    let long : length (mappedText bus) ≡ 1 + digits = omega arith in
+    let zeros : length (replicate {A = ℕ} (4 - (1 + digits) % 4) 0) ≡ 4 - (1 + digits) % 4 = length-replicate (4 - (1 + digits) % 4) 0 in
+    let fits : at + (1 + digits + (4 - (1 + digits) % 4)) ≤ length us = rw (size, long) at room in
+    e3
+    ∙ ap (λ (l : List ℕ). over (at + 1 + digits) (replicate (4 - (1 + digits) % 4) 0) l)
+    (e2 ∙ ap (λ (l : List ℕ). over (at + 1) (decimal bus) l) e1 ∙ over-over at (at + 1) (99 ∷ []) (decimal bus) us refl (omega arith))
+    ∙ over-over at (at + 1 + digits) (mappedText bus) (replicate (4 - (1 + digits) % 4) 0) us (omega arith) (omega arith)
+    ∙ ap (λ (k : ℕ). over at (mappedText bus ++ replicate (4 - k % 4) 0) us) (sym long)

@@ -1,0 +1,2 @@
+// /g_queryTree, behind the state check.
+mod piece;
