@@ -1,14 +1,13 @@
 -- The row for a new synth: the lowest that is free among the nodes that stay.
 use Prim.Native.Nat.{ℕ, zero, suc, _+_, _*_, _≤_, _<_}
-use mathlib.Core.Bool.{Bool, true, false}
 use mathlib.Core.Path.{_≡_, refl, sym, ap, ap₂, _∙_}
-use mathlib.Core.List.{List, [], _∷_, _++_}
+use mathlib.Core.List.{List, _++_}
 use native.Mathlib.Omega.{arith}
-use lib.ListN.{length, take, drop, drop-of-length-le, take-append-drop}
+use lib.ListN.{length, take, drop-of-length-le, take-append-drop}
 use lib.Seq.{paste}
 use Rattle.words.specs.Choice.{pick}
 use Rattle.nodes.specs.declared.Node.{Node}
-use Rattle.nodes.specs.Table.{width, rows, fill, rows-length, fill-length, rows-fill}
+use Rattle.nodes.specs.Table.{width, rows, rows-length, fill-length, rows-fill}
 use Rattle.nodes.specs.Place.{place}
 use Rattle.nodes.specs.Edit.{cut}
 use Rattle.nodes.specs.Formed.{mostRows, rowTaken}

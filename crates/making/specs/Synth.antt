@@ -1,6 +1,6 @@
 -- /s_new: the words after it.
 use Prim.Native.Nat.{ℕ, _+_, _*_, _≤_, _<_}
-use mathlib.Core.Bool.{Bool, true, false, not}
+use mathlib.Core.Bool.{true, not}
 use mathlib.Core.Path.{_≡_, refl, sym, ap, ap₂, _∙_}
 use mathlib.Core.List.{List, [], _∷_}
 use native.Mathlib.Omega.{arith}
@@ -11,7 +11,7 @@ use Rattle.words.specs.Choice.{both, both-true}
 use Rattle.words.specs.Parts.{region, put, region-length}
 use Rattle.words.specs.declared.Refusal.{Refusal}
 use Rattle.words.specs.declared.Refusal.the-variants.{BadFlag, BadNumber, NumberLive, NoDefinition, NoNode, WrongKind, NodesFull, NoNumber}
-use Rattle.synthdef.specs.Read.{Read, got, bad}
+use Rattle.synthdef.specs.Read.{Read}
 use Rattle.synthdef.specs.Definition.{Front, Definition}
 use Rattle.nodes.specs.declared.Node.{Node}
 use Rattle.nodes.specs.Table.{rows, over}
@@ -39,13 +39,13 @@ use Rattle.keep.specs.TreeSteps.{comes}
 use Rattle.keep.specs.TreeKept.{known-sound}
 use Rattle.tree.specs.Sizes.{Leaves}
 use Rattle.tree.specs.Add as table
-use Rattle.definitions.specs.Slots.{slotsOn, slotOn, residentOn, Whole, Formed, slots-lent}
+use Rattle.definitions.specs.Slots.{slotsOn, slotOn, Whole, Formed, slots-lent}
 use Rattle.definitions.specs.Retiring.{slot-is}
 use Rattle.definitions.specs.Lent.{tableIn, formed-lent}
 use Rattle.controls.specs.Encoded.{frontIn, front-read}
 use Rattle.controls.specs.Ready.{part-word}
-use Rattle.treecommands.specs.Ready.{Ready, ready, nodeWords, words-long}
-use Rattle.treecommands.specs.Finding.{meantIn, Found}
+use Rattle.treecommands.specs.Ready.{nodeWords, words-long}
+use Rattle.treecommands.specs.Finding.{meantIn}
 use Rattle.treecommands.specs.Settle.{settled, settled-tree, nodes-size, ready-left}
 use Rattle.treecommands.specs.Adding.{same-add, after-few}
 use Rattle.making.specs.Checks.{Meant, Clear, Answers}

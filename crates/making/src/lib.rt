@@ -2,6 +2,8 @@
 mod checks;
 mod numbers;
 mod rows;
+mod step;
 mod synth;
 
+pub use step::tree_step;
 pub use synth::new_synth;

@@ -1,6 +1,4 @@
 -- `making::numbers::bad_number` meets its contract.
-use native.Mathlib.Omega.{arith}
-use borrow.Author.Needs.{needs}
 use borrow.Author.Tests.{le-leb, lt-leb}
 use Rattle.making.proofs.numbers.bad_number.Statement.{statement}
 use Rattle.making.proofs.numbers.bad_number.Tie as tie

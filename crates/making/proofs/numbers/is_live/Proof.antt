@@ -1,5 +1,4 @@
 -- `making::numbers::is_live` meets its contract: a search along the table.
-use native.Mathlib.Omega.{arith}
 use borrow.Author.Needs.{needs}
 use borrow.Author.Tests.{eq-eqb, ne-eqb}
 use Rattle.making.specs.Checks.{lives-found}

@@ -1,6 +1,4 @@
 -- `making::numbers::is_spent` meets its contract.
-use native.Mathlib.Omega.{arith}
-use borrow.Author.Needs.{needs}
 use borrow.Author.Tests.{eq-eqb, ne-eqb}
 use Rattle.making.proofs.numbers.is_spent.Statement.{statement}
 use Rattle.making.proofs.numbers.is_spent.Tie as tie

@@ -1,5 +1,4 @@
 -- `making::numbers::next_after` meets its contract.
-use native.Mathlib.Omega.{arith}
 use borrow.Author.Needs.{needs}
 use borrow.Author.Tests.{eq-eqb, ne-eqb}
 use Rattle.making.proofs.numbers.next_after.Statement.{statement}

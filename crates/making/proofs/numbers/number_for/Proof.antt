@@ -1,6 +1,4 @@
 -- `making::numbers::number_for` meets its contract.
-use native.Mathlib.Omega.{arith}
-use borrow.Author.Needs.{needs}
 use borrow.Author.Tests.{eq-eqb, ne-eqb}
 use Rattle.making.proofs.numbers.number_for.Statement.{statement}
 use Rattle.making.proofs.numbers.number_for.Tie as tie

@@ -1,9 +1,7 @@
 -- `making::rows::row_without` meets its contract: the row is free among what is left in a copy of the region.
 use native.Mathlib.Omega.{arith}
 use borrow.Author.Needs.{needs}
-use mathlib.Core.Path.{_≡_, sym, ap, _∙_}
-use lib.ListN.{length}
-use Rattle.nodes.specs.Table.{rows}
+use mathlib.Core.Path.{sym, _∙_}
 use Rattle.making.specs.Rows.{left-sized, free-left}
 use Rattle.making.proofs.rows.row_without.Statement.{statement}
 use Rattle.making.proofs.rows.row_without.Tie as tie

@@ -1,11 +1,11 @@
 -- `making::synth::new_synth` meets its contract: the checks' refusal, or the new synth.
 use native.Mathlib.Omega.{arith}
 use borrow.Author.Needs.{needs}
-use mathlib.Core.Path.{_≡_, sym, _∙_}
+use mathlib.Core.Path.{_≡_}
 use Rattle.treecommands.specs.declared.group.Spot.the-variants as spot
 use Rattle.treecommands.specs.Ready.{ready}
 use Rattle.making.specs.Checks.{Clear, Answers}
-use Rattle.making.specs.Synth.{Ground, Fit, synth-refused, meant-lent, table-formed}
+use Rattle.making.specs.Synth.{synth-refused, meant-lent, table-formed}
 use Rattle.making.proofs.synth.new_synth.Statement.{statement}
 use Rattle.making.proofs.synth.new_synth.Tie as tie
 
