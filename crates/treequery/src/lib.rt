@@ -1,2 +1,3 @@
 // /g_queryTree, behind the state check.
 mod piece;
+mod row;

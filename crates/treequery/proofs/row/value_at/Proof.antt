@@ -1,0 +1,86 @@
+use Prim.Native.Nat.{ℕ, _+_, _*_}
+use mathlib.Core.Path.{_≡_, ap₂, subst, _∙_}
+use native.Mathlib.Omega.{arith}
+use borrow.Author.Needs.{needs}
+use lib.ListN.{getD}
+use Rattle.values.specs.Controls.{ControlValue, controlAt, seen}
+use Rattle.model.specs.Layout.{controlsIn}
+use Rattle.controls.specs.Asked.{controlIn}
+use Rattle.treequery.specs.RowPlaces.{Shown}
+use Rattle.treequery.proofs.row.value_at.Statement.{statement}
+use Rattle.treequery.proofs.row.value_at.Tie as tie
+
+sub-controls : tie.Need-sub-controls
+sub-controls c = search needs
+
+part-controls-start : tie.Need-part-controls-start
+part-controls-start c = search needs
+
+part-controls-end : tie.Need-part-controls-end
+part-controls-end c = search needs
+
+wide-requires : tie.Need-wide-requires
+wide-requires c κs = search needs
+
+mul-at : tie.Need-mul-at
+mul-at c = search needs
+
+wide-requires-2 : tie.Need-wide-requires-2
+wide-requires-2 c κs = search needs
+
+mul-at-2 : tie.Need-mul-at-2
+mul-at-2 c = search needs
+
+add-at : tie.Need-add-at
+add-at c = search needs
+
+mul-from-words : tie.Need-mul-from-words
+mul-from-words c = search needs
+
+shared-slice-read-from-words : tie.Need-shared-slice-read-from-words
+shared-slice-read-from-words c = search needs
+
+add-from-words : tie.Need-add-from-words
+add-from-words c = search needs
+
+mul-from-words-2 : tie.Need-mul-from-words-2
+mul-from-words-2 c = search needs
+
+shared-slice-read-from-words-2 : tie.Need-shared-slice-read-from-words-2
+shared-slice-read-from-words-2 c = search needs
+
+from-words-requires : tie.Need-from-words-requires
+from-words-requires c κs = search needs
+
+shown-piece-requires : tie.Need-shown-piece-requires
+shown-piece-requires c κs = search needs
+
+returns : tie.Need-returns
+returns c =
+    let a = c .before .before .before .before .before .before .before .before .args in
+    let cs = controlsIn (a .words .now) in
+    let control : seen (c .before .from-words .result) ≡ controlIn cs (a .row) (a .index) =
+    c .before .from-words .ensures .value
+    ∙ ap₂ (λ (x y : ℕ). controlAt (getD cs (64 * x + 2 * y) 0) (getD cs (64 * x + 2 * y + 1) 0)) (c .before .before .before .before .before .wide .ensures) (c .before .before .before .before .wide2 .ensures) in
+    subst (λ (v : ControlValue). Shown v (c .shown-piece .result)) control (c .shown-piece .ensures)
+
+pub value-at-spec : {M : Type 1} → statement M
+value-at-spec =
+    tie.close
+    (tie.spec
+    sub-controls
+    part-controls-start
+    part-controls-end
+    wide-requires
+    mul-at
+    wide-requires-2
+    mul-at-2
+    add-at
+    mul-from-words
+    shared-slice-read-from-words
+    add-from-words
+    mul-from-words-2
+    shared-slice-read-from-words-2
+    from-words-requires
+    shown-piece-requires
+    returns)

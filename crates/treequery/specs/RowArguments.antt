@@ -1,0 +1,187 @@
+-- The arguments of one row of /g_queryTree's reply, by their places.
+use Prim.Native.Nat.{ℕ, zero, suc, _+_, _*_, _-_, _/_, _%_, _≤_, _<_}
+use mathlib.Core.Bool.{Bool, true, false}
+use mathlib.Core.Path.{_≡_, refl, sym, ap, ap₂, _∙_}
+use mathlib.Core.List.{List, [], _∷_, _++_, nil≢cons, head-eq-of-cons-eq}
+use mathlib.Core.Option.{Option, none, some}
+use native.Mathlib.Omega.{arith}
+use lib.ListN.{length, take, drop, getD, length-take}
+use lib.Seq.{getD-drop}
+use lib.Dec.{ltb, leb, eqb}
+use borrow.Author.Tests.{lt-ltb, leb-true}
+use Rattle.words.specs.Choice.{pick, both-true}
+use Rattle.words.specs.Parts.{region}
+use Rattle.synthdef.specs.Definition.{ParameterName, Front, Definition}
+use Rattle.synthdef.specs.declared.lookup.NameFound.{NameFound}
+use Rattle.synthdef.specs.declared.lookup.NameFound.the-variants as named
+use Rattle.synthdef.specs.Lookup.{firstOf, partOf, nameOfIn}
+use Rattle.synthdef.specs.Lookup as lookup
+use Rattle.nodes.specs.declared.Node.{Node}
+use Rattle.nodes.specs.Table.{rows, nodeFrom, row-from, rows-end}
+use Rattle.nodes.specs.Place.{groupSlot, isGroup}
+use Rattle.nodes.specs.Structure.{noNode}
+use Rattle.osc.specs.Message.{Argument, int, float, text}
+use Rattle.values.specs.declared.Mapping.{Mapping}
+use Rattle.values.specs.declared.Mapping.the-variants.{Unmapped, Bus}
+use Rattle.values.specs.declared.Control.{Control}
+use Rattle.values.specs.Controls.{ControlValue, controlAt, mappingOf, seen}
+use Rattle.model.specs.Layout.{busCount, slotRoom, rowWords, countIn, nodesIn, nodesPlace, nodesWords, controlsIn}
+use Rattle.model.specs.Engine.{Slot, decode, definitionOf, controlsFrom, controlsOf, firstName}
+use Rattle.model.specs.View.{Kind, group, synth, Row, viewRows}
+use Rattle.model.specs.Formed.{mappingsFormed, controlsFormed}
+use Rattle.model.specs.Replies.{mappingArgument, labelArgument, controlArguments, flagged, kindArguments, rowsBelow, rowsAt, treeArguments, noControl}
+use Rattle.state.specs.Known.{Known}
+use Rattle.controls.specs.Encoded.{frontIn, values-few}
+use Rattle.controls.specs.Ready.{nodeIn, slotBytes}
+use Rattle.controls.specs.Asked.{controlIn, control-in}
+use Rattle.queries.specs.Held.{At, node-there, held-front, held-name, held-first-name}
+use Rattle.queries.specs.Status.{kindAt}
+use Rattle.treequery.specs.declared.piece.Piece.{Piece}
+use Rattle.treequery.specs.declared.piece.Piece.the-variants.{Whole, Pattern, Part, Title, Mapped}
+use Rattle.treequery.specs.Pieces.{pieceArgument, isSmall, mostBytes}
+
+-- the rows from one place to another, as the plain tree knows them
+abbrev pub viewTo : List ℕ → List ℕ → ℕ → ℕ → List Row
+viewTo ws bs end i = viewRows (decode ws bs .slots) (controlsIn ws) (drop i (rows end (region nodesPlace nodesWords ws)))
+
+abbrev pub depthAt : List ℕ → ℕ → ℕ
+depthAt ws i = nodeIn ws i .depth
+
+-- the children of the node at the place i
+abbrev pub childrenAt : List ℕ → List ℕ → ℕ → ℕ → ℕ
+childrenAt ws bs end i = rowsAt (depthAt ws i + 1) (rowsBelow (depthAt ws i) (viewTo ws bs end (i + 1)))
+
+unfoldable pub rowArguments : Bool → List ℕ → List ℕ → ℕ → ℕ → List Argument
+rowArguments shown ws bs end i = int (nodeIn ws i .number) ∷ kindArguments shown (childrenAt ws bs end i) (kindAt ws bs i)
+
+-- all rows from a place on: its own, and the rest
+pub rows-turn : (shown : Bool) (ws bs : List ℕ) (end i : ℕ) → i < end
+    → treeArguments shown (viewTo ws bs end i) ≡ rowArguments shown ws bs end i ++ treeArguments shown (viewTo ws bs end (i + 1))
+unfolding treeArguments viewRows rowArguments
+rows-turn shown ws bs end i h =
+    ap (λ (t : List Node). treeArguments shown (viewRows (decode ws bs .slots) (controlsIn ws) t)) (row-from end (region nodesPlace nodesWords ws) i h)
+
+pub rows-none : (shown : Bool) (ws bs : List ℕ) (end i : ℕ) → end ≤ i → treeArguments shown (viewTo ws bs end i) ≡ []
+unfolding treeArguments viewRows
+rows-none shown ws bs end i h =
+    ap (λ (t : List Node). treeArguments shown (viewRows (decode ws bs .slots) (controlsIn ws) t)) (rows-end end (region nodesPlace nodesWords ws) i h)
+
+-- the bytes of the definition of a row's synth; none at a group
+unfoldable pub rowBytes : List ℕ → List ℕ → ℕ → List ℕ
+rowBytes ws bs i = pick (isGroup (nodeIn ws i)) [] (slotBytes ws bs (nodeIn ws i .slot))
+
+pub bytes-group : (ws bs : List ℕ) (i : ℕ) → isGroup (nodeIn ws i) ≡ true → [] ≡ rowBytes ws bs i
+unfolding rowBytes
+bytes-group ws bs i h = rw h
+
+pub bytes-synth : (ws bs : List ℕ) (i : ℕ) → isGroup (nodeIn ws i) ≡ false → slotBytes ws bs (nodeIn ws i .slot) ≡ rowBytes ws bs i
+unfolding rowBytes
+bytes-synth ws bs i h = rw h
+
+slot-few : (ws bs : List ℕ) (k : ℕ) → length (slotBytes ws bs k) ≤ mostBytes
+slot-few ws bs k = simp length-take (omega arith)
+
+pub bytes-few : (ws bs : List ℕ) (i : ℕ) → length (rowBytes ws bs i) ≤ mostBytes
+unfolding rowBytes
+bytes-few ws bs i = go (isGroup (nodeIn ws i))
+  where
+    go : (b : Bool) → length (pick b [] (slotBytes ws bs (nodeIn ws i .slot))) ≤ mostBytes
+    go true = omega arith
+    go false = slot-few ws bs (nodeIn ws i .slot)
+
+-- a row of the part of the table that is shown, with its definition's bytes
+pub record RowOf (ws bs definition : List ℕ) (end i : ℕ) : Type 0 where
+  pub at : At ws bs i
+  pub inside : i < end
+  pub ends : end ≤ countIn ws
+  pub bytes : definition ≡ rowBytes ws bs i
+
+-- the arguments of a group's row, and of a synth's
+module _ (shown : Bool) (ws bs : List ℕ) (end i : ℕ) where
+  pub row-first : getD (rowArguments shown ws bs end i) 0 (int 0) ≡ int (nodeIn ws i .number)
+  unfolding rowArguments
+  row-first = refl
+
+  pub row-group : isGroup (nodeIn ws i) ≡ true → rowArguments shown ws bs end i ≡ int (nodeIn ws i .number) ∷ (int (childrenAt ws bs end i) ∷ [])
+  unfolding rowArguments
+  row-group h = rw h
+
+  abbrev d : Definition
+  d = definitionOf (decode ws bs .slots) (nodeIn ws i)
+
+  abbrev cs : List ControlValue
+  cs = controlsOf (decode ws bs .slots) (controlsIn ws) (nodeIn ws i)
+
+  pub row-synth : isGroup (nodeIn ws i) ≡ false → rowArguments shown ws bs end i ≡ int (nodeIn ws i .number) ∷ (int noNode ∷ (text (d .front .name) ∷ flagged shown d cs))
+  unfolding rowArguments
+  row-synth h = rw h
+
+-- as many controls as were asked for
+pub controls-many : (n : ℕ) (us : List ℕ) → length (controlsFrom n us) ≡ n
+unfolding controlsFrom
+controls-many zero us = refl
+controls-many (suc n) us = ap suc (controls-many n (drop 2 us))
+
+pub controls-length : (i : ℕ) (names : List ParameterName) (l : List ControlValue) → length (controlArguments i names l) ≡ 2 * length l
+unfolding controlArguments
+controls-length i names [] = refl
+controls-length i names (c ∷ l) = let e : length (controlArguments (i + 1) names l) ≡ 2 * length l = controls-length (i + 1) names l in omega arith
+
+pub label-place : (i j : ℕ) (names : List ParameterName) (l : List ControlValue) → j < length l → getD (controlArguments i names l) (2 * j) (int 0) ≡ labelArgument (firstName (i + j) names) (i + j)
+unfolding controlArguments
+label-place i j names [] h = absurd (omega arith)
+label-place i zero names (c ∷ l) h = let e : i + 0 ≡ i = omega arith in rw e
+label-place i (suc j) names (c ∷ l) h =
+    let on : i + 1 + j ≡ i + suc j = omega arith in
+    let two : 2 * suc j ≡ suc (suc (2 * j)) = omega arith in
+    rw two (label-place (i + 1) j names l (omega arith) ∙ ap (λ (k : ℕ). labelArgument (firstName k names) k) on)
+
+pub value-place : (i j : ℕ) (names : List ParameterName) (l : List ControlValue) → j < length l
+    → getD (controlArguments i names l) (2 * j + 1) (int 0) ≡ mappingArgument (getD l j noControl .mapping) (getD l j noControl .own)
+unfolding controlArguments
+value-place i j names [] h = absurd (omega arith)
+value-place i zero names (c ∷ l) h = refl
+value-place i (suc j) names (c ∷ l) h =
+    let two : 2 * suc j + 1 ≡ suc (suc (2 * j + 1)) = omega arith in
+    rw two (value-place (i + 1) j names l (omega arith))
+
+-- a lookup's first name is the model's
+pub first-same : (i : ℕ) (names : List ParameterName) → lookup.firstName i names ≡ firstName i names
+unfolding firstOf firstName
+first-same i [] = refl
+first-same i (p ∷ names) = ap (λ (o : Option (List ℕ)). pick (eqb (p .index) i) (some (p .name)) o) (first-same i names)
+
+label-found : (s : List ℕ) (j : ℕ) (f : NameFound) (p : Piece) → (o : Option (List ℕ)) → partOf s f ≡ o → pieceArgument s p ≡ labelArgument (partOf s f) j → pieceArgument s p ≡ labelArgument o j
+label-found s j f p o e h = h ∙ ap (λ (x : Option (List ℕ)). labelArgument x j) e
+
+-- a mapping word of a synth's own controls is at most 4,096
+mapping-few : (n j : ℕ) (us : List ℕ) → j < n → mappingsFormed n us ≡ true → getD us (2 * j + 1) 0 ≤ busCount
+unfolding mappingsFormed
+mapping-few zero j us h f = absurd (omega arith)
+mapping-few (suc n) zero us h f = leb-true (getD us 1 0) busCount (both-true (leb (getD us 1 0) busCount) _ f .0)
+mapping-few (suc n) (suc j) us h f =
+    let on : 2 + (2 * j + 1) ≡ 2 * suc j + 1 = omega arith in
+    let same : getD (drop 2 us) (2 * j + 1) 0 ≡ getD us (2 * suc j + 1) 0 = getD-drop 2 us (2 * j + 1) 0 ∙ ap (λ (k : ℕ). getD us k 0) on in
+    rw same at (mapping-few n j (drop 2 us) (omega arith) (both-true (leb (getD us 1 0) busCount) _ f .1))
+
+formed-at : (slots : List Slot) (controls : List ℕ) (t : List Node) (i : ℕ) (r : Node) (rest : List Node) → drop i t ≡ r ∷ rest → controlsFormed slots controls t ≡ true
+    → pick (isGroup r) true (mappingsFormed (length (definitionOf slots r .front .values)) (drop (rowWords * r .row) controls)) ≡ true
+unfolding controlsFormed
+formed-at slots controls [] zero r rest e h = absurd (nil≢cons e)
+formed-at slots controls [] (suc i) r rest e h = absurd (nil≢cons e)
+formed-at slots controls (x ∷ t) zero r rest e h =
+    ap (λ (y : Node). pick (isGroup y) true (mappingsFormed (length (definitionOf slots y .front .values)) (drop (rowWords * y .row) controls))) (sym (head-eq-of-cons-eq e))
+    ∙ both-true (pick (isGroup x) true (mappingsFormed (length (definitionOf slots x .front .values)) (drop (rowWords * x .row) controls))) _ h .0
+formed-at slots controls (x ∷ t) (suc i) r rest e h =
+    formed-at slots controls t i r rest e (both-true (pick (isGroup x) true (mappingsFormed (length (definitionOf slots x .front .values)) (drop (rowWords * x .row) controls))) _ h .1)
+
+pub mapping-low : (ws bs : List ℕ) (i j : ℕ) → At ws bs i → isGroup (nodeIn ws i) ≡ false → j < length (definitionOf (decode ws bs .slots) (nodeIn ws i) .front .values)
+    → getD (controlsIn ws) (rowWords * nodeIn ws i .row + 2 * j + 1) 0 ≤ busCount
+mapping-low ws bs i j a single h =
+    let slots = decode ws bs .slots in
+    let formed : mappingsFormed (length (definitionOf slots (nodeIn ws i) .front .values)) (drop (rowWords * nodeIn ws i .row) (controlsIn ws)) ≡ true =
+    rw single at (formed-at slots (controlsIn ws) (nodesIn ws) i (nodeIn ws i) (drop (i + 1) (nodesIn ws)) (node-there ws bs i a) (a .state .controls)) in
+    let on : rowWords * nodeIn ws i .row + (2 * j + 1) ≡ rowWords * nodeIn ws i .row + 2 * j + 1 = omega arith in
+    let same : getD (drop (rowWords * nodeIn ws i .row) (controlsIn ws)) (2 * j + 1) 0 ≡ getD (controlsIn ws) (rowWords * nodeIn ws i .row + 2 * j + 1) 0 =
+    getD-drop (rowWords * nodeIn ws i .row) (controlsIn ws) (2 * j + 1) 0 ∙ ap (λ (k : ℕ). getD (controlsIn ws) k 0) on in
+    rw same at (mapping-few (length (definitionOf slots (nodeIn ws i) .front .values)) j (drop (rowWords * nodeIn ws i .row) (controlsIn ws)) h formed)
