@@ -2,10 +2,11 @@
 
 mod check;
 
+use cli::play;
 use std::env;
 use std::process::ExitCode;
 
-const USAGE: &str = "usage: limudvek check FILE...";
+const USAGE: &str = "usage: limudvek check FILE...\n       limudvek play FILE";
 
 /// The exit status where a file can't be read, where none is named, and for a bad command.
 const UNREADABLE: u8 = 2;
@@ -16,6 +17,7 @@ fn main() -> ExitCode {
     let rest: Vec<_> = words.collect();
     match command.as_ref().and_then(|word| word.to_str()) {
         Some("check") if !rest.is_empty() => check::run(&rest),
+        Some("play") if rest.len() == 1 => play::file(&rest[0], &mut engine::Engine::new()),
         _ => {
             eprintln!("{USAGE}");
             ExitCode::from(UNREADABLE)

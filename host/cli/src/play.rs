@@ -31,6 +31,19 @@ pub trait Door {
     fn words(&self) -> &[u32];
 }
 
+impl Door for engine::Engine {
+    fn apply(&mut self, op: u32, numbers: [u32; 5], bytes: &[u8], reply: &mut [u8]) -> u64 {
+        match self.apply(op, numbers, bytes, reply) {
+            Ok(length) => 256 * length as u64,
+            Err(refused) => u64::from(refused.number) + 256 * refused.place,
+        }
+    }
+
+    fn words(&self) -> &[u32] {
+        self.words()
+    }
+}
+
 /// Plays a file to standard output.
 pub fn file(name: &OsStr, door: &mut impl Door) -> ExitCode {
     let script = match fs::read(name) {

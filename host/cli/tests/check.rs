@@ -252,7 +252,10 @@ fn other_words_get_the_usage() {
         let (status, out, err) = folder.run(words);
         assert_eq!(status, 2, "{words:?}");
         assert_eq!(out, "");
-        assert_eq!(err, "usage: limudvek check FILE...\n");
+        assert_eq!(
+            err,
+            "usage: limudvek check FILE...\n       limudvek play FILE\n"
+        );
     }
     let (status, out) = folder.check(&["check"]);
     assert_eq!(out, "check: accepted, 0 definitions\n");

@@ -1,10 +1,13 @@
-//! `play` on the independent engine.
+//! `play` on the independent engine and, as the built program, on the proved one.
 
 use cli::play::{play, Door};
 use independent::engine::packed;
 use independent::{layout, Call, Engine};
 use std::fs;
 use std::path::Path;
+use std::process::Command;
+
+const PROGRAM: &str = env!("CARGO_BIN_EXE_limudvek");
 
 /// The independent engine, with its state as words.
 struct Independent {
@@ -198,5 +201,51 @@ fn every_command_has_its_kind() {
         "/status: ok\n  /status.reply 0 0 1 0\ntree: ok\n  0 group\n  running:\n",
     ] {
         assert!(text.contains(replies), "{replies}\nis not in\n{text}");
+    }
+}
+
+/// Runs the program from another folder. Answers the exit status and both outputs.
+fn program(words: &[&std::ffi::OsStr]) -> (i32, String, String) {
+    let output = Command::new(PROGRAM)
+        .arg("play")
+        .args(words)
+        .current_dir(env!("CARGO_TARGET_TMPDIR"))
+        .output()
+        .expect("the program runs");
+    (
+        output.status.code().expect("the program exits"),
+        String::from_utf8(output.stdout).expect("it prints text"),
+        String::from_utf8(output.stderr).expect("it prints text"),
+    )
+}
+
+#[test]
+fn the_program_plays_the_evening() {
+    let script = examples().join("evening.txt");
+    let kept = fs::read_to_string(examples().join("evening.out")).expect("its output");
+    let played = program(&[script.as_os_str()]);
+    assert_eq!(played, (0, kept, String::new()));
+}
+
+#[test]
+fn the_program_says_what_it_cannot_read() {
+    let folder = Path::new(env!("CARGO_TARGET_TMPDIR"));
+    let script = folder.join(format!("play-{}.txt", std::process::id()));
+    fs::write(&script, "/quit\n/status\n").expect("a script");
+    let (status, out, err) = program(&[script.as_os_str()]);
+    fs::remove_file(&script).expect("it is there");
+    assert_eq!(status, 1);
+    assert_eq!(
+        out,
+        "line 1: /quit is no command\n/status: ok\n  /status.reply 0 0 1 0\n"
+    );
+    assert_eq!(err, "");
+    let (status, out, err) = program(&["no such script".as_ref()]);
+    assert_eq!((status, out.as_str()), (2, ""));
+    assert!(err.starts_with("limudvek: no such script: "), "{err}");
+    for words in [vec![], vec!["one".as_ref(), "two".as_ref()]] {
+        let (status, out, err) = program(&words);
+        assert_eq!((status, out.as_str()), (2, ""));
+        assert!(err.starts_with("usage: "), "{err}");
     }
 }

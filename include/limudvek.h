@@ -1,0 +1,77 @@
+/* The proved static libraries for C: libsynthdef.a and libengine.a, which `rt staticlib synthdef`
+ * and `rt staticlib engine` write to target/staticlib/.
+ *
+ * A run passes as a pointer to its first element and its length in elements. The pointer is not
+ * null, also where the length is 0, and runs that are written lie apart from all others. Nothing is
+ * kept from one call to the next but in the runs that the caller lends. Integers pass as their
+ * 32-bit patterns, floats as theirs. */
+
+#ifndef LIMUDVEK_H
+#define LIMUDVEK_H
+
+#include <stddef.h>
+#include <stdint.h>
+
+#ifdef __cplusplus
+extern "C" {
+#endif
+
+/* SynthDef2 files. */
+
+/* The refusal's number (2 to 11), or 0 where the file is accepted. */
+uint32_t synthdef_refusal(const uint8_t *file, size_t length);
+
+/* The place of the first byte at fault, or 0 where the file is accepted. */
+uint64_t synthdef_place(const uint8_t *file, size_t length);
+
+/* How many definitions an accepted file has; 0 where it is refused. */
+uint32_t synthdef_count(const uint8_t *file, size_t length);
+
+/* Where a definition's name starts in the file and where it ends, counted from definition 0; both 0
+ * where there is no such definition. */
+uint64_t synthdef_name_start(const uint8_t *file, size_t length, uint32_t index);
+uint64_t synthdef_name_end(const uint8_t *file, size_t length, uint32_t index);
+
+/* The engine. It lives in two lent runs, which docs/LAYOUT.md describes. */
+
+/* The lengths of the runs, in words and in bytes. */
+uint64_t engine_words(void);
+uint64_t engine_shelf(void);
+
+/* Makes a fresh engine of the two runs. Answers 0, or 1 where a length is wrong. */
+uint32_t engine_fresh(uint32_t *words, size_t words_length, uint8_t *shelf, size_t shelf_length);
+
+/* Does a command, or refuses it and changes nothing. Answers the refusal's number, 0 where it was
+ * accepted, plus 256 times the place (refusals 2 to 11) or the length that was written to the reply
+ * (queries and export). An op that is none of these, or a value's kind d other than 0 and 1, answers
+ * 255 and changes nothing.
+ *
+ *    1 /d_recv       bytes: the file         15 /n_fill       a, index b, count c, value d e
+ *    2 /d_free       bytes: the name         16 /n_fill       a, bytes: the name, count c, value d e
+ *    3 /s_new        bytes: the name,        17 /n_map        a, index b, bus c
+ *                    a number, b action,     18 /n_map        a, bytes: the name, bus c
+ *                    c target                19 /c_set        bus a, value d e
+ *    4 /g_new        a, b, c                 20 /c_fill       start a, count c, value d e
+ *    5 /n_free       a                       21 /s_get        a, index b
+ *    6 /g_freeAll    a                       22 /s_get        a, bytes: the name
+ *    7 /g_deepFree   a                       23 /c_get        a
+ *    8 /n_before     a b                     24 /n_query      a
+ *    9 /n_after      a b                     25 /g_queryTree  a, flag b
+ *   10 /g_head       a b                     26 /status
+ *   11 /g_tail       a b                     27 export
+ *   12 /n_run        a, flag b
+ *   13 /n_set        a, index b, value d e
+ *   14 /n_set        a, bytes: the name, value d e
+ *
+ * A value is a float's pattern in e where d is 0, an integer in e where d is 1. */
+uint64_t engine_apply(uint32_t op, uint32_t a, uint32_t b, uint32_t c, uint32_t d, uint32_t e,
+                      const uint8_t *bytes, size_t bytes_length,
+                      uint32_t *words, size_t words_length,
+                      uint8_t *shelf, size_t shelf_length,
+                      uint8_t *reply, size_t reply_length);
+
+#ifdef __cplusplus
+}
+#endif
+
+#endif
