@@ -15,7 +15,7 @@ use Rattle.replies.specs.Words.{over-none}
 use Rattle.state.specs.Known.{Known}
 use Rattle.treequery.specs.declared.piece.Piece.{Piece}
 use Rattle.treequery.specs.Pieces.{pieceArgument, pieceBytes, mostBytes}
-use Rattle.treequery.specs.RowArguments.{rowArguments, viewTo, rows-turn, rows-none, RowOf, bytes-few}
+use Rattle.treequery.specs.RowArguments.{rowArguments, viewTo, rows-turn, rows-none, RowOf, rowBytes, bytes-few}
 
 -- bytes written from a place on, and the place behind them
 pub record Wrote (at : ℕ) (bytes out : List ℕ) (next : ℕ) (out′ : List ℕ) : Type 0 where
@@ -127,3 +127,19 @@ module _ (args : List Argument) (k : ℕ) (s : List ℕ) (p : Piece) (h : k < le
 -- a row's definition is short
 pub row-short : (ws bs definition : List ℕ) (end i : ℕ) → RowOf ws bs definition end i → length definition ≤ mostBytes
 row-short ws bs definition end i r = rw (r .bytes) (bytes-few ws bs i)
+
+-- a row of such a run
+pub run-row : (ws bs definition : List ℕ) (from end i : ℕ) → Run ws bs from end → i < end → definition ≡ rowBytes ws bs i → RowOf ws bs definition end i
+run-row ws bs definition from end i r h e = record {
+  at = record { state = r .state; live = omega (arith, r .ends) };
+  inside = h;
+  ends = r .ends;
+  bytes = e;
+}
+
+module _ (shown : Bool) (ws bs : List ℕ) (end i : ℕ) (h : i < end) where
+  pub row-bytes-size : length (arguments (leftRows shown ws bs end i)) ≡ length (arguments (rowArguments shown ws bs end i)) + length (arguments (leftRows shown ws bs end (i + 1)))
+  row-bytes-size = ap (length {A = ℕ}) (row-bytes-turn shown ws bs end i h) ∙ length-append (arguments (rowArguments shown ws bs end i)) (arguments (leftRows shown ws bs end (i + 1)))
+
+  pub row-tags-size : length (tags (leftRows shown ws bs end i)) ≡ length (tags (rowArguments shown ws bs end i)) + length (tags (leftRows shown ws bs end (i + 1)))
+  row-tags-size = ap (length {A = ℕ}) (row-tags-turn shown ws bs end i h) ∙ length-append (tags (rowArguments shown ws bs end i)) (tags (leftRows shown ws bs end (i + 1)))

@@ -90,3 +90,81 @@ fn put_row_arguments(
     }
     next
 }
+
+// How many arguments the rows have.
+pub fn tree_tags(words: &[u32], shelf: &[u8], shown: bool, from: usize, end: usize) -> usize
+    requires { ⌜ Run (now words) (now shelf) from end ⌝ }
+    ensures { λ r. ⌜ (r ≡ length (tags (leftRows shown (now (words .entry)) (now (shelf .entry)) end from))) × (r ≤ 17408) ⌝ }
+{
+    let mut many: usize = 0;
+    let mut i = from;
+    while i < end {
+        let definition = row_definition(words, shelf, i);
+        let more = row_length(words, shelf, definition, shown, end, i);
+        many += more;
+        i += 1;
+    }
+    many
+}
+
+// How many bytes their arguments have.
+pub fn tree_bytes(words: &[u32], shelf: &[u8], shown: bool, from: usize, end: usize) -> usize
+    requires { ⌜ Run (now words) (now shelf) from end ⌝ }
+    ensures { λ r. ⌜ (r ≡ length (arguments (leftRows shown (now (words .entry)) (now (shelf .entry)) end from))) × (r ≤ mostRow * 256) ⌝ }
+{
+    let mut bytes: usize = 0;
+    let mut i = from;
+    while i < end {
+        let definition = row_definition(words, shelf, i);
+        let more = row_bytes(words, shelf, definition, shown, end, i);
+        bytes += more;
+        i += 1;
+    }
+    bytes
+}
+
+// The rows' tags, at a place.
+pub fn put_tree_tags(
+    out: &mut [u8],
+    at: usize,
+    words: &[u32],
+    shelf: &[u8],
+    shown: bool,
+    from: usize,
+    end: usize,
+) -> usize
+    requires { ⌜ (Run (now words) (now shelf) from end) × (at + length (tags (leftRows shown (now words) (now shelf) end from)) ≤ length (now out)) ⌝ }
+    ensures { λ r. ⌜ Wrote at (tags (leftRows shown (now (words .entry)) (now (shelf .entry)) end from)) (now (out .entry)) r (now (out .exit)) ⌝ }
+{
+    let mut next = at;
+    let mut i = from;
+    while i < end {
+        let definition = row_definition(words, shelf, i);
+        next = put_row_tags(out, next, words, shelf, definition, shown, end, i);
+        i += 1;
+    }
+    next
+}
+
+// The rows' arguments, at a place.
+pub fn put_tree_arguments(
+    out: &mut [u8],
+    at: usize,
+    words: &[u32],
+    shelf: &[u8],
+    shown: bool,
+    from: usize,
+    end: usize,
+) -> usize
+    requires { ⌜ (Run (now words) (now shelf) from end) × (at + length (arguments (leftRows shown (now words) (now shelf) end from)) ≤ length (now out)) ⌝ }
+    ensures { λ r. ⌜ Wrote at (arguments (leftRows shown (now (words .entry)) (now (shelf .entry)) end from)) (now (out .entry)) r (now (out .exit)) ⌝ }
+{
+    let mut next = at;
+    let mut i = from;
+    while i < end {
+        let definition = row_definition(words, shelf, i);
+        next = put_row_arguments(out, next, words, shelf, definition, shown, end, i);
+        i += 1;
+    }
+    next
+}
