@@ -11,7 +11,8 @@ use Rattle.words.specs.Choice.{pick}
 use Rattle.words.specs.Parts.{region, region-length}
 use Rattle.words.specs.declared.Refusal.the-variants.{NotSynthDef, BadVersion, BadCount, TooLong, NameTwice, BytesLeft, BadName}
 use Rattle.synthdef.specs.Read.{Read, got, bad, andThen, checked, repeat}
-use Rattle.synthdef.specs.Endings.{parts, pick-got, checked-got, whole-got}
+use Rattle.synthdef.specs.FieldLaws.{checked-got, whole-got}
+use Rattle.synthdef.specs.RepeatLaws.{went-on}
 use Rattle.synthdef.specs.Units.{string-got}
 use Rattle.synthdef.specs.Fields.{int16, int32, float32, stringAt, nameBytes, pstring, definitionName, count, countTo, shortCountTo, highest16}
 use Rattle.synthdef.specs.NameLaws.{full}
@@ -26,13 +27,13 @@ use Rattle.roundtrip.specs.Forth.{definition-forth}
 front-named : (s : List ℕ) (at : ℕ) {f : Front} {next : ℕ} → readFront s at ≡ got f next → (f .name ≡ stringAt s at) × (at + (1 + getD s at 0) ≤ length s)
 unfolding readFront
 front-named s at {f} {next} e =
-    parts (definitionName s at) _ e (λ n p1 e1 r1.
-    parts (count s p1) _ r1 (λ k p2 e2 r2.
-    parts (repeat (float32 s) k p2) _ r2 (λ constants p3 e3 r3.
-    parts (countTo mostParameters s p3) _ r3 (λ p p4 e4 r4.
-    parts (repeat (float32 s) p p4) _ r4 (λ values p5 e5 r5.
-    parts (count s p5) _ r5 (λ many p6 e6 r6.
-    parts (repeat (parameterName p s) many p6) _ r6 (λ names end e7 r7.
+    went-on (definitionName s at) _ e (λ n p1 e1 r1.
+    went-on (count s p1) _ r1 (λ k p2 e2 r2.
+    went-on (repeat (float32 s) k p2) _ r2 (λ constants p3 e3 r3.
+    went-on (countTo mostParameters s p3) _ r3 (λ p p4 e4 r4.
+    went-on (repeat (float32 s) p p4) _ r4 (λ values p5 e5 r5.
+    went-on (count s p5) _ r5 (λ many p6 e6 r6.
+    went-on (repeat (parameterName p s) many p6) _ r6 (λ names end e7 r7.
     let whole : record { name = n; constants = constants; values = values; names = names } ≡ f = cc in
     let string = string-got s at (checked-got BadName full at (pstring s at) e1 .0) in
     (sym (ap (λ (g : Front). g .name) whole) ∙ sym (string .0), omega arith))))))))
@@ -40,11 +41,11 @@ front-named s at {f} {next} e =
 definition-front : (s : List ℕ) (at : ℕ) {d : Definition} {next : ℕ} {P : Type 0} → readDefinition s at ≡ got d next → ((p : ℕ) → readFront s at ≡ got (d .front) p → P) → P
 unfolding readDefinition
 definition-front s at {d} {next} e go =
-    parts (readFront s at) _ e (λ f p1 e1 r1.
-    parts (count s p1) _ r1 (λ many p2 e2 r2.
-    parts (readUnits (length (f .constants)) s many [] p2) _ r2 (λ units p3 e3 r3.
-    parts (shortCountTo highest16 s p3) _ r3 (λ v p4 e4 r4.
-    parts (repeat (variant (length (f .values)) s) v p4) _ r4 (λ variants end e5 r5.
+    went-on (readFront s at) _ e (λ f p1 e1 r1.
+    went-on (count s p1) _ r1 (λ many p2 e2 r2.
+    went-on (readUnits (length (f .constants)) s many [] p2) _ r2 (λ units p3 e3 r3.
+    went-on (shortCountTo highest16 s p3) _ r3 (λ v p4 e4 r4.
+    went-on (repeat (variant (length (f .values)) s) v p4) _ r4 (λ variants end e5 r5.
     let whole : record { front = f; units = units; variants = variants } ≡ d = cc in
     let same : f ≡ d .front = ap (λ (x : Definition). x .front) whole in
     go p1 (e1 ∙ ap (λ (x : Front). got x p1) same))))))
@@ -87,11 +88,11 @@ run-read s b zero names at {ds} {end} e h =
     let here : at ≡ end = cc in
     rw (sym none) (done at (omega arith))
 run-read s b (suc n) names at {ds} {end} e h =
-    parts (andThen (readDefinition s at) (λ d next. fits names at d next)) _ e (λ d next e1 r1.
-    parts (readDefinitions s n (names ++ (d .front .name ∷ [])) next) _ r1 (λ rest last e2 r2.
+    went-on (andThen (readDefinition s at) (λ d next. fits names at d next)) _ e (λ d next e1 r1.
+    went-on (readDefinitions s n (names ++ (d .front .name ∷ [])) next) _ r1 (λ rest last e2 r2.
     let cons : d ∷ rest ≡ ds = cc in
     let here : last ≡ end = cc in
-    parts (readDefinition s at) _ e1 (λ x m e3 r3.
+    went-on (readDefinition s at) _ e1 (λ x m e3 r3.
     fitted x m e3 (ltb sizeLimit (m - at)) refl (among (x .front .name) names) refl r3 cons (run-read s b n (names ++ (d .front .name ∷ [])) next e2 (omega arith)))))
   where
     fitted : {d : Definition} {next : ℕ} {rest : List Definition} (x : Definition) (m : ℕ) → readDefinition s at ≡ got x m → (l : Bool) → ltb sizeLimit (m - at) ≡ l → (a : Bool) → among (x .front .name) names ≡ a
@@ -107,8 +108,8 @@ run-read s b (suc n) names at {ds} {end} e h =
 -- the header takes ten bytes
 header-end : (s : List ℕ) {n p : ℕ} → readHeader s ≡ got n p → p ≡ 10
 header-end s {n} {p} e =
-    parts (checked NotSynthDef (λ t. eqb t fileType) 0 (int32 s 0)) _ e (λ t p1 e1 r1.
-    parts (checked BadVersion (λ v. eqb v fileVersion) p1 (int32 s p1)) _ r1 (λ v p2 e2 r2.
+    went-on (checked NotSynthDef (λ t. eqb t fileType) 0 (int32 s 0)) _ e (λ t p1 e1 r1.
+    went-on (checked BadVersion (λ v. eqb v fileVersion) p1 (int32 s p1)) _ r1 (λ v p2 e2 r2.
     let a = whole-got 4 s 0 _ (checked-got NotSynthDef (λ t. eqb t fileType) 0 (int32 s 0) e1 .0) in
     let b = whole-got 4 s p1 _ (checked-got BadVersion (λ v. eqb v fileVersion) p1 (int32 s p1) e2 .0) in
     let d = whole-got 2 s p2 _ (checked-got BadCount (λ n. leb n mostDefinitions) p2 (int16 s p2) r2 .0) in
@@ -121,8 +122,8 @@ firstPlace = 10
 pub file-run : (s : List ℕ) → Bytes s → {ds : List Definition} {end : ℕ} → readFile s ≡ got ds end → Run s firstPlace ds
 unfolding readFile
 file-run s b {ds} {end} e =
-    parts (readHeader s) _ e (λ n p1 e1 r1.
-    parts (readDefinitions s n [] p1) _ r1 (λ xs last e2 r2.
+    went-on (readHeader s) _ e (λ n p1 e1 r1.
+    went-on (readDefinitions s n [] p1) _ r1 (λ xs last e2 r2.
     by n p1 xs last e2 (ltb last (length s)) refl r2 (header-end s e1)))
   where
     by : (n p1 : ℕ) (xs : List Definition) (last : ℕ) → readDefinitions s n [] p1 ≡ got xs last → (l : Bool) → ltb last (length s) ≡ l → pick l (bad BytesLeft last) (got xs last) ≡ got ds end → p1 ≡ 10 → Run s 10 ds

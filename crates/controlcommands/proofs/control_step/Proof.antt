@@ -1,0 +1,68 @@
+-- `controlcommands::control_step` meets its contract: each arm hands on what its function ensures.
+use Prim.Native.Nat.{ℕ}
+use mathlib.Core.Bool.{Bool, true, false, not}
+use mathlib.Core.Path.{_≡_, refl, sym, ap, _∙_}
+use mathlib.Core.List.{List}
+use native.Mathlib.Omega.{arith}
+use borrow.Author.Needs.{needs}
+use borrow.Author.Tests.{not-true, not-false, eq-eqb, ne-eqb}
+use Rattle.controlcommands.proofs.control_step.Statement.{statement}
+use Rattle.controlcommands.proofs.control_step.Tie as tie
+use Rattle.controlcommands.proofs.control_step.Reads as reads
+use Rattle.controlcommands.proofs.control_step.Lts as lts
+use Rattle.controlcommands.proofs.fill_controls.Reads as fill-controls-reads
+use Rattle.controlcommands.proofs.map_control.Reads as map-control-reads
+use Rattle.controlcommands.proofs.set_control.Reads as set-control-reads
+
+enum-known-command : tie.Need-enum-known-command
+enum-known-command c = search needs
+
+set-control-requires : tie.Need-set-control-requires
+set-control-requires c κs = search needs
+
+enum-known-command-2 : tie.Need-enum-known-command-2
+enum-known-command-2 c = search needs
+
+fill-controls-requires : tie.Need-fill-controls-requires
+fill-controls-requires c κs = search needs
+
+enum-known-command-3 : tie.Need-enum-known-command-3
+enum-known-command-3 c = search needs
+
+map-control-requires : tie.Need-map-control-requires
+map-control-requires c κs = search needs
+
+same-length : tie.Need-same-length
+same-length c = search needs
+
+returns : tie.Need-returns
+returns c = rw (c .before .before .before .before .before .command .given .1) (c .before .before .set-control .ensures)
+
+same-length-2 : tie.Need-same-length-2
+same-length-2 c = search needs
+
+returns-2 : tie.Need-returns-2
+returns-2 c = rw (c .before .before .before .before .before .command2 .given .1) (c .before .before .fill-controls .ensures)
+
+same-length-3 : tie.Need-same-length-3
+same-length-3 c = search needs
+
+returns-3 : tie.Need-returns-3
+returns-3 c = rw (c .before .before .before .before .before .command3 .given .1) (c .before .before .map-control .ensures)
+
+pub control-step-spec : {M : Type 1} → statement M
+control-step-spec =
+    tie.close
+    (tie.spec
+    enum-known-command
+    set-control-requires
+    enum-known-command-2
+    fill-controls-requires
+    enum-known-command-3
+    map-control-requires
+    same-length
+    returns
+    same-length-2
+    returns-2
+    same-length-3
+    returns-3)

@@ -1,0 +1,175 @@
+-- What the commands of controls do: each row of the table, and the change of the node's run of places.
+use Prim.Native.Nat.{ℕ, _+_, _-_, _*_, _≤_, _<_}
+use mathlib.Core.Bool.{Bool, true, false, not}
+use mathlib.Core.Path.{_≡_, refl, sym, ap, _∙_}
+use mathlib.Core.List.{List, [], _∷_}
+use native.Mathlib.Omega.{arith}
+use lib.ListN.{length, take, drop}
+use lib.Dec.{eqb}
+use Rattle.words.specs.Choice.{pick, either}
+use Rattle.words.specs.Parts.{region, region-length}
+use Rattle.words.specs.declared.Refusal.{Refusal}
+use Rattle.words.specs.declared.Refusal.the-variants.{NoNode, NoControl, NoBus, BadValue}
+use Rattle.nodes.specs.declared.Node.{Node}
+use Rattle.nodes.specs.Table.{width, rows, nodeFrom}
+use Rattle.nodes.specs.Place.{end-most}
+use Rattle.nodes.specs.Edit.{runOf}
+use Rattle.values.specs.declared.Key.{Key}
+use Rattle.values.specs.declared.Value.{Value}
+use Rattle.values.specs.declared.ValuePattern.the-variants.{Pattern, OutOfBounds}
+use Rattle.values.specs.Controls.{ControlValue, setTo, mapTo}
+use Rattle.values.specs.Values.{inBounds, pattern, patternOf}
+use Rattle.values.specs.ValueLaws.{pattern-told, bounds-told}
+use Rattle.model.specs.declared.ControlCommand.{ControlCommand}
+use Rattle.model.specs.declared.ControlCommand.the-variants as controls
+use Rattle.model.specs.declared.Command.the-variants as command
+use Rattle.model.specs.declared.Answer.{Answer}
+use Rattle.model.specs.declared.Answer.the-variants.{Done, Refused}
+use Rattle.model.specs.Layout.{wordsLength, nodesPlace, nodesWords, countIn, nodesIn, controlsIn, putControls}
+use Rattle.model.specs.Engine.{Slot, Engine, decode}
+use Rattle.model.specs.Meaning.{minusOne, isBus, meant, known, node, mappingTo}
+use Rattle.model.specs.Checks.{Check, check, firstOf, noControls}
+use Rattle.model.specs.Effects.{effect, controlEffect, changeAll, changed}
+use Rattle.model.specs.After.{wordsAfter}
+use Rattle.model.specs.Door.{answerIn, isAccepted}
+use Rattle.state.specs.Known.{Known}
+use Rattle.state.specs.Does.{WordsStep}
+use Rattle.tree.specs.Sizes.{Placed, depthAt, endAt}
+use Rattle.names.specs.Named.{Named, named-known, named-unknown, named-place}
+use Rattle.names.specs.Here.{named-here}
+use Rattle.controls.specs.declared.control.Change.{Change}
+use Rattle.controls.specs.declared.control.Change.the-variants as change
+use Rattle.controls.specs.Change.{changeOf}
+use Rattle.controls.specs.Ready.{Ready, nodeIn}
+use Rattle.controls.specs.Asked.{controlsMissing}
+use Rattle.controls.specs.All.{all-run}
+
+abbrev pub Steps : ControlCommand → List ℕ → List ℕ → List ℕ → Answer → List ℕ → Type 0
+Steps c bytes ws bs a ws′ = WordsStep (command.Controls c) bytes ws bs a ws′
+
+-- what the functions of `controls` ask
+pub ready : (ws bs : List ℕ) → Known ws bs → Ready ws bs
+ready ws bs k = record { size = k .size; shelfSize = k .shelfSize; few = k .few; fields = k .tree .fields; slots = k .slots }
+
+-- the end of the run of the node at a place
+abbrev pub runEnd : List ℕ → ℕ → ℕ
+runEnd ws at = endAt (countIn ws) (region nodesPlace nodesWords ws) at
+
+pub run-inside : (ws : List ℕ) (at many end : ℕ) → at < countIn ws → many ≡ countIn ws → end ≡ endAt many (region nodesPlace nodesWords ws) at → end ≤ countIn ws
+run-inside ws at many end live same e =
+    let here : end ≡ runEnd ws at = e ∙ ap (λ (k : ℕ). endAt k (region nodesPlace nodesWords ws) at) same in
+    omega (arith, end-most (countIn ws) (region nodesPlace nodesWords ws) (depthAt (region nodesPlace nodesWords ws) at) (at + 1) (omega arith))
+
+-- the controls after a change of the run of the node at a place
+abbrev pub runChanged : (ControlValue → ControlValue) → Key → ℕ → List ℕ → ℕ → List ℕ → List ℕ → List ℕ
+runChanged f key count bytes at ws bs = changeAll f key bytes count (decode ws bs .slots) (take (runEnd ws at - at) (drop at (nodesIn ws))) (controlsIn ws)
+
+-- refusal 21 on the node at a place, or its run changed
+pub record Changed (c : Change) (key : Key) (count : ℕ) (bytes : List ℕ) (at : ℕ) (ws bs : List ℕ) (a : Answer) (ws′ : List ℕ) : Type 0 where
+  pub answers : a ≡ pick (controlsMissing key count bytes (decode ws bs .slots) (nodeIn ws at)) (Refused NoControl) Done
+  pub words : ws′ ≡ pick (isAccepted a) (putControls (runChanged (changeOf c) key count bytes at ws bs) ws) ws
+
+pub run-changed : (c : Change) (key : Key) (count : ℕ) (bytes : List ℕ) (at : ℕ) (ws bs : List ℕ) (many end : ℕ) (ws′ : List ℕ)
+    → controlsMissing key count bytes (decode ws bs .slots) (nodeIn ws at) ≡ false
+    → many ≡ countIn ws → end ≡ endAt many (region nodesPlace nodesWords ws) at
+    → ws′ ≡ putControls (changeAll (changeOf c) key bytes count (decode ws bs .slots) (take (end - at) (drop at (nodesIn ws))) (controlsIn ws)) ws
+    → Changed c key count bytes at ws bs Done ws′
+run-changed c key count bytes at ws bs many end ws′ there same e o =
+    let here : end ≡ runEnd ws at = e ∙ ap (λ (k : ℕ). endAt k (region nodesPlace nodesWords ws) at) same in
+    record {
+      answers = sym (ap (λ (x : Bool). pick x (Refused NoControl) Done) there);
+      words = o ∙ ap (λ (k : ℕ). putControls (changeAll (changeOf c) key bytes count (decode ws bs .slots) (take (k - at) (drop at (nodesIn ws))) (controlsIn ws)) ws) here;
+    }
+
+-- the words after an accepted command
+after : (c : ControlCommand) (bytes ws bs : List ℕ) → wordsAfter (command.Controls c) bytes ws bs ≡ putControls (controlEffect c bytes (decode ws bs) .controls) ws
+unfolding wordsAfter effect
+after c bytes ws bs = refl
+
+-- three checks, by what is known of them
+unfoldable pub threeChecks : Refusal → Bool → Refusal → Bool → Bool → Answer
+threeChecks r a q b c = firstOf (check r a ∷ (check q b ∷ (check NoControl c ∷ []))) Done
+
+third : (r : Refusal) (a : Bool) (q : Refusal) (b c : Bool) → a ≡ false → b ≡ false → threeChecks r a q b c ≡ pick c (Refused NoControl) Done
+unfolding threeChecks firstOf
+third r a q b c h g = rw (h, g)
+
+-- the node that an argument names, at its place
+module _ (n : ℕ) (ws bs : List ℕ) (at : ℕ) (named : Named n ws at) where
+  pub no-node : (c : ControlCommand) (bytes : List ℕ) (q : Refusal) (b d : Bool) → answerIn (command.Controls c) bytes (decode ws bs) 0 ≡ threeChecks NoNode (not (known n (decode ws bs))) q b d
+      → countIn ws ≤ at → Steps c bytes ws bs (Refused NoNode) ws
+  unfolding threeChecks firstOf
+  no-node c bytes q b d e h = record { answers = sym (e ∙ rw (named-unknown n ws bs at named h)); words = refl }
+
+  module _ (live : at < countIn ws) where
+    pub second : (c : ControlCommand) (bytes : List ℕ) (q : Refusal) (b d : Bool) → answerIn (command.Controls c) bytes (decode ws bs) 0 ≡ threeChecks NoNode (not (known n (decode ws bs))) q b d
+        → b ≡ true → Steps c bytes ws bs (Refused q) ws
+    unfolding threeChecks firstOf
+    second c bytes q b d e h = record { answers = sym (e ∙ rw (named-known n ws bs at named live, h)); words = refl }
+
+    missing : (key : Key) (count : ℕ) (bytes : List ℕ) → noControls key count bytes n (decode ws bs) ≡ controlsMissing key count bytes (decode ws bs .slots) (nodeIn ws at)
+    missing key count bytes = ap (λ (r : Node). controlsMissing key count bytes (decode ws bs .slots) r) (named-here n ws bs at named live)
+
+    reached : (f : ControlValue → ControlValue) (key : Key) (count : ℕ) (bytes : List ℕ) → runChanged f key count bytes at ws bs ≡ changed f n key count bytes (decode ws bs) .controls
+    unfolding decode
+    reached f key count bytes =
+        sym (all-run f key bytes count (decode ws bs .slots) (countIn ws) (region nodesPlace nodesWords ws) (meant n (decode ws bs)) at (named-place n ws bs at named live) live
+        (depthAt (region nodesPlace nodesWords ws) at) (runEnd ws at) refl refl (controlsIn ws))
+
+    pub ran : (c : ControlCommand) (h : Change) (f : ControlValue → ControlValue) (key : Key) (count : ℕ) (bytes : List ℕ) (q : Refusal) (b : Bool) (a : Answer) (ws′ : List ℕ)
+        → answerIn (command.Controls c) bytes (decode ws bs) 0 ≡ threeChecks NoNode (not (known n (decode ws bs))) q b (noControls key count bytes n (decode ws bs))
+        → controlEffect c bytes (decode ws bs) ≡ changed f n key count bytes (decode ws bs)
+        → changeOf h ≡ f → b ≡ false → Changed h key count bytes at ws bs a ws′ → Steps c bytes ws bs a ws′
+    ran c h f key count bytes q b a ws′ e does same fine changes = record {
+      answers =
+          changes .answers
+          ∙ sym (ap (λ (x : Bool). pick x (Refused NoControl) Done) (missing key count bytes))
+          ∙ sym (third NoNode (not (known n (decode ws bs))) q b (noControls key count bytes n (decode ws bs)) (ap not (named-known n ws bs at named live)) fine)
+          ∙ sym e;
+      words =
+          changes .words
+          ∙ ap (λ (l : List ℕ). pick (isAccepted a) l ws)
+          (ap (λ (g : ControlValue → ControlValue). putControls (runChanged g key count bytes at ws bs) ws) same
+          ∙ ap (λ (l : List ℕ). putControls l ws) (reached f key count bytes)
+          ∙ ap (λ (x : Engine). putControls (x .controls) ws) (sym does)
+          ∙ sym (after c bytes ws bs));
+    }
+
+-- the rows of the table
+module _ (n : ℕ) (key : Key) (bytes ws bs : List ℕ) where
+  pub set-row : (value : Value)
+      → answerIn (command.Controls (controls.Set n key value)) bytes (decode ws bs) 0
+      ≡ threeChecks NoNode (not (known n (decode ws bs))) BadValue (not (inBounds value)) (noControls key 1 bytes n (decode ws bs))
+  unfolding answerIn threeChecks
+  set-row value = refl
+
+  pub fill-row : (count : ℕ) (value : Value)
+      → answerIn (command.Controls (controls.Fill n key count value)) bytes (decode ws bs) 0
+      ≡ threeChecks NoNode (not (known n (decode ws bs))) BadValue (not (inBounds value)) (noControls key count bytes n (decode ws bs))
+  unfolding answerIn threeChecks
+  fill-row count value = refl
+
+  pub map-row : (bus : ℕ)
+      → answerIn (command.Controls (controls.Map n key bus)) bytes (decode ws bs) 0
+      ≡ threeChecks NoNode (not (known n (decode ws bs))) NoBus (not (either (eqb bus minusOne) (isBus bus))) (noControls key 1 bytes n (decode ws bs))
+  unfolding answerIn threeChecks
+  map-row bus = refl
+
+-- what each command comes to once its node is found and its value or bus is one
+module _ (n : ℕ) (key : Key) (bytes ws bs : List ℕ) (at : ℕ) (named : Named n ws at) (live : at < countIn ws) (a : Answer) (ws′ : List ℕ) where
+  pub set-ran : (value : Value) (p : ℕ) → patternOf value ≡ Pattern p → Changed (change.Set p) key 1 bytes at ws bs a ws′ → Steps (controls.Set n key value) bytes ws bs a ws′
+  set-ran value p told changes =
+      let t = pattern-told value p told in
+      ran n ws bs at named live (controls.Set n key value) (change.Set p) (setTo (pattern value)) key 1 bytes BadValue (not (inBounds value)) a ws′
+      (set-row n key bytes ws bs value) refl (ap setTo (sym (t .1))) (ap not (t .0)) changes
+
+  pub fill-ran : (count : ℕ) (value : Value) (p : ℕ) → patternOf value ≡ Pattern p → Changed (change.Set p) key count bytes at ws bs a ws′ → Steps (controls.Fill n key count value) bytes ws bs a ws′
+  fill-ran count value p told changes =
+      let t = pattern-told value p told in
+      ran n ws bs at named live (controls.Fill n key count value) (change.Set p) (setTo (pattern value)) key count bytes BadValue (not (inBounds value)) a ws′
+      (fill-row n key bytes ws bs count value) refl (ap setTo (sym (t .1))) (ap not (t .0)) changes
+
+  pub map-ran : (bus : ℕ) → either (eqb bus minusOne) (isBus bus) ≡ true → Changed (change.Map (mappingTo bus)) key 1 bytes at ws bs a ws′ → Steps (controls.Map n key bus) bytes ws bs a ws′
+  map-ran bus fine changes =
+      ran n ws bs at named live (controls.Map n key bus) (change.Map (mappingTo bus)) (mapTo (mappingTo bus)) key 1 bytes NoBus (not (either (eqb bus minusOne) (isBus bus))) a ws′
+      (map-row n key bytes ws bs bus) refl refl (ap not fine) changes

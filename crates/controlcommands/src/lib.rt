@@ -1,0 +1,168 @@
+// The commands of controls, behind the state check: each refuses by its row of the table, or changes the controls' part of the words.
+use controls::Change;
+use controls::change_all;
+use controls::controls_missing;
+use controls::is_bus;
+use model::Answer;
+use model::ControlCommand;
+use names::node_place;
+use tree::subtree_end;
+use values::Key;
+use values::Mapping;
+use values::Value;
+use values::ValuePattern;
+use values::value_pattern;
+use words::Refusal;
+use words::wide;
+ghost use Prim.Native.Nat.{_<_};
+ghost use mathlib.Core.Path.{_≡_};
+ghost use lib.Dec.{eqb};
+ghost use Rattle.words.specs.Choice.{either};
+ghost use Rattle.model.specs.declared.ControlCommand.{ControlCommand};
+ghost use Rattle.model.specs.Layout.{countIn};
+ghost use Rattle.model.specs.Meaning.{minusOne, isBus, mappingTo};
+ghost use Rattle.state.specs.Known.{Known};
+ghost use Rattle.controlcommands.specs.Steps.{Steps, Changed};
+
+// Refusal 21, or the controls of the node at a place and of all below it changed.
+fn change_run(
+    words: &mut [u32],
+    shelf: &[u8],
+    at: usize,
+    key: Key,
+    bytes: &[u8],
+    count: u32,
+    change: Change,
+) -> Answer
+    requires { ⌜ Known (now words) (now shelf) × (at < countIn (now words)) ⌝ }
+    ensures { λ r. ⌜ Changed change key count (now (bytes .entry)) at (now (words .entry)) (now (shelf .entry)) r (now (words .exit)) ⌝ }
+{
+    if controls_missing(words, shelf, at, key, bytes, count) {
+        return Answer::Refused(Refusal::NoControl);
+    }
+    let many = wide(words[0]);
+    let end = subtree_end(&words[68..1348], many, at);
+    change_all(words, shelf, at, end, key, bytes, count, change);
+    Answer::Done
+}
+
+// /n_set
+fn set_control(
+    node: u32,
+    key: Key,
+    value: Value,
+    bytes: &[u8],
+    words: &mut [u32],
+    shelf: &[u8],
+) -> Answer
+    requires { ⌜ Known (now words) (now shelf) ⌝ }
+    ensures { λ r. ⌜ Steps (ControlCommand.Set node key value) (now (bytes .entry)) (now (words .entry)) (now (shelf .entry)) r (now (words .exit)) ⌝ }
+{
+    let at = node_place(words, node);
+    if wide(words[0]) <= at {
+        return Answer::Refused(Refusal::NoNode);
+    }
+    match value_pattern(value) {
+        ValuePattern::Pattern(pattern) => {
+            let change = Change::Set(pattern);
+            change_run(words, shelf, at, key, bytes, 1, change)
+        }
+        ValuePattern::OutOfBounds => Answer::Refused(Refusal::BadValue),
+    }
+}
+
+// /n_fill
+fn fill_controls(
+    node: u32,
+    key: Key,
+    count: u32,
+    value: Value,
+    bytes: &[u8],
+    words: &mut [u32],
+    shelf: &[u8],
+) -> Answer
+    requires { ⌜ Known (now words) (now shelf) ⌝ }
+    ensures { λ r. ⌜ Steps (ControlCommand.Fill node key count value) (now (bytes .entry)) (now (words .entry)) (now (shelf .entry)) r (now (words .exit)) ⌝ }
+{
+    let at = node_place(words, node);
+    if wide(words[0]) <= at {
+        return Answer::Refused(Refusal::NoNode);
+    }
+    match value_pattern(value) {
+        ValuePattern::Pattern(pattern) => {
+            let change = Change::Set(pattern);
+            change_run(words, shelf, at, key, bytes, count, change)
+        }
+        ValuePattern::OutOfBounds => Answer::Refused(Refusal::BadValue),
+    }
+}
+
+// A control can be mapped to this: -1 or a bus.
+fn can_map(bus: u32) -> bool
+    ensures { λ r. ⌜ r ≡ either (eqb bus minusOne) (isBus bus) ⌝ }
+{
+    if bus == 4294967295 {
+        return true;
+    }
+    is_bus(bus)
+}
+
+// "`/n_map` to -1 unmaps"
+fn mapping_to(bus: u32) -> Mapping
+    ensures { λ r. ⌜ r ≡ mappingTo bus ⌝ }
+{
+    if bus == 4294967295 {
+        return Mapping::Unmapped;
+    }
+    Mapping::Bus(bus)
+}
+
+// /n_map
+fn map_control(
+    node: u32,
+    key: Key,
+    bus: u32,
+    bytes: &[u8],
+    words: &mut [u32],
+    shelf: &[u8],
+) -> Answer
+    requires { ⌜ Known (now words) (now shelf) ⌝ }
+    ensures { λ r. ⌜ Steps (ControlCommand.Map node key bus) (now (bytes .entry)) (now (words .entry)) (now (shelf .entry)) r (now (words .exit)) ⌝ }
+{
+    let at = node_place(words, node);
+    if wide(words[0]) <= at {
+        return Answer::Refused(Refusal::NoNode);
+    }
+    if !can_map(bus) {
+        return Answer::Refused(Refusal::NoBus);
+    }
+    let mapping = mapping_to(bus);
+    let change = Change::Map(mapping);
+    change_run(words, shelf, at, key, bytes, 1, change)
+}
+
+// A command of controls.
+pub fn control_step(
+    command: ControlCommand,
+    bytes: &[u8],
+    words: &mut [u32],
+    shelf: &[u8],
+) -> Answer
+    requires { ⌜ Known (now words) (now shelf) ⌝ }
+    ensures { λ r. ⌜ Steps command (now (bytes .entry)) (now (words .entry)) (now (shelf .entry)) r (now (words .exit)) ⌝ }
+{
+    match command {
+        ControlCommand::Set { node, key, value } => {
+            set_control(node, key, value, bytes, words, shelf)
+        }
+        ControlCommand::Fill {
+            node,
+            key,
+            count,
+            value,
+        } => fill_controls(node, key, count, value, bytes, words, shelf),
+        ControlCommand::Map { node, key, bus } => {
+            map_control(node, key, bus, bytes, words, shelf)
+        }
+    }
+}

@@ -1,0 +1,121 @@
+-- `definitioncommands::load_file` meets its contract: refusal 12, or the file loaded.
+use Prim.Native.Nat.{ℕ}
+use mathlib.Core.Bool.{Bool, true, false}
+use mathlib.Core.Path.{_≡_, refl, sym, ap, _∙_}
+use mathlib.Core.List.{List}
+use native.Mathlib.Omega.{arith}
+use borrow.Author.Needs.{needs}
+use Rattle.definitions.specs.Lent.{receive-lent}
+use Rattle.definitioncommands.specs.Steps.{formed-table, receive-full, receive-done, full-told, held-here}
+use Rattle.definitioncommands.proofs.load_file.Statement.{statement}
+use Rattle.definitioncommands.proofs.load_file.Tie as tie
+use Rattle.definitioncommands.proofs.load_file.Reads as reads
+use Rattle.definitioncommands.proofs.load_file.Lts as lts
+use Rattle.definitioncommands.proofs.no_slot.Reads as no-slot-reads
+use Rattle.definitions.proofs.held_slots.Reads as held-slots-reads
+use Rattle.definitions.proofs.load.Reads as load-reads
+use Rattle.definitions.proofs.staying_count.Reads as staying-count-reads
+use Rattle.words.proofs.wide.Reads as wide-reads
+
+sub-held-slots : tie.Need-sub-held-slots
+sub-held-slots c = search needs
+
+part-held-slots-start : tie.Need-part-held-slots-start
+part-held-slots-start c = search needs
+
+part-held-slots-end : tie.Need-part-held-slots-end
+part-held-slots-end c = search needs
+
+slice-reshared-read-wide : tie.Need-slice-reshared-read-wide
+slice-reshared-read-wide c = search needs
+
+wide-requires : tie.Need-wide-requires
+wide-requires c κs = search needs
+
+held-slots-requires : tie.Need-held-slots-requires
+held-slots-requires c κs = search needs
+
+sub-staying-count : tie.Need-sub-staying-count
+sub-staying-count c = search needs
+
+part-staying-count-start : tie.Need-part-staying-count-start
+part-staying-count-start c = search needs
+
+part-staying-count-end : tie.Need-part-staying-count-end
+part-staying-count-end c = search needs
+
+staying-count-requires : tie.Need-staying-count-requires
+staying-count-requires c κs =
+    let s = c .before .before .before .before .before .before .before .before .before .before in
+    (formed-table (s .args .words .now) (s .args .shelf .now) (s .pre .0), s .pre .1 .0)
+
+no-slot-requires : tie.Need-no-slot-requires
+no-slot-requires c κs = search needs
+
+same-length : tie.Need-same-length
+same-length c = search needs
+
+same-length-2 : tie.Need-same-length-2
+same-length-2 c = search needs
+
+returns : tie.Need-returns
+returns c =
+    let a = c .before .before .before .before .before .before .before .before .before .before .before .before .before .args in
+    let told = full-told (a .bytes .now) (a .words .now) (a .shelf .now) (c .before .before .before .before .before .before .before .wide .result) (a .count) (c .before .before .staying-count .result) (c .before .before .before .before .before .before .held-slots .result)
+    (c .before .before .before .before .before .before .before .wide .ensures) (c .before .before .before .before .before .before .held-slots .ensures) (c .before .before .before .before .before .before .before .before .before .before .before .before .before .pre .1 .1) (c .before .before .staying-count .ensures) in
+    receive-full (a .bytes .now) (a .words .now) (a .shelf .now) (c .before .before .before .before .before .before .before .before .before .before .before .before .before .pre .1 .0) (sym told ∙ sym (c .before .no-slot .ensures) ∙ c .if1 .taken)
+
+sub-load : tie.Need-sub-load
+sub-load c = search needs
+
+part-load-start : tie.Need-part-load-start
+part-load-start c = search needs
+
+part-load-end : tie.Need-part-load-end
+part-load-end c = search needs
+
+load-requires : tie.Need-load-requires
+load-requires c κs =
+    let s = c .before .before .before .before .before .before .before .before .before .before .before .before .before .before .before in
+    (formed-table (s .args .words .now) (s .args .shelf .now) (s .pre .0), s .pre .1 .0)
+
+same-length-3 : tie.Need-same-length-3
+same-length-3 c = search needs
+
+same-length-4 : tie.Need-same-length-4
+same-length-4 c = search needs
+
+returns-2 : tie.Need-returns-2
+returns-2 c =
+    let a = c .before .before .before .before .before .before .before .before .before .before .before .before .before .before .before .before .before .before .before .before .args in
+    let told = full-told (a .bytes .now) (a .words .now) (a .shelf .now) (c .before .before .before .before .before .before .before .before .before .before .before .before .before .before .wide .result) (a .count) (c .before .before .before .before .before .before .before .before .before .staying-count .result) (c .before .before .before .before .before .before .before .before .before .before .before .before .before .held-slots .result)
+    (c .before .before .before .before .before .before .before .before .before .before .before .before .before .before .wide .ensures) (c .before .before .before .before .before .before .before .before .before .before .before .before .before .held-slots .ensures) (c .before .before .before .before .before .before .before .before .before .before .before .before .before .before .before .before .before .before .before .before .pre .1 .1) (c .before .before .before .before .before .before .before .before .before .staying-count .ensures) in
+    let held = held-here (a .bytes .now) (a .words .now) (a .shelf .now) (c .before .before .before .before .before .before .before .before .before .before .before .before .before .before .wide .result) (c .before .before .before .before .before .before .before .before .before .before .before .before .before .held-slots .result) (c .before .before .before .before .before .before .before .before .before .before .before .before .before .before .wide .ensures) (c .before .before .before .before .before .before .before .before .before .before .before .before .before .held-slots .ensures) in
+    receive-done (a .bytes .now) (a .words .now) (a .shelf .now) _ _ (c .before .before .before .before .before .before .before .before .before .before .before .before .before .before .before .before .before .before .before .before .pre .1 .0) (sym told ∙ sym (c .before .before .before .before .before .before .before .before .no-slot .ensures) ∙ c .before .before .before .before .before .before .before .if1 .left)
+    (receive-lent (a .words .now) (a .shelf .now) (a .bytes .now) (c .before .before .before .before .before .before .before .before .before .before .before .before .before .held-slots .result) (c .before .before .before .before .load .last .0) (c .before .before .before .before .load .last .1 .0) (c .before .before .before .before .before .before .before .before .before .before .before .before .before .before .before .before .before .before .before .before .pre .0 .size) held (c .before .before .before .before .load .ensures))
+
+pub load-file-spec : {M : Type 1} → statement M
+load-file-spec =
+    tie.close
+    (tie.spec
+    sub-held-slots
+    part-held-slots-start
+    part-held-slots-end
+    slice-reshared-read-wide
+    wide-requires
+    held-slots-requires
+    sub-staying-count
+    part-staying-count-start
+    part-staying-count-end
+    staying-count-requires
+    no-slot-requires
+    same-length
+    same-length-2
+    returns
+    sub-load
+    part-load-start
+    part-load-end
+    load-requires
+    same-length-3
+    same-length-4
+    returns-2)

@@ -1,0 +1,2 @@
+// The three demands stand in specs/.
+pub fn nothing() {}

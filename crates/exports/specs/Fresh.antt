@@ -1,0 +1,46 @@
+-- A fresh engine's slots: none is taken.
+use Prim.Native.Nat.{ℕ, zero, suc, _+_, _≤_, _<_}
+use mathlib.Core.Bool.{Bool, true, false, not}
+use mathlib.Core.Path.{_≡_, refl, sym, ap, _∙_}
+use mathlib.Core.List.{List, [], _∷_, _++_}
+use native.Mathlib.Omega.{arith}
+use borrow.Author.Tests.{ne-eqb}
+use lib.ListN.{length, replicate, length-replicate}
+use lib.Dec.{eqb}
+use Rattle.synthdef.specs.Bounds.{every}
+use Rattle.nodes.specs.declared.Node.{Node}
+use Rattle.nodes.specs.Table.{rows, encode}
+use Rattle.model.specs.Layout.{slotCount, wordsLength, shelfLength}
+use Rattle.model.specs.Engine.{Slot, slotsFrom, decode, held}
+use Rattle.model.specs.Checks.{staying}
+use Rattle.model.specs.After.{root, freshState, freshShelf}
+use Rattle.definitions.specs.Exported.{AllOut}
+
+pub fresh-length : length freshState ≡ wordsLength
+unfolding encode
+fresh-length =
+    let a : length (replicate {A = ℕ} 22010 0) ≡ 22010 = length-replicate {A = ℕ} 22010 0 in
+    omega (arith, a)
+
+pub shelf-length : length freshShelf ≡ shelfLength
+shelf-length = length-replicate {A = ℕ} shelfLength 0
+
+pub fresh-many : length (decode freshState freshShelf .slots) ≡ slotCount
+unfolding decode slotsFrom encode
+fresh-many = refl
+
+pub fresh-out : AllOut (decode freshState freshShelf .slots)
+unfolding decode slotsFrom encode every
+fresh-out = refl
+
+fresh-nodes : decode freshState freshShelf .nodes ≡ root ∷ []
+unfolding decode rows encode
+fresh-nodes = refl
+
+pub fresh-idle : (k : ℕ) → k < slotCount → held k (decode freshState freshShelf .nodes) ≡ false
+unfolding held
+fresh-idle k h = ap (λ (t : List Node). held k t) fresh-nodes ∙ rw (ne-eqb 32 k (λ e. omega arith))
+
+pub fresh-staying : (names : List (List ℕ)) → staying 0 names (decode freshState freshShelf .slots) (decode freshState freshShelf .nodes) ≡ 0
+unfolding decode slotsFrom rows encode staying held
+fresh-staying names = refl

@@ -1,0 +1,2 @@
+// Demand 2 stands in specs/.
+pub fn nothing() {}

@@ -1,0 +1,144 @@
+-- `making::synth::put_synth` meets its contract: the node put in and settled, then the controls.
+use native.Mathlib.Omega.{arith}
+use borrow.Author.Needs.{needs}
+use Prim.Native.Nat.{ℕ, _+_, _*_}
+use mathlib.Core.Path.{refl, ap, _∙_}
+use mathlib.Core.List.{List}
+use lib.ListN.{getD}
+use Rattle.words.specs.Parts.{region, put}
+use Rattle.nodes.specs.Table.{over}
+use Rattle.model.specs.Layout.{controlsPlace, controlsWords}
+use Rattle.model.specs.Effects.{initialWords}
+use Rattle.controls.specs.Encoded.{frontIn}
+use Rattle.making.specs.Synth.{next-some, standing, synth-ready, mid-size, row-fits, synth-done}
+use Rattle.making.proofs.synth.put_synth.Statement.{statement}
+use Rattle.making.proofs.synth.put_synth.Tie as tie
+
+slice-read-wide : tie.Need-slice-read-wide
+slice-read-wide c = omega (arith, c .before .before .before .pre .ground .known .size, c .before .before .before .pre .ground .clear .there)
+
+wide-requires : tie.Need-wide-requires
+wide-requires c κs = search needs
+
+slice-read-next : tie.Need-slice-read-next
+slice-read-next c = omega (arith, c .before .before .before .before .before .pre .ground .known .size, c .before .before .before .before .before .pre .ground .clear .there)
+
+wide-requires-2 : tie.Need-wide-requires-2
+wide-requires-2 c κs = search needs
+
+add-size : tie.Need-add-size
+add-size c = omega (arith, c .before .before .before .before .before .before .pre .ground .known .size, c .before .before .before .before .before .before .pre .ground .clear .there)
+
+mul-size : tie.Need-mul-size
+mul-size c = omega (arith, c .before .before .before .before .before .before .pre .ground .known .size, c .before .before .before .before .before .before .pre .ground .clear .there)
+
+slice-read-size : tie.Need-slice-read-size
+slice-read-size c = omega (arith, c .before .before .before .before .before .before .before .pre .ground .known .size, c .before .before .before .before .before .before .before .pre .ground .clear .there)
+
+sub-row-for : tie.Need-sub-row-for
+sub-row-for c = search needs
+
+part-row-for-start : tie.Need-part-row-for-start
+part-row-for-start c = search needs
+
+part-row-for-end : tie.Need-part-row-for-end
+part-row-for-end c = omega (arith, c .before .before .before .before .before .before .before .before .pre .ground .known .size, c .before .before .before .before .before .before .before .before .pre .ground .clear .there)
+
+row-for-requires : tie.Need-row-for-requires
+row-for-requires c κs =
+    let a = c .before .before .before .before .before .before .before .before .before .args in
+    let p = c .before .before .before .before .before .before .before .before .before .pre in
+    standing (a .number) (a .action) (p .target) (a .at) (a .slot) (p .bytes) (a .words .now) (a .shelf .now) (p .ground) (c .before .before .before .before .before .wide .result) (c .before .before .before .before .before .wide .ensures)
+
+number-for-requires : tie.Need-number-for-requires
+number-for-requires c κs = search needs
+
+sub-add-node : tie.Need-sub-add-node
+sub-add-node c = search needs
+
+part-add-node-start : tie.Need-part-add-node-start
+part-add-node-start c = search needs
+
+part-add-node-end : tie.Need-part-add-node-end
+part-add-node-end c = omega (arith, c .before .before .before .before .before .before .before .before .before .before .before .pre .ground .known .size, c .before .before .before .before .before .before .before .before .before .before .before .pre .ground .clear .there)
+
+add-node-requires : tie.Need-add-node-requires
+add-node-requires c κs = rw (c .before .before .before .before .before .before .before .before .wide .ensures) (c .before .before .before .before .before .before .before .before .before .before .before .before .pre .ground .clear .room)
+
+next-after-requires : tie.Need-next-after-requires
+next-after-requires c κs =
+    let a = c .before .before .before .before .before .before .before .before .before .before .before .before .before .before .before .args in
+    let p = c .before .before .before .before .before .before .before .before .before .before .before .before .before .before .before .pre in
+    next-some (a .number) (a .action) (p .target) (a .at) (a .slot) (p .bytes) (a .words .now) (a .shelf .now) (p .ground)
+
+settle-requires : tie.Need-settle-requires
+settle-requires c κs =
+    let a = c .before .before .before .before .before .before .before .before .before .before .before .before .before .before .before .before .before .args in
+    let p = c .before .before .before .before .before .before .before .before .before .before .before .before .before .before .before .before .before .pre in
+    synth-ready (a .number) (a .action) (p .target) (a .at) (a .slot) (p .bytes) (a .words .now) (a .shelf .now) (p .ground) (c .before .before .before .before .before .before .before .before .before .before .before .before .before .wide .result) (c .before .before .before .before .before .before .before .before .before .before .before .before .before .wide .ensures) (c .before .before .before .before .before .before .before .row-for .result) (c .before .before .before .before .before .before .before .row-for .ensures) (getD (a .words .now) 2 0) refl (c .before .before .before .before .before .before .number-for .result) (c .before .before .before .before .before .before .number-for .ensures) (c .before .before .before .before .add-node .last .0) (c .before .before .before .before .add-node .result) (c .before .before .before .before .add-node .ensures)
+
+slot-bytes-requires : tie.Need-slot-bytes-requires
+slot-bytes-requires c κs = search needs
+
+sub-initial-row : tie.Need-sub-initial-row
+sub-initial-row c = search needs
+
+part-initial-row-start : tie.Need-part-initial-row-start
+part-initial-row-start c = search needs
+
+part-initial-row-end : tie.Need-part-initial-row-end
+part-initial-row-end c =
+    let a = c .before .before .before .before .before .before .before .before .before .before .before .before .before .before .before .before .before .before .before .before .before .args in
+    let p = c .before .before .before .before .before .before .before .before .before .before .before .before .before .before .before .before .before .before .before .before .before .pre in
+    omega (arith, mid-size (a .number) (a .action) (p .target) (a .at) (a .slot) (p .bytes) (a .words .now) (a .shelf .now) (p .ground) (c .before .before .before .before .before .before .before .before .before .before .before .before .before .before .before .before .before .wide .result) (c .before .before .before .before .before .before .before .before .before .before .before .before .before .before .before .before .before .wide .ensures) (c .before .before .before .before .before .before .before .before .before .before .before .row-for .result) (c .before .before .before .before .before .before .before .before .before .before .before .row-for .ensures) (getD (a .words .now) 2 0) refl (c .before .before .before .before .before .before .before .before .before .before .number-for .result) (c .before .before .before .before .before .before .before .before .before .before .number-for .ensures) (c .before .before .before .before .before .before .before .before .add-node .last .0) (c .before .before .before .before .before .before .before .before .add-node .result) (c .before .before .before .before .before .before .before .before .add-node .ensures) (c .before .before .before .before .before .next-after .result) (c .before .before .before .before .before .next-after .ensures) (c .before .before .before .settle .last .0) (c .before .before .before .settle .ensures))
+
+initial-row-requires : tie.Need-initial-row-requires
+initial-row-requires c κs =
+    let a = c .before .before .before .before .before .before .before .before .before .before .before .before .before .before .before .before .before .before .before .before .before .before .args in
+    let p = c .before .before .before .before .before .before .before .before .before .before .before .before .before .before .before .before .before .before .before .before .before .before .pre in
+    row-fits (a .number) (a .action) (p .target) (a .at) (a .slot) (p .bytes) (a .words .now) (a .shelf .now) (p .ground) (c .before .before .before .before .before .before .before .before .before .before .before .before .before .before .before .before .before .before .wide .result) (c .before .before .before .before .before .before .before .before .before .before .before .before .before .before .before .before .before .before .wide .ensures) (c .before .before .before .before .before .before .before .before .before .before .before .before .row-for .result) (c .before .before .before .before .before .before .before .before .before .before .before .before .row-for .ensures) (getD (a .words .now) 2 0) refl (c .before .before .before .before .before .before .before .before .before .before .before .number-for .result) (c .before .before .before .before .before .before .before .before .before .before .before .number-for .ensures) (c .before .before .before .before .before .before .before .before .before .add-node .last .0) (c .before .before .before .before .before .before .before .before .before .add-node .result) (c .before .before .before .before .before .before .before .before .before .add-node .ensures) (c .before .before .before .before .before .before .next-after .result) (c .before .before .before .before .before .before .next-after .ensures) (c .before .before .before .before .settle .last .0) (c .before .before .before .before .settle .ensures)
+
+same-length : tie.Need-same-length
+same-length c = search needs
+
+returns : tie.Need-returns
+returns c =
+    λ target bytes g.
+    let a = c .before .before .before .before .before .before .before .before .before .before .before .before .before .before .before .before .before .before .before .before .before .before .before .before .before .args in
+    synth-done (a .number) (a .action) target (a .at) (a .slot) bytes (a .words .now) (a .shelf .now) g (c .before .before .before .before .before .before .before .before .before .before .before .before .before .before .before .before .before .before .before .before .before .wide .result) (c .before .before .before .before .before .before .before .before .before .before .before .before .before .before .before .before .before .before .before .before .before .wide .ensures) (c .before .before .before .before .before .before .before .before .before .before .before .before .before .before .before .row-for .result) (c .before .before .before .before .before .before .before .before .before .before .before .before .before .before .before .row-for .ensures) (getD (a .words .now) 2 0) refl (c .before .before .before .before .before .before .before .before .before .before .before .before .before .before .number-for .result) (c .before .before .before .before .before .before .before .before .before .before .before .before .before .before .number-for .ensures) (c .before .before .before .before .before .before .before .before .before .before .before .before .add-node .last .0) (c .before .before .before .before .before .before .before .before .before .before .before .before .add-node .result) (c .before .before .before .before .before .before .before .before .before .before .before .before .add-node .ensures)
+    (c .before .before .before .before .before .before .before .before .before .next-after .result) (c .before .before .before .before .before .before .before .before .before .next-after .ensures) (c .before .before .before .before .before .before .before .settle .last .0) (c .before .before .before .before .before .before .before .settle .ensures)
+    (getD (a .words .now) (4 + c .before .before .before .before .before .before .before .before .before .before .before .before .before .before .before .before .before .before .before .wide2 .result) 0) (ap (λ (j : ℕ). getD (a .words .now) (4 + j) 0) (c .before .before .before .before .before .before .before .before .before .before .before .before .before .before .before .before .before .before .before .wide2 .ensures))
+    (put controlsPlace controlsWords (c .before .before .initial-row .last .0) (c .before .before .before .before .before .before .before .settle .last .0))
+    (ap (λ (l : List ℕ). put controlsPlace controlsWords l (c .before .before .before .before .before .before .before .settle .last .0))
+    (c .before .before .initial-row .ensures
+    ∙ ap (λ (d : List ℕ). over (64 * c .before .before .before .before .before .before .before .before .before .before .before .before .before .before .before .row-for .result) (initialWords (frontIn d .values)) (region controlsPlace controlsWords (c .before .before .before .before .before .before .before .settle .last .0))) (c .before .before .before .before .slot-bytes .ensures)))
+
+pub put-synth-spec : {M : Type 1} → statement M
+put-synth-spec =
+    tie.close
+    (tie.spec
+    slice-read-wide
+    wide-requires
+    slice-read-next
+    wide-requires-2
+    add-size
+    mul-size
+    slice-read-size
+    sub-row-for
+    part-row-for-start
+    part-row-for-end
+    row-for-requires
+    number-for-requires
+    sub-add-node
+    part-add-node-start
+    part-add-node-end
+    add-node-requires
+    next-after-requires
+    settle-requires
+    slot-bytes-requires
+    sub-initial-row
+    part-initial-row-start
+    part-initial-row-end
+    initial-row-requires
+    same-length
+    returns)

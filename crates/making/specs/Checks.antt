@@ -1,0 +1,122 @@
+-- /s_new: its checks, one after the other.
+use Prim.Native.Nat.{ℕ, _≤_, _<_}
+use mathlib.Core.Bool.{Bool, true, false, not}
+use mathlib.Core.Path.{_≡_, sym, ap, ap₂, _∙_}
+use mathlib.Core.List.{List}
+use native.Mathlib.Omega.{arith}
+use lib.Dec.{ltb, leb, eqb}
+use borrow.Author.Tests.{lt-ltb, le-ltb, le-leb, lt-leb}
+use Rattle.words.specs.Choice.{both}
+use Rattle.words.specs.declared.Refusal.{Refusal}
+use Rattle.words.specs.declared.Refusal.the-variants.{BadFlag, BadNumber, NumberLive, NoDefinition, NoNode, WrongKind, NodesFull, NoNumber}
+use Rattle.nodes.specs.Table.{rows, rows-length}
+use Rattle.nodes.specs.Place.{lives, place, lives-place}
+use Rattle.nodes.specs.Formed.{noneLeft}
+use Rattle.model.specs.declared.TreeCommand.the-variants as tree
+use Rattle.model.specs.declared.Answer.the-variants.{Done, Refused}
+use Rattle.model.specs.Layout.{slotCount, countIn, nextIn, lengthsIn, residentIn, nodesIn}
+use Rattle.model.specs.Engine.{decode, residentOf}
+use Rattle.model.specs.Meaning.{minusOne, isNegative}
+use Rattle.model.specs.Checks.{firstOf, treeChecks, noResident}
+use Rattle.keep.specs.TreeKept.{slots-many}
+use Rattle.tree.specs.Add.{Room}
+use Rattle.treecommands.specs.declared.group.Spot.{Spot}
+use Rattle.treecommands.specs.declared.group.Spot.the-variants as spot
+use Rattle.treecommands.specs.Ready.{Ready, nodeWords}
+use Rattle.names.specs.Named.{Named}
+use Rattle.treecommands.specs.Finding.{Found, found, missing}
+use Rattle.treecommands.specs.Adding.{badAt, fullAt, bad-target, is-full, room}
+
+-- "new number below -1", "number live", "no number left for a new -1"
+abbrev pub badNumber : ℕ → Bool
+badNumber number = both (isNegative number) (not (eqb number minusOne))
+
+abbrev pub liveIn : ℕ → List ℕ → Bool
+liveIn number ws = both (not (eqb number minusOne)) (lives number (nodesIn ws))
+
+abbrev pub spent : ℕ → ℕ → Bool
+spent number next = both (eqb number minusOne) (eqb next noneLeft)
+
+-- a number is live where a search finds it
+pub lives-found : (n : ℕ) (ws : List ℕ) (count : ℕ) → count ≡ countIn ws → (r : ℕ) → r ≡ place n (rows count (nodeWords ws)) → ltb r count ≡ lives n (nodesIn ws)
+lives-found n ws count same r h =
+    ap₂ ltb (h ∙ ap (λ (c : ℕ). place n (rows c (nodeWords ws))) same) (same ∙ sym (rows-length (countIn ws) (nodeWords ws))) ∙ sym (lives-place n (nodesIn ws))
+
+-- the slot is that of the resident of the name in the bytes
+abbrev pub Meant : ℕ → List ℕ → List ℕ → List ℕ → Type 0
+Meant slot bytes ws bs = slot ≡ residentOf bytes (decode ws bs .slots)
+
+absent : (slot : ℕ) (bytes ws bs : List ℕ) → Meant slot bytes ws bs → noResident bytes (decode ws bs) ≡ leb slotCount slot
+unfolding decode
+absent slot bytes ws bs h = ap₂ leb (slots-many slotCount (lengthsIn ws) (residentIn ws) bs) (sym h)
+
+-- no check fires, and the target stands at its place, with room
+pub record Clear (number action target slot : ℕ) (ws : List ℕ) (at : ℕ) : Type 0 where
+  pub passed : (bytes bs : List ℕ) → Meant slot bytes ws bs → firstOf (treeChecks (tree.NewSynth number action target) bytes (decode ws bs)) Done ≡ Done
+  pub low : action ≤ 4
+  pub there : slot < slotCount
+  pub spot : Found target ws at
+  pub room : Room (nodeWords ws) (countIn ws) action at
+
+module _ (number action target slot : ℕ) (ws : List ℕ) where
+  abbrev pub Answers : Refusal → Type 0
+  Answers r = (bytes bs : List ℕ) → Meant slot bytes ws bs → firstOf (treeChecks (tree.NewSynth number action target) bytes (decode ws bs)) Done ≡ Refused r
+
+  abbrev pub Spotted : Spot → Type 0
+  Spotted (spot.At at) = Clear number action target slot ws at
+  Spotted (spot.Refused r) = Answers r
+
+  pub synth-action : 4 < action → Answers BadFlag
+  unfolding firstOf
+  synth-action h bytes bs m = rw (lt-ltb 4 action h)
+
+  module _ (low : action ≤ 4) where
+    pub synth-number : badNumber number ≡ true → Answers BadNumber
+    unfolding firstOf
+    synth-number h bytes bs m = rw (le-ltb 4 action low, h)
+
+    module _ (good : badNumber number ≡ false) where
+      pub synth-live : liveIn number ws ≡ true → Answers NumberLive
+      unfolding firstOf decode
+      synth-live h bytes bs m = rw (le-ltb 4 action low, good, h)
+
+      module _ (new : liveIn number ws ≡ false) where
+        pub synth-absent : slotCount ≤ slot → Answers NoDefinition
+        unfolding firstOf decode
+        synth-absent h bytes bs m = rw (le-ltb 4 action low, good, new, absent slot bytes ws bs m ∙ le-leb slotCount slot h)
+
+        module _ (there : slot < slotCount) (k : Ready ws) (count : ℕ) (same : count ≡ countIn ws) (at : ℕ) (told : Named target ws at) where
+          resident : (bytes bs : List ℕ) → Meant slot bytes ws bs → noResident bytes (decode ws bs) ≡ false
+          resident bytes bs m = absent slot bytes ws bs m ∙ lt-leb slotCount slot there
+
+          pub synth-unknown : count ≤ at → Answers NoNode
+          unfolding firstOf decode
+          synth-unknown h bytes bs m = rw (le-ltb 4 action low, good, new, resident bytes bs m, missing target ws at told (omega arith))
+
+          module _ (live : at < count) where
+            f : Found target ws at
+            f = found target ws at told (omega arith)
+
+            pub synth-kind : badAt action ws at ≡ true → Answers WrongKind
+            unfolding firstOf decode
+            synth-kind h bytes bs m = rw (le-ltb 4 action low, good, new, resident bytes bs m, f .known, bad-target action target ws k at f bs ∙ h)
+
+            module _ (kind : badAt action ws at ≡ false) where
+              pub synth-spent : spent number (nextIn ws) ≡ true → Answers NoNumber
+              unfolding firstOf decode
+              synth-spent h bytes bs m =
+                  rw (le-ltb 4 action low, good, new, resident bytes bs m, f .known, bad-target action target ws k at f bs ∙ kind, h)
+
+              module _ (left : spent number (nextIn ws) ≡ false) where
+                pub synth-full : fullAt action count ≡ true → Answers NodesFull
+                unfolding firstOf decode
+                synth-full h bytes bs m =
+                    rw (le-ltb 4 action low, good, new, resident bytes bs m, f .known, bad-target action target ws k at f bs ∙ kind, left, is-full action ws count same bs ∙ h)
+
+                synth-passes : fullAt action count ≡ false → (bytes bs : List ℕ) → Meant slot bytes ws bs → firstOf (treeChecks (tree.NewSynth number action target) bytes (decode ws bs)) Done ≡ Done
+                unfolding firstOf decode
+                synth-passes h bytes bs m =
+                    rw (le-ltb 4 action low, good, new, resident bytes bs m, f .known, bad-target action target ws k at f bs ∙ kind, left, is-full action ws count same bs ∙ h)
+
+                pub synth-clear : fullAt action count ≡ false → Clear number action target slot ws at
+                synth-clear h = record { passed = synth-passes h; low = low; there = there; spot = f; room = room action ws k at (f .live) (rw same at h) }

@@ -1,0 +1,248 @@
+-- /s_new: the words after it.
+use Prim.Native.Nat.{ℕ, _+_, _*_, _≤_, _<_}
+use mathlib.Core.Bool.{true, not}
+use mathlib.Core.Path.{_≡_, refl, sym, ap, ap₂, _∙_}
+use mathlib.Core.List.{List, [], _∷_}
+use native.Mathlib.Omega.{arith}
+use lib.ListN.{length, take, drop, getD}
+use lib.Dec.{leb, eqb}
+use borrow.Author.Tests.{leb-true}
+use Rattle.words.specs.Choice.{both, both-true}
+use Rattle.words.specs.Parts.{region, put, region-length}
+use Rattle.words.specs.declared.Refusal.{Refusal}
+use Rattle.words.specs.declared.Refusal.the-variants.{BadFlag, BadNumber, NumberLive, NoDefinition, NoNode, WrongKind, NodesFull, NoNumber}
+use Rattle.synthdef.specs.Read.{Read}
+use Rattle.synthdef.specs.Definition.{Front, Definition}
+use Rattle.nodes.specs.declared.Node.{Node}
+use Rattle.nodes.specs.Table.{rows, over}
+use Rattle.nodes.specs.Place.{lives, place}
+use Rattle.nodes.specs.Order.{order}
+use Rattle.nodes.specs.Formed.{mostNodes, mostRows, noneLeft, firstGiven}
+use Rattle.model.specs.declared.TreeCommand.the-variants as tree
+use Rattle.model.specs.declared.Command.the-variants as command
+use Rattle.model.specs.declared.Answer.the-variants.{Done, Refused}
+use Rattle.model.specs.Layout.{slotCount, slotRoom, rowWords, wordsLength, lengthsPlace, nodesPlace, nodesWords, controlsPlace, controlsWords, countIn, nextIn, lengthsIn, nodesIn, controlsIn, putHeader, putControls, putOrder, putNodes, orderPlace, orderWords, orderRegion}
+use Rattle.model.specs.Engine.{Engine, decode, definitionIn, noDefinition, valueOr, definitionOf, residentOf, slotAt}
+use Rattle.model.specs.Meaning.{minusOne, isNegative, meant, known}
+use Rattle.model.specs.Checks.{firstOf, treeChecks, noResident, badAction, badTarget, full}
+use Rattle.model.specs.Effects.{addBy, stayingNodes, freeRow, newSynth, numberFor, nextAfter, initialWords, synthMade, effect}
+use Rattle.model.specs.After.{putTree, wordsAfter}
+use Rattle.model.specs.Door.{answerIn}
+use Rattle.state.specs.Known.{Known}
+use Rattle.state.specs.Does.{WordsStep, step-refused, step-done}
+use Rattle.state.specs.Decoded.{tree-size, tree-controls, order-region-length}
+use Rattle.state.specs.Regions.{put-size}
+use Rattle.keep.specs.Passed.{passed}
+use Rattle.keep.specs.Rows.{free-row}
+use Rattle.keep.specs.Slots.{resident-found}
+use Rattle.keep.specs.TreeSteps.{comes}
+use Rattle.keep.specs.TreeKept.{known-sound}
+use Rattle.tree.specs.Sizes.{Leaves}
+use Rattle.tree.specs.Add as table
+use Rattle.definitions.specs.Slots.{slotsOn, slotOn, Whole, Formed, slots-lent}
+use Rattle.definitions.specs.Retiring.{slot-is}
+use Rattle.definitions.specs.Lent.{tableIn, formed-lent}
+use Rattle.controls.specs.Encoded.{frontIn, front-read}
+use Rattle.controls.specs.Ready.{part-word}
+use Rattle.treecommands.specs.Ready.{nodeWords, words-long}
+use Rattle.treecommands.specs.Finding.{meantIn}
+use Rattle.treecommands.specs.Settle.{settled, settled-tree, nodes-size, ready-left}
+use Rattle.treecommands.specs.Adding.{same-add, after-few}
+use Rattle.making.specs.Checks.{Meant, Clear, Answers}
+use Rattle.making.specs.Rows.{Standing}
+use Rattle.making.specs.Parts.{put-again, header-put}
+
+-- no check fires on the name in the bytes
+pub record Ground (number action target at slot : ℕ) (bytes ws bs : List ℕ) : Type 0 where
+  pub known : Known ws bs
+  pub meant : Meant slot bytes ws bs
+  pub clear : Clear number action target slot ws at
+
+pub record Fit (number action at slot : ℕ) (ws bs : List ℕ) : Type 0 where
+  pub target : ℕ
+  pub bytes : List ℕ
+  pub ground : Ground number action target at slot bytes ws bs
+
+-- the bytes of a slot that is lent
+abbrev pub lentBytes : ℕ → ℕ → List ℕ → List ℕ
+lentBytes slot size bs = take size (take slotRoom (drop (slotRoom * slot) bs))
+
+-- a resident's front is what its slot's bytes tell
+module _ (ws bs : List ℕ) (k : Known ws bs) (slot : ℕ) (low : slot < slotCount) (live : slotAt (decode ws bs .slots) slot .resident ≡ true) (size : ℕ) (same : size ≡ getD ws (lengthsPlace + slot) 0) where
+  lent : slotAt (decode ws bs .slots) slot ≡ slotOn (tableIn ws) bs slot
+  lent = ap (λ l. slotAt l slot) (sym (slots-lent ws bs)) ∙ slot-is (tableIn ws) bs slot low
+
+  whole : Whole (tableIn ws) bs slot
+  whole = formed-lent ws bs (k .size) (k .shelfSize) (k .flags) (k .slots) .resident slot low (ap (λ s. s .resident) (sym lent) ∙ live)
+
+  lent-bytes : slotOn (tableIn ws) bs slot .bytes ≡ lentBytes slot size bs
+  lent-bytes = ap (λ (n : ℕ). lentBytes slot n bs) (part-word lengthsPlace 64 slot ws (omega arith) ∙ sym same)
+
+  pub resident-front : definitionIn (slotAt (decode ws bs .slots) slot) .front ≡ frontIn (lentBytes slot size bs)
+  resident-front =
+      ap (λ s. definitionIn s .front) lent
+      ∙ ap (λ (r : Read Definition). valueOr noDefinition r .front) (whole .read)
+      ∙ sym (front-read (slotOn (tableIn ws) bs slot .bytes) (whole .read))
+      ∙ ap frontIn lent-bytes
+
+module _ (number action target at slot : ℕ) (bytes ws bs : List ℕ) (g : Ground number action target at slot bytes ws bs) where
+  k : Known ws bs
+  k = g .known
+
+  -- the target, the row and the new node
+  abbrev n : ℕ
+  n = meantIn target ws
+
+  abbrev row : ℕ
+  row = freeRow (stayingNodes action n (nodesIn ws))
+
+  abbrev made : Node
+  made = newSynth (numberFor number (nextIn ws)) slot row
+
+  abbrev after : List Node
+  after = addBy action made n (nodesIn ws)
+
+  accepted : firstOf (treeChecks (tree.NewSynth number action target) bytes (decode ws bs)) Done ≡ Done
+  accepted = g .clear .passed bytes bs (g .meant)
+
+  few : length after ≤ mostNodes
+  unfolding answerIn decode
+  few = rw (g .meant) (after-few (tree.NewSynth number action target) bytes ws bs k accepted)
+
+  pub next-some : 1 ≤ nextIn ws
+  next-some =
+      let w = both-true (leb noneLeft (nextIn ws)) (leb (nextIn ws) firstGiven) (k .tree .nextRight) in
+      omega (arith, leb-true noneLeft (nextIn ws) (w .0))
+
+  -- a row is free
+  pub row-low : row < mostRows
+  unfolding decode
+  row-low =
+      let e = decode ws bs in
+      let p0 = passed BadFlag (badAction action) _ accepted in
+      let p1 = passed BadNumber (both (isNegative number) (not (eqb number minusOne))) _ (p0 .1) in
+      let p2 = passed NumberLive (both (not (eqb number minusOne)) (lives number (e .nodes))) _ (p1 .1) in
+      let p3 = passed NoDefinition (noResident bytes e) _ (p2 .1) in
+      let p4 = passed NoNode (not (known target e)) _ (p3 .1) in
+      let p5 = passed WrongKind (badTarget action target e) _ (p4 .1) in
+      let p6 = passed NoNumber (both (eqb number minusOne) (eqb (e .next) noneLeft)) _ (p5 .1) in
+      let p7 = passed NodesFull (full action e) _ (p6 .1) in
+      free-row (stayingNodes action n (nodesIn ws))
+      (comes (lengthsIn ws) e (known-sound ws bs k) action target (p0 .0) (p4 .0) (p5 .0) (p7 .0) made refl .room)
+      .0
+
+  resident : slotAt (decode ws bs .slots) slot .resident ≡ true
+  resident =
+      let e = decode ws bs in
+      let p0 = passed BadFlag (badAction action) _ accepted in
+      let p1 = passed BadNumber (both (isNegative number) (not (eqb number minusOne))) _ (p0 .1) in
+      let p2 = passed NumberLive (both (not (eqb number minusOne)) (lives number (e .nodes))) _ (p1 .1) in
+      let p3 = passed NoDefinition (noResident bytes e) _ (p2 .1) in
+      rw (g .meant) (resident-found bytes (e .slots) (p3 .0))
+
+  pub standing : (count : ℕ) → count ≡ countIn ws → Standing (nodeWords ws) count at
+  standing count same =
+      rw same (record { size = words-long ws (k .size); few = k .few; live = g .clear .spot .live; number = n; here = g .clear .spot .here })
+
+  -- the node region with the new node, as the table's function leaves it
+  module _ (count : ℕ) (same : count ≡ countIn ws) (taken : ℕ) (free : (m : ℕ) → at ≡ place m (rows count (nodeWords ws)) → taken ≡ freeRow (stayingNodes action m (rows count (nodeWords ws))))
+      (next : ℕ) (counter : next ≡ nextIn ws) (given : ℕ) (named : given ≡ numberFor number next) (us : List ℕ) (many : ℕ)
+      (does : (m : ℕ) → at ≡ place m (rows count (nodeWords ws)) → Leaves (nodeWords ws) (table.addBy action (newSynth given slot taken ∷ []) m (rows count (nodeWords ws))) us many) where
+    taken-row : taken ≡ row
+    taken-row = (rw same at free) n (g .clear .spot .here)
+
+    new : newSynth given slot taken ≡ made
+    new = ap₂ (λ (i j : ℕ). newSynth i slot j) (named ∙ ap (λ (j : ℕ). numberFor number j) counter) taken-row
+
+    left : Leaves (nodeWords ws) after us many
+    left =
+        rw (← same-add action (g .clear .low) made n (nodesIn ws), ← new) ((rw same at does) n (g .clear .spot .here))
+
+    pub synth-ready : (length (put nodesPlace nodesWords us ws) ≡ wordsLength) × (many ≤ mostNodes)
+    synth-ready = ready-left ws (k .size) after few us many left
+
+    -- the engine before the controls are written
+    abbrev half : Engine
+    half = record {
+      slots = [];
+      nodes = after;
+      order = order after;
+      controls = controlsIn ws;
+      buses = [];
+      next = nextAfter number (nextIn ws);
+      latest = numberFor number (nextIn ws);
+    }
+
+    module _ (fell : ℕ) (falls : fell ≡ nextAfter number next) (mid : List ℕ) (told : mid ≡ settled many fell given (put nodesPlace nodesWords us ws)) where
+      many-controls : length (controlsIn ws) ≡ controlsWords
+      many-controls = region-length controlsPlace controlsWords ws (omega (arith, k .size))
+
+      mid-is : mid ≡ putTree half ws
+      mid-is =
+          told
+          ∙ ap₂ (λ (j : ℕ) (l : List ℕ). settled j fell given (put nodesPlace nodesWords l ws)) (left .size) (left .words)
+          ∙ ap₂ (λ (i j : ℕ). settled (length after) i j (putNodes after ws)) (falls ∙ ap (λ (j : ℕ). nextAfter number j) counter) (named ∙ ap (λ (j : ℕ). numberFor number j) counter)
+          ∙ settled-tree ws (k .size) after few (nextAfter number (nextIn ws)) (numberFor number (nextIn ws))
+
+      pub mid-size : length mid ≡ wordsLength
+      mid-size = ap length mid-is ∙ tree-size half ws (k .size) few many-controls
+
+      mid-controls : controlsIn mid ≡ controlsIn ws
+      mid-controls = ap controlsIn mid-is ∙ tree-controls half ws (k .size) few many-controls
+
+      pub row-fits : rowWords * taken + rowWords ≤ length (region controlsPlace controlsWords mid)
+      row-fits = rw (region-length controlsPlace controlsWords mid (omega (arith, mid-size))) (omega (arith, taken-row, row-low))
+
+      -- the controls put in
+      put-made : (cs : List ℕ) → putControls cs (putTree half ws) ≡ putTree (record { slots = []; nodes = after; order = order after; controls = cs; buses = []; next = half .next; latest = half .latest }) ws
+      put-made cs =
+          header-put (length after) (length (order after)) (half .next) (half .latest) 1599 controlsWords cs (putControls (controlsIn ws) (putOrder (order after) (putNodes after ws))) (omega (arith, third))
+          ∙ ap (λ (l : List ℕ). putHeader (length after) (length (order after)) (half .next) (half .latest) l)
+          (put-again controlsPlace controlsWords cs (controlsIn ws) (putOrder (order after) (putNodes after ws)) (omega (arith, second)) many-controls)
+        where
+          first : length (putNodes after ws) ≡ wordsLength
+          first = nodes-size ws (k .size) after few
+
+          second : length (putOrder (order after) (putNodes after ws)) ≡ wordsLength
+          second = put-size orderPlace orderWords (orderRegion (order after)) (putNodes after ws) (omega (arith, first)) (order-region-length (order after)) ∙ first
+
+          third : length (putControls (controlsIn ws) (putOrder (order after) (putNodes after ws))) ≡ wordsLength
+          third = put-size controlsPlace controlsWords (controlsIn ws) (putOrder (order after) (putNodes after ws)) (omega (arith, second)) many-controls ∙ second
+
+      -- the controls written last
+      module _ (size : ℕ) (sized : size ≡ getD ws (lengthsPlace + slot) 0) (out : List ℕ)
+          (o : out ≡ put controlsPlace controlsWords (over (rowWords * taken) (initialWords (frontIn (lentBytes slot size bs) .values)) (region controlsPlace controlsWords mid)) mid) where
+        abbrev written : ℕ → Front → List ℕ → List ℕ
+        written j f cs = over (rowWords * j) (initialWords (f .values)) cs
+
+        abbrev own : Front
+        own = definitionOf (decode ws bs .slots) (newSynth 0 slot 0) .front
+
+        out-is : out ≡ putControls (written row own (controlsIn ws)) (putTree half ws)
+        out-is =
+            o
+            ∙ ap₂ (λ (j : ℕ) (cs : List ℕ). putControls (written j (frontIn (lentBytes slot size bs)) cs) mid) taken-row mid-controls
+            ∙ ap₂ (λ (f : Front) (l : List ℕ). putControls (written row f (controlsIn ws)) l) (sym (resident-front ws bs k slot (g .clear .there) resident size sized)) mid-is
+
+        made-left : out ≡ putTree (synthMade number action n slot (decode ws bs)) ws
+        unfolding decode
+        made-left = out-is ∙ put-made (written row own (controlsIn ws))
+
+        pub synth-done : WordsStep (command.Tree (tree.NewSynth number action target)) bytes ws bs Done out
+        unfolding answerIn decode wordsAfter effect
+        synth-done =
+            step-done (command.Tree (tree.NewSynth number action target)) bytes ws bs out accepted
+            (made-left ∙ ap (λ (s : ℕ). putTree (synthMade number action n s (decode ws bs)) ws) (g .meant))
+
+-- a refusal, and the ground for the rest
+module _ (number action target slot : ℕ) (bytes ws bs : List ℕ) (m : Meant slot bytes ws bs) where
+  pub synth-refused : (r : Refusal) → Answers number action target slot ws r → WordsStep (command.Tree (tree.NewSynth number action target)) bytes ws bs (Refused r) ws
+  unfolding answerIn
+  synth-refused r h = step-refused (command.Tree (tree.NewSynth number action target)) bytes ws bs r (h bytes bs m)
+
+-- the slot that was found, in the table lent from the words
+pub meant-lent : (slot : ℕ) (bytes ws bs : List ℕ) → slot ≡ residentOf bytes (slotsOn (tableIn ws) bs) → Meant slot bytes ws bs
+meant-lent slot bytes ws bs h = h ∙ ap (λ l. residentOf bytes l) (slots-lent ws bs)
+
+pub table-formed : (ws bs : List ℕ) → Known ws bs → Formed (tableIn ws) bs
+table-formed ws bs k = formed-lent ws bs (k .size) (k .shelfSize) (k .flags) (k .slots)

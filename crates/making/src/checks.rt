@@ -1,0 +1,46 @@
+// The checks of /s_new: 13, 14, 15, 16, 17, 18, 25, 20.
+use crate::numbers::bad_number;
+use crate::numbers::is_live;
+use crate::numbers::is_spent;
+use names::node_place;
+use treecommands::Spot;
+use treecommands::bad_target;
+use treecommands::is_full;
+use words::Refusal;
+use words::wide;
+ghost use Rattle.treecommands.specs.Ready.{Ready};
+ghost use Rattle.making.specs.Checks.{Spotted};
+
+// The place of a new synth's target, or the first refusal; the slot is that of the name's resident, 32 where there is none.
+pub fn synth_spot(number: u32, action: u32, target: u32, slot: u32, words: &[u32]) -> Spot
+    requires { ⌜ Ready (now words) ⌝ }
+    ensures { λ r. ⌜ Spotted number action target slot (now (words .entry)) r ⌝ }
+{
+    if 4 < action {
+        return Spot::Refused(Refusal::BadFlag);
+    }
+    if bad_number(number) {
+        return Spot::Refused(Refusal::BadNumber);
+    }
+    if is_live(number, words) {
+        return Spot::Refused(Refusal::NumberLive);
+    }
+    if 32 <= slot {
+        return Spot::Refused(Refusal::NoDefinition);
+    }
+    let count = wide(words[0]);
+    let at = node_place(words, target);
+    if count <= at {
+        return Spot::Refused(Refusal::NoNode);
+    }
+    if bad_target(action, at, words) {
+        return Spot::Refused(Refusal::WrongKind);
+    }
+    if is_spent(number, words[2]) {
+        return Spot::Refused(Refusal::NoNumber);
+    }
+    if is_full(action, count) {
+        return Spot::Refused(Refusal::NodesFull);
+    }
+    Spot::At(at)
+}

@@ -1,0 +1,65 @@
+// /s_new
+use crate::checks::synth_spot;
+use crate::numbers::next_after;
+use crate::numbers::number_for;
+use crate::rows::row_for;
+use model::Answer;
+use nodes::Node;
+use treecommands::Spot;
+use treecommands::settle;
+use words::wide;
+ghost use Prim.Native.Nat.{ℕ};
+ghost use mathlib.Core.List.{List};
+ghost use Rattle.model.specs.declared.TreeCommand.the-variants as tree;
+ghost use Rattle.model.specs.declared.Command.the-variants as command;
+ghost use Rattle.model.specs.declared.Answer.the-variants.{Done};
+ghost use Rattle.state.specs.Known.{Known};
+ghost use Rattle.state.specs.Does.{WordsStep};
+ghost use Rattle.making.specs.Synth.{Ground, Fit};
+
+// A new synth, which runs, put in by the add action, with its definition's initial values.
+fn put_synth(number: u32, action: u32, at: usize, slot: u32, words: &mut [u32], shelf: &[u8])
+    requires { ⌜ Fit number action at slot (now words) (now shelf) ⌝ }
+    ensures { λ r. ⌜ ((target : ℕ) (bytes : List ℕ) → Ground number action target at slot bytes (now (words .entry)) (now (shelf .entry)) → WordsStep (command.Tree (tree.NewSynth number action target)) bytes (now (words .entry)) (now (shelf .entry)) Done (now (words .exit))) ⌝ }
+{
+    let count = wide(words[0]);
+    let next = words[2];
+    let size = words[4 + wide(slot)];
+    let row = row_for(&words[68..1348], count, action, at);
+    let given = number_for(number, next);
+    let node = Node {
+        number: given,
+        depth: 0,
+        run: 1,
+        slot: slot,
+        row: row,
+    };
+    let many = tree::add_node(&mut words[68..1348], count, action, at, node);
+    let after = next_after(number, next);
+    settle(words, many, after, given);
+    let definition = controls::slot_bytes(shelf, slot, size);
+    controls::initial_row(&mut words[1603..17987], row, definition);
+}
+
+// /s_new; the definition's name is in the bytes.
+pub fn new_synth(
+    number: u32,
+    action: u32,
+    target: u32,
+    bytes: &[u8],
+    words: &mut [u32],
+    shelf: &[u8],
+) -> Answer
+    requires { ⌜ Known (now words) (now shelf) ⌝ }
+    ensures { λ r. ⌜ WordsStep (command.Tree (tree.NewSynth number action target)) (now (bytes .entry)) (now (words .entry)) (now (shelf .entry)) r (now (words .exit)) ⌝ }
+{
+    let slot = definitions::find_resident(&words[4..68], shelf, bytes);
+    let spot = synth_spot(number, action, target, slot, words);
+    match spot {
+        Spot::At(at) => {
+            put_synth(number, action, at, slot, words, shelf);
+            Answer::Done
+        }
+        Spot::Refused(why) => Answer::Refused(why),
+    }
+}

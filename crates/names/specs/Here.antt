@@ -1,0 +1,32 @@
+-- The node that an argument names is the record at its place.
+use Prim.Native.Nat.{ℕ, suc, _+_, _*_, _<_}
+use mathlib.Core.Bool.{Bool, true, false}
+use mathlib.Core.Path.{_≡_, sym, ap, _∙_}
+use mathlib.Core.List.{List, [], _∷_, nil≢cons, head-eq-of-cons-eq}
+use lib.ListN.{drop}
+use lib.Dec.{eqb}
+use Rattle.words.specs.Choice.{pick}
+use Rattle.words.specs.Parts.{region}
+use Rattle.nodes.specs.declared.Node.{Node}
+use Rattle.nodes.specs.Table.{width, nodeFrom, row-from}
+use Rattle.nodes.specs.Place.{place}
+use Rattle.model.specs.Layout.{nodesPlace, nodesWords, countIn, nodesIn}
+use Rattle.model.specs.Engine.{decode}
+use Rattle.model.specs.Meaning.{nodeNamed, meant, node}
+use Rattle.names.specs.Named.{Named, named-place}
+
+-- the record that a search stops at
+named-record : (n : ℕ) (t : List Node) (r : Node) (rest : List Node) → drop (place n t) t ≡ r ∷ rest → nodeNamed n t ≡ r
+unfolding place nodeNamed
+named-record n [] r rest h = absurd (nil≢cons h)
+named-record n (x ∷ l) r rest h = go (named-record n l r rest) (eqb (x .number) n) h
+  where
+    go : (drop (place n l) l ≡ r ∷ rest → nodeNamed n l ≡ r) → (b : Bool) → drop (pick b 0 (suc (place n l))) (x ∷ l) ≡ r ∷ rest → pick b x (nodeNamed n l) ≡ r
+    go ih true e = head-eq-of-cons-eq e
+    go ih false e = ih e
+
+pub named-here : (argument : ℕ) (ws bs : List ℕ) (at : ℕ) → Named argument ws at → at < countIn ws → node argument (decode ws bs) ≡ nodeFrom (region nodesPlace nodesWords ws) (width * at)
+unfolding decode
+named-here argument ws bs at n live =
+    named-record (meant argument (decode ws bs)) (nodesIn ws) (nodeFrom (region nodesPlace nodesWords ws) (width * at)) (drop (at + 1) (nodesIn ws))
+    (ap (λ (k : ℕ). drop k (nodesIn ws)) (sym (named-place argument ws bs at n live)) ∙ row-from (countIn ws) (region nodesPlace nodesWords ws) at live)

@@ -1,0 +1,186 @@
+// A call from another language: the command that an op and its five numbers name, and an answer as one number.
+use model::Answer;
+use model::BusCommand;
+use model::Command;
+use model::ControlCommand;
+use model::DefinitionCommand;
+use model::Query;
+use model::TreeCommand;
+use values::Key;
+use values::Value;
+use words::refusal_number;
+ghost use mathlib.Core.Path.{_≡_};
+ghost use Prim.Native.Nat.{_<_, _+_, _*_, _%_};
+ghost use Rattle.values.specs.declared.Key.{Key};
+ghost use Rattle.values.specs.declared.Value.{Value};
+ghost use Rattle.ops.specs.Ops.{commandOf, valued, setting, filling, busSetting, busFilling};
+ghost use Rattle.ops.specs.Numbers.{callNumber, room};
+
+// The command that a call names, or none.
+pub enum Parsed {
+    Call(Command),
+    Nothing,
+}
+
+// /n_set
+fn set_control(node: u32, key: Key, kind: u32, value: u32) -> Parsed
+    ensures { λ r. ⌜ r ≡ valued kind value (setting node key) ⌝ }
+{
+    if kind == 0 {
+        return Parsed::Call(Command::Controls(ControlCommand::Set {
+            node: node,
+            key: key,
+            value: Value::Float(value),
+        }));
+    }
+    if kind == 1 {
+        return Parsed::Call(Command::Controls(ControlCommand::Set {
+            node: node,
+            key: key,
+            value: Value::Integer(value),
+        }));
+    }
+    Parsed::Nothing
+}
+
+// /n_fill
+fn fill_controls(node: u32, key: Key, count: u32, kind: u32, value: u32) -> Parsed
+    ensures { λ r. ⌜ r ≡ valued kind value (filling node key count) ⌝ }
+{
+    if kind == 0 {
+        return Parsed::Call(Command::Controls(ControlCommand::Fill {
+            node: node,
+            key: key,
+            count: count,
+            value: Value::Float(value),
+        }));
+    }
+    if kind == 1 {
+        return Parsed::Call(Command::Controls(ControlCommand::Fill {
+            node: node,
+            key: key,
+            count: count,
+            value: Value::Integer(value),
+        }));
+    }
+    Parsed::Nothing
+}
+
+// /c_set
+fn set_bus(bus: u32, kind: u32, value: u32) -> Parsed
+    ensures { λ r. ⌜ r ≡ valued kind value (busSetting bus) ⌝ }
+{
+    if kind == 0 {
+        return Parsed::Call(Command::Buses(BusCommand::Set {
+            bus: bus,
+            value: Value::Float(value),
+        }));
+    }
+    if kind == 1 {
+        return Parsed::Call(Command::Buses(BusCommand::Set {
+            bus: bus,
+            value: Value::Integer(value),
+        }));
+    }
+    Parsed::Nothing
+}
+
+// /c_fill
+fn fill_buses(start: u32, count: u32, kind: u32, value: u32) -> Parsed
+    ensures { λ r. ⌜ r ≡ valued kind value (busFilling start count) ⌝ }
+{
+    if kind == 0 {
+        return Parsed::Call(Command::Buses(BusCommand::Fill {
+            start: start,
+            count: count,
+            value: Value::Float(value),
+        }));
+    }
+    if kind == 1 {
+        return Parsed::Call(Command::Buses(BusCommand::Fill {
+            start: start,
+            count: count,
+            value: Value::Integer(value),
+        }));
+    }
+    Parsed::Nothing
+}
+
+// The command of an op with its five numbers.
+pub fn command_of(op: u32, a: u32, b: u32, c: u32, d: u32, e: u32) -> Parsed
+    ensures { λ r. ⌜ r ≡ commandOf op a b c d e ⌝ }
+{
+    match op {
+        0 => Parsed::Nothing,
+        1 => Parsed::Call(Command::Definitions(DefinitionCommand::Receive)),
+        2 => Parsed::Call(Command::Definitions(DefinitionCommand::Free)),
+        3 => Parsed::Call(Command::Tree(TreeCommand::NewSynth {
+            number: a,
+            action: b,
+            target: c,
+        })),
+        4 => Parsed::Call(Command::Tree(TreeCommand::NewGroup {
+            number: a,
+            action: b,
+            target: c,
+        })),
+        5 => Parsed::Call(Command::Tree(TreeCommand::Free { node: a })),
+        6 => Parsed::Call(Command::Tree(TreeCommand::FreeAll { group: a })),
+        7 => Parsed::Call(Command::Tree(TreeCommand::DeepFree { group: a })),
+        8 => Parsed::Call(Command::Tree(TreeCommand::Before { node: a, place: b })),
+        9 => Parsed::Call(Command::Tree(TreeCommand::After { node: a, place: b })),
+        10 => Parsed::Call(Command::Tree(TreeCommand::Head { group: a, node: b })),
+        11 => Parsed::Call(Command::Tree(TreeCommand::Tail { group: a, node: b })),
+        12 => Parsed::Call(Command::Tree(TreeCommand::Run { node: a, flag: b })),
+        13 => set_control(a, Key::Index(b), d, e),
+        14 => set_control(a, Key::Name, d, e),
+        15 => fill_controls(a, Key::Index(b), c, d, e),
+        16 => fill_controls(a, Key::Name, c, d, e),
+        17 => Parsed::Call(Command::Controls(ControlCommand::Map {
+            node: a,
+            key: Key::Index(b),
+            bus: c,
+        })),
+        18 => Parsed::Call(Command::Controls(ControlCommand::Map {
+            node: a,
+            key: Key::Name,
+            bus: c,
+        })),
+        19 => set_bus(a, d, e),
+        20 => fill_buses(a, c, d, e),
+        21 => Parsed::Call(Command::Query(Query::Control {
+            node: a,
+            key: Key::Index(b),
+        })),
+        22 => Parsed::Call(Command::Query(Query::Control {
+            node: a,
+            key: Key::Name,
+        })),
+        23 => Parsed::Call(Command::Query(Query::Bus { bus: a })),
+        24 => Parsed::Call(Command::Query(Query::Node { node: a })),
+        25 => Parsed::Call(Command::Query(Query::Tree { group: a, flag: b })),
+        26 => Parsed::Call(Command::Query(Query::Status)),
+        27 => Parsed::Call(Command::Query(Query::Export)),
+        _ => Parsed::Nothing,
+    }
+}
+
+// A refusal's number with a place.
+fn placed(number: u32, place: usize) -> u64
+    requires { ⌜ number < 256 ⌝ }
+    ensures { λ r. ⌜ r ≡ number + 256 * (place % room) ⌝ }
+{
+    number as u64 + 256 * (place as u64 % 72057594037927936)
+}
+
+// An answer as one number.
+pub fn call_number(answer: Answer) -> u64
+    ensures { λ r. ⌜ r ≡ callNumber answer ⌝ }
+{
+    match answer {
+        Answer::Done => 0,
+        Answer::Replied(n) => placed(0, n),
+        Answer::Refused(refusal) => refusal_number(refusal) as u64,
+        Answer::RefusedAt(refusal, place) => placed(refusal_number(refusal), place),
+    }
+}

@@ -1,0 +1,44 @@
+-- `start::fresh_words` meets its contract.
+use Prim.Native.Nat.{ℕ}
+use mathlib.Core.Path.{_≡_, ap, _∙_}
+use native.Mathlib.Omega.{arith}
+use borrow.Author.Needs.{needs}
+use lib.ListN.{replicate, length-set}
+use Rattle.start.specs.Zeros.{fresh-words}
+use Rattle.start.proofs.fresh_words.Statement.{statement}
+use Rattle.start.proofs.fresh_words.Tie as tie
+
+zero-words-requires : tie.Need-zero-words-requires
+zero-words-requires c κs = search needs
+
+slice-write-words : tie.Need-slice-write-words
+slice-write-words c = search needs
+
+slice-write-words-2 : tie.Need-slice-write-words-2
+slice-write-words-2 c = search needs
+
+slice-write-words-3 : tie.Need-slice-write-words-3
+slice-write-words-3 c = search needs
+
+slice-write-words-4 : tie.Need-slice-write-words-4
+slice-write-words-4 c = simp length-set (omega arith)
+
+same-length : tie.Need-same-length
+same-length c = search needs
+
+returns : tie.Need-returns
+returns c =
+    fresh-words (c .before .before .zero-words .last .0)
+    (c .before .before .zero-words .ensures ∙ ap (λ (n : ℕ). replicate n 0) (c .before .before .before .before .before .pre))
+
+pub fresh-words-spec : {M : Type 1} → statement M
+fresh-words-spec =
+    tie.close
+    (tie.spec
+    zero-words-requires
+    slice-write-words
+    slice-write-words-2
+    slice-write-words-3
+    slice-write-words-4
+    same-length
+    returns)

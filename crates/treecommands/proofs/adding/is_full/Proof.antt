@@ -1,0 +1,13 @@
+-- `treecommands::adding::is_full` meets its contract.
+use borrow.Author.Tests.{eq-eqb, ne-eqb}
+use Rattle.treecommands.proofs.adding.is_full.Statement.{statement}
+use Rattle.treecommands.proofs.adding.is_full.Tie as tie
+
+returns : tie.Need-returns
+returns c = rw (eq-eqb (c .before .args .action) 4 (c .if1 .taken))
+
+returns-2 : tie.Need-returns-2
+returns-2 c = rw (ne-eqb (c .before .args .action) 4 (c .if1 .left))
+
+pub is-full-spec : {M : Type 1} → statement M
+is-full-spec = tie.close (tie.spec returns returns-2)

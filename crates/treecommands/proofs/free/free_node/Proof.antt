@@ -1,0 +1,80 @@
+-- `treecommands::free::free_node` meets its contract: each refusal by the check that fires, the rest by the law of the edit.
+use native.Mathlib.Omega.{arith}
+use borrow.Author.Needs.{needs}
+use Rattle.treecommands.specs.Freeing.{free-unknown, free-root, free-ready, free-done}
+use Rattle.treecommands.proofs.free.free_node.Statement.{statement}
+use Rattle.treecommands.proofs.free.free_node.Tie as tie
+
+slice-read-wide : tie.Need-slice-read-wide
+slice-read-wide c = search needs
+
+wide-requires : tie.Need-wide-requires
+wide-requires c κs = search needs
+
+node-place-requires : tie.Need-node-place-requires
+node-place-requires c κs = search needs
+
+same-length : tie.Need-same-length
+same-length c = search needs
+
+returns : tie.Need-returns
+returns c =
+    let s = c .before .before .before .before .before .before in
+    let a = s .args in
+    free-unknown (a .node) (a .words .now) (s .pre) (c .before .before .before .wide .result) (c .before .before .before .wide .ensures) (c .before .node-place .result) (c .before .node-place .ensures) (c .if1 .taken)
+
+same-length-2 : tie.Need-same-length-2
+same-length-2 c = search needs
+
+returns-2 : tie.Need-returns-2
+returns-2 c =
+    let s = c .before .before .before .before .before .before .before in
+    let a = s .args in
+    free-root (a .node) (a .words .now) (s .pre) (c .before .before .before .before .wide .result) (c .before .before .before .before .wide .ensures) (c .before .before .node-place .result) (c .before .before .node-place .ensures) (omega arith) (c .if2 .taken)
+
+sub-cut : tie.Need-sub-cut
+sub-cut c = search needs
+
+part-cut-start : tie.Need-part-cut-start
+part-cut-start c = search needs
+
+part-cut-end : tie.Need-part-cut-end
+part-cut-end c = search needs
+
+cut-requires : tie.Need-cut-requires
+cut-requires c κs = search needs
+
+renew-requires : tie.Need-renew-requires
+renew-requires c κs =
+    let s = c .before .before .before .before .before .before .before .before .before .before .before .before in
+    let a = s .args in
+    free-ready (a .node) (a .words .now) (s .pre) (c .before .before .before .before .before .before .before .before .before .wide .result) (c .before .before .before .before .before .before .before .before .before .wide .ensures) (c .before .before .before .before .before .before .before .node-place .result) (c .before .before .before .before .before .before .before .node-place .ensures) (omega arith) (c .before .before .before .cut .last .0) (c .before .before .before .cut .result) (c .before .before .before .cut .ensures)
+
+same-length-3 : tie.Need-same-length-3
+same-length-3 c = search needs
+
+returns-3 : tie.Need-returns-3
+returns-3 c =
+    let s = c .before .before .before .before .before .before .before .before .before .before .before .before .before .before .before in
+    let a = s .args in
+    free-done (a .node) (a .words .now) (s .pre) (c .before .before .before .before .before .before .before .before .before .before .before .before .wide .result) (c .before .before .before .before .before .before .before .before .before .before .before .before .wide .ensures) (c .before .before .before .before .before .before .before .before .before .before .node-place .result) (c .before .before .before .before .before .before .before .before .before .before .node-place .ensures) (omega arith) (c .before .before .before .before .before .before .cut .last .0) (c .before .before .before .before .before .before .cut .result) (c .before .before .before .before .before .before .cut .ensures)
+    (c .before .before .renew .last .0) (c .before .before .before .before .before .before .before .before .if2 .left) (c .before .before .renew .ensures)
+
+pub free-node-spec : {M : Type 1} → statement M
+free-node-spec =
+    tie.close
+    (tie.spec
+    slice-read-wide
+    wide-requires
+    node-place-requires
+    same-length
+    returns
+    same-length-2
+    returns-2
+    sub-cut
+    part-cut-start
+    part-cut-end
+    cut-requires
+    renew-requires
+    same-length-3
+    returns-3)

@@ -1,0 +1,72 @@
+-- `treecommands::free::run_node` meets its contract: each refusal by the check that fires, the rest by the law of the edit.
+use native.Mathlib.Omega.{arith}
+use borrow.Author.Needs.{needs}
+use Rattle.treecommands.specs.Freeing.{run-flag, run-unknown, run-done}
+use Rattle.treecommands.proofs.free.run_node.Statement.{statement}
+use Rattle.treecommands.proofs.free.run_node.Tie as tie
+
+returns : tie.Need-returns
+returns c =
+    let a = c .before .before .args in
+    run-flag (a .node) (a .flag) (a .words .now) (c .if1 .taken)
+
+slice-read-wide : tie.Need-slice-read-wide
+slice-read-wide c = search needs
+
+wide-requires : tie.Need-wide-requires
+wide-requires c κs = search needs
+
+node-place-requires : tie.Need-node-place-requires
+node-place-requires c κs = search needs
+
+same-length : tie.Need-same-length
+same-length c = search needs
+
+returns-2 : tie.Need-returns-2
+returns-2 c =
+    let s = c .before .before .before .before .before .before .before in
+    let a = s .args in
+    run-unknown (a .node) (a .flag) (a .words .now) (s .pre) (c .before .before .before .wide .result) (c .before .before .before .wide .ensures) (c .before .node-place .result) (c .before .node-place .ensures) (omega arith) (c .if2 .taken)
+
+sub-set-run : tie.Need-sub-set-run
+sub-set-run c = search needs
+
+part-set-run-start : tie.Need-part-set-run-start
+part-set-run-start c = search needs
+
+part-set-run-end : tie.Need-part-set-run-end
+part-set-run-end c = search needs
+
+set-run-requires : tie.Need-set-run-requires
+set-run-requires c κs = search needs
+
+renew-requires : tie.Need-renew-requires
+renew-requires c κs = search needs
+
+same-length-2 : tie.Need-same-length-2
+same-length-2 c = search needs
+
+returns-3 : tie.Need-returns-3
+returns-3 c =
+    let s = c .before .before .before .before .before .before .before .before .before .before .before .before .before .before .before in
+    let a = s .args in
+    run-done (a .node) (a .flag) (a .words .now) (s .pre) (c .before .before .before .before .before .before .before .before .before .before .before .wide .result) (c .before .before .before .before .before .before .before .before .before .before .before .wide .ensures) (c .before .before .before .before .before .before .before .before .before .node-place .result) (c .before .before .before .before .before .before .before .before .before .node-place .ensures) (omega arith) (c .before .before .before .before .before .before .set-run .last .0) (omega arith) (c .before .before .before .before .before .before .set-run .ensures)
+    (c .before .before .renew .last .0) (c .before .before .renew .ensures)
+
+pub run-node-spec : {M : Type 1} → statement M
+run-node-spec =
+    tie.close
+    (tie.spec
+    returns
+    slice-read-wide
+    wide-requires
+    node-place-requires
+    same-length
+    returns-2
+    sub-set-run
+    part-set-run-start
+    part-set-run-end
+    set-run-requires
+    renew-requires
+    same-length-2
+    returns-3)

@@ -1,0 +1,85 @@
+-- `treecommands::moves::move_head` meets its contract: the checks' refusal, or the law of the move.
+use borrow.Author.Needs.{needs}
+use mathlib.Core.Path.{_≡_}
+use Rattle.treecommands.specs.declared.moves.Pair.the-variants as pair
+use Rattle.treecommands.specs.Sighting.{intoChecks, Answers, Clear}
+use Rattle.treecommands.specs.Moving.{head-refused, head-done}
+use Rattle.treecommands.proofs.moves.move_head.Statement.{statement}
+use Rattle.treecommands.proofs.moves.move_head.Tie as tie
+
+into-requires : tie.Need-into-requires
+into-requires c κs = search needs
+
+enum-known-pair : tie.Need-enum-known-pair
+enum-known-pair c = search needs
+
+slice-read-wide : tie.Need-slice-read-wide
+slice-read-wide c = search needs
+
+wide-requires : tie.Need-wide-requires
+wide-requires c κs = search needs
+
+sub-move-head : tie.Need-sub-move-head
+sub-move-head c = search needs
+
+part-move-head-start : tie.Need-part-move-head-start
+part-move-head-start c = search needs
+
+part-move-head-end : tie.Need-part-move-head-end
+part-move-head-end c = search needs
+
+move-head-requires : tie.Need-move-head-requires
+move-head-requires c κs =
+    let s = c .before .before .before .before .before .before .before .before .before in
+    let a = s .args in
+    let told : c .before .before .before .before .before .before .into .result ≡ pair.At (c .before .before .before .before .pair .given .0 .0) (c .before .before .before .before .pair .given .0 .1 .0) = c .before .before .before .before .pair .given .1 in
+    let clear : Clear (intoChecks (a .group) (a .node)) (a .node) (a .group) (a .words .now) (c .before .before .before .before .pair .given .0 .0) (c .before .before .before .before .pair .given .0 .1 .0) = rw told at (c .before .before .before .before .before .before .into .ensures) in
+    rw (c .before .wide .ensures) (clear .moving)
+
+renew-requires : tie.Need-renew-requires
+renew-requires c κs = search needs
+
+enum-known-pair-2 : tie.Need-enum-known-pair-2
+enum-known-pair-2 c = search needs
+
+same-length : tie.Need-same-length
+same-length c = search needs
+
+returns : tie.Need-returns
+returns c =
+    let s = c .before .before .before .before .before .before .before .before .before .before .before .before .before .before .before .before in
+    let a = s .args in
+    let told : c .before .before .before .before .before .before .before .before .before .before .before .before .before .into .result ≡ pair.At (c .before .before .before .before .before .before .before .before .before .before .before .pair .given .0 .0) (c .before .before .before .before .before .before .before .before .before .before .before .pair .given .0 .1 .0) = c .before .before .before .before .before .before .before .before .before .before .before .pair .given .1 in
+    let clear : Clear (intoChecks (a .group) (a .node)) (a .node) (a .group) (a .words .now) (c .before .before .before .before .before .before .before .before .before .before .before .pair .given .0 .0) (c .before .before .before .before .before .before .before .before .before .before .before .pair .given .0 .1 .0) = rw told at (c .before .before .before .before .before .before .before .before .before .before .before .before .before .into .ensures) in
+    head-done (a .node) (a .group) (a .words .now) (s .pre) (c .before .before .before .before .before .before .before .before .wide .result) (c .before .before .before .before .before .before .before .before .wide .ensures) (c .before .before .before .before .before .before .before .before .before .before .before .pair .given .0 .0) (c .before .before .before .before .before .before .before .before .before .before .before .pair .given .0 .1 .0) clear (c .before .before .before .before .before .before .move-head .last .0) (c .before .before .before .before .before .before .move-head .ensures)
+    (c .before .before .renew .last .0) (c .before .before .renew .ensures)
+
+same-length-2 : tie.Need-same-length-2
+same-length-2 c = search needs
+
+returns-2 : tie.Need-returns-2
+returns-2 c =
+    let s = c .before .before .before .before .before .before in
+    let a = s .args in
+    let told : c .before .before .before .into .result ≡ pair.Refused (c .before .pair2 .given .0 .0) = c .before .pair2 .given .1 in
+    let answers : Answers (intoChecks (a .group) (a .node)) (a .words .now) (c .before .pair2 .given .0 .0) = rw told at (c .before .before .before .into .ensures) in
+    head-refused (a .node) (a .group) (a .words .now) (c .before .pair2 .given .0 .0) answers
+
+pub move-head-spec : {M : Type 1} → statement M
+move-head-spec =
+    tie.close
+    (tie.spec
+    into-requires
+    enum-known-pair
+    slice-read-wide
+    wide-requires
+    sub-move-head
+    part-move-head-start
+    part-move-head-end
+    move-head-requires
+    renew-requires
+    enum-known-pair-2
+    same-length
+    returns
+    same-length-2
+    returns-2)

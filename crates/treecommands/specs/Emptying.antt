@@ -1,0 +1,93 @@
+-- /g_freeAll and /g_deepFree.
+use Prim.Native.Nat.{ℕ, _≤_, _<_}
+use mathlib.Core.Bool.{true, false, not}
+use mathlib.Core.Path.{_≡_}
+use mathlib.Core.List.{List, [], _∷_}
+use native.Mathlib.Omega.{arith}
+use lib.ListN.{length}
+use Rattle.words.specs.Parts.{put}
+use Rattle.words.specs.declared.Refusal.the-variants.{NoNode, WrongKind}
+use Rattle.nodes.specs.Table.{rows}
+use Rattle.nodes.specs.Place.{isGroup, place}
+use Rattle.nodes.specs.Edit.{cutBelow, deepFree}
+use Rattle.nodes.specs.Formed.{mostNodes}
+use Rattle.bridge.specs.Tally.{cutBelow-within, deepFree-within}
+use Rattle.model.specs.declared.TreeCommand.the-variants as tree
+use Rattle.model.specs.declared.Command.the-variants as command
+use Rattle.model.specs.declared.Answer.{Answer}
+use Rattle.model.specs.declared.Answer.the-variants.{Done, Refused}
+use Rattle.model.specs.Layout.{wordsLength, nodesPlace, nodesWords, countIn, nodesIn}
+use Rattle.model.specs.Engine.{decode}
+use Rattle.model.specs.Meaning.{known}
+use Rattle.model.specs.Checks.{check, firstOf, notGroup}
+use Rattle.model.specs.Effects.{effect}
+use Rattle.model.specs.After.{wordsAfter}
+use Rattle.model.specs.Door.{answerIn}
+use Rattle.state.specs.Does.{step-refused, step-done}
+use Rattle.tree.specs.Sizes.{Leaves}
+use Rattle.names.specs.Named.{Named}
+use Rattle.treecommands.specs.Ready.{Ready, nodeWords, nodeIn}
+use Rattle.treecommands.specs.Finding.{meantIn, Found, found, missing, named-here}
+use Rattle.treecommands.specs.Settle.{renewed}
+use Rattle.treecommands.specs.Steps.{Steps, left-few, edited-ready, edited-left}
+
+module _ (g : ℕ) (ws : List ℕ) (k : Ready ws) (count : ℕ) (same : count ≡ countIn ws) (at : ℕ) (told : Named g ws at) where
+  -- the answer by their checks, which are the same
+  abbrev groupAnswer : List ℕ → Answer
+  groupAnswer bs = firstOf (check NoNode (not (known g (decode ws bs))) ∷ (check WrongKind (notGroup g (decode ws bs)) ∷ [])) Done
+
+  group-unknown : count ≤ at → (bs : List ℕ) → groupAnswer bs ≡ Refused NoNode
+  unfolding firstOf decode
+  group-unknown h bs = rw (missing g ws at told (omega arith))
+
+  pub all-unknown : count ≤ at → Steps (tree.FreeAll g) ws (Refused NoNode) ws
+  unfolding answerIn
+  all-unknown h bytes bs = step-refused (command.Tree (tree.FreeAll g)) bytes ws bs NoNode (group-unknown h bs)
+
+  pub deep-unknown : count ≤ at → Steps (tree.DeepFree g) ws (Refused NoNode) ws
+  unfolding answerIn
+  deep-unknown h bytes bs = step-refused (command.Tree (tree.DeepFree g)) bytes ws bs NoNode (group-unknown h bs)
+
+  module _ (live : at < count) where
+    group-at : Found g ws at
+    group-at = found g ws at told (omega arith)
+
+    group-wrong : not (isGroup (nodeIn ws at)) ≡ true → (bs : List ℕ) → groupAnswer bs ≡ Refused WrongKind
+    unfolding firstOf decode
+    group-wrong b bs = rw (group-at .known, named-here g ws at group-at, b)
+
+    group-right : not (isGroup (nodeIn ws at)) ≡ false → (bs : List ℕ) → groupAnswer bs ≡ Done
+    unfolding firstOf decode
+    group-right b bs = rw (group-at .known, named-here g ws at group-at, b)
+
+    pub all-wrong : not (isGroup (nodeIn ws at)) ≡ true → Steps (tree.FreeAll g) ws (Refused WrongKind) ws
+    unfolding answerIn
+    all-wrong b bytes bs = step-refused (command.Tree (tree.FreeAll g)) bytes ws bs WrongKind (group-wrong b bs)
+
+    pub deep-wrong : not (isGroup (nodeIn ws at)) ≡ true → Steps (tree.DeepFree g) ws (Refused WrongKind) ws
+    unfolding answerIn
+    deep-wrong b bytes bs = step-refused (command.Tree (tree.DeepFree g)) bytes ws bs WrongKind (group-wrong b bs)
+
+    all-few : length (cutBelow (meantIn g ws) (nodesIn ws)) ≤ mostNodes
+    all-few = left-few ws (cutBelow (meantIn g ws) (nodesIn ws)) k (cutBelow-within (meantIn g ws) (nodesIn ws))
+
+    deep-few : length (deepFree (meantIn g ws) (nodesIn ws)) ≤ mostNodes
+    deep-few = left-few ws (deepFree (meantIn g ws) (nodesIn ws)) k (deepFree-within (meantIn g ws) (nodesIn ws))
+
+    module _ (us : List ℕ) (many : ℕ) (does : (m : ℕ) → at ≡ place m (rows count (nodeWords ws)) → Leaves (nodeWords ws) (cutBelow m (rows count (nodeWords ws))) us many) where
+      pub all-ready : (length (put nodesPlace nodesWords us ws) ≡ wordsLength) × (many ≤ mostNodes)
+      all-ready = edited-ready g ws k count same at group-at cutBelow all-few us many does
+
+      pub all-done : (out : List ℕ) → not (isGroup (nodeIn ws at)) ≡ false → out ≡ renewed many (put nodesPlace nodesWords us ws) → Steps (tree.FreeAll g) ws Done out
+      unfolding answerIn decode wordsAfter effect
+      all-done out b o bytes bs =
+          step-done (command.Tree (tree.FreeAll g)) bytes ws bs out (group-right b bs) (edited-left g ws k count same at group-at cutBelow all-few us many does out o bs)
+
+    module _ (us : List ℕ) (many : ℕ) (does : (m : ℕ) → at ≡ place m (rows count (nodeWords ws)) → Leaves (nodeWords ws) (deepFree m (rows count (nodeWords ws))) us many) where
+      pub deep-ready : (length (put nodesPlace nodesWords us ws) ≡ wordsLength) × (many ≤ mostNodes)
+      deep-ready = edited-ready g ws k count same at group-at deepFree deep-few us many does
+
+      pub deep-done : (out : List ℕ) → not (isGroup (nodeIn ws at)) ≡ false → out ≡ renewed many (put nodesPlace nodesWords us ws) → Steps (tree.DeepFree g) ws Done out
+      unfolding answerIn decode wordsAfter effect
+      deep-done out b o bytes bs =
+          step-done (command.Tree (tree.DeepFree g)) bytes ws bs out (group-right b bs) (edited-left g ws k count same at group-at deepFree deep-few us many does out o bs)

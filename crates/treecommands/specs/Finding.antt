@@ -1,0 +1,74 @@
+-- The node that an argument names, by its place in the table.
+use Prim.Native.Nat.{ℕ, suc, _+_, _≤_, _<_}
+use mathlib.Core.Bool.{Bool, true, false}
+use mathlib.Core.Path.{_≡_, refl, sym, ap, _∙_}
+use mathlib.Core.List.{List, [], _∷_, nil≢cons, head-eq-of-cons-eq}
+use native.Mathlib.Omega.{arith}
+use lib.ListN.{drop}
+use lib.Dec.{eqb}
+use borrow.Author.Tests.{lt-ltb, le-ltb, eq-eqb, ne-eqb, eqb-true, eqb-false}
+use Rattle.words.specs.Choice.{pick, both-true}
+use Rattle.nodes.specs.declared.Node.{Node}
+use Rattle.nodes.specs.Table.{row-from}
+use Rattle.nodes.specs.Place.{place}
+use Rattle.nodes.specs.Formed.{rooted}
+use Rattle.values.specs.Targets.{targetOf}
+use Rattle.model.specs.Layout.{countIn, latestIn, nodesIn}
+use Rattle.model.specs.Meaning.{meantBy, knownBy, nodeNamed}
+use Rattle.names.specs.Named.{Named}
+use Rattle.treecommands.specs.Ready.{Ready, nodeWords, nodeIn}
+
+-- the number that an argument means, and whether such a node lives
+abbrev pub meantIn : ℕ → List ℕ → ℕ
+meantIn a ws = meantBy (targetOf a) (latestIn ws)
+
+abbrev pub knownIn : ℕ → List ℕ → Bool
+knownIn a ws = knownBy (targetOf a) (latestIn ws) (nodesIn ws)
+
+-- the node that an argument names stands at a place of the table
+pub record Found (a : ℕ) (ws : List ℕ) (at : ℕ) : Type 0 where
+  pub known : knownIn a ws ≡ true
+  pub here : at ≡ place (meantIn a ws) (nodesIn ws)
+  pub live : at < countIn ws
+
+module _ (a : ℕ) (ws : List ℕ) (at : ℕ) (told : Named a ws at) where
+  pub found : at < countIn ws → Found a ws at
+  found h = record { known = told .live ∙ lt-ltb at (countIn ws) h; here = told .here h; live = h }
+
+  pub missing : countIn ws ≤ at → knownIn a ws ≡ false
+  missing h = told .live ∙ le-ltb at (countIn ws) h
+
+-- the root stands first, and no other node does
+pub root-first : (n : ℕ) (t : List Node) → rooted t ≡ true → eqb n 0 ≡ eqb (place n t) 0
+unfolding rooted place
+root-first n [] h = cc
+root-first n (r ∷ l) h = go (eqb (r .number) n) refl
+  where
+    zero : r .number ≡ 0
+    zero = eqb-true (r .number) 0 (both-true (eqb (r .number) 0) _ h .0)
+
+    go : (b : Bool) → eqb (r .number) n ≡ b → eqb n 0 ≡ eqb (pick b 0 (suc (place n l))) 0
+    go true e = eq-eqb n 0 (sym (eqb-true (r .number) n e) ∙ zero)
+    go false e = ne-eqb n 0 (λ q. eqb-false (r .number) n e (zero ∙ sym q)) ∙ sym (ne-eqb (suc (place n l)) 0 (λ q. omega arith))
+
+-- the record that a search stops at
+named-record : (n : ℕ) (t : List Node) (r : Node) (rest : List Node) → drop (place n t) t ≡ r ∷ rest → nodeNamed n t ≡ r
+unfolding place nodeNamed
+named-record n [] r rest h = absurd (nil≢cons h)
+named-record n (x ∷ l) r rest h = go (named-record n l r rest) (eqb (x .number) n) h
+  where
+    go : (drop (place n l) l ≡ r ∷ rest → nodeNamed n l ≡ r) → (b : Bool) → drop (pick b 0 (suc (place n l))) (x ∷ l) ≡ r ∷ rest → pick b x (nodeNamed n l) ≡ r
+    go ih true e = head-eq-of-cons-eq e
+    go ih false e = ih e
+
+module _ (a : ℕ) (ws : List ℕ) (at : ℕ) (f : Found a ws at) where
+  pub is-root : Ready ws → at ≡ 0 → eqb (meantIn a ws) 0 ≡ true
+  is-root k h = root-first (meantIn a ws) (nodesIn ws) (k .tree .root) ∙ eq-eqb (place (meantIn a ws) (nodesIn ws)) 0 (omega (arith, f .here))
+
+  pub not-root : Ready ws → (at ≡ 0 → ⊥) → eqb (meantIn a ws) 0 ≡ false
+  not-root k h = root-first (meantIn a ws) (nodesIn ws) (k .tree .root) ∙ ne-eqb (place (meantIn a ws) (nodesIn ws)) 0 (λ q. h (omega (arith, f .here)))
+
+  pub named-here : nodeNamed (meantIn a ws) (nodesIn ws) ≡ nodeIn ws at
+  named-here =
+      named-record (meantIn a ws) (nodesIn ws) (nodeIn ws at) (drop (at + 1) (nodesIn ws))
+      (ap (λ (k : ℕ). drop k (nodesIn ws)) (sym (f .here)) ∙ row-from (countIn ws) (nodeWords ws) at (f .live))

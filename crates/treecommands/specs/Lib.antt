@@ -1,0 +1,11 @@
+pub mod Ready
+pub mod Finding
+pub mod Settle
+pub mod Steps
+pub mod Freeing
+pub mod Emptying
+pub mod Sighting
+pub mod SightingInto
+pub mod Moving
+pub mod Adding
+pub mod Grouping

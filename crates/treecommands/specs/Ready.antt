@@ -1,0 +1,47 @@
+-- What the commands here ask of the words: that they passed the state check, with some shelf.
+use Prim.Native.Nat.{ℕ, _+_, _*_, _≤_, _<_}
+use mathlib.Core.Bool.{not}
+use mathlib.Core.Path.{_≡_, sym, ap, _∙_}
+use mathlib.Core.List.{List}
+use native.Mathlib.Omega.{arith}
+use lib.ListN.{length, getD}
+use lib.Seq.{getD-take, getD-drop}
+use lib.Dec.{eqb}
+use Rattle.words.specs.Parts.{region, region-length}
+use Rattle.nodes.specs.declared.Node.{Node}
+use Rattle.nodes.specs.Table.{width, nodeFrom}
+use Rattle.nodes.specs.Place.{isGroup}
+use Rattle.nodes.specs.Formed.{mostNodes}
+use Rattle.model.specs.Layout.{wordsLength, nodesPlace, nodesWords, countIn, nextIn, latestIn, nodesIn}
+use Rattle.state.specs.Known.{Tree, Known}
+
+pub record Ready (ws : List ℕ) : Type 0 where
+  pub size : length ws ≡ wordsLength
+  pub some : 1 ≤ countIn ws
+  pub few : countIn ws ≤ mostNodes
+  pub tree : Tree (nextIn ws) (latestIn ws) (nodesIn ws)
+  pub shelf : List ℕ
+  pub known : Known ws shelf
+
+pub ready : (ws bs : List ℕ) → Known ws bs → Ready ws
+ready ws bs k = record { size = k .size; some = k .some; few = k .few; tree = k .tree; shelf = bs; known = k }
+
+-- the node region, and the record at a place of it
+abbrev pub nodeWords : List ℕ → List ℕ
+nodeWords ws = region nodesPlace nodesWords ws
+
+abbrev pub nodeIn : List ℕ → ℕ → Node
+nodeIn ws at = nodeFrom (nodeWords ws) (width * at)
+
+pub words-long : (ws : List ℕ) → length ws ≡ wordsLength → length (nodeWords ws) ≡ nodesWords
+words-long ws h = region-length nodesPlace nodesWords ws (omega arith)
+
+-- a word of the region, by its place in the words
+pub node-word : (ws : List ℕ) (i : ℕ) → i < nodesWords → getD (nodeWords ws) i 0 ≡ getD ws (nodesPlace + i) 0
+node-word ws i h = rw (getD-take, getD-drop)
+
+-- whether the record at a place is a synth's, by its slot word
+pub node-slot : (ws : List ℕ) (at : ℕ) → at < mostNodes → not (eqb (getD ws (68 + 5 * at + 3) 0) 32) ≡ not (isGroup (nodeIn ws at))
+node-slot ws at h =
+    let same : nodesPlace + (width * at + 3) ≡ 68 + 5 * at + 3 = omega arith in
+    ap (λ (v : ℕ). not (eqb v 32)) (sym (node-word ws (width * at + 3) (omega arith) ∙ ap (λ (i : ℕ). getD ws i 0) same))

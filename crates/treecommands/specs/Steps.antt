@@ -1,0 +1,45 @@
+-- What each command does: its answer by the table, and the words after it. Most look neither at the shelf nor at the bytes beside the command.
+use Prim.Native.Nat.{ℕ, _≤_}
+use mathlib.Core.Path.{_≡_, _∙_}
+use mathlib.Core.List.{List}
+use native.Mathlib.Omega.{arith}
+use lib.ListN.{length}
+use Rattle.words.specs.Parts.{put}
+use Rattle.nodes.specs.declared.Node.{Node}
+use Rattle.nodes.specs.Table.{rows, rows-length}
+use Rattle.nodes.specs.Place.{place}
+use Rattle.nodes.specs.Formed.{mostNodes}
+use Rattle.bridge.specs.Tally.{Within}
+use Rattle.bridge.specs.Keep.{within-length}
+use Rattle.model.specs.declared.TreeCommand.{TreeCommand}
+use Rattle.model.specs.declared.Command.the-variants as command
+use Rattle.model.specs.declared.Answer.{Answer}
+use Rattle.model.specs.Layout.{wordsLength, nodesPlace, nodesWords, countIn, nodesIn}
+use Rattle.model.specs.Engine.{decode}
+use Rattle.model.specs.Effects.{withNodes}
+use Rattle.model.specs.After.{putTree}
+use Rattle.state.specs.Does.{WordsStep}
+use Rattle.tree.specs.Sizes.{Leaves}
+use Rattle.treecommands.specs.Ready.{Ready, nodeWords}
+use Rattle.treecommands.specs.Finding.{meantIn, Found}
+use Rattle.treecommands.specs.Settle.{renewed, ready-left, renewed-left}
+
+abbrev pub Steps : TreeCommand → List ℕ → Answer → List ℕ → Type 0
+Steps c ws a ws′ = (bytes bs : List ℕ) → WordsStep (command.Tree c) bytes ws bs a ws′
+
+-- an edit that leaves no more nodes than there were
+pub left-few : (ws : List ℕ) (t : List Node) → Ready ws → Within t (nodesIn ws) → length t ≤ mostNodes
+left-few ws t k w = omega (arith, within-length w, k .few, rows-length (countIn ws) (nodeWords ws))
+
+-- the node that an argument names, found at a place, and the node region edited there: what the rest asks, and what it leaves
+module _ (a : ℕ) (ws : List ℕ) (k : Ready ws) (count : ℕ) (same : count ≡ countIn ws) (at : ℕ) (f : Found a ws at)
+    (e : ℕ → List Node → List Node) (few : length (e (meantIn a ws) (nodesIn ws)) ≤ mostNodes) (us : List ℕ) (many : ℕ)
+    (does : (m : ℕ) → at ≡ place m (rows count (nodeWords ws)) → Leaves (nodeWords ws) (e m (rows count (nodeWords ws))) us many) where
+  left : Leaves (nodeWords ws) (e (meantIn a ws) (nodesIn ws)) us many
+  left = (rw same at does) (meantIn a ws) (f .here)
+
+  pub edited-ready : (length (put nodesPlace nodesWords us ws) ≡ wordsLength) × (many ≤ mostNodes)
+  edited-ready = ready-left ws (k .size) (e (meantIn a ws) (nodesIn ws)) few us many left
+
+  pub edited-left : (out : List ℕ) → out ≡ renewed many (put nodesPlace nodesWords us ws) → (bs : List ℕ) → out ≡ putTree (withNodes (e (meantIn a ws) (nodesIn ws)) (decode ws bs)) ws
+  edited-left out o bs = o ∙ renewed-left ws (k .size) (e (meantIn a ws) (nodesIn ws)) few bs us many left

@@ -1,0 +1,82 @@
+// Commands that free nodes, and the run flag.
+use crate::finish::renew;
+use crate::place::is_synth;
+use model::Answer;
+use names::node_place;
+use words::Refusal;
+use words::wide;
+ghost use Rattle.model.specs.declared.TreeCommand.{TreeCommand};
+ghost use Rattle.treecommands.specs.Ready.{Ready};
+ghost use Rattle.treecommands.specs.Steps.{Steps};
+
+// /n_run
+pub fn run_node(node: u32, flag: u32, words: &mut [u32]) -> Answer
+    requires { ⌜ Ready (now words) ⌝ }
+    ensures { λ r. ⌜ Steps (TreeCommand.Run node flag) (now (words .entry)) r (now (words .exit)) ⌝ }
+{
+    if 1 < flag {
+        return Answer::Refused(Refusal::BadFlag);
+    }
+    let count = wide(words[0]);
+    let at = node_place(words, node);
+    if count <= at {
+        return Answer::Refused(Refusal::NoNode);
+    }
+    tree::set_run(&mut words[68..1348], count, at, flag);
+    renew(words, count);
+    Answer::Done
+}
+
+// /n_free
+pub fn free_node(node: u32, words: &mut [u32]) -> Answer
+    requires { ⌜ Ready (now words) ⌝ }
+    ensures { λ r. ⌜ Steps (TreeCommand.Free node) (now (words .entry)) r (now (words .exit)) ⌝ }
+{
+    let count = wide(words[0]);
+    let at = node_place(words, node);
+    if count <= at {
+        return Answer::Refused(Refusal::NoNode);
+    }
+    if at == 0 {
+        return Answer::Refused(Refusal::WrongKind);
+    }
+    let left = tree::cut(&mut words[68..1348], count, at);
+    renew(words, left);
+    Answer::Done
+}
+
+// /g_freeAll
+pub fn free_all(group: u32, words: &mut [u32]) -> Answer
+    requires { ⌜ Ready (now words) ⌝ }
+    ensures { λ r. ⌜ Steps (TreeCommand.FreeAll group) (now (words .entry)) r (now (words .exit)) ⌝ }
+{
+    let count = wide(words[0]);
+    let at = node_place(words, group);
+    if count <= at {
+        return Answer::Refused(Refusal::NoNode);
+    }
+    if is_synth(words, at) {
+        return Answer::Refused(Refusal::WrongKind);
+    }
+    let left = tree::cut_below(&mut words[68..1348], count, at);
+    renew(words, left);
+    Answer::Done
+}
+
+// /g_deepFree
+pub fn deep_free(group: u32, words: &mut [u32]) -> Answer
+    requires { ⌜ Ready (now words) ⌝ }
+    ensures { λ r. ⌜ Steps (TreeCommand.DeepFree group) (now (words .entry)) r (now (words .exit)) ⌝ }
+{
+    let count = wide(words[0]);
+    let at = node_place(words, group);
+    if count <= at {
+        return Answer::Refused(Refusal::NoNode);
+    }
+    if is_synth(words, at) {
+        return Answer::Refused(Refusal::WrongKind);
+    }
+    let left = deep::deep_free(&mut words[68..1348], count, at);
+    renew(words, left);
+    Answer::Done
+}

@@ -1,0 +1,71 @@
+// A new group.
+use crate::adding::bad_target;
+use crate::adding::is_full;
+use crate::finish::renew;
+use model::Answer;
+use names::node_place;
+use nodes::Node;
+use words::Refusal;
+use words::wide;
+ghost use Rattle.model.specs.declared.TreeCommand.{TreeCommand};
+ghost use Rattle.treecommands.specs.Ready.{Ready};
+ghost use Rattle.treecommands.specs.Steps.{Steps};
+ghost use Rattle.treecommands.specs.Grouping.{GroupSpotted};
+
+// The place of a new node's target, or the first refusal.
+pub enum Spot {
+    At(usize),
+    Refused(Refusal),
+}
+
+// The checks of /g_new.
+fn group_spot(number: u32, action: u32, target: u32, words: &[u32]) -> Spot
+    requires { ⌜ Ready (now words) ⌝ }
+    ensures { λ r. ⌜ GroupSpotted number action target (now (words .entry)) r ⌝ }
+{
+    if 4 < action {
+        return Spot::Refused(Refusal::BadFlag);
+    }
+    if 2147483648 <= number {
+        return Spot::Refused(Refusal::BadNumber);
+    }
+    let count = wide(words[0]);
+    if tree::find(&words[68..1348], count, number) < count {
+        return Spot::Refused(Refusal::NumberLive);
+    }
+    let at = node_place(words, target);
+    if count <= at {
+        return Spot::Refused(Refusal::NoNode);
+    }
+    if bad_target(action, at, words) {
+        return Spot::Refused(Refusal::WrongKind);
+    }
+    if is_full(action, count) {
+        return Spot::Refused(Refusal::NodesFull);
+    }
+    Spot::At(at)
+}
+
+// /g_new
+pub fn new_group(number: u32, action: u32, target: u32, words: &mut [u32]) -> Answer
+    requires { ⌜ Ready (now words) ⌝ }
+    ensures { λ r. ⌜ Steps (TreeCommand.NewGroup number action target) (now (words .entry)) r (now (words .exit)) ⌝ }
+{
+    let spot = group_spot(number, action, target, words);
+    match spot {
+        Spot::At(at) => {
+            let count = wide(words[0]);
+            let group = Node {
+                number: number,
+                depth: 0,
+                run: 1,
+                slot: 32,
+                row: 0,
+            };
+            let after = tree::add_node(&mut words[68..1348], count, action, at, group);
+            renew(words, after);
+            Answer::Done
+        }
+        Spot::Refused(why) => Answer::Refused(why),
+    }
+}

@@ -1,0 +1,137 @@
+// Commands that move a node with all below it.
+use crate::finish::renew;
+use crate::place::is_synth;
+use model::Answer;
+use names::node_place;
+use words::Refusal;
+use words::wide;
+ghost use Rattle.model.specs.declared.TreeCommand.{TreeCommand};
+ghost use Rattle.treecommands.specs.Ready.{Ready};
+ghost use Rattle.treecommands.specs.Steps.{Steps};
+ghost use Rattle.treecommands.specs.Sighting.{Sighted, besideChecks, intoChecks};
+
+// The places of the node that is moved and of the node that it goes to, or the first refusal.
+pub enum Pair {
+    At(usize, usize),
+    Refused(Refusal),
+}
+
+// The checks of /n_before and /n_after.
+fn beside(node: u32, place: u32, words: &[u32]) -> Pair
+    requires { ⌜ Ready (now words) ⌝ }
+    ensures { λ r. ⌜ Sighted (besideChecks node place) node place (now (words .entry)) r ⌝ }
+{
+    let count = wide(words[0]);
+    let a = node_place(words, node);
+    if count <= a {
+        return Pair::Refused(Refusal::NoNode);
+    }
+    let b = node_place(words, place);
+    if count <= b {
+        return Pair::Refused(Refusal::NoNode);
+    }
+    if a == 0 {
+        return Pair::Refused(Refusal::WrongKind);
+    }
+    if b == 0 {
+        return Pair::Refused(Refusal::WrongKind);
+    }
+    if tree::lies_below(&words[68..1348], count, b, a) {
+        return Pair::Refused(Refusal::InsideItself);
+    }
+    Pair::At(a, b)
+}
+
+// The checks of /g_head and /g_tail.
+fn into(group: u32, node: u32, words: &[u32]) -> Pair
+    requires { ⌜ Ready (now words) ⌝ }
+    ensures { λ r. ⌜ Sighted (intoChecks group node) node group (now (words .entry)) r ⌝ }
+{
+    let count = wide(words[0]);
+    let b = node_place(words, group);
+    if count <= b {
+        return Pair::Refused(Refusal::NoNode);
+    }
+    let a = node_place(words, node);
+    if count <= a {
+        return Pair::Refused(Refusal::NoNode);
+    }
+    if is_synth(words, b) {
+        return Pair::Refused(Refusal::WrongKind);
+    }
+    if a == 0 {
+        return Pair::Refused(Refusal::WrongKind);
+    }
+    if tree::lies_below(&words[68..1348], count, b, a) {
+        return Pair::Refused(Refusal::InsideItself);
+    }
+    Pair::At(a, b)
+}
+
+// /n_before
+pub fn move_before(node: u32, place: u32, words: &mut [u32]) -> Answer
+    requires { ⌜ Ready (now words) ⌝ }
+    ensures { λ r. ⌜ Steps (TreeCommand.Before node place) (now (words .entry)) r (now (words .exit)) ⌝ }
+{
+    let pair = beside(node, place, words);
+    match pair {
+        Pair::At(a, b) => {
+            let count = wide(words[0]);
+            tree::move_before(&mut words[68..1348], count, a, b);
+            renew(words, count);
+            Answer::Done
+        }
+        Pair::Refused(why) => Answer::Refused(why),
+    }
+}
+
+// /n_after
+pub fn move_after(node: u32, place: u32, words: &mut [u32]) -> Answer
+    requires { ⌜ Ready (now words) ⌝ }
+    ensures { λ r. ⌜ Steps (TreeCommand.After node place) (now (words .entry)) r (now (words .exit)) ⌝ }
+{
+    let pair = beside(node, place, words);
+    match pair {
+        Pair::At(a, b) => {
+            let count = wide(words[0]);
+            tree::move_after(&mut words[68..1348], count, a, b);
+            renew(words, count);
+            Answer::Done
+        }
+        Pair::Refused(why) => Answer::Refused(why),
+    }
+}
+
+// /g_head
+pub fn move_head(group: u32, node: u32, words: &mut [u32]) -> Answer
+    requires { ⌜ Ready (now words) ⌝ }
+    ensures { λ r. ⌜ Steps (TreeCommand.Head group node) (now (words .entry)) r (now (words .exit)) ⌝ }
+{
+    let pair = into(group, node, words);
+    match pair {
+        Pair::At(a, b) => {
+            let count = wide(words[0]);
+            tree::move_head(&mut words[68..1348], count, a, b);
+            renew(words, count);
+            Answer::Done
+        }
+        Pair::Refused(why) => Answer::Refused(why),
+    }
+}
+
+// /g_tail
+pub fn move_tail(group: u32, node: u32, words: &mut [u32]) -> Answer
+    requires { ⌜ Ready (now words) ⌝ }
+    ensures { λ r. ⌜ Steps (TreeCommand.Tail group node) (now (words .entry)) r (now (words .exit)) ⌝ }
+{
+    let pair = into(group, node, words);
+    match pair {
+        Pair::At(a, b) => {
+            let count = wide(words[0]);
+            tree::move_tail(&mut words[68..1348], count, a, b);
+            renew(words, count);
+            Answer::Done
+        }
+        Pair::Refused(why) => Answer::Refused(why),
+    }
+}
