@@ -16,7 +16,7 @@ use Rattle.model.specs.declared.Answer.the-variants.{Refused}
 use Rattle.model.specs.Layout.{countIn, nodesIn, controlsIn, busesIn}
 use Rattle.model.specs.Engine.{decode, definitionOf, controlsOf}
 use Rattle.model.specs.View.{PlainNode, synth}
-use Rattle.model.specs.Meaning.{meant, node, startOf}
+use Rattle.model.specs.Meaning.{meant, startOf}
 use Rattle.model.specs.Checks.{firstOf, queryChecks}
 use Rattle.model.specs.Replies.{reply, replyTo, setAddress, keyArgument, readAt, readControl, plainNamed}
 use Rattle.replies.specs.Words.{wordBytes}
@@ -25,8 +25,8 @@ use Rattle.names.specs.Named.{Named, named-known, named-unknown}
 use Rattle.controls.specs.Ready.{nodeIn}
 use Rattle.controls.specs.Asked.{controlsMissing}
 use Rattle.queries.specs.Held.{At}
-use Rattle.queries.specs.Found.{node-found, plain-found}
-use Rattle.queries.specs.Info.{here, number-here}
+use Rattle.queries.specs.Found.{plain-found}
+use Rattle.queries.specs.Info.{here, number-here, node-here}
 use Rattle.queries.specs.Status.{viewFrom}
 
 module _ (argument : ℕ) (key : Key) (bytes ws bs : List ℕ) (at : ℕ) (n : Named argument ws at) where
@@ -35,24 +35,20 @@ module _ (argument : ℕ) (key : Key) (bytes ws bs : List ℕ) (at : ℕ) (n : N
   control-unknown h b = rw (named-unknown argument ws bs at n h)
 
   module _ (a : At ws bs at) where
-    pub node-here : node argument (decode ws bs) ≡ nodeIn ws at
-    unfolding decode
-    node-here = node-found (meant argument (decode ws bs)) (nodesIn ws) (nodeIn ws at) (drop (at + 1) (nodesIn ws)) (here argument ws bs at n a)
-
     pub control-group : isGroup (nodeIn ws at) ≡ true → (b : Answer) → firstOf (queryChecks (query.Control argument key) bytes (decode ws bs)) b ≡ Refused WrongKind
     unfolding firstOf
-    control-group h b = rw (named-known argument ws bs at n (a .live), node-here, h)
+    control-group h b = rw (named-known argument ws bs at n (a .live), node-here argument ws bs at n a, h)
 
     module _ (single : isGroup (nodeIn ws at) ≡ false) where
       pub control-lacks : controlsMissing key 1 bytes (decode ws bs .slots) (nodeIn ws at) ≡ true
           → (b : Answer) → firstOf (queryChecks (query.Control argument key) bytes (decode ws bs)) b ≡ Refused NoControl
       unfolding firstOf
-      control-lacks h b = rw (named-known argument ws bs at n (a .live), node-here, h, single)
+      control-lacks h b = rw (named-known argument ws bs at n (a .live), node-here argument ws bs at n a, h, single)
 
       pub control-passes : controlsMissing key 1 bytes (decode ws bs .slots) (nodeIn ws at) ≡ false
           → (b : Answer) → firstOf (queryChecks (query.Control argument key) bytes (decode ws bs)) b ≡ b
       unfolding firstOf
-      control-passes h b = rw (named-known argument ws bs at n (a .live), node-here, h, single)
+      control-passes h b = rw (named-known argument ws bs at n (a .live), node-here argument ws bs at n a, h, single)
 
       abbrev d : Definition
       d = definitionOf (decode ws bs .slots) (nodeIn ws at)

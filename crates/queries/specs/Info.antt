@@ -17,7 +17,7 @@ use Rattle.model.specs.declared.Answer.the-variants.{Refused}
 use Rattle.model.specs.Layout.{countIn, nodesIn, nodesPlace, nodesWords, controlsIn}
 use Rattle.model.specs.Engine.{Engine, decode}
 use Rattle.model.specs.View.{Row, PlainNode, isGroupKind, view, viewRows}
-use Rattle.model.specs.Meaning.{meant, known}
+use Rattle.model.specs.Meaning.{meant, known, node}
 use Rattle.model.specs.Checks.{firstOf, queryChecks}
 use Rattle.model.specs.Replies.{reply, replyTo, infoAddress, infoKind, infoReply, plainNamed}
 use Rattle.replies.specs.Words.{wordBytes}
@@ -26,7 +26,7 @@ use Rattle.names.specs.Named.{Named, named-known, named-unknown, named-place}
 use Rattle.controls.specs.Ready.{nodeIn}
 use Rattle.queries.specs.Held.{At, node-there}
 use Rattle.queries.specs.Shape.{parent-same, previous-same, next-same, head-same, tail-same}
-use Rattle.queries.specs.Found.{number-found, plain-found}
+use Rattle.queries.specs.Found.{number-found, node-found, plain-found}
 use Rattle.queries.specs.Status.{viewFrom, view-from, kind-group}
 
 abbrev pub groupTags : List ℕ
@@ -42,6 +42,10 @@ module _ (argument : ℕ) (ws bs : List ℕ) (at : ℕ) (n : Named argument ws a
 
   pub number-here : nodeIn ws at .number ≡ meant argument (decode ws bs)
   number-here = number-found (meant argument (decode ws bs)) (nodesIn ws) (nodeIn ws at) (drop (at + 1) (nodesIn ws)) here
+
+  pub node-here : node argument (decode ws bs) ≡ nodeIn ws at
+  unfolding decode
+  node-here = node-found (meant argument (decode ws bs)) (nodesIn ws) (nodeIn ws at) (drop (at + 1) (nodesIn ws)) here
 
   pub here-number : at ≡ place (nodeIn ws at .number) (nodesIn ws)
   here-number = named-place argument ws bs at n (a .live) ∙ ap (λ (k : ℕ). place k (nodesIn ws)) (sym number-here)

@@ -1,5 +1,5 @@
 -- How many arguments a row has, and which stands where.
-use Prim.Native.Nat.{ℕ, zero, suc, _+_, _*_, _-_, _≤_, _<_, min}
+use Prim.Native.Nat.{ℕ, zero, suc, _+_, _*_, _-_, _/_, _%_, _≤_, _<_, min}
 use mathlib.Core.Bool.{Bool, true, false}
 use mathlib.Core.Path.{_≡_, refl, sym, ap, ap₂, _∙_}
 use mathlib.Core.List.{List, [], _∷_, _++_}
@@ -20,6 +20,7 @@ use Rattle.nodes.specs.Structure.{noNode}
 use Rattle.osc.specs.Message.{Argument, int, float, text}
 use Rattle.values.specs.declared.Mapping.the-variants.{Unmapped, Bus}
 use Rattle.values.specs.Controls.{ControlValue, mappingWord}
+use Rattle.values.specs.ControlLaws.{word-mapping}
 use Rattle.model.specs.Layout.{wordsLength, busCount, rowWords, nodesPlace, nodesWords, controlsIn}
 use Rattle.model.specs.Engine.{decode, definitionOf, controlsOf, firstName}
 use Rattle.model.specs.View.{viewOf, viewRows}
@@ -29,9 +30,9 @@ use Rattle.controls.specs.Ready.{nodeIn, slotBytes}
 use Rattle.controls.specs.Asked.{controlIn, control-in}
 use Rattle.queries.specs.Held.{At, held-front, held-name, held-first-name}
 use Rattle.treequery.specs.declared.piece.Piece.{Piece}
-use Rattle.treequery.specs.declared.piece.Piece.the-variants.{Pattern, Mapped}
+use Rattle.treequery.specs.declared.piece.Piece.the-variants.{Whole, Title, Pattern, Mapped}
 use Rattle.treequery.specs.Pieces.{pieceArgument, isSmall}
-use Rattle.treequery.specs.RowArguments.{rowArguments, childrenAt, depthAt, viewTo, RowOf, rowBytes, bytes-synth, row-group, row-synth, controls-many, controls-length, label-place, value-place, first-same}
+use Rattle.treequery.specs.RowArguments.{rowArguments, childrenAt, depthAt, viewTo, RowOf, rowBytes, bytes-synth, row-first, row-group, row-synth, controls-many, controls-length, label-place, value-place, first-same, mapping-low}
 
 -- a piece that is the k-th argument of a row
 pub record PieceOf (shown : Bool) (ws bs definition : List ℕ) (end i k : ℕ) (p : Piece) : Type 0 where
@@ -158,3 +159,50 @@ shown-bus v bus m = record {
   small = λ h.
       let few : min (bus + 1) 4294967295 ≤ busCount = rw m at h in lt-ltb bus 10000 (omega arith);
 }
+
+-- the k-th argument of a row, by what k is
+module _ (shown : Bool) (ws bs definition : List ℕ) (end i k : ℕ) (r : RowOf ws bs definition end i) (inside : k < length (rowArguments shown ws bs end i)) where
+  pub piece-first : (n : ℕ) → k ≡ 0 → n ≡ nodeIn ws i .number → PieceOf shown ws bs definition end i k (Whole n)
+  piece-first n e m = record { is = rw (e, m) (sym (row-first shown ws bs end i)); small = refl }
+
+  pub piece-children : (n : ℕ) → isGroup (nodeIn ws i) ≡ true → (k ≡ 0 → ⊥) → n ≡ childrenAt ws bs end i → PieceOf shown ws bs definition end i k (Whole n)
+  piece-children n h other m = record { is = ap int m ∙ sym (group-second shown ws bs end i h k inside other); small = refl }
+
+  module _ (single : isGroup (nodeIn ws i) ≡ false) where
+    pub piece-second : k ≡ 1 → PieceOf shown ws bs definition end i k (Whole noNode)
+    piece-second e = record { is = rw e (sym (synth-second shown ws bs definition end i r single)); small = refl }
+
+    pub piece-title : k ≡ 2 → PieceOf shown ws bs definition end i k Title
+    piece-title e = record { is = rw e (sym (synth-third shown ws bs definition end i r single)); small = refl }
+
+    -- past the third a synth's controls are shown
+    shown-past : (b : Bool) → shown ≡ b → 3 ≤ k → shown ≡ true
+    shown-past true e h = e
+    shown-past false e h = absurd (omega (arith, hidden-length shown ws bs definition end i r single e))
+
+    module _ (past : 3 ≤ k) where
+      on : shown ≡ true
+      on = shown-past shown refl past
+
+      long : length (rowArguments shown ws bs end i) ≡ 4 + 2 * length (frontIn definition .values)
+      long = shown-length shown ws bs definition end i r single on
+
+      pub index-few : (k - 4) / 2 < 32
+      index-few = omega (arith, long, parameters-few shown ws bs definition end i r single)
+
+      pub piece-many : (n : ℕ) → k ≡ 3 → n ≡ length (frontIn definition .values) → PieceOf shown ws bs definition end i k (Whole n)
+      piece-many n e m = record { is = ap int m ∙ sym (ap (λ (j : ℕ). getD (rowArguments shown ws bs end i) j (int 0)) e ∙ synth-fourth shown ws bs definition end i r single on); small = refl }
+
+      pub piece-label : (j : ℕ) (p : Piece) → (k ≡ 3 → ⊥) → k % 2 ≡ 0 → j ≡ (k - 4) / 2 → pieceArgument definition p ≡ labelArgument (nameOfIn j definition) j → isSmall p ≡ true
+          → PieceOf shown ws bs definition end i k p
+      piece-label j p other even m label low =
+          record { is = label ∙ sym (synth-label shown ws bs definition end i r single on j k (omega arith) (omega (arith, long))); small = low }
+
+      pub piece-value : (j : ℕ) (p : Piece) → (k ≡ 3 → ⊥) → (k % 2 ≡ 0 → ⊥) → j ≡ (k - 4) / 2 → Shown (controlIn (controlsIn ws) (nodeIn ws i .row) j) p → PieceOf shown ws bs definition end i k p
+      piece-value j p other odd m value =
+          let there : j < length (frontIn definition .values) = omega (arith, long) in
+          let word : getD (controlsIn ws) (rowWords * nodeIn ws i .row + 2 * j + 1) 0 ≤ busCount = mapping-low ws bs i j (r .at) single (omega (arith, parameters-same shown ws bs definition end i r single)) in
+          record {
+            is = value .is definition ∙ sym (synth-value shown ws bs definition end i r single on j k (omega arith) there);
+            small = value .small (rw (word-mapping (getD (controlsIn ws) (rowWords * nodeIn ws i .row + 2 * j + 1) 0) (omega arith)) word);
+          }

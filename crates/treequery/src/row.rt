@@ -108,3 +108,38 @@ pub fn row_length(
     }
     3
 }
+
+// The argument of a row at a place in it.
+pub fn piece_at(
+    words: &[u32],
+    shelf: &[u8],
+    definition: &[u8],
+    shown: bool,
+    end: usize,
+    place: usize,
+    k: usize,
+) -> Piece
+    requires { ⌜ (RowOf (now words) (now shelf) (now definition) end place) × (k < length (rowArguments shown (now words) (now shelf) end place)) ⌝ }
+    ensures { λ r. ⌜ PieceOf shown (now (words .entry)) (now (shelf .entry)) (now (definition .entry)) end place k r ⌝ }
+{
+    if k == 0 {
+        return Piece::Whole(words[68 + 5 * place]);
+    }
+    if node_is_group(words, place) {
+        return Piece::Whole(children_at(words, end, place));
+    }
+    if k == 1 {
+        return Piece::Whole(4294967295);
+    }
+    if k == 2 {
+        return Piece::Title;
+    }
+    if k == 3 {
+        return Piece::Whole(parameter_count(definition));
+    }
+    let index = ((k - 4) / 2) as u32;
+    if k % 2 == 0 {
+        return label_at(definition, index);
+    }
+    value_at(words, node_row(words, place), index)
+}

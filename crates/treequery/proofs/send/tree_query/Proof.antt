@@ -1,0 +1,155 @@
+use Prim.Native.Nat.{ℕ, _+_}
+use mathlib.Core.Path.{_≡_, sym, ap, subst, _∙_}
+use mathlib.Core.List.{_∷_}
+use native.Mathlib.Omega.{arith}
+use borrow.Author.Needs.{needs}
+use borrow.Author.Tests.{not-true, not-false}
+use Rattle.words.specs.Parts.{region}
+use Rattle.words.specs.declared.Refusal.the-variants.{NoNode, WrongKind}
+use Rattle.nodes.specs.Table.{rows}
+use Rattle.nodes.specs.Place.{place}
+use Rattle.nodes.specs.Structure.{childCount}
+use Rattle.tree.specs.Sizes.{endAt}
+use Rattle.osc.specs.Message.{int, message}
+use Rattle.model.specs.declared.Query.the-variants as query
+use Rattle.model.specs.Layout.{countIn, nodesIn, nodesPlace, nodesWords}
+use Rattle.model.specs.Replies.{treeAddress, flagNumber}
+use Rattle.controls.specs.Ready.{nodeIn}
+use Rattle.queries.specs.Answers.{reply-refused, reply-sent}
+use Rattle.queries.specs.Held.{At}
+use Rattle.queries.specs.Info.{here-number}
+use Rattle.treequery.specs.Left.{leftRows}
+use Rattle.treequery.specs.Subtree.{end-most, tree-unknown, tree-synth, tree-passes, tree-reply}
+use Rattle.treequery.proofs.send.tree_query.Statement.{statement}
+use Rattle.treequery.proofs.send.tree_query.Tie as tie
+
+node-place-requires : tie.Need-node-place-requires
+node-place-requires c κs = search needs
+
+shared-slice-read-wide : tie.Need-shared-slice-read-wide
+shared-slice-read-wide c = search needs
+
+wide-requires : tie.Need-wide-requires
+wide-requires c κs = search needs
+
+returns : tie.Need-returns
+returns c =
+    let s = c .before .before .before .before .before .before .before .before in
+    let a = s .args in
+    let ws = a .words .now in
+    let bs = a .shelf .now in
+    let n = c .before .before .before .node-place in
+    reply-refused (query.Tree (a .group) (a .flag)) (a .bytes .now) ws bs (a .out .now) NoNode
+    (tree-unknown (a .group) (a .bytes .now) ws bs (n .result) (n .ensures) (a .flag) (omega (arith, c .before .wide .ensures)))
+
+node-is-group-requires : tie.Need-node-is-group-requires
+node-is-group-requires c κs = search needs
+
+returns-2 : tie.Need-returns-2
+returns-2 c =
+    let s = c .before .before .before .before .before .before .before .before .before .before in
+    let a = s .args in
+    let ws = a .words .now in
+    let bs = a .shelf .now in
+    let n = c .before .before .before .before .before .node-place in
+    reply-refused (query.Tree (a .group) (a .flag)) (a .bytes .now) ws bs (a .out .now) WrongKind
+    (tree-synth (a .group) (a .bytes .now) ws bs (n .result) (n .ensures) (record { state = s .pre; live = omega (arith, c .before .before .before .wide .ensures) }) (a .flag) (sym (c .before .node-is-group .ensures) ∙ not-true (c .before .node-is-group .result) (c .if2 .taken)))
+
+sub-nodes : tie.Need-sub-nodes
+sub-nodes c = search needs
+
+part-nodes-start : tie.Need-part-nodes-start
+part-nodes-start c = search needs
+
+part-nodes-end : tie.Need-part-nodes-end
+part-nodes-end c = search needs
+
+mul-number : tie.Need-mul-number
+mul-number c = search needs
+
+mul-number-2 : tie.Need-mul-number-2
+mul-number-2 c = search needs
+
+shared-slice-read-number : tie.Need-shared-slice-read-number
+shared-slice-read-number c = search needs
+
+child-count-requires : tie.Need-child-count-requires
+child-count-requires c κs = search needs
+
+subtree-end-requires : tie.Need-subtree-end-requires
+subtree-end-requires c κs = search needs
+
+is-shown-requires : tie.Need-is-shown-requires
+is-shown-requires c κs = search needs
+
+add-send-tree : tie.Need-add-send-tree
+add-send-tree c = search needs
+
+send-tree-requires : tie.Need-send-tree-requires
+send-tree-requires c κs =
+    let s = c .before .before .before .before .before .before .before .before .before .before .before .before .before .before .before .before in
+    let a = s .args in
+    let ws = a .words .now in
+    let bs = a .shelf .now in
+    let n = c .before .before .before .before .before .before .before .before .before .before .before .node-place in
+    let us = region nodesPlace nodesWords ws in
+    let w = c .before .before .before .before .before .before .before .before .before .wide in
+    let e = c .before .before .subtree-end in
+    record {
+      state = s .pre;
+      order = omega (arith, e .ensures);
+      ends = omega (arith, e .ensures, w .ensures, end-most (w .result) (n .result) us (omega arith));
+    }
+
+same-length : tie.Need-same-length
+same-length c = search needs
+
+returns-3 : tie.Need-returns-3
+returns-3 c =
+    let s = c .before .before .before .before .before .before .before .before .before .before .before .before .before .before .before .before .before .before .before in
+    let a = s .args in
+    let ws = a .words .now in
+    let bs = a .shelf .now in
+    let n = c .before .before .before .before .before .before .before .before .before .before .before .before .before .before .node-place in
+    let us = region nodesPlace nodesWords ws in
+    let w = c .before .before .before .before .before .before .before .before .before .before .before .before .wide in
+    let at : ℕ = n .result in
+    let there : At ws bs at = record { state = s .pre; live = omega (arith, w .ensures) } in
+    let m : ℕ = nodeIn ws at .number in
+    let shown = c .before .before .before .before .is-shown in
+    let end = c .before .before .before .before .before .subtree-end in
+    let children = c .before .before .before .before .before .before .child-count in
+    let sent = c .before .before .send-tree in
+    let ends : end .result ≡ endAt (countIn ws) us at = end .ensures ∙ ap (λ (k : ℕ). endAt k us at) (w .ensures) in
+    let counted : children .result ≡ childCount m (nodesIn ws) =
+    subst (λ (k : ℕ). (j : ℕ) → at ≡ place j (rows k us) → children .result ≡ childCount j (rows k us)) (w .ensures) (children .ensures) m (here-number (a .group) ws bs at (n .ensures) there) in
+    reply-sent (query.Tree (a .group) (a .flag)) (a .bytes .now) ws bs (a .out .now)
+    (message treeAddress (int (flagNumber (shown .result)) ∷ (int m ∷ (int (children .result) ∷ leftRows (shown .result) ws bs (end .result) (at + 1)))))
+    (sent .result) (sent .last .0)
+    (tree-passes (a .group) (a .bytes .now) ws bs (n .result) (n .ensures) there (a .flag) (sym (c .before .before .before .before .before .before .before .before .before .before .node-is-group .ensures) ∙ not-false (c .before .before .before .before .before .before .before .before .before .before .node-is-group .result) (c .before .before .before .before .before .before .before .before .before .if2 .left)))
+    (tree-reply (a .group) (a .bytes .now) ws bs (n .result) (n .ensures) there (a .flag) (end .result) (children .result) (shown .result) (shown .ensures) ends counted)
+    (sent .ensures)
+
+pub tree-query-spec : {M : Type 1} → statement M
+tree-query-spec =
+    tie.close
+    (tie.spec
+    node-place-requires
+    shared-slice-read-wide
+    wide-requires
+    returns
+    node-is-group-requires
+    returns-2
+    sub-nodes
+    part-nodes-start
+    part-nodes-end
+    mul-number
+    mul-number-2
+    shared-slice-read-number
+    child-count-requires
+    subtree-end-requires
+    is-shown-requires
+    add-send-tree
+    send-tree-requires
+    same-length
+    returns-3)
