@@ -1,11 +1,11 @@
 // A command on any words, any shelf and any reply buffer: the state check, and then the step of its kind.
+use crate::query::query_step;
 use buscommands::bus_step;
 use controlcommands::control_step;
 use definitioncommands::definition_step;
 use making::tree_step;
 use model::Answer;
 use model::Command;
-use crate::query::query_step;
 use statecheck::well_formed;
 use words::Refusal;
 ghost use mathlib.Core.Bool.{true};

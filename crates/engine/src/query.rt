@@ -6,23 +6,9 @@ use queries::bus_query;
 use queries::control_query;
 use queries::node_query;
 use queries::status_query;
-ghost use Rattle.model.specs.declared.Query.{Query};
+use treequery::tree_query;
 ghost use Rattle.state.specs.Known.{Known};
 ghost use Rattle.state.specs.Does.{Reply};
-
-fn tree_query(
-    words: &[u32],
-    shelf: &[u8],
-    bytes: &[u8],
-    out: &mut [u8],
-    group: u32,
-    flag: u32,
-) -> Answer
-    requires { ⌜ Known (now words) (now shelf) ⌝ }
-    ensures { λ r. ⌜ Reply (Query.Tree group flag) (now (bytes .entry)) (now (words .entry)) (now (shelf .entry)) (now (out .entry)) r (now (out .exit)) ⌝ }
-{
-    Answer::Done
-}
 
 // A query: its answer, and its reply from the buffer's first byte on.
 pub fn query_step(
