@@ -5,4 +5,5 @@ pub mod Few
 pub mod Same
 pub mod Marks
 pub mod Kept
+pub mod Met
 pub mod Checks

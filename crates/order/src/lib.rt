@@ -1,4 +1,5 @@
 // The running order and the rules of the state on nodes, over the node region in lent words.
+ghost use mathlib.Core.Bool.{false};
 ghost use mathlib.Core.Path.{_≡_};
 ghost use Prim.Native.Nat.{ℕ, _+_, _-_, _*_, _≤_, _<_};
 ghost use lib.ListN.{length, take, drop, getD};
@@ -142,18 +143,34 @@ fn number_lives(nodes: &[u32], count: usize, from: usize, number: u32) -> bool
     false
 }
 
-// No number stands twice.
+// The same, of a number that can stand there only if it is `met`.
+fn stands_again(nodes: &[u32], count: usize, from: usize, number: u32, met: bool) -> bool
+    requires { ⌜ Sized (now nodes) count × ((from ≤ count) × (met ≡ false → lives number (drop from (rows count (now nodes))) ≡ false)) ⌝ }
+    ensures { λ r. ⌜ r ≡ lives number (drop from (rows count (now (nodes .entry)))) ⌝ }
+{
+    if !met {
+        return false;
+    }
+    number_lives(nodes, count, from, number)
+}
+
+// No number stands twice. From the last record on, a mark is set for each number met, by its remainder: a number whose mark
+// is not set stands in no later record, so that only two numbers of one remainder cost a search.
 fn numbers_apart(nodes: &[u32], count: usize) -> bool
     requires { ⌜ Sized (now nodes) count ⌝ }
     ensures { λ r. ⌜ r ≡ apart (rows count (now (nodes .entry))) ⌝ }
 {
-    let mut i = 0;
-    while i < count {
-        let next = i + 1;
-        if number_lives(nodes, count, next, nodes[5 * i]) {
+    let mut met: [bool; 1024] = [false; 1024];
+    let mut i = count;
+    while 0 < i {
+        let next = i;
+        i -= 1;
+        let number = nodes[5 * i];
+        let mark = words::wide(number % 1024);
+        if stands_again(nodes, count, next, number, met[mark]) {
             return false;
         }
-        i = next;
+        met[mark] = true;
     }
     true
 }

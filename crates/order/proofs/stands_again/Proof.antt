@@ -1,0 +1,25 @@
+-- `order::stands_again` meets its contract.
+use mathlib.Core.Bool.{Bool, true, false, not}
+use mathlib.Core.Path.{_≡_, refl, sym}
+use borrow.Author.Needs.{needs}
+use Rattle.order.proofs.stands_again.Statement.{statement}
+use Rattle.order.proofs.stands_again.Tie as tie
+use Rattle.order.proofs.stands_again.Reads as reads
+use Rattle.order.proofs.stands_again.Lts as lts
+use Rattle.order.proofs.number_lives.Reads as number-lives-reads
+
+unmarked : (b : Bool) → not b ≡ true → b ≡ false
+unmarked true h = sym h
+unmarked false h = refl
+
+returns : tie.Need-returns
+returns c = sym (c .before .before .pre .1 .1 (unmarked _ (c .if1 .taken)))
+
+number-lives-requires : tie.Need-number-lives-requires
+number-lives-requires c κs = search needs
+
+returns-2 : tie.Need-returns-2
+returns-2 c = search needs
+
+pub stands-again-spec : {M : Type 1} → statement M
+stands-again-spec = tie.close (tie.spec returns number-lives-requires returns-2)
