@@ -1,13 +1,22 @@
 -- The three demands, as `model` states them, proved.
 use mathlib.Core.Bool.{Bool, true, false}
-use mathlib.Core.Path.{_≡_, refl, sym, ap, _∙_}
+use mathlib.Core.Path.{_≡_, refl, sym, ap, ap₂, _∙_}
 use mathlib.Core.List.{List}
 use Prim.Native.Nat.{ℕ}
+use native.Mathlib.Omega.{arith}
+use lib.ListN.{length}
+use Rattle.words.specs.Choice.{pick}
+use Rattle.words.specs.declared.Refusal.the-variants.{BadState}
+use Rattle.model.specs.declared.Command.{Command}
 use Rattle.model.specs.declared.Answer.{Answer}
 use Rattle.model.specs.declared.Answer.the-variants.{Done, Replied, Refused, RefusedAt}
-use Rattle.model.specs.Door.{answer, isAccepted, written, replyOf}
+use Rattle.model.specs.Formed.{formed}
+use Rattle.model.specs.After.{wordsAfter, shelfAfter}
+use Rattle.model.specs.Door.{answerIn, answer, isAccepted, written, replyOf}
 use Rattle.model.specs.Engine.{decode}
-use Rattle.model.specs.Demands.{Demand1, Demand2, Demand3, Call, AllBytes}
+use Rattle.model.specs.Demands.{isTold, Ends, Demand1, Demand2, Demand3, Call, AllBytes}
+use Rattle.steps.specs.Kept.{Stepped, stepped}
+use Rattle.sequence.specs.Sound.{answer-told}
 use Rattle.exports.specs.Theorem as exports
 use Rattle.sequence.specs.Theorem as sequence
 
@@ -18,14 +27,50 @@ unwritten (Replied n) reply out h = cc
 unwritten (Refused r) reply out h = refl
 unwritten (RefusedAt r at) reply out h = refl
 
--- "every input has exactly one answer of the table; a refusal changes nothing"
+-- an accepted command was given in a well-formed state
+accepted-formed : (c : Command) (bytes ws bs out : List ℕ) → isAccepted (answer c bytes ws bs out) ≡ true
+    → (formed ws bs ≡ true) × (isAccepted (answerIn c bytes (decode ws bs) (length out)) ≡ true)
+unfolding answer
+accepted-formed c bytes ws bs out h = go (formed ws bs) h
+  where
+    go : (b : Bool) → isAccepted (pick b (answerIn c bytes (decode ws bs) (length out)) (Refused BadState)) ≡ true → (b ≡ true) × (isAccepted (answerIn c bytes (decode ws bs) (length out)) ≡ true)
+    go true q = (refl, q)
+    go false q = let z : _≡_ {A = ℕ} 0 1 = cc in absurd (omega arith)
+
+answer-numbered : (c : Command) (bytes ws bs out : List ℕ) → isTold (answer c bytes ws bs out) ≡ true
+unfolding answer
+answer-numbered c bytes ws bs out = go (formed ws bs)
+  where
+    go : (b : Bool) → isTold (pick b (answerIn c bytes (decode ws bs) (length out)) (Refused BadState)) ≡ true
+    go true = answer-told c bytes (decode ws bs) (length out)
+    go false = refl
+
 pub demand1 : Demand1
-demand1 c bytes ws bs out a ws′ bs′ out′ d = (
-  d .answers,
-  λ refused.
-      let h = ap isAccepted (sym (d .answers)) ∙ refused in
-      (d .words ∙ rw h, (d .shelf ∙ rw h, d .reply ∙ unwritten (answer c bytes ws bs out) (replyOf c bytes (decode ws bs)) out h)),
-)
+demand1 c bytes ws bs out a ws′ bs′ out′ clean d = record {
+  table = d .answers;
+  told = ap isTold (d .answers) ∙ answer-numbered c bytes ws bs out;
+  effected = λ h. let g = accepted h in ap₂ decode (words g) (shelf g) ∙ stepped-after h .effected;
+  replied = λ h. d .reply ∙ ap (λ (b : Answer). written b (replyOf c bytes (decode ws bs)) out) (sym (d .answers));
+  kept = λ h. let g = accepted h in ap₂ formed (words g) (shelf g) ∙ stepped-after h .kept;
+  unchanged = λ h.
+      let g = same ∙ h in
+      (d .words ∙ rw g, (d .shelf ∙ rw g, d .reply ∙ unwritten (answer c bytes ws bs out) (replyOf c bytes (decode ws bs)) out g));
+}
+  where
+    same : isAccepted (answer c bytes ws bs out) ≡ isAccepted a
+    same = ap isAccepted (sym (d .answers))
+
+    accepted : isAccepted a ≡ true → isAccepted (answer c bytes ws bs out) ≡ true
+    accepted h = same ∙ h
+
+    words : isAccepted (answer c bytes ws bs out) ≡ true → ws′ ≡ wordsAfter c bytes ws bs
+    words g = d .words ∙ rw g
+
+    shelf : isAccepted (answer c bytes ws bs out) ≡ true → bs′ ≡ shelfAfter c bytes ws bs
+    shelf g = d .shelf ∙ rw g
+
+    stepped-after : isAccepted a ≡ true → Stepped c bytes ws bs
+    stepped-after h = let f = accepted-formed c bytes ws bs out (accepted h) in stepped c bytes ws bs clean (f .0) (length out) (f .1)
 
 pub demand2 : Demand2
 demand2 = exports.demand2

@@ -8,7 +8,7 @@ use mathlib.Core.Option.{Option, none, some}
 use lib.ListN.{length}
 use lib.Dec.{ltb, leb, eqb}
 use Rattle.words.specs.Choice.{pick, both, either}
-use Rattle.words.specs.declared.Refusal.the-variants.{BadState}
+use Rattle.words.specs.Refusals.{numberOf, hasPlace}
 use Rattle.synthdef.specs.Definition.{Definition}
 use Rattle.synthdef.specs.Bounds.{every}
 use Rattle.nodes.specs.declared.Node.{Node}
@@ -31,18 +31,11 @@ use Rattle.model.specs.Engine.{Slot, Engine, decode, slotAt, definitionI
 use Rattle.model.specs.Formed.{formed}
 use Rattle.model.specs.View.{Kind, group, synth, PlainNode, Row, shape, view}
 use Rattle.model.specs.Meaning.{meant, nodeNamed}
-use Rattle.model.specs.Effects.{numberFor}
+use Rattle.model.specs.Effects.{numberFor, effect}
 use Rattle.model.specs.Replies.{replyTo, reply}
 use Rattle.model.specs.After.{wordsAfter, shelfAfter, freshState, freshShelf}
-use Rattle.model.specs.Door.{answerIn, answer, isAccepted, Does}
+use Rattle.model.specs.Door.{answerIn, answer, isAccepted, written, replyOf, Does}
 use Rattle.model.specs.Plain.{Plain, atFirst, meaning, meantIn, fed, plainRows, plainOrder}
-
--- Demand 1: "A refusal changes nothing in the state or the reply buffer": of whatever a call does
-abbrev pub Demand1 : Type 0
-Demand1 =
-    (c : Command) (bytes ws bs out : List ℕ) (a : Answer) (ws′ bs′ out′ : List ℕ)
-    → Does c bytes ws bs out a ws′ bs′ out′
-    → (a ≡ answer c bytes ws bs out) × (isAccepted a ≡ false → (ws′ ≡ ws) × ((bs′ ≡ bs) × (out′ ≡ out)))
 
 -- the definition that a name means in the engine: its resident's
 abbrev pub residentIn : List Slot → ℕ → Option Definition
@@ -54,6 +47,36 @@ meaningIn name e = residentIn (e .slots) (residentOf name (e .slots))
 -- a file as a call's bytes: each below 256
 abbrev pub AreBytes : List ℕ → Type 0
 AreBytes s = every (λ b. ltb b 256) s ≡ true
+
+-- "All return only the number (2 to 11 also the place)"
+abbrev pub isTold : Answer → Bool
+isTold Done = true
+isTold (Replied n) = true
+isTold (Refused r) = not (hasPlace r)
+isTold (RefusedAt r at) = hasPlace r
+
+-- the number of the refusal that an answer gives, 0 where it gives none
+abbrev pub refusalIn : Answer → ℕ
+refusalIn Done = 0
+refusalIn (Replied n) = 0
+refusalIn (Refused r) = numberOf r
+refusalIn (RefusedAt r at) = numberOf r
+
+-- of what a call does: "Any bytes and any command, in any lent state, end in the effect asked for or in one numbered refusal, by the table's order of checks. A refusal
+-- changes nothing in the state or the reply buffer". A command that is accepted was given in a well-formed state, and leaves one.
+pub record Ends (c : Command) (bytes ws bs out : List ℕ) (a : Answer) (ws′ bs′ out′ : List ℕ) : Type 0 where
+  pub table : a ≡ answer c bytes ws bs out
+  pub told : isTold a ≡ true
+  pub effected : isAccepted a ≡ true → decode ws′ bs′ ≡ effect c bytes (decode ws bs)
+  pub replied : isAccepted a ≡ true → out′ ≡ written a (replyOf c bytes (decode ws bs)) out
+  pub kept : isAccepted a ≡ true → formed ws′ bs′ ≡ true
+  pub unchanged : isAccepted a ≡ false → (ws′ ≡ ws) × ((bs′ ≡ bs) × (out′ ≡ out))
+
+-- Demand 1, of whatever a call does: `Does` is what `engine::apply` promises of every input
+abbrev pub Demand1 : Type 0
+Demand1 =
+    (c : Command) (bytes ws bs out : List ℕ) (a : Answer) (ws′ bs′ out′ : List ℕ)
+    → AreBytes bytes → Does c bytes ws bs out a ws′ bs′ out′ → Ends c bytes ws bs out a ws′ bs′ out′
 
 abbrev pub receive : Command
 receive = command.Definitions definitions.Receive
@@ -212,7 +235,7 @@ entriesLeft test t (r ∷ l) =
 -- it neither adds, moves nor frees keep their order among themselves; a node outside the subtrees that it adds, moves, sets, maps, turns on or off, or frees keeps its
 -- kind, parent, definition, run flag and controls
 pub record StepHolds (c : Call) (s : State) : Type 0 where
-  pub sound : answerTo c s ≡ Refused BadState → ⊥
+  pub sound : refusalIn (answerTo c s) ≡ 1 → ⊥
   pub table : answerTo c s ≡ answerIn (c .command) (c .bytes) (engineIn s) (length (c .out))
   pub ordered : numbersLeft (displaced (c .command) (engineIn s)) (view (engineIn s))
       ≡ numbersLeft (displaced (c .command) (engineIn s)) (view (engineIn (after c s)))

@@ -21,20 +21,25 @@ use Rattle.model.specs.Engine.{Slot, Engine, definitionIn, residents, fi
 use Rattle.model.specs.View.{Kind, group, synth, PlainNode, Row, isGroupKind, shape, view}
 use Rattle.model.specs.Meaning.{meant, startOf}
 
--- the addresses
+-- the addresses, byte by byte
+-- "/n_info"
 abbrev pub infoAddress : List ℕ
 infoAddress = 47 ∷ (110 ∷ (95 ∷ (105 ∷ (110 ∷ (102 ∷ (111 ∷ []))))))
 
+-- "/n_set"
 abbrev pub setAddress : List ℕ
 setAddress = 47 ∷ (110 ∷ (95 ∷ (115 ∷ (101 ∷ (116 ∷ [])))))
 
+-- "/c_set"
 abbrev pub busAddress : List ℕ
 busAddress = 47 ∷ (99 ∷ (95 ∷ (115 ∷ (101 ∷ (116 ∷ [])))))
 
+-- "/g_queryTree.reply"
 abbrev pub treeAddress : List ℕ
 treeAddress =
     47 ∷ (103 ∷ (95 ∷ (113 ∷ (117 ∷ (101 ∷ (114 ∷ (121 ∷ (84 ∷ (114 ∷ (101 ∷ (101 ∷ (46 ∷ (114 ∷ (101 ∷ (112 ∷ (108 ∷ (121 ∷ [])))))))))))))))))
 
+-- "/status.reply"
 abbrev pub statusAddress : List ℕ
 statusAddress = 47 ∷ (115 ∷ (116 ∷ (97 ∷ (116 ∷ (117 ∷ (115 ∷ (46 ∷ (114 ∷ (101 ∷ (112 ∷ (108 ∷ (121 ∷ []))))))))))))
 

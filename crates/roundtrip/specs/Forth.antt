@@ -55,8 +55,8 @@ fitting-sound names s at h = then-sound _ (definition-sound s at h) (λ d next c
   where
     by : (d : Definition) (next : ℕ) → Part s at next (writeDefinition d) (isDefinition d ≡ true) → (l : Bool) → ltb sizeLimit (next - at) ≡ l → (m : Bool) → among (d .front .name) names ≡ m
         → Sound s at writeDefinition (Fitting names) (pick l (bad TooLong at) (pick m (bad NameTwice at) (got d next)))
-    by d next c true e m f = refused TooLong at h
-    by d next c false e true f = refused NameTwice at h
+    by d next c true e m f = refused TooLong at h refl
+    by d next c false e true f = refused NameTwice at h refl
     by d next c false e false f =
         taken d next (record {
           forward = c .forward;
@@ -77,8 +77,8 @@ definitions-sound (suc n) names s at h =
 
 header-sound : (s : List ℕ) → Sound s 0 writeHeader (λ n. leb n mostDefinitions ≡ true) (readHeader s)
 header-sound s =
-    then-sound _ (checked-sound NotSynthDef (λ t. eqb t fileType) (omega arith) (int32-sound s 0 (omega arith))) (λ t p1 c1.
-    then-sound _ (checked-sound BadVersion (λ v. eqb v fileVersion) (c1 .inside) (int32-sound s p1 (c1 .inside))) (λ v p2 c2.
+    then-sound _ (checked-sound NotSynthDef (λ t. eqb t fileType) refl (omega arith) (int32-sound s 0 (omega arith))) (λ t p1 c1.
+    then-sound _ (checked-sound BadVersion (λ v. eqb v fileVersion) refl (c1 .inside) (int32-sound s p1 (c1 .inside))) (λ v p2 c2.
     extend (short-count-sound mostDefinitions s p2 (c2 .inside)) (λ n p3 c3.
     restate (join c1 (join c2 c3)) (λ ((_, e1), ((_, e2), t3)). (rw (eqb-true t fileType e1, eqb-true v fileVersion e2), t3)))))
 
@@ -92,7 +92,7 @@ file-sound s =
         → Part s 0 end (writeHeader n ++ writeAll writeDefinition ds) ((leb n mostDefinitions ≡ true) × ((length ds ≡ n) × (areDefinitions [] ds ≡ true)))
         → (b : Bool) → ltb end (length s) ≡ b
         → Sound s 0 writeFile (λ ds. (isFile ds ≡ true) × (length s ≤ length (writeFile ds))) (pick b (bad BytesLeft end) (got ds end))
-    by n ds end c true e = refused BytesLeft end (c .inside)
+    by n ds end c true e = refused BytesLeft end (c .inside) refl
     by n ds end c false e =
         taken ds end (record {
           forward = c .forward;

@@ -54,7 +54,7 @@ input-sound k outs s at h = then-sound _ (int32-sound s at h) (λ u next c. by u
     by u next c false e true f =
         then-sound _ (index-sound (getD outs u 0) s next (c .inside)) (λ o end d.
         taken _ end (restate (join c d) (λ (q, t). (refl, rw f t))))
-    by u next c false e false f = refused BadIndex at h
+    by u next c false e false f = refused BadIndex at h refl
 
 pub unit-sound : (k : ℕ) (outs : List ℕ) → Forth (readUnit k outs) writeUnit (λ u. isUnit k outs u ≡ true)
 unfolding readUnit

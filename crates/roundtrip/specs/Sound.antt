@@ -1,4 +1,4 @@
--- What a reading takes is the writing of what it gives, and a refusal's place lies in the file. The laws of combinations.
+-- What a reading takes is the writing of what it gives; a refusal is one that has a place, and its place lies in the file. The laws of combinations.
 use Prim.Native.Nat.{ℕ, zero, suc, _+_, _-_, _≤_}
 use mathlib.Core.Path.{_≡_, refl, sym, ap, ap₂, _∙_}
 use mathlib.Core.Bool.{Bool, true, false}
@@ -10,6 +10,7 @@ use lib.Seq.{drop-drop, take-add}
 use Rattle.words.specs.Choice.{pick}
 use Rattle.words.specs.Parts.{region, region-length}
 use Rattle.words.specs.declared.Refusal.{Refusal}
+use Rattle.words.specs.Refusals.{hasPlace}
 use Rattle.synthdef.specs.Read.{Read, got, bad, andThen, checked, repeat}
 use Rattle.synthdef.specs.Writer.{writeAll}
 use Rattle.synthdef.specs.Bounds.{every}
@@ -57,10 +58,10 @@ restate c f = record {
   told = λ b. let q = f (c .told b .1) in (q .0 ∙ c .told b .0, q .1);
 }
 
--- a reading from a place on: what it takes is the writing of what it gives, of which Q holds, or its refusal's place is in the file
+-- a reading from a place on: what it takes is the writing of what it gives, of which Q holds, or its refusal is one that has a place, which is in the file
 pub data Sound {A : Type 0} (s : List ℕ) (at : ℕ) (write : A → List ℕ) (Q : A → Type 0) : Read A → Type 0 where
   taken : (x : A) (next : ℕ) → Part s at next (write x) (Q x) → Sound s at write Q (got x next)
-  refused : (r : Refusal) (p : ℕ) → p ≤ length s → Sound s at write Q (bad r p)
+  refused : (r : Refusal) (p : ℕ) → p ≤ length s → hasPlace r ≡ true → Sound s at write Q (bad r p)
 
 abbrev pub Forth : {A : Type 0} → (List ℕ → ℕ → Read A) → (A → List ℕ) → (A → Type 0) → Type 0
 Forth read write Q = (s : List ℕ) (at : ℕ) → at ≤ length s → Sound s at write Q (read s at)
@@ -71,7 +72,7 @@ module _ {A B : Type 0} {s : List ℕ} {at mid : ℕ} {write : A → List ℕ} {
       → ((x : A) (next : ℕ) → Part s mid next (write x) (Q x) → Sound s at write′ Q′ (more x next))
       → Sound s at write′ Q′ (andThen r more)
   then-sound more (taken x next c) f = f x next c
-  then-sound more (refused r p h) f = refused r p h
+  then-sound more (refused r p h k) f = refused r p h k
 
 module _ {A : Type 0} where
   -- what a reading that gave a value has taken; and where one that was refused stopped
@@ -81,30 +82,34 @@ module _ {A : Type 0} where
       let same : y ≡ x = cc in
       let end : n ≡ next = cc in
       rw (same, end) at c
-  part-of (refused r p h) e = let z : _≡_ {A = ℕ} 0 1 = cc in absurd (omega arith)
+  part-of (refused r p h k) e = let z : _≡_ {A = ℕ} 0 1 = cc in absurd (omega arith)
 
   pub place-of : {s : List ℕ} {at : ℕ} {write : A → List ℕ} {Q : A → Type 0} {r : Read A} → Sound s at write Q r → {f : Refusal} {p : ℕ} → r ≡ bad f p → p ≤ length s
   place-of (taken y n c) e = let z : _≡_ {A = ℕ} 0 1 = cc in omega arith
-  place-of (refused r q h) {f} {p} e = let same : q ≡ p = cc in rw same at h
+  place-of (refused r q h k) {f} {p} e = let same : q ≡ p = cc in rw same at h
+
+  pub refusal-of : {s : List ℕ} {at : ℕ} {write : A → List ℕ} {Q : A → Type 0} {r : Read A} → Sound s at write Q r → {f : Refusal} {p : ℕ} → r ≡ bad f p → hasPlace f ≡ true
+  refusal-of (taken y n c) e = let z : _≡_ {A = ℕ} 0 1 = cc in absurd (omega arith)
+  refusal-of (refused r q h k) {f} {p} e = let same : r ≡ f = cc in sym (ap hasPlace same) ∙ k
 
   -- the same reading, said in another way, perhaps with what was taken before it
   pub extend : {s : List ℕ} {at mid : ℕ} {write : A → List ℕ} {write′ : A → List ℕ} {P : A → Type 0} {Q : A → Type 0} {r : Read A} → Sound s mid write P r
       → ((x : A) (next : ℕ) → Part s mid next (write x) (P x) → Part s at next (write′ x) (Q x))
       → Sound s at write′ Q r
   extend (taken x next c) f = taken x next (f x next c)
-  extend (refused r p h) f = refused r p h
+  extend (refused r p h k) f = refused r p h k
 
   pub weaken : {s : List ℕ} {at : ℕ} {write : A → List ℕ} {P : A → Type 0} {Q : A → Type 0} {r : Read A} → Sound s at write P r → ((x : A) → P x → Q x) → Sound s at write Q r
   weaken g f = extend g (λ x next c. restate c (λ q. (refl, f x q)))
 
-  pub checked-sound : {s : List ℕ} {at : ℕ} {write : A → List ℕ} {Q : A → Type 0} {r : Read A} (fault : Refusal) (test : A → Bool) → at ≤ length s → Sound s at write Q r
+  pub checked-sound : {s : List ℕ} {at : ℕ} {write : A → List ℕ} {Q : A → Type 0} {r : Read A} (fault : Refusal) (test : A → Bool) → hasPlace fault ≡ true → at ≤ length s → Sound s at write Q r
       → Sound s at write (λ x. Q x × (test x ≡ true)) (checked fault test at r)
-  checked-sound {s} {at} {write} {Q} fault test h (refused r p k) = refused r p k
-  checked-sound {s} {at} {write} {Q} fault test h (taken x next c) = by (test x) refl
+  checked-sound {s} {at} {write} {Q} fault test told h (refused r p k l) = refused r p k l
+  checked-sound {s} {at} {write} {Q} fault test told h (taken x next c) = by (test x) refl
     where
       by : (b : Bool) → test x ≡ b → Sound s at write (λ y. Q y × (test y ≡ true)) (pick b (got x next) (bad fault at))
       by true e = taken x next (restate c (λ q. (refl, (q, e))))
-      by false e = refused fault at h
+      by false e = refused fault at h told
 
   pub repeat-sound : (read : List ℕ → ℕ → Read A) (write : A → List ℕ) (test : A → Bool) → Forth read write (λ x. test x ≡ true) → (n : ℕ)
       → Forth (λ s at. repeat (read s) n at) (writeAll write) (λ xs. (length xs ≡ n) × (every test xs ≡ true))

@@ -1,15 +1,15 @@
--- The refusal table never answers 1.
-use Prim.{Unit, tt}
-use Prim.Native.Nat.{ℕ}
-use mathlib.Core.Bool.{Bool, true, false}
+-- The refusal table never answers 1, and tells a place with 2 to 11 alone.
+use Prim.Native.Nat.{ℕ, _≤_}
+use mathlib.Core.Bool.{Bool, true, false, not}
 use mathlib.Core.Path.{_≡_, refl, sym, ap, _∙_}
 use mathlib.Core.List.{List, [], _∷_}
 use native.Mathlib.Omega.{arith}
 use lib.ListN.{length}
-use Rattle.words.specs.Choice.{pick}
+use lib.Dec.{leb, eqb}
+use borrow.Author.Tests.{leb-true, ne-eqb, eq-eqb}
+use Rattle.words.specs.Choice.{pick, both, both-true}
 use Rattle.words.specs.declared.Refusal.{Refusal}
-use Rattle.words.specs.declared.Refusal.the-variants.{BadState}
-use Rattle.words.specs.Refusals.{numberOf}
+use Rattle.words.specs.Refusals.{numberOf, hasPlace}
 use Rattle.synthdef.specs.Read.{Read, got, bad}
 use Rattle.synthdef.specs.Definition.{Definition}
 use Rattle.synthdef.specs.Reader.{readFile}
@@ -31,78 +31,88 @@ use Rattle.model.specs.Engine.{Engine}
 use Rattle.model.specs.Checks.{Check, firstOf, faultOf, definitionChecks, treeChecks, controlChecks, busChecks, queryChecks, roomCheck}
 use Rattle.model.specs.Replies.{reply}
 use Rattle.model.specs.Door.{queryAnswer, answerIn}
+use Rattle.model.specs.Demands.{isTold, refusalIn}
+use Rattle.roundtrip.specs.Place.{file-refusal}
 
--- 1 where an answer is refusal 1
-abbrev one : Answer → ℕ
-one Done = 0
-one (Replied n) = 0
-one (Refused r) = numberOf r
-one (RefusedAt r at) = 0
+-- an answer that is not 1, and is told as it should be
+abbrev isFair : Answer → Bool
+isFair a = both (isTold a) (not (eqb (refusalIn a) 1))
 
-abbrev NotOne : Answer → Type 0
-NotOne a = one a ≡ 1 → ⊥
+unfoldable areFair : List Check → Bool
+areFair [] = true
+areFair (c ∷ cs) = both (isFair (c .answer)) (areFair cs)
 
-unfoldable Fair : List Check → Type 0
-Fair [] = Unit {0}
-Fair (c ∷ cs) = NotOne (c .answer) × Fair cs
-
-fair-first : (cs : List Check) (a : Answer) → Fair cs → NotOne a → NotOne (firstOf cs a)
-unfolding firstOf Fair
+fair-first : (cs : List Check) (a : Answer) → areFair cs ≡ true → isFair a ≡ true → isFair (firstOf cs a) ≡ true
+unfolding firstOf areFair
 fair-first [] a f n = n
-fair-first (c ∷ cs) a f n = go (c .fires) (fair-first cs a (f .1) n)
+fair-first (c ∷ cs) a f n = let g = both-true (isFair (c .answer)) (areFair cs) f in go (c .fires) (g .0) (fair-first cs a (g .1) n)
   where
-    go : (b : Bool) → NotOne (firstOf cs a) → NotOne (pick b (c .answer) (firstOf cs a))
-    go true ih = f .0
-    go false ih = ih
+    go : (b : Bool) → isFair (c .answer) ≡ true → isFair (firstOf cs a) ≡ true → isFair (pick b (c .answer) (firstOf cs a)) ≡ true
+    go true this ih = this
+    go false this ih = ih
 
-file-fair : (r : Read (List Definition)) → NotOne (faultOf r .answer)
-file-fair (got ds end) h = omega arith
-file-fair (bad r at) h = omega arith
+-- a refusal with a place is none of the others
+placed : (r : Refusal) (at : ℕ) → hasPlace r ≡ true → isFair (RefusedAt r at) ≡ true
+placed r at h =
+    let low : 2 ≤ numberOf r = leb-true 2 (numberOf r) (both-true (leb 2 (numberOf r)) _ h .0) in
+    let other : eqb (numberOf r) 1 ≡ false = ne-eqb (numberOf r) 1 (λ e. omega arith) in
+    rw (h, other)
 
-no : (n : ℕ) → (n ≡ 1 → ⊥) → n ≡ 1 → ⊥
-no n h = h
-
-answers-fair : (c : Command) (bytes : List ℕ) (e : Engine) (room : ℕ) → NotOne (answerIn c bytes e room)
-unfolding answerIn queryAnswer Fair
-answers-fair (command.Definitions definitions.Receive) bytes e room =
-    fair-first (definitionChecks definitions.Receive bytes e) Done (file-fair (readFile bytes), ((λ h. omega arith), tt)) (λ h. omega arith)
-answers-fair (command.Definitions definitions.Free) bytes e room = fair-first (definitionChecks definitions.Free bytes e) Done ((λ h. omega arith), tt) (λ h. omega arith)
-answers-fair (command.Tree (tree.NewSynth number action target)) bytes e room =
-    fair-first (treeChecks (tree.NewSynth number action target) bytes e) Done
-    ((λ h. omega arith), ((λ h. omega arith), ((λ h. omega arith), ((λ h. omega arith), ((λ h. omega arith), ((λ h. omega arith), ((λ h. omega arith), ((λ h. omega arith), tt)))))))) (λ h. omega arith)
-answers-fair (command.Tree (tree.NewGroup number action target)) bytes e room =
-    fair-first (treeChecks (tree.NewGroup number action target) bytes e) Done
-    ((λ h. omega arith), ((λ h. omega arith), ((λ h. omega arith), ((λ h. omega arith), ((λ h. omega arith), ((λ h. omega arith), tt)))))) (λ h. omega arith)
-answers-fair (command.Tree (tree.Free n)) bytes e room = fair-first (treeChecks (tree.Free n) bytes e) Done ((λ h. omega arith), ((λ h. omega arith), tt)) (λ h. omega arith)
-answers-fair (command.Tree (tree.FreeAll g)) bytes e room = fair-first (treeChecks (tree.FreeAll g) bytes e) Done ((λ h. omega arith), ((λ h. omega arith), tt)) (λ h. omega arith)
-answers-fair (command.Tree (tree.DeepFree g)) bytes e room = fair-first (treeChecks (tree.DeepFree g) bytes e) Done ((λ h. omega arith), ((λ h. omega arith), tt)) (λ h. omega arith)
-answers-fair (command.Tree (tree.Before a b)) bytes e room =
-    fair-first (treeChecks (tree.Before a b) bytes e) Done ((λ h. omega arith), ((λ h. omega arith), ((λ h. omega arith), ((λ h. omega arith), ((λ h. omega arith), tt))))) (λ h. omega arith)
-answers-fair (command.Tree (tree.After a b)) bytes e room =
-    fair-first (treeChecks (tree.After a b) bytes e) Done ((λ h. omega arith), ((λ h. omega arith), ((λ h. omega arith), ((λ h. omega arith), ((λ h. omega arith), tt))))) (λ h. omega arith)
-answers-fair (command.Tree (tree.Head g a)) bytes e room =
-    fair-first (treeChecks (tree.Head g a) bytes e) Done ((λ h. omega arith), ((λ h. omega arith), ((λ h. omega arith), ((λ h. omega arith), ((λ h. omega arith), tt))))) (λ h. omega arith)
-answers-fair (command.Tree (tree.Tail g a)) bytes e room =
-    fair-first (treeChecks (tree.Tail g a) bytes e) Done ((λ h. omega arith), ((λ h. omega arith), ((λ h. omega arith), ((λ h. omega arith), ((λ h. omega arith), tt))))) (λ h. omega arith)
-answers-fair (command.Tree (tree.Run n flag)) bytes e room = fair-first (treeChecks (tree.Run n flag) bytes e) Done ((λ h. omega arith), ((λ h. omega arith), tt)) (λ h. omega arith)
-answers-fair (command.Controls (controls.Set n key value)) bytes e room =
-    fair-first (controlChecks (controls.Set n key value) bytes e) Done ((λ h. omega arith), ((λ h. omega arith), ((λ h. omega arith), tt))) (λ h. omega arith)
-answers-fair (command.Controls (controls.Fill n key count value)) bytes e room =
-    fair-first (controlChecks (controls.Fill n key count value) bytes e) Done ((λ h. omega arith), ((λ h. omega arith), ((λ h. omega arith), tt))) (λ h. omega arith)
-answers-fair (command.Controls (controls.Map n key bus)) bytes e room =
-    fair-first (controlChecks (controls.Map n key bus) bytes e) Done ((λ h. omega arith), ((λ h. omega arith), ((λ h. omega arith), tt))) (λ h. omega arith)
-answers-fair (command.Buses (buses.Set bus value)) bytes e room = fair-first (busChecks (buses.Set bus value) e) Done ((λ h. omega arith), ((λ h. omega arith), tt)) (λ h. omega arith)
-answers-fair (command.Buses (buses.Fill start count value)) bytes e room = fair-first (busChecks (buses.Fill start count value) e) Done ((λ h. omega arith), ((λ h. omega arith), tt)) (λ h. omega arith)
-answers-fair (command.Query q) bytes e room = fair-first (queryChecks q bytes e) _ (query-fair q) (fair-first (roomCheck (reply q bytes e) room ∷ []) (Replied (length (reply q bytes e))) ((λ h. omega arith), tt) (λ h. omega arith))
+file-fair : (bytes : List ℕ) → isFair (faultOf (readFile bytes) .answer) ≡ true
+file-fair bytes = go (readFile bytes) refl
   where
-    query-fair : (q : Query) → Fair (queryChecks q bytes e)
-    query-fair (query.Node n) = ((λ h. omega arith), tt)
-    query-fair (query.Control n key) = ((λ h. omega arith), ((λ h. omega arith), ((λ h. omega arith), tt)))
-    query-fair (query.Bus b) = ((λ h. omega arith), tt)
-    query-fair (query.Tree g flag) = ((λ h. omega arith), ((λ h. omega arith), tt))
-    query-fair query.Status = tt
-    query-fair query.Export = tt
+    go : (r : Read (List Definition)) → readFile bytes ≡ r → isFair (faultOf r .answer) ≡ true
+    go (got ds end) e = refl
+    go (bad r at) e = placed r at (file-refusal bytes r at e)
+
+answers-fair : (c : Command) (bytes : List ℕ) (e : Engine) (room : ℕ) → isFair (answerIn c bytes e room) ≡ true
+unfolding answerIn queryAnswer areFair
+answers-fair (command.Definitions definitions.Receive) bytes e room = fair-first (definitionChecks definitions.Receive bytes e) Done (rw (file-fair bytes)) refl
+answers-fair (command.Definitions definitions.Free) bytes e room = fair-first (definitionChecks definitions.Free bytes e) Done refl refl
+answers-fair (command.Tree c) bytes e room = fair-first (treeChecks c bytes e) Done (tree-fair c) refl
+  where
+    tree-fair : (c : TreeCommand) → areFair (treeChecks c bytes e) ≡ true
+    tree-fair (tree.NewSynth number action target) = refl
+    tree-fair (tree.NewGroup number action target) = refl
+    tree-fair (tree.Free n) = refl
+    tree-fair (tree.FreeAll g) = refl
+    tree-fair (tree.DeepFree g) = refl
+    tree-fair (tree.Before a b) = refl
+    tree-fair (tree.After a b) = refl
+    tree-fair (tree.Head g a) = refl
+    tree-fair (tree.Tail g a) = refl
+    tree-fair (tree.Run n flag) = refl
+answers-fair (command.Controls c) bytes e room = fair-first (controlChecks c bytes e) Done (control-fair c) refl
+  where
+    control-fair : (c : ControlCommand) → areFair (controlChecks c bytes e) ≡ true
+    control-fair (controls.Set n key value) = refl
+    control-fair (controls.Fill n key count value) = refl
+    control-fair (controls.Map n key bus) = refl
+answers-fair (command.Buses c) bytes e room = fair-first (busChecks c e) Done (bus-fair c) refl
+  where
+    bus-fair : (c : BusCommand) → areFair (busChecks c e) ≡ true
+    bus-fair (buses.Set bus value) = refl
+    bus-fair (buses.Fill start count value) = refl
+answers-fair (command.Query q) bytes e room = fair-first (queryChecks q bytes e) _ (query-fair q) (fair-first (roomCheck (reply q bytes e) room ∷ []) (Replied (length (reply q bytes e))) refl refl)
+  where
+    query-fair : (q : Query) → areFair (queryChecks q bytes e) ≡ true
+    query-fair (query.Node n) = refl
+    query-fair (query.Control n key) = refl
+    query-fair (query.Bus b) = refl
+    query-fair (query.Tree g flag) = refl
+    query-fair query.Status = refl
+    query-fair query.Export = refl
+
+-- "All return only the number (2 to 11 also the place)"
+pub answer-told : (c : Command) (bytes : List ℕ) (e : Engine) (room : ℕ) → isTold (answerIn c bytes e room) ≡ true
+answer-told c bytes e room = both-true (isTold (answerIn c bytes e room)) _ (answers-fair c bytes e room) .0
 
 -- "never refusal 1"
-pub never-one : (c : Command) (bytes : List ℕ) (e : Engine) (room : ℕ) → answerIn c bytes e room ≡ Refused BadState → ⊥
-never-one c bytes e room h = answers-fair c bytes e room (ap one h)
+pub never-one : (c : Command) (bytes : List ℕ) (e : Engine) (room : ℕ) → refusalIn (answerIn c bytes e room) ≡ 1 → ⊥
+never-one c bytes e room = differs (refusalIn (answerIn c bytes e room)) (both-true (isTold (answerIn c bytes e room)) _ (answers-fair c bytes e room) .1)
+  where
+    differs : (n : ℕ) → not (eqb n 1) ≡ true → n ≡ 1 → ⊥
+    differs n h e = let same : eqb n 1 ≡ true = eq-eqb n 1 e in let z : false ≡ true = sym (ap not same) ∙ h in go z
+      where
+        go : false ≡ true → ⊥
+        go z = let q : _≡_ {A = ℕ} 0 1 = cc in omega arith

@@ -26,7 +26,7 @@ use Rattle.model.specs.Effects.{effect}
 use Rattle.model.specs.After.{wordsAfter, shelfAfter, freshState, freshShelf}
 use Rattle.model.specs.Door.{answerIn, answer, isAccepted}
 use Rattle.model.specs.Plain.{Plain, atFirst, grow, fed, plainRows}
-use Rattle.model.specs.Demands.{AreBytes, Call, State, engineIn, answerTo, acceptedIn, after, freshEngine, run, replay, madeIn, made, voiceOf, displaced, touched, numbersLeft, entriesLeft, StepHolds, EachHolds, TreeHolds, Same, AllBytes, Demand3}
+use Rattle.model.specs.Demands.{AreBytes, refusalIn, Call, State, engineIn, answerTo, acceptedIn, after, freshEngine, run, replay, madeIn, made, voiceOf, displaced, touched, numbersLeft, entriesLeft, StepHolds, EachHolds, TreeHolds, Same, AllBytes, Demand3}
 use Rattle.replay.specs.Kept.{Kept, kept-same}
 use Rattle.replay.specs.Replay.{isDone, replayed}
 use Rattle.steps.specs.Kept.{kept, effected, accepted-is-done}
@@ -117,7 +117,7 @@ module _ (c : Call) (clean : AreBytes (c .bytes)) (s : State) (p : Plain) (spoke
   -- what demand 3 asks of one call
   pub step-holds : StepHolds c s
   step-holds = record {
-    sound = λ h. never-one (c .command) (c .bytes) e room (sym (told c s (g .whole)) ∙ h);
+    sound = λ h. never-one (c .command) (c .bytes) e room (ap refusalIn (sym (told c s (g .whole))) ∙ h);
     table = told c s (g .whole);
     ordered = go (acceptedIn c s) refl;
     untouched = still (acceptedIn c s) refl;
