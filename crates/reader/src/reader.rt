@@ -7,8 +7,7 @@ use crate::places::start_of;
 use synthdef::Checked;
 use synthdef::check_file;
 ghost use mathlib.Core.Path.{_≡_};
-ghost use Rattle.reader.specs.Places.{endedAt, bytesAt, nameFrom};
-ghost use Rattle.reader.specs.Walk.{after, opened};
+ghost use Rattle.reader.specs.Walk.{opened, ended, handed, after};
 
 pub struct Reader<'a> {
     file: &'a [u8],
@@ -40,21 +39,21 @@ impl<'a> Reader<'a> {
 
     // No definition is left.
     pub fn at_end(self) -> bool
-        ensures { λ r. ⌜ r ≡ endedAt (now (self .entry .file)) (self .entry .place) ⌝ }
+        ensures { λ r. ⌜ r ≡ ended (self .entry) ⌝ }
     {
         ended_at(self.file, self.place)
     }
 
     // The next definition, a part of the lent file.
     pub fn definition(self) -> &'a [u8]
-        ensures { λ r. ⌜ now r ≡ bytesAt (now (self .entry .file)) (self .entry .place) ⌝ }
+        ensures { λ r. ⌜ now r ≡ handed (self .entry) .bytes ⌝ }
     {
         bytes_at(self.file, self.place)
     }
 
     // Its name, a part of the lent file.
     pub fn name(self) -> &'a [u8]
-        ensures { λ r. ⌜ now r ≡ nameFrom (now (self .entry .file)) (self .entry .place) ⌝ }
+        ensures { λ r. ⌜ now r ≡ handed (self .entry) .name ⌝ }
     {
         name_from(self.file, self.place)
     }
