@@ -1,0 +1,44 @@
+use mathlib.Core.Path.{sym, _∙_}
+use borrow.Author.Needs.{needs}
+use Rattle.reader.specs.PlaceLaws.{bytes-got, bytes-bad}
+use Rattle.reader.proofs.places.bytes_at.Statement.{statement}
+use Rattle.reader.proofs.places.bytes_at.Tie as tie
+
+read-definition-requires : tie.Need-read-definition-requires
+read-definition-requires c κs = search needs
+
+enum-known-next : tie.Need-enum-known-next
+enum-known-next c = search needs
+
+part-requires : tie.Need-part-requires
+part-requires c κs = search needs
+
+enum-known-refusal : tie.Need-enum-known-refusal
+enum-known-refusal c = search needs
+
+part-requires-2 : tie.Need-part-requires-2
+part-requires-2 c κs = search needs
+
+returns : tie.Need-returns
+returns c =
+    let a = c .before .before .before .before .before .before .args in
+    let told = sym (rw (c .before .before .next .given .1) at (c .before .before .before .before .read-definition .ensures)) in
+    c .part .ensures ∙ sym (bytes-got (a .s .now) (a .at) told)
+
+returns-2 : tie.Need-returns-2
+returns-2 c =
+    let a = c .before .before .before .before .before .before .args in
+    let told = sym (rw (c .before .before .refusal .given .1) at (c .before .before .before .before .read-definition .ensures)) in
+    c .part2 .ensures ∙ sym (bytes-bad (a .s .now) (a .at) told)
+
+pub bytes-at-spec : {M : Type 1} → statement M
+bytes-at-spec =
+    tie.close
+    (tie.spec
+    read-definition-requires
+    enum-known-next
+    part-requires
+    enum-known-refusal
+    part-requires-2
+    returns
+    returns-2)

@@ -1,0 +1,4 @@
+pub mod Places
+pub mod PlaceLaws
+pub mod Walk
+pub mod WalkLaws

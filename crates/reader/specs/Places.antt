@@ -1,0 +1,33 @@
+-- What a reader meets at a place of a file.
+use Prim.Native.Nat.{ℕ, _-_}
+use mathlib.Core.Bool.{Bool}
+use mathlib.Core.List.{List, []}
+use lib.ListN.{length}
+use lib.Dec.{leb}
+use Rattle.words.specs.Parts.{region}
+use Rattle.synthdef.specs.declared.file.Checked.{Checked}
+use Rattle.synthdef.specs.declared.file.Checked.the-variants.{Accepted, Refused}
+use Rattle.synthdef.specs.Reader.{readDefinition}
+use Rattle.synthdef.specs.File.{firstPlace}
+use Rattle.synthdef.specs.Lookup.{onRead, nameIn}
+
+-- where a reader of a file starts: at the first definition, and at the end of a file that is refused
+abbrev pub startOf : List ℕ → Checked → ℕ
+startOf s (Accepted n) = firstPlace
+startOf s (Refused r at) = length s
+
+-- no definition is left
+abbrev pub endedAt : List ℕ → ℕ → Bool
+endedAt s at = leb (length s) at
+
+-- the place past the definition that starts at a place, and the file's end where none can be read
+abbrev pub placeAfter : List ℕ → ℕ → ℕ
+placeAfter s at = onRead (readDefinition s at) (length s) (λ d next. next)
+
+-- the definition's own bytes, and none where none can be read
+abbrev pub bytesAt : List ℕ → ℕ → List ℕ
+bytesAt s at = onRead (readDefinition s at) [] (λ d next. region at (next - at) s)
+
+-- "A definition's name is handed back as a part of the file's own bytes"
+abbrev pub nameFrom : List ℕ → ℕ → List ℕ
+nameFrom s at = nameIn (bytesAt s at)

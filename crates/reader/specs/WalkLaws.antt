@@ -1,0 +1,139 @@
+-- A walk from the opening of a file to its end: exactly the definitions that the file is read as, each at its own bytes.
+use Prim.Native.Nat.{ℕ, zero, suc, _+_, _-_, _≤_, _<_}
+use mathlib.Core.Bool.{Bool, true, false}
+use mathlib.Core.Path.{_≡_, refl, sym, ap, ap₂, _∙_}
+use mathlib.Core.List.{List, [], _∷_, _++_}
+use native.Mathlib.Omega.{arith}
+use lib.ListN.{length, take, drop, take-append-drop, drop-of-length-le}
+use lib.Seq.{drop-drop}
+use lib.Dec.{ltb}
+use borrow.Author.Tests.{le-leb, lt-leb, leb-false}
+use denote.Ref.{RefT, now}
+use Rattle.words.specs.Choice.{pick}
+use Rattle.words.specs.Parts.{region, region-length}
+use Rattle.words.specs.declared.Refusal.{Refusal}
+use Rattle.words.specs.declared.Refusal.the-variants.{BytesLeft}
+use Rattle.synthdef.specs.Read.{Read, got, bad, andThen}
+use Rattle.synthdef.specs.Definition.{Definition}
+use Rattle.synthdef.specs.Reader.{fits, readDefinition, readDefinitions, readHeader, readFile}
+use Rattle.synthdef.specs.File.{firstPlace}
+use Rattle.synthdef.specs.Lookup.{onRead}
+use Rattle.synthdef.specs.RepeatLaws.{went-on}
+use Rattle.synthdef.specs.FileLaws.{fitting-got, head-few, definitions-length}
+use Rattle.synthdef.specs.Forward.{definition-whole}
+use Rattle.synthdef.specs.LookupOf.{name-of}
+use Rattle.roundtrip.specs.Stands.{Bytes}
+use Rattle.roundtrip.specs.Forth.{definition-forth, file-forth}
+use Rattle.roundtrip.specs.Local.{definition-alone}
+use Rattle.reader.specs.declared.reader.Reader.{Reader}
+use Rattle.reader.specs.Places.{placeAfter}
+use Rattle.reader.specs.Walk.{opened, after, ended, handed, walk, bytesOf, Hands, Each, none, more, Walks}
+
+-- a reader at its end hands out nothing
+ended-walk : (n : ℕ) (r : Reader) → ended r ≡ true → walk n r ≡ []
+unfolding walk
+ended-walk zero r e = refl
+ended-walk (suc n) r e = rw e
+
+step-walk : (n : ℕ) (r : Reader) → ended r ≡ false → walk (suc n) r ≡ handed r ∷ walk n (after r)
+unfolding walk
+step-walk n r e = rw e
+
+module _ (f : RefT (List ℕ)) where
+  abbrev s : List ℕ
+  s = now f
+
+  abbrev at-place : ℕ → Reader
+  at-place p = record { file = f; place = p }
+
+  -- what is handed out from a place on, and that with it the rest of the file is at an end
+  record From (n : ℕ) (p : ℕ) (ds : List Definition) : Type 0 where
+    each : Each (walk n (at-place p)) ds
+    rest : bytesOf (walk n (at-place p)) ≡ drop p s
+
+  from-end : (n p : ℕ) → length s ≤ p → From n p []
+  unfolding bytesOf
+  from-end n p h =
+      let none-left : walk n (at-place p) ≡ [] = ended-walk n (at-place p) (le-leb (length s) p h) in
+      record { each = rw none-left none; rest = rw (none-left, drop-of-length-le s h) }
+
+  module _ (b : Bytes s) (p : ℕ) (d : Definition) (next : ℕ) (e : readDefinition s p ≡ got d next) where
+    bytes-here : handed (at-place p) .bytes ≡ region p (next - p) s
+    bytes-here = rw e
+
+    hands : Hands (handed (at-place p)) d
+    hands =
+        let w = definition-forth s b p d next e in
+        let forward = w .forward in
+        let inside = w .inside in
+        let size : length (region p (next - p) s) ≡ next - p = region-length p (next - p) s (omega arith) in
+        let alone = definition-alone s b p d next e in
+        record { read = rw e (alone ∙ ap (λ (m : ℕ). got d m) (sym size)); named = rw e (name-of (region p (next - p) s) alone) }
+
+    on-walk : (n : ℕ) → walk (suc n) (at-place p) ≡ handed (at-place p) ∷ walk n (at-place next)
+    on-walk n =
+        let inside = definition-whole s p e .inside in
+        let left : ended (at-place p) ≡ false = lt-leb (length s) p (omega arith) in
+        let moved : placeAfter s p ≡ next = rw e in
+        step-walk n (at-place p) left ∙ ap (λ (q : ℕ). handed (at-place p) ∷ walk n (at-place q)) moved
+
+    from-step : (n : ℕ) (ds : List Definition) → From n next ds → From (suc n) p (d ∷ ds)
+    unfolding bytesOf
+    from-step n ds w =
+        let forward = definition-forth s b p d next e .forward in
+        let ahead : next ≡ p + (next - p) = omega arith in
+        record {
+          each = rw (on-walk n) (more hands (w .each));
+          rest = ap bytesOf (on-walk n)
+              ∙ ap (λ (l : List ℕ). l ++ bytesOf (walk n (at-place next))) bytes-here
+              ∙ ap (λ (l : List ℕ). region p (next - p) s ++ l) (w .rest ∙ ap (λ (m : ℕ). drop m s) ahead ∙ sym (drop-drop (next - p) p s))
+              ∙ take-append-drop (next - p) (drop p s);
+        }
+
+  -- definitions that were read one after the other, to the file's end, in as many steps or more
+  from-all : Bytes s → (k : ℕ) (names : List (List ℕ)) (p : ℕ) {ds : List Definition} {end : ℕ} → readDefinitions s k names p ≡ got ds end → length s ≤ end
+      → (n : ℕ) → k ≤ n → From n p ds
+  unfolding readDefinitions
+  from-all b zero names p {ds} {end} h l n m =
+      let same : p ≡ end = cc in
+      let no-more : ds ≡ [] = cc in
+      rw no-more (from-end n p (omega arith))
+  from-all b (suc k) names p h l zero m = absurd (omega arith)
+  from-all b (suc k) names p {ds} {end} h l (suc n) m =
+      went-on (andThen (readDefinition s p) (λ d next. fits names p d next)) _ h (λ d next e1 r1.
+      went-on (readDefinitions s k (names ++ (d .front .name ∷ [])) next) _ r1 (λ rest last e2 r2.
+      let same : last ≡ end = cc in
+      let all : ds ≡ d ∷ rest = cc in
+      rw all (from-step b p d next (fitting-got s names p e1) n rest (from-all b k (names ++ (d .front .name ∷ [])) next e2 (omega arith) n (omega arith)))))
+
+  -- the definitions of an accepted file, from the first place on
+  from-first : {ds : List Definition} {end : ℕ} → readFile s ≡ got ds end → readDefinitions s (length ds) [] firstPlace ≡ got ds end
+  unfolding readFile
+  from-first {ds} {end} h =
+      went-on (readHeader s) _ h (λ k first e1 r1.
+      went-on (readDefinitions s k [] first) _ r1 (λ rest last e2 r2.
+      let w = picked (ltb last (length s)) rest last r2 in
+      let many : length ds ≡ k = ap length (sym (w .0)) ∙ definitions-length s k [] first e2 in
+      ap₂ (λ (m p : ℕ). readDefinitions s m [] p) many (sym (head-few s e1 .1)) ∙ e2 ∙ ap₂ got (w .0) (w .1)))
+    where
+      picked : (t : Bool) (x : List Definition) (m : ℕ) → pick t (bad BytesLeft m) (got x m) ≡ got ds end → (x ≡ ds) × (m ≡ end)
+      picked true x m h = absurd (let z : _≡_ {A = ℕ} 0 1 = cc in omega arith)
+      picked false x m h = ((cc), (cc))
+
+  -- "walks the definitions": those of an accepted file, in as many steps or more
+  pub walks : Bytes s → {ds : List Definition} {end : ℕ} → readFile s ≡ got ds end → (n : ℕ) → length ds ≤ n → Walks f n ds
+  walks b {ds} {end} h n m =
+      let whole = file-forth s b ds end h .whole in
+      let w = from-all b (length ds) [] firstPlace (from-first h) (omega arith) n m in
+      record { each = rw h (w .each); whole = rw h (ap (λ (l : List ℕ). take firstPlace s ++ l) (w .rest) ∙ take-append-drop firstPlace s) }
+
+  -- and none of a file that is refused
+  pub walks-none : {q : Refusal} {place : ℕ} → readFile s ≡ bad q place → (n : ℕ) → walk n (opened f .reader) ≡ []
+  walks-none h n = rw h (ended-walk n (at-place (length s)) (le-leb (length s) (length s) (omega arith)))
+
+-- every step goes forward, so that every walk comes to an end
+pub goes-forward : (r : Reader) → ended r ≡ false → r .place < after r .place
+goes-forward r h = cases (readDefinition (now (r .file)) (r .place)) refl where
+  cases : (x : Read Definition) → readDefinition (now (r .file)) (r .place) ≡ x → r .place < onRead x (length (now (r .file))) (λ d next. next)
+  cases (got d next) e = omega (arith, definition-whole (now (r .file)) (r .place) e .forward)
+  cases (bad q place) e = leb-false (length (now (r .file))) (r .place) h

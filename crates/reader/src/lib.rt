@@ -1,0 +1,7 @@
+// A reader that holds the lent file and its place, and walks the definitions.
+mod places;
+mod reader;
+
+pub use reader::Opened;
+pub use reader::Reader;
+pub use reader::open;

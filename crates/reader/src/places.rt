@@ -1,0 +1,59 @@
+// What a reader meets at a place of a file. These functions take the file and the place apart from each other.
+use synthdef::Checked;
+use synthdef::Cursor;
+use synthdef::Step;
+use synthdef::definition_name_in;
+use synthdef::part;
+use synthdef::read_definition;
+ghost use mathlib.Core.Path.{_≡_};
+ghost use Rattle.reader.specs.Places.{endedAt, placeAfter, bytesAt, nameFrom, startOf};
+
+// The first definition starts here.
+const FIRST_PLACE: usize = 10;
+
+// Where a reader of a file starts, by what the check of the whole file said: at its end where it is refused.
+pub fn start_of(s: &[u8], checked: Checked) -> usize
+    ensures { λ r. ⌜ r ≡ startOf (now (s .entry)) checked ⌝ }
+{
+    match checked {
+        Checked::Accepted(count) => FIRST_PLACE,
+        Checked::Refused(refusal, place) => s.len(),
+    }
+}
+
+// Whether the file is at its end.
+pub fn ended_at(s: &[u8], at: usize) -> bool
+    ensures { λ r. ⌜ r ≡ endedAt (now (s .entry)) at ⌝ }
+{
+    s.len() <= at
+}
+
+// The place past the definition at a place; the file's end where none can be read.
+pub fn place_after(s: &[u8], at: usize) -> usize
+    ensures { λ r. ⌜ r ≡ placeAfter (now (s .entry)) at ⌝ }
+{
+    match read_definition(s, Cursor { at: at }) {
+        Step::Next(next) => next.at,
+        Step::Bad(refusal, place) => s.len(),
+    }
+}
+
+// The bytes of the definition at a place, a part of the lent file; none where none can be read.
+pub fn bytes_at(s: &[u8], at: usize) -> &[u8]
+    ensures { λ r. ⌜ now r ≡ bytesAt (now (s .entry)) at ⌝ }
+{
+    match read_definition(s, Cursor { at: at }) {
+        Step::Next(next) => {
+            let end = next.at;
+            part(s, at, end)
+        }
+        Step::Bad(refusal, place) => part(s, 0, 0),
+    }
+}
+
+// The name of the definition at a place, a part of the lent file.
+pub fn name_from(s: &[u8], at: usize) -> &[u8]
+    ensures { λ r. ⌜ now r ≡ nameFrom (now (s .entry)) at ⌝ }
+{
+    definition_name_in(bytes_at(s, at))
+}
