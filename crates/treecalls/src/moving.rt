@@ -10,19 +10,20 @@ ghost use Rattle.tree.specs.Ends.{Moving};
 ghost use Rattle.treecalls.specs.Calls.{shallow, moveBy, Moves};
 ghost use Rattle.treecalls.specs.Moving.{Cleared};
 
-// Whether every depth is at most 256.
+// Whether every depth is at most 256. It does not stop early: so a turn is a few instructions.
 fn all_shallow(nodes: &[u32], count: usize) -> bool
     requires { ⌜ Sized (now nodes) count ⌝ }
     ensures { λ r. ⌜ r ≡ shallow (rows count (now (nodes .entry))) ⌝ }
 {
+    let mut flat = true;
     let mut i = 0;
     while i < count {
         if 256 < nodes[5 * i + 1] {
-            return false;
+            flat = false;
         }
         i += 1;
     }
-    true
+    flat
 }
 
 // The places of the node that is moved and of the one that it goes to, or none where it can't go there.
