@@ -18,15 +18,10 @@ pub fn well_formed(words: &[u32], shelf: &[u8]) -> bool {
         return false;
     }
     let records: Vec<Record> = (0..count).map(|place| record(words, place)).collect();
-    let synths = || records.iter().filter(|record| !record.is_group());
-    if !(depths(&records)
-        && numbers(&records, words[NEXT])
-        && flags(&records)
-        && all_differ(synths().map(|synth| synth.row))
-        && next_and_latest(&records, words))
-    {
+    if !nodes_formed(&records, words[NEXT], words[LATEST]) {
         return false;
     }
+    let synths = || records.iter().filter(|record| !record.is_group());
     // Rule 8.
     let Some(order) = words[ORDER..ORDER + MOST_ORDER].get(..words[ORDER_LENGTH] as usize) else {
         return false;
@@ -48,13 +43,24 @@ pub fn well_formed(words: &[u32], shelf: &[u8]) -> bool {
     })
 }
 
+/// Rules 2 to 7, of the records, the next number and the latest synth.
+pub fn nodes_formed(records: &[Record], next: u32, latest: u32) -> bool {
+    let synths = records.iter().filter(|record| !record.is_group());
+    (1..=MOST_NODES).contains(&records.len())
+        && depths(records)
+        && numbers(records, next)
+        && flags(records)
+        && all_differ(synths.map(|synth| synth.row))
+        && next_and_latest(records, next, latest)
+}
+
 fn all_differ<T: Eq + std::hash::Hash>(mut things: impl Iterator<Item = T>) -> bool {
     let mut seen = HashSet::new();
     things.all(|thing| seen.insert(thing))
 }
 
-/// Rule 3.
-fn depths(records: &[Record]) -> bool {
+/// Rule 3. There is a record.
+pub fn depths(records: &[Record]) -> bool {
     let root = &records[0];
     root.number == 0
         && root.depth == 0
@@ -90,9 +96,8 @@ fn flags(records: &[Record]) -> bool {
 }
 
 /// Rule 7.
-fn next_and_latest(records: &[Record], words: &[u32]) -> bool {
-    let latest = words[LATEST];
-    (NONE_LEFT..=FIRST_GENERATED as u32).contains(&words[NEXT])
+fn next_and_latest(records: &[Record], next: u32, latest: u32) -> bool {
+    (NONE_LEFT..=FIRST_GENERATED as u32).contains(&next)
         && (latest == 0
             || records
                 .iter()
