@@ -71,14 +71,6 @@ fn definitions() -> Vec<Definition> {
         .collect()
 }
 
-fn call(op: u32, numbers: [i32; 5], bytes: &[u8]) -> Call {
-    Call {
-        op,
-        numbers: numbers.map(|number| number as u32),
-        bytes: bytes.to_vec(),
-    }
-}
-
 /// An engine of so many nodes: four groups, and synths in them by turns, from number 10 on.
 fn engine_of(nodes: usize, definitions: &[Definition]) -> Engine {
     let mut engine = Engine::new();
@@ -86,13 +78,13 @@ fn engine_of(nodes: usize, definitions: &[Definition]) -> Engine {
         let command = call.command().expect("it is known");
         assert_eq!(engine.apply(&command, &mut []), Ok(0), "{call:?}");
     };
-    send(call(1, [0; 5], &write(definitions).bytes));
+    send(Call::new(1, [0; 5], &write(definitions).bytes));
     for group in 1..=4 {
-        send(call(4, [group, 1, 0, 0, 0], b""));
+        send(Call::new(4, [group, 1, 0, 0, 0], b""));
     }
     for synth in 0..nodes as i32 - 5 {
         let name = &definitions[synth as usize % definitions.len()].name;
-        send(call(3, [10 + synth, 1, 1 + synth % 4, 0, 0], name));
+        send(Call::new(3, [10 + synth, 1, 1 + synth % 4, 0, 0], name));
     }
     engine
 }
@@ -105,91 +97,109 @@ fn commands(nodes: usize) -> Vec<(&'static str, Vec<Call>)> {
     let one = write(&definitions()[..1]).bytes;
     let all = write(&definitions()).bytes;
     let mut list = vec![
-        ("/d_recv of one definition", vec![call(1, [0; 5], &one)]),
-        ("/d_recv of eight definitions", vec![call(1, [0; 5], &all)]),
+        (
+            "/d_recv of one definition",
+            vec![Call::new(1, [0; 5], &one)],
+        ),
+        (
+            "/d_recv of eight definitions",
+            vec![Call::new(1, [0; 5], &all)],
+        ),
         (
             "/d_free, /d_recv",
-            vec![call(2, [0; 5], b"definition0"), call(1, [0; 5], &one)],
+            vec![
+                Call::new(2, [0; 5], b"definition0"),
+                Call::new(1, [0; 5], &one),
+            ],
         ),
         (
             "/s_new by action 4",
             vec![
-                call(3, [5000, 4, last, 0, 0], name),
-                call(3, [last, 4, 5000, 0, 0], name),
+                Call::new(3, [5000, 4, last, 0, 0], name),
+                Call::new(3, [last, 4, 5000, 0, 0], name),
             ],
         ),
         (
             "/n_before, /n_after",
             vec![
-                call(8, [10, last, 0, 0, 0], b""),
-                call(9, [10, last, 0, 0, 0], b""),
+                Call::new(8, [10, last, 0, 0, 0], b""),
+                Call::new(9, [10, last, 0, 0, 0], b""),
             ],
         ),
         (
             "/n_before of a group",
-            vec![call(8, [4, 1, 0, 0, 0], b""), call(9, [4, 3, 0, 0, 0], b"")],
+            vec![
+                Call::new(8, [4, 1, 0, 0, 0], b""),
+                Call::new(9, [4, 3, 0, 0, 0], b""),
+            ],
         ),
         (
             "/g_head, /g_tail",
             vec![
-                call(10, [2, 10, 0, 0, 0], b""),
-                call(11, [3, 10, 0, 0, 0], b""),
+                Call::new(10, [2, 10, 0, 0, 0], b""),
+                Call::new(11, [3, 10, 0, 0, 0], b""),
             ],
         ),
         (
             "/n_run",
             vec![
-                call(12, [last, 0, 0, 0, 0], b""),
-                call(12, [last, 1, 0, 0, 0], b""),
+                Call::new(12, [last, 0, 0, 0, 0], b""),
+                Call::new(12, [last, 1, 0, 0, 0], b""),
             ],
         ),
         (
             "/n_set by index",
-            vec![call(13, [last, 3, 0, 0, float(0.5)], b"")],
+            vec![Call::new(13, [last, 3, 0, 0, float(0.5)], b"")],
         ),
         (
             "/n_set by name",
-            vec![call(14, [last, 0, 0, 0, float(0.5)], b"control6")],
+            vec![Call::new(14, [last, 0, 0, 0, float(0.5)], b"control6")],
         ),
         (
             "/n_set of the root by name",
-            vec![call(14, [0, 0, 0, 0, float(0.5)], b"control6")],
+            vec![Call::new(14, [0, 0, 0, 0, float(0.5)], b"control6")],
         ),
-        ("/n_fill", vec![call(15, [last, 0, 8, 1, 5], b"")]),
-        ("/n_fill of the root", vec![call(15, [0, 0, 8, 1, 5], b"")]),
-        ("/n_map", vec![call(17, [last, 3, 7, 0, 0], b"")]),
-        ("/c_set", vec![call(19, [7, 0, 0, 0, float(2.0)], b"")]),
+        ("/n_fill", vec![Call::new(15, [last, 0, 8, 1, 5], b"")]),
+        (
+            "/n_fill of the root",
+            vec![Call::new(15, [0, 0, 8, 1, 5], b"")],
+        ),
+        ("/n_map", vec![Call::new(17, [last, 3, 7, 0, 0], b"")]),
+        ("/c_set", vec![Call::new(19, [7, 0, 0, 0, float(2.0)], b"")]),
         (
             "/c_fill of 64",
-            vec![call(20, [7, 0, 64, 0, float(2.0)], b"")],
+            vec![Call::new(20, [7, 0, 64, 0, float(2.0)], b"")],
         ),
         (
             "/s_get by name",
-            vec![call(22, [last, 0, 0, 0, 0], b"control6")],
+            vec![Call::new(22, [last, 0, 0, 0, 0], b"control6")],
         ),
-        ("/c_get", vec![call(23, [7, 0, 0, 0, 0], b"")]),
-        ("/n_query", vec![call(24, [last, 0, 0, 0, 0], b"")]),
-        ("/g_queryTree 0 0", vec![call(25, [0; 5], b"")]),
-        ("/g_queryTree 0 1", vec![call(25, [0, 1, 0, 0, 0], b"")]),
-        ("/status", vec![call(26, [0; 5], b"")]),
-        ("export", vec![call(27, [0; 5], b"")]),
+        ("/c_get", vec![Call::new(23, [7, 0, 0, 0, 0], b"")]),
+        ("/n_query", vec![Call::new(24, [last, 0, 0, 0, 0], b"")]),
+        ("/g_queryTree 0 0", vec![Call::new(25, [0; 5], b"")]),
+        (
+            "/g_queryTree 0 1",
+            vec![Call::new(25, [0, 1, 0, 0, 0], b"")],
+        ),
+        ("/status", vec![Call::new(26, [0; 5], b"")]),
+        ("export", vec![Call::new(27, [0; 5], b"")]),
         (
             "/n_free of no node, refused",
-            vec![call(5, [9999, 0, 0, 0, 0], b"")],
+            vec![Call::new(5, [9999, 0, 0, 0, 0], b"")],
         ),
     ];
     if nodes < 256 {
-        let synth = call(3, [5000, 1, 3, 0, 0], name);
-        let group = call(4, [5001, 1, 3, 0, 0], b"");
-        let in_group = call(3, [5000, 1, 5001, 0, 0], name);
-        let free = call(5, [5000, 0, 0, 0, 0], b"");
-        let free_group = call(5, [5001, 0, 0, 0, 0], b"");
+        let synth = Call::new(3, [5000, 1, 3, 0, 0], name);
+        let group = Call::new(4, [5001, 1, 3, 0, 0], b"");
+        let in_group = Call::new(3, [5000, 1, 5001, 0, 0], name);
+        let free = Call::new(5, [5000, 0, 0, 0, 0], b"");
+        let free_group = Call::new(5, [5001, 0, 0, 0, 0], b"");
         list.push(("/s_new, /n_free", vec![synth.clone(), free]));
         list.push(("/g_new, /n_free", vec![group.clone(), free_group.clone()]));
         if nodes < 255 {
             let (free_all, deep) = (
-                call(6, [5001, 0, 0, 0, 0], b""),
-                call(7, [5001, 0, 0, 0, 0], b""),
+                Call::new(6, [5001, 0, 0, 0, 0], b""),
+                Call::new(7, [5001, 0, 0, 0, 0], b""),
             );
             list.push((
                 "/g_new, /s_new, /g_freeAll, /n_free",
@@ -295,7 +305,7 @@ fn checks() {
             engine_of(256, &long(32)),
         ),
     ];
-    let call = call(5, [9999, 0, 0, 0, 0], b"");
+    let call = Call::new(5, [9999, 0, 0, 0, 0], b"");
     for (name, engine) in states {
         let (mut words, mut shelf) = layout::state(&engine.view());
         let check = || assert_eq!(apply(&call, &mut words, &mut shelf, &mut []), 17);
