@@ -56,7 +56,13 @@ impl Desk {
     /// The whole reply. Bytes past it stay, and a buffer one byte shorter is refused and stays.
     pub fn reply(&mut self, op: u32, numbers: [i32; 5], bytes: &[u8]) -> Vec<u8> {
         let numbers = numbers.map(|number| number as u32);
-        let mut reply = vec![0xa5; 1 << 17];
+        // Trees and exports are long.
+        let room = if matches!(op, 25 | 27) {
+            1 << 17
+        } else {
+            1 << 11
+        };
+        let mut reply = vec![0xa5; room];
         let length = self.0.apply(op, numbers, bytes, &mut reply);
         let length = length.expect("it replies");
         assert!(reply[length..].iter().all(|&byte| byte == 0xa5));

@@ -4,7 +4,9 @@
 pub mod desk;
 pub mod pair;
 pub mod shuffle;
+pub mod tally;
 
+use independent::Random;
 use std::io::Write;
 use std::sync::atomic::{AtomicUsize, Ordering};
 use std::sync::Mutex;
@@ -47,4 +49,24 @@ pub fn spread<T: Send>(count: usize, work: impl Fn(usize) -> T + Sync) -> Vec<T>
         }
     });
     found.into_inner().expect("no work failed")
+}
+
+/// Random sequences of turns, on all cores. Answers what each ends with.
+pub fn sequences<S, T: Send>(
+    count: usize,
+    length: usize,
+    start: fn(Random) -> S,
+    turn: fn(&mut S) -> Result<(), String>,
+    end: fn(S) -> T,
+) -> Vec<T> {
+    let seed = seed();
+    spread(count, |place| {
+        let mut sequence = start(Random::new(seed.wrapping_add((place as u64) << 32)));
+        for at in 0..length {
+            if let Err(what) = turn(&mut sequence) {
+                panic!("LIMUDVEK_SEED={seed}, sequence {place}, turn {at}: {what}");
+            }
+        }
+        end(sequence)
+    })
 }

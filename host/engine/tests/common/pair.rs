@@ -14,6 +14,8 @@ pub struct Pair {
     pub expected_words: Vec<u32>,
     pub expected_shelf: Vec<u8>,
     pub model: Engine,
+    /// How many commands were compared.
+    pub sent: usize,
     reply: Vec<u8>,
     expected_reply: Vec<u8>,
 }
@@ -27,6 +29,7 @@ impl Pair {
             words,
             shelf,
             model,
+            sent: 0,
             reply: vec![0; LONGEST],
             expected_reply: vec![0; LONGEST],
         }
@@ -63,6 +66,15 @@ impl Pair {
         Ok((answer % 256) as u32)
     }
 
+    /// Sends a command whose answer the paper settles.
+    pub fn expect(&mut self, refusal: u32, call: &Call, random: &mut Random) -> Result<(), String> {
+        match self.send(call, random) {
+            Ok(answer) if answer == refusal => Ok(()),
+            Ok(answer) => Err(format!("answer {answer}, by the paper {refusal}: {call:?}")),
+            Err(what) => Err(format!("{what}: {call:?}")),
+        }
+    }
+
     /// Sends both a command that replies, with room for it. Answers the reply.
     pub fn ask(&mut self, call: &Call) -> Result<&[u8], String> {
         let length = self.length(call);
@@ -74,6 +86,7 @@ impl Pair {
 
     /// Sends a command to both with a reply buffer of some length. Answers what both answer.
     fn compare(&mut self, call: &Call, room: usize, filling: u8) -> Result<u64, String> {
+        self.sent += 1;
         let reply = &mut self.reply[..room];
         let expected_reply = &mut self.expected_reply[..room];
         reply.fill(filling);
