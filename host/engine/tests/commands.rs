@@ -5,13 +5,11 @@
 
 mod common;
 
-use common::{say, seed, shuffle, Pair};
+use common::pair::Pair;
+use common::{say, seed, spread};
 use independent::engine::{Commands, Theme, MOST_NODES};
 use independent::layout::NEXT;
 use independent::{layout, Call, Engine, Random};
-use std::sync::atomic::{AtomicUsize, Ordering};
-use std::sync::Mutex;
-use std::thread;
 
 const SEQUENCES: usize = 270;
 const LONGEST: usize = 2000;
@@ -50,23 +48,10 @@ impl Tally {
 #[test]
 fn both_engines_agree() {
     let seed = seed();
-    say(&format!("LIMUDVEK_SEED={seed}"));
-    let next = AtomicUsize::new(0);
-    let tally = Mutex::new(Tally::default());
-    let workers = thread::available_parallelism().map_or(1, |count| count.get());
-    thread::scope(|scope| {
-        for _ in 0..workers {
-            scope.spawn(|| loop {
-                let place = next.fetch_add(1, Ordering::Relaxed);
-                if place >= SEQUENCES {
-                    break;
-                }
-                let own = sequence(seed, place);
-                tally.lock().expect("no sequence failed").add(&own);
-            });
-        }
-    });
-    let tally = tally.into_inner().expect("no sequence failed");
+    let mut tally = Tally::default();
+    for own in spread(SEQUENCES, |place| sequence(seed, place)) {
+        tally.add(&own);
+    }
     let answers = tally.answers;
     let total: usize = answers.iter().sum();
     say(&format!("{total} commands, {} accepted", answers[0]));
@@ -115,9 +100,9 @@ fn sequence(seed: u64, place: usize) -> Tally {
                     let _ = model.apply(&command, &mut []);
                 }
             }
-            let (mut words, mut shelf) = layout::state(&model.view());
-            shuffle(&mut words, &mut shelf, &mut random);
+            let (words, shelf) = layout::state(&model.view());
             pair = Pair::new(model, words, shelf);
+            pair.shuffle(&mut random);
         }
         _ => {}
     }

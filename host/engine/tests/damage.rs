@@ -3,15 +3,13 @@
 
 mod common;
 
-use common::{say, seed, shuffle, Pair};
+use common::pair::Pair;
+use common::{say, seed, spread};
 use independent::engine::{Commands, Theme, BUSES, MOST_NODES, SLOTS};
 use independent::layout::{self, record, row_words, Record};
 use independent::layout::{BUS, CONTROL, COUNT, LATEST, LENGTH, NEXT, NODE, ORDER, ORDER_LENGTH};
 use independent::layout::{RECORD, RESIDENT, ROW, SHELF, WORDS};
-use independent::{running, well_formed, Call, Engine, Random, MOST_BYTES, MOST_PARAMETERS};
-use std::sync::atomic::{AtomicUsize, Ordering};
-use std::sync::Mutex;
-use std::thread;
+use independent::{running, well_formed, Engine, Random, MOST_BYTES, MOST_PARAMETERS};
 
 const STATES: usize = 420;
 const DAMAGES: usize = 500;
@@ -51,25 +49,11 @@ const EDGES: [u32; 28] = [
 #[test]
 fn refusal_1_and_the_checker_agree() {
     let seed = seed();
-    say(&format!("LIMUDVEK_SEED={seed}"));
-    let next = AtomicUsize::new(0);
-    let counts = Mutex::new([0; 2]);
-    let workers = thread::available_parallelism().map_or(1, |count| count.get());
-    thread::scope(|scope| {
-        for _ in 0..workers {
-            scope.spawn(|| loop {
-                let place = next.fetch_add(1, Ordering::Relaxed);
-                if place >= STATES {
-                    break;
-                }
-                let own = damages(seed, place);
-                let mut counts = counts.lock().expect("no state failed");
-                counts[0] += own[0];
-                counts[1] += own[1];
-            });
-        }
-    });
-    let [refused, formed] = counts.into_inner().expect("no state failed");
+    let [mut refused, mut formed] = [0; 2];
+    for own in spread(STATES, |place| damages(seed, place)) {
+        refused += own[0];
+        formed += own[1];
+    }
     say(&format!(
         "{refused} damaged states refused, {formed} still well formed"
     ));
@@ -91,9 +75,7 @@ fn reach(random: &mut Random, place: usize) -> (Pair, Commands) {
     }
     assert_eq!(pair.compare_views(), Ok(()));
     if random.below(3) == 0 {
-        let (mut words, mut shelf) = (pair.words, pair.shelf);
-        shuffle(&mut words, &mut shelf, random);
-        pair = Pair::new(pair.model, words, shelf);
+        pair.shuffle(random);
     }
     (pair, commands)
 }
@@ -265,33 +247,4 @@ fn wrong_sizes_are_refused() {
         }
     }
     assert_eq!((engine::words(), engine::shelf()), (WORDS, SHELF));
-}
-
-impl Pair {
-    /// Sends a command that must be refused by 1, or be unknown.
-    fn refuse(&mut self, call: &Call) -> Result<(), String> {
-        let expected = match call.command() {
-            Some(_) => 1,
-            None => engine::UNKNOWN,
-        };
-        let mut reply = [7; 300];
-        let answer = engine::apply(
-            call.op,
-            call.numbers,
-            &call.bytes,
-            &mut self.words,
-            &mut self.shelf,
-            &mut reply,
-        );
-        if answer != expected {
-            let parts = (answer % 256, answer / 256);
-            return Err(format!("answer {parts:?}, but a rule is broken"));
-        }
-        let same = self.words == self.expected_words && self.shelf == self.expected_shelf;
-        if same && reply == [7; 300] {
-            Ok(())
-        } else {
-            Err("refused by 1, but something changed".to_string())
-        }
-    }
 }

@@ -96,6 +96,14 @@ pub struct Call {
 }
 
 impl Call {
+    pub fn new(op: u32, numbers: [i32; 5], bytes: &[u8]) -> Call {
+        Call {
+            op,
+            numbers: numbers.map(|number| number as u32),
+            bytes: bytes.to_vec(),
+        }
+    }
+
     /// The command, or none where the kind is unknown, or a value is marked neither float nor integer.
     pub fn command(&self) -> Option<Command<'_>> {
         let [a, b, c, mark, pattern] = self.numbers;

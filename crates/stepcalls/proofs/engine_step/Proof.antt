@@ -1,0 +1,56 @@
+-- `stepcalls::engine_step` meets its contract.
+use mathlib.Core.Path.{_≡_, refl, sym, _∙_}
+use borrow.Author.Needs.{needs}
+use Rattle.ops.specs.declared.Parsed.the-variants.{Nothing}
+use Rattle.engine.specs.Calls.{Called}
+use Rattle.stepcalls.proofs.engine_step.Statement.{statement}
+use Rattle.stepcalls.proofs.engine_step.Tie as tie
+
+command-of-requires : tie.Need-command-of-requires
+command-of-requires c κs = search needs
+
+enum-known-command : tie.Need-enum-known-command
+enum-known-command c = search needs
+
+step-requires : tie.Need-step-requires
+step-requires c κs = c .before .before .before .before .before .before .before .before .before .before .before .pre
+
+call-number-requires : tie.Need-call-number-requires
+call-number-requires c κs = search needs
+
+enum-told : tie.Need-enum-told
+enum-told c = search needs
+
+same-length : tie.Need-same-length
+same-length c = search needs
+
+same-length-2 : tie.Need-same-length-2
+same-length-2 c = search needs
+
+same-length-3 : tie.Need-same-length-3
+same-length-3 c = search needs
+
+returns : tie.Need-returns
+returns c =
+    let told = c .before .before .before .before .before .before .before .before .before .before .before .before .command .given in
+    rw (sym (c .before .before .before .before .before .before .before .before .before .before .before .before .before .before .command-of .ensures) ∙ told .1) (record { answer = c .before .before .before .before .before .before .before .step .result; number = c .call-number .ensures; does = c .before .before .before .before .before .before .before .step .ensures })
+
+returns-2 : tie.Need-returns-2
+returns-2 c =
+    let told : c .before .before .command-of .result ≡ Nothing = cc in
+    rw (sym (c .before .before .command-of .ensures) ∙ told) (record { number = refl; words = refl; shelf = refl; reply = refl })
+
+pub engine-step-spec : {M : Type 1} → statement M
+engine-step-spec =
+    tie.close
+    (tie.spec
+    command-of-requires
+    enum-known-command
+    step-requires
+    call-number-requires
+    enum-told
+    same-length
+    same-length-2
+    same-length-3
+    returns
+    returns-2)

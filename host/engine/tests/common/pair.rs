@@ -1,0 +1,209 @@
+//! The proved engine and the independent one side by side.
+
+use independent::engine::packed;
+use independent::{layout, leave, Call, Command, Engine, Random};
+
+/// Longer than any reply.
+const LONGEST: usize = 1 << 20;
+
+/// Both engines, and the words and bytes that the proved one is to have.
+#[derive(Clone)]
+pub struct Pair {
+    pub words: Vec<u32>,
+    pub shelf: Vec<u8>,
+    pub expected_words: Vec<u32>,
+    pub expected_shelf: Vec<u8>,
+    pub model: Engine,
+    /// How many commands were compared.
+    pub sent: usize,
+    reply: Vec<u8>,
+    expected_reply: Vec<u8>,
+}
+
+impl Pair {
+    /// Two engines that hold the same. The state is one that does.
+    pub fn new(model: Engine, words: Vec<u32>, shelf: Vec<u8>) -> Pair {
+        Pair {
+            expected_words: words.clone(),
+            expected_shelf: shelf.clone(),
+            words,
+            shelf,
+            model,
+            sent: 0,
+            reply: vec![0; LONGEST],
+            expected_reply: vec![0; LONGEST],
+        }
+    }
+
+    /// Fresh engines. The proved one is made in runs full of other things.
+    pub fn fresh(random: &mut Random) -> Pair {
+        let words = (0..layout::WORDS).map(|_| random.bits() as u32).collect();
+        let shelf = (0..layout::SHELF).map(|_| random.byte()).collect();
+        let mut pair = Pair::new(Engine::new(), words, shelf);
+        pair.renew();
+        pair
+    }
+
+    /// Makes both engines fresh, whatever they hold.
+    pub fn renew(&mut self) {
+        self.model = Engine::new();
+        (self.expected_words, self.expected_shelf) = layout::state(&self.model.view());
+        assert_eq!(engine::fresh(&mut self.words, &mut self.shelf), 0);
+        assert!(self.words == self.expected_words && self.shelf == self.expected_shelf);
+    }
+
+    /// Puts anything into what the state leaves open.
+    pub fn shuffle(&mut self, random: &mut Random) {
+        super::shuffle::shuffle(&mut self.words, &mut self.shelf, random);
+        self.expected_words.copy_from_slice(&self.words);
+        self.expected_shelf.copy_from_slice(&self.shelf);
+    }
+
+    /// Sends a command to both. Answers the refusal's number, or 0, or says where they differ.
+    pub fn send(&mut self, call: &Call, random: &mut Random) -> Result<u32, String> {
+        let room = self.room(call, random);
+        let answer = self.compare(call, room, random.byte())?;
+        Ok((answer % 256) as u32)
+    }
+
+    /// Sends a command whose answer the paper settles.
+    pub fn expect(&mut self, refusal: u32, call: &Call, random: &mut Random) -> Result<(), String> {
+        match self.send(call, random) {
+            Ok(answer) if answer == refusal => Ok(()),
+            Ok(answer) => Err(format!("answer {answer}, by the paper {refusal}: {call:?}")),
+            Err(what) => Err(format!("{what}: {call:?}")),
+        }
+    }
+
+    /// Sends both a command that replies, with room for it. Answers the reply.
+    pub fn ask(&mut self, call: &Call) -> Result<&[u8], String> {
+        let length = self.length(call);
+        match self.compare(call, length + 1, 0xa5)? {
+            answer if answer == 256 * length as u64 => Ok(&self.reply[..length]),
+            answer => Err(format!("answer {:?}, but it replies", parts(answer))),
+        }
+    }
+
+    /// Sends a command to both with a reply buffer of some length. Answers what both answer.
+    fn compare(&mut self, call: &Call, room: usize, filling: u8) -> Result<u64, String> {
+        self.sent += 1;
+        let reply = &mut self.reply[..room];
+        let expected_reply = &mut self.expected_reply[..room];
+        reply.fill(filling);
+        expected_reply.fill(filling);
+        let expected = match call.command() {
+            Some(command) => {
+                let answer = self.model.apply(&command, expected_reply);
+                if answer.is_ok() && !replies(&command) {
+                    let view = self.model.view();
+                    leave(
+                        call.op,
+                        &view,
+                        &mut self.expected_words,
+                        &mut self.expected_shelf,
+                    );
+                }
+                packed(answer)
+            }
+            None => engine::UNKNOWN,
+        };
+        let answer = apply(call, &mut self.words, &mut self.shelf, reply);
+        if answer != expected {
+            let (answer, expected) = (parts(answer), parts(expected));
+            return Err(format!("answer {answer:?}, expected {expected:?}"));
+        }
+        if let Some(place) = differ(reply, expected_reply) {
+            return Err(format!("reply byte {place} of {room} differs"));
+        }
+        if let Some(place) = differ(&self.words, &self.expected_words) {
+            let (word, expected) = (self.words[place], self.expected_words[place]);
+            return Err(format!("word {place} is {word}, expected {expected}"));
+        }
+        if let Some(place) = differ(&self.shelf, &self.expected_shelf) {
+            return Err(format!("shelf byte {place} differs"));
+        }
+        Ok(answer)
+    }
+
+    /// Sends a command that must be refused by 1, or be unknown.
+    pub fn refuse(&mut self, call: &Call) -> Result<(), String> {
+        let expected = match call.command() {
+            Some(_) => 1,
+            None => engine::UNKNOWN,
+        };
+        let mut reply = [7; 300];
+        let answer = apply(call, &mut self.words, &mut self.shelf, &mut reply);
+        if answer != expected {
+            let answer = parts(answer);
+            return Err(format!("answer {answer:?}, but a rule is broken"));
+        }
+        let same = self.words == self.expected_words && self.shelf == self.expected_shelf;
+        if same && reply == [7; 300] {
+            Ok(())
+        } else {
+            Err("refused by 1, but something changed".to_string())
+        }
+    }
+
+    /// How long the reply to a command is.
+    fn length(&mut self, call: &Call) -> usize {
+        match call.command() {
+            Some(command) if replies(&command) => {
+                let answer = self.model.apply(&command, &mut self.expected_reply);
+                answer.unwrap_or(0)
+            }
+            _ => 0,
+        }
+    }
+
+    /// How long the reply buffer is to be: long enough, just so, or too short.
+    fn room(&mut self, call: &Call, random: &mut Random) -> usize {
+        let length = self.length(call);
+        match random.below(8) {
+            0 => length.saturating_sub(1),
+            1 if length > 0 => random.below(length),
+            2 => length,
+            _ => length + random.below(40),
+        }
+    }
+
+    /// What the state holds is what the model holds.
+    pub fn compare_views(&self) -> Result<(), String> {
+        if layout::view(&self.words, &self.shelf) == self.model.view() {
+            Ok(())
+        } else {
+            Err("the views differ".to_string())
+        }
+    }
+}
+
+/// The proved engine's answer to a command.
+fn apply(call: &Call, words: &mut [u32], shelf: &mut [u8], reply: &mut [u8]) -> u64 {
+    engine::apply(call.op, call.numbers, &call.bytes, words, shelf, reply)
+}
+
+/// An answer's refusal, and its place or length.
+fn parts(answer: u64) -> (u64, u64) {
+    (answer % 256, answer / 256)
+}
+
+/// Whether a command replies and changes nothing.
+fn replies(command: &Command) -> bool {
+    matches!(
+        command,
+        Command::Get { .. }
+            | Command::GetBus(_)
+            | Command::Query(_)
+            | Command::QueryTree { .. }
+            | Command::Status
+            | Command::Export
+    )
+}
+
+/// The first place where two runs of one length differ.
+fn differ<T: PartialEq>(one: &[T], other: &[T]) -> Option<usize> {
+    if one == other {
+        return None;
+    }
+    one.iter().zip(other).position(|(one, other)| one != other)
+}
