@@ -1,11 +1,14 @@
 -- Parameter names by their shape: where each stands and ends, from its bytes alone.
 use Prim.Native.Nat.{ℕ, zero, suc, _+_, _-_, _≤_, _<_}
+use mathlib.Core.Bool.{Bool, true, false}
 use mathlib.Core.Path.{_≡_, sym, ap, ap₂, _∙_}
 use mathlib.Core.List.{List, [], _∷_}
 use native.Mathlib.Omega.{arith}
 use borrow.Author.Tests.{ltb-true}
 use lib.ListN.{length, getD}
 use lib.Dec.{ltb}
+use Rattle.words.specs.Choice.{pick}
+use Rattle.words.specs.Parts.{region}
 use Rattle.words.specs.declared.Refusal.the-variants.{BadIndex}
 use Rattle.synthdef.specs.Read.{got, repeat}
 use Rattle.synthdef.specs.Fields.{stringAt, name, integer, indexBelow}
@@ -14,7 +17,8 @@ use Rattle.synthdef.specs.RepeatLaws.{went-on, got-value, got-place}
 use Rattle.synthdef.specs.Endings.{field-got}
 use Rattle.synthdef.specs.Units.{name-got}
 use Rattle.synthdef.specs.Definition.{ParameterName}
-use Rattle.synthdef.specs.Reader.{parameterName}
+use Rattle.synthdef.specs.Lookup.{nothing, atNumber, firstOf, firstNamed}
+use Rattle.synthdef.specs.Reader.{mostParameters, parameterName, sameName}
 
 -- "N parameter names (pstring, int32 index)": the place of an entry's index, and the place past the entry
 abbrev pub indexPlace : List ℕ → ℕ → ℕ
@@ -119,3 +123,24 @@ pub entries-below : (s : List ℕ) (p q n at : ℕ) → p ≤ q → Entries s p 
 unfolding Entries
 entries-below s p q zero at h l = l
 entries-below s p q (suc n) at h l = (omega (arith, l .0), l .1, entries-below s p q n (entryEnd s at) h (l .2))
+
+-- the first entry of a name, by one entry and those behind it
+pub named-turn : (s name : List ℕ) (n i at : ℕ) → Turn s mostParameters n i at
+    → firstNamed name (entriesFrom s (n - i) at) ≡ pick (sameName (stringAt s at) name) (atNumber (word s (indexPlace s at))) (firstNamed name (entriesFrom s (n - (i + 1)) (entryEnd s at)))
+unfolding firstOf
+named-turn s name n i at t = ap (firstNamed name) (t .first)
+
+pub named-none : (s name : List ℕ) (n i at : ℕ) → n ≤ i → firstNamed name (entriesFrom s (n - i) at) ≡ nothing
+unfolding firstOf
+named-none s name n i at h = ap (firstNamed name) (entries-none s n i at h)
+
+-- by a test of its bytes
+module _ (s name : List ℕ) (n i at : ℕ) (t : Turn s mostParameters n i at) {same : Bool} (said : same ≡ sameName (region (at + 1) (at + 1 + getD s at 0 - (at + 1)) s) name) where
+  tested : sameName (stringAt s at) name ≡ same
+  tested = let size : getD s at 0 ≡ at + 1 + getD s at 0 - (at + 1) = omega arith in ap (λ (k : ℕ). sameName (region (at + 1) k s) name) size ∙ sym said
+
+  pub named-here : same ≡ true → firstNamed name (entriesFrom s (n - i) at) ≡ atNumber (word s (indexPlace s at))
+  named-here e = named-turn s name n i at t ∙ rw (tested ∙ e)
+
+  pub named-behind : same ≡ false → firstNamed name (entriesFrom s (n - i) at) ≡ firstNamed name (entriesFrom s (n - (i + 1)) (entryEnd s at))
+  named-behind e = named-turn s name n i at t ∙ rw (tested ∙ e)

@@ -8,7 +8,7 @@ use lib.ListN.{length, getD}
 use lib.Dec.{leb}
 use Rattle.words.specs.declared.Refusal.the-variants.{BadName, BadCount}
 use Rattle.synthdef.specs.Read.{got, repeat}
-use Rattle.synthdef.specs.Fields.{float32, pstring, definitionName, integer, count, countTo, highest32}
+use Rattle.synthdef.specs.Fields.{float32, stringAt, pstring, definitionName, integer, count, countTo, highest32}
 use Rattle.synthdef.specs.FieldLaws.{word, checked-got, name-length}
 use Rattle.synthdef.specs.NameLaws.{full}
 use Rattle.synthdef.specs.RepeatLaws.{went-on, repeat-length, floats-end, got-value, got-place}
@@ -17,6 +17,8 @@ use Rattle.synthdef.specs.Units.{string-got}
 use Rattle.synthdef.specs.Definition.{Front, Definition}
 use Rattle.synthdef.specs.Reader.{mostParameters, sizeLimit, parameterName, readFront, readDefinition}
 use Rattle.synthdef.specs.Front.{nameEnd, valuesAt, namesAt, told}
+use Rattle.synthdef.specs.Lookup.{atNumber, nameIn, unitsIn}
+use Rattle.synthdef.specs.FrontLaws.{front-got}
 use Rattle.readable.specs.Entries.{entriesFrom, entriesEnd, Entries, entries-got, entries-below}
 
 -- bytes whose front is readable. A definition has at most 2,048 bytes.
@@ -131,3 +133,25 @@ pub front-entries : (s : List ℕ) (k : Readable s) → Entries s mostParameters
 front-entries s k =
     let w = parts s (k .reads) in
     entries-below s (length (k .front .values)) mostParameters (length (k .front .names)) (namesAt 0 (k .front)) (w .few) (w .known)
+
+-- where the count of units stands, and what the lookup tells of it
+pub record UnitsAt (s : List ℕ) : Type 0 where
+  pub readable : Readable s
+  pub within : readable .past + 4 ≤ length s
+  pub same : atNumber (word s (readable .past)) ≡ unitsIn s
+
+pub units-at : (s : List ℕ) → ReadableWhole s → UnitsAt s
+unfolding readDefinition
+units-at s w =
+    went-on (readFront s 0) _ (w .reads) (λ f p e r.
+    went-on (count s p) _ r (λ many q g rest.
+    let b = counted highest32 s p g in
+    record {
+      readable = record { front = f; past = p; reads = e; short = w .short };
+      within = omega arith;
+      same = ap atNumber (b .0) ∙ rw (e, g);
+    }))
+
+-- the name stands at the first byte
+pub name-told : (s : List ℕ) → Readable s → stringAt s 0 ≡ nameIn s
+name-told s k = rw (k .reads) (string-got s 0 (checked-got BadName full 0 (pstring s 0) (front-got s 0 (k .reads) .name) .0) .0)
