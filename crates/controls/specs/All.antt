@@ -9,6 +9,7 @@ use lib.Seq.{drop-drop}
 use Rattle.words.specs.Choice.{pick}
 use Rattle.words.specs.Parts.{region, put, region-length, region-put, past-put, before-put}
 use Rattle.synthdef.specs.Definition.{Front}
+use Rattle.readable.specs.Readable.{Readable, whole-readable}
 use Rattle.nodes.specs.declared.Node.{Node}
 use Rattle.nodes.specs.Table.{width, rows, nodeFrom, row-from}
 use Rattle.nodes.specs.Place.{isGroup, place, deeper}
@@ -60,6 +61,10 @@ module _ (cs ws : List ℕ) (size : length ws ≡ wordsLength) (many : length cs
           place = omega (arith, ready .few);
           slot = λ e. subst (λ (r : Node). r .slot < slotCount) (sym (node-kept i)) (synth-ready ws shelf ready i few (ap isGroup (sym (node-kept i)) ∙ e) .slot);
           row = λ e. subst (λ (r : Node). r .row < mostRows) (sym (node-kept i)) (synth-ready ws shelf ready i few (ap isGroup (sym (node-kept i)) ∙ e) .row);
+          readable = λ e.
+              let s = synth-ready ws shelf ready i few (ap isGroup (sym (node-kept i)) ∙ e) in
+              let same = ap (λ (r : Node). slotBytes (putControls cs ws) shelf (r .slot)) (node-kept i) ∙ bytes-kept shelf (nodeIn ws i .slot) (s .slot) in
+              subst Readable (sym same) (whole-readable (slotBytes ws shelf (nodeIn ws i .slot)) (s .whole));
         }
 
     -- its change is the one that its definition gives

@@ -8,6 +8,7 @@ use lib.ListN.{length, drop, getD}
 use Rattle.words.specs.Choice.{pick, both}
 use Rattle.words.specs.Parts.{region}
 use Rattle.synthdef.specs.Definition.{Front}
+use Rattle.readable.specs.Readable.{whole-readable}
 use Rattle.nodes.specs.Table.{row-from, rows-end}
 use Rattle.nodes.specs.Place.{groupSlot, isGroup}
 use Rattle.nodes.specs.Formed.{mostNodes}
@@ -66,4 +67,5 @@ module _ (ws shelf : List ℕ) (ready : Ready ws shelf) where
         place = omega (arith, ready .few);
         slot = λ e. synth-ready ws shelf ready i few e .slot;
         row = λ e. synth-ready ws shelf ready i few e .row;
+        readable = λ e. whole-readable (slotBytes ws shelf (nodeIn ws i .slot)) (synth-ready ws shelf ready i few e .whole);
       }

@@ -1,12 +1,12 @@
 -- What the functions on the words assume of them: sizes and bounds, which the state check has tested.
 use Prim.Native.Nat.{ℕ, zero, suc, _+_, _*_, _≤_, _<_}
 use mathlib.Core.Bool.{Bool, true, false}
-use mathlib.Core.Path.{_≡_, refl, sym, ap, ap₂, _∙_}
+use mathlib.Core.Path.{_≡_, refl, sym, ap, ap₂, _∙_, subst}
 use mathlib.Core.List.{List, [], _∷_, nil≢cons, head-eq-of-cons-eq}
 use native.Mathlib.Omega.{arith}
 use native.Mathlib.Nat.{add-zero, zero-add}
 use borrow.Author.Tests.{leb-true, ltb-true, eq-eqb, eqb-false}
-use lib.ListN.{length, take, drop, getD}
+use lib.ListN.{length, take, drop, getD, length-take}
 use lib.Seq.{drop-drop, getD-take, getD-drop}
 use lib.Dec.{leb, ltb, eqb}
 use Rattle.words.specs.Choice.{both, either, both-true}
@@ -14,6 +14,7 @@ use Rattle.words.specs.Parts.{region}
 use Rattle.synthdef.specs.Read.{Read, got, bad}
 use Rattle.synthdef.specs.Definition.{Definition}
 use Rattle.synthdef.specs.Reader.{sizeLimit, readDefinition}
+use Rattle.readable.specs.Readable.{Readable, ReadableWhole, whole-readable}
 use Rattle.nodes.specs.declared.Node.{Node}
 use Rattle.nodes.specs.Table.{width, nodeFrom, row-from}
 use Rattle.nodes.specs.Place.{groupSlot, isGroup}
@@ -48,6 +49,7 @@ pub record Synth (ws shelf : List ℕ) (r : Node) : Type 0 where
   pub slot : r .slot < slotCount
   pub row : r .row < mostRows
   pub front : definitionOf (decode ws shelf .slots) r .front ≡ frontIn (slotBytes ws shelf (r .slot))
+  pub whole : ReadableWhole (slotBytes ws shelf (r .slot))
 
 -- a word of a part
 pub part-word : (a m i : ℕ) (ws : List ℕ) → i < m → getD (region a m ws) i 0 ≡ getD ws (a + i) 0
@@ -131,6 +133,28 @@ slot-front ws shelf k formed held h =
     (rw zero-add at (slot-formed 0 k (lengthsIn ws) (decode ws shelf .slots) (nodesIn ws) (rw (decoded-many ws shelf) h) formed))
     ∙ ap frontIn (slot-bytes ws shelf k h)
 
+-- and those bytes are a readable definition
+pub bytes-short : (ws shelf : List ℕ) (k : ℕ) → length (slotBytes ws shelf k) ≤ sizeLimit
+bytes-short ws shelf k = simp length-take (omega arith)
+
+whole-read : (s : List ℕ) (size : ℕ) (r : Read Definition) → readDefinition s 0 ≡ r → isWhole size r ≡ true → length s ≤ sizeLimit → ReadableWhole s
+whole-read s size (got d next) e h l = record { definition = d; past = next; reads = e; short = l }
+whole-read s size (bad q place) e h l = absurd (let z : _≡_ {A = ℕ} 0 1 = cc in omega arith)
+
+taken-whole : (k size : ℕ) (s : Slot) (t : List Node) → held k t ≡ true → slotFormed k size s t ≡ true → length (s .bytes) ≤ sizeLimit → ReadableWhole (s .bytes)
+taken-whole k size s t held formed short =
+    let taken : slotTaken k s t ≡ true = rw held (either-true (s .resident)) in
+    let whole : both (leb size sizeLimit) (isWhole size (readDefinition (s .bytes) 0)) ≡ true = rw taken at formed in
+    whole-read (s .bytes) size (readDefinition (s .bytes) 0) refl (both-true (leb size sizeLimit) (isWhole size (readDefinition (s .bytes) 0)) whole .1) short
+
+slot-whole : (ws shelf : List ℕ) (k : ℕ) → slotsFormed 0 (lengthsIn ws) (decode ws shelf .slots) (nodesIn ws) ≡ true → held k (nodesIn ws) ≡ true → k < slotCount
+    → ReadableWhole (slotBytes ws shelf k)
+slot-whole ws shelf k formed held h =
+    subst ReadableWhole (slot-bytes ws shelf k h)
+    (taken-whole k (getD (lengthsIn ws) k 0) (slotAt (decode ws shelf .slots) k) (nodesIn ws) held
+    (rw zero-add at (slot-formed 0 k (lengthsIn ws) (decode ws shelf .slots) (nodesIn ws) (rw (decoded-many ws shelf) h) formed))
+    (rw (slot-bytes ws shelf k h) (bytes-short ws shelf k)))
+
 -- a synth at a place of the table
 pub synth-ready : (ws shelf : List ℕ) → Ready ws shelf → (i : ℕ) → i < countIn ws → isGroup (nodeIn ws i) ≡ false → Synth ws shelf (nodeIn ws i)
 synth-ready ws shelf ready i h single =
@@ -147,4 +171,9 @@ synth-ready ws shelf ready i h single =
       slot = low;
       row = ltb-true (r .row) mostRows row;
       front = slot-front ws shelf (r .slot) (ready .slots) (held-at (nodesIn ws) i r (drop (i + 1) (nodesIn ws)) found) low;
+      whole = slot-whole ws shelf (r .slot) (ready .slots) (held-at (nodesIn ws) i r (drop (i + 1) (nodesIn ws)) found) low;
     }
+
+-- the bytes of its definition, as they are lent
+pub synth-readable : (ws shelf : List ℕ) → Ready ws shelf → (i : ℕ) → i < countIn ws → isGroup (nodeIn ws i) ≡ false → {s : List ℕ} → s ≡ slotBytes ws shelf (nodeIn ws i .slot) → Readable s
+synth-readable ws shelf ready i h single e = subst Readable (sym e) (whole-readable (slotBytes ws shelf (nodeIn ws i .slot)) (synth-ready ws shelf ready i h single .whole))

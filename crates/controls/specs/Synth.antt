@@ -1,7 +1,7 @@
 -- A change of one synth's controls, by its definition's encoded bytes.
 use Prim.Native.Nat.{ℕ, zero, suc, _+_, _-_, _*_, _≤_, _<_, min}
 use mathlib.Core.Bool.{true, false}
-use mathlib.Core.Path.{_≡_, refl, sym, ap, ap₂, _∙_}
+use mathlib.Core.Path.{_≡_, refl, sym, ap, ap₂, _∙_, subst}
 use mathlib.Core.List.{List, [], _∷_, _++_}
 use mathlib.Core.Option.{none}
 use native.Mathlib.Omega.{arith}
@@ -10,6 +10,7 @@ use lib.Seq.{take-nil, getD-drop, drop-drop}
 use lib.Dec.{leb}
 use borrow.Author.Tests.{eq-eqb, ne-eqb}
 use Rattle.words.specs.Choice.{pick, both}
+use Rattle.readable.specs.Readable.{Readable}
 use Rattle.nodes.specs.Place.{groupSlot, isGroup}
 use Rattle.nodes.specs.Formed.{mostNodes, mostRows}
 use Rattle.values.specs.declared.Key.{Key}
@@ -30,13 +31,14 @@ abbrev pub changeNode : (ControlValue → ControlValue) → Key → List ℕ →
 changeNode f key name count ws shelf i cs =
     pick (isGroup (nodeIn ws i)) cs (changeSynth f key name count (nodeIn ws i .row) (slotBytes ws shelf (nodeIn ws i .slot)) cs)
 
--- the words' sizes, and that the slot and the row of the synth at a place are there
+-- the words' sizes, that the slot and the row of the synth at a place are there, and that its definition is readable
 pub record Bounds (ws shelf : List ℕ) (i : ℕ) : Type 0 where
   pub size : length ws ≡ wordsLength
   pub shelfSize : length shelf ≡ shelfLength
   pub place : i < mostNodes
   pub slot : isGroup (nodeIn ws i) ≡ false → nodeIn ws i .slot < slotCount
   pub row : isGroup (nodeIn ws i) ≡ false → nodeIn ws i .row < mostRows
+  pub readable : isGroup (nodeIn ws i) ≡ false → Readable (slotBytes ws shelf (nodeIn ws i .slot))
 
 -- a part of a part
 pub take-least : (k m : ℕ) (l : List ℕ) → take (min (min m (length l)) k) l ≡ take k (take m l)
@@ -87,6 +89,9 @@ module _ (ws : List ℕ) (i : ℕ) (few : i < mostNodes) where
 module _ {ws shelf : List ℕ} {i : ℕ} (b : Bounds ws shelf i) (other : getD ws (nodesPlace + 5 * i + 3) 0 ≡ groupSlot → ⊥) where
   pub slot-bound : getD ws (nodesPlace + 5 * i + 3) 0 < slotCount
   slot-bound = rw (sym (slot-word ws i (b .place))) (b .slot (is-synth ws i (b .place) other))
+
+  pub bytes-readable : Readable (slotBytes ws shelf (getD ws (nodesPlace + 5 * i + 3) 0))
+  bytes-readable = subst (λ (k : ℕ). Readable (slotBytes ws shelf k)) (slot-word ws i (b .place)) (b .readable (is-synth ws i (b .place) other))
 
   pub row-bound : getD ws (nodesPlace + 5 * i + 4) 0 < mostRows
   row-bound = rw (sym (row-word ws i (b .place))) (b .row (is-synth ws i (b .place) other))

@@ -1,11 +1,8 @@
-// What a definition, in its encoded bytes, tells of its controls. Of bytes whose front can't be read it is a definition without controls.
+// What a definition, in its encoded bytes, tells of its controls. Its front is known to be readable.
 use synthdef::Cursor;
 use synthdef::Found;
 use synthdef::Number;
 use synthdef::ValuesFound;
-use synthdef::index_of_name;
-use synthdef::parameters_in;
-use synthdef::values_in;
 use values::Key;
 use words::wide;
 ghost use Prim.Native.Nat.{_+_, _*_, _≤_};
@@ -13,6 +10,7 @@ ghost use mathlib.Core.Path.{_≡_};
 ghost use lib.ListN.{length};
 ghost use Rattle.nodes.specs.Table.{over};
 ghost use Rattle.synthdef.specs.Fields.{float32};
+ghost use Rattle.readable.specs.Readable.{Readable};
 ghost use Rattle.model.specs.Engine.{valueOr};
 ghost use Rattle.model.specs.Meaning.{startOf, hasControls};
 ghost use Rattle.model.specs.Effects.{initialWords};
@@ -21,26 +19,26 @@ ghost use Rattle.controls.specs.Initial.{floatsFrom};
 
 // P, the number of controls.
 pub fn parameter_count(definition: &[u8]) -> u32
+    requires { ⌜ Readable (now definition) ⌝ }
     ensures { λ r. ⌜ r ≡ length (frontIn (now (definition .entry)) .values) ⌝ }
 {
-    match parameters_in(definition) {
-        Found::At(p) => p,
-        Found::Nothing => 0,
-    }
+    readable::parameters(definition)
 }
 
 // The control where a key starts: an index as it stands, a name by its first entry.
 pub fn control_start(definition: &[u8], key: Key, name: &[u8]) -> Found
+    requires { ⌜ Readable (now definition) ⌝ }
     ensures { λ r. ⌜ foundAt r ≡ startOf key (now (name .entry)) (frontOnly (now (definition .entry))) ⌝ }
 {
     match key {
         Key::Index(i) => Found::At(i),
-        Key::Name => index_of_name(definition, name),
+        Key::Name => readable::index_of(definition, name),
     }
 }
 
 // The controls that are asked for are there.
 pub fn has_controls(definition: &[u8], key: Key, name: &[u8], count: u32) -> bool
+    requires { ⌜ Readable (now definition) ⌝ }
     ensures { λ r. ⌜ r ≡ hasControls (startOf key (now (name .entry)) (frontOnly (now (definition .entry)))) count (frontOnly (now (definition .entry))) ⌝ }
 {
     match control_start(definition, key, name) {
@@ -82,10 +80,10 @@ fn write_initial(controls: &mut [u32], at: usize, s: &[u8], start: usize, count:
 
 // A new synth's controls: its definition's initial values, unmapped.
 pub fn initial_row(controls: &mut [u32], row: u32, definition: &[u8])
-    requires { ⌜ 64 * row + 64 ≤ length (now controls) ⌝ }
+    requires { ⌜ (64 * row + 64 ≤ length (now controls)) × Readable (now definition) ⌝ }
     ensures { λ r. ⌜ now (controls .exit) ≡ over (64 * row) (initialWords (frontIn (now (definition .entry)) .values)) (now (controls .entry)) ⌝ }
 {
-    match values_in(definition) {
+    match readable::values(definition) {
         ValuesFound::At(start, count) => {
             if count == 0 {
                 return;

@@ -10,6 +10,7 @@ use words::wide;
 ghost use Prim.Native.Nat.{_+_, _*_, _≤_, _<_, min};
 ghost use mathlib.Core.Path.{_≡_};
 ghost use lib.ListN.{length, take, drop, getD};
+ghost use Rattle.readable.specs.Readable.{Readable};
 ghost use Rattle.values.specs.Controls.{controlAt, shownBy};
 ghost use Rattle.model.specs.Formed.{mappingsFormed};
 ghost use Rattle.model.specs.Layout.{slotRoom, putControls, controlsIn};
@@ -49,7 +50,7 @@ fn change_synth(
     count: u32,
     change: Change,
 )
-    requires { ⌜ 64 * row + 64 ≤ length (now controls) ⌝ }
+    requires { ⌜ (64 * row + 64 ≤ length (now controls)) × Readable (now definition) ⌝ }
     ensures { λ r. ⌜ now (controls .exit) ≡ changeSynth (changeOf change) key (now (name .entry)) count row (now (definition .entry)) (now (controls .entry)) ⌝ }
 {
     match control_start(definition, key, name) {
@@ -95,6 +96,7 @@ pub fn change_node(
 
 // The mapping words of a row's first controls, as many as the definition has: each at most 4,096.
 pub fn row_formed(controls: &[u32], definition: &[u8], row: u32) -> bool
+    requires { ⌜ Readable (now definition) ⌝ }
     ensures { λ r. ⌜ r ≡ mappingsFormed (length (frontIn (now (definition .entry)) .values)) (drop (64 * row) (now (controls .entry))) ⌝ }
 {
     let many = parameter_count(definition);

@@ -1,10 +1,10 @@
 -- /s_new: the words after it.
 use Prim.Native.Nat.{ℕ, _+_, _*_, _≤_, _<_}
 use mathlib.Core.Bool.{true, not}
-use mathlib.Core.Path.{_≡_, refl, sym, ap, ap₂, _∙_}
+use mathlib.Core.Path.{_≡_, refl, sym, ap, ap₂, _∙_, subst}
 use mathlib.Core.List.{List, [], _∷_}
 use native.Mathlib.Omega.{arith}
-use lib.ListN.{length, take, drop, getD}
+use lib.ListN.{length, take, drop, getD, length-take}
 use lib.Dec.{leb, eqb}
 use borrow.Author.Tests.{leb-true}
 use Rattle.words.specs.Choice.{both, both-true}
@@ -13,6 +13,7 @@ use Rattle.words.specs.declared.Refusal.{Refusal}
 use Rattle.words.specs.declared.Refusal.the-variants.{BadFlag, BadNumber, NumberLive, NoDefinition, NoNode, WrongKind, NodesFull, NoNumber}
 use Rattle.synthdef.specs.Read.{Read}
 use Rattle.synthdef.specs.Definition.{Front, Definition}
+use Rattle.readable.specs.Readable.{Readable, whole-readable}
 use Rattle.nodes.specs.declared.Node.{Node}
 use Rattle.nodes.specs.Table.{rows, over}
 use Rattle.nodes.specs.Place.{lives, place}
@@ -85,6 +86,12 @@ module _ (ws bs : List ℕ) (k : Known ws bs) (slot : ℕ) (low : slot < slotCou
       ∙ sym (front-read (slotOn (tableIn ws) bs slot .bytes) (whole .read))
       ∙ ap frontIn lent-bytes
 
+  pub resident-readable : Readable (lentBytes slot size bs)
+  resident-readable =
+      subst Readable lent-bytes
+      (whole-readable (slotOn (tableIn ws) bs slot .bytes)
+      (record { definition = whole .definition; past = getD (tableIn ws) slot 0; reads = whole .read; short = rw lent-bytes (simp length-take (omega arith)) }))
+
 module _ (number action target at slot : ℕ) (bytes ws bs : List ℕ) (g : Ground number action target at slot bytes ws bs) where
   k : Known ws bs
   k = g .known
@@ -139,6 +146,9 @@ module _ (number action target at slot : ℕ) (bytes ws bs : List ℕ) (g : Grou
       let p2 = passed NumberLive (both (not (eqb number minusOne)) (lives number (e .nodes))) _ (p1 .1) in
       let p3 = passed NoDefinition (noResident bytes e) _ (p2 .1) in
       rw (g .meant) (resident-found bytes (e .slots) (p3 .0))
+
+  pub definition-readable : (size : ℕ) → size ≡ getD ws (lengthsPlace + slot) 0 → Readable (lentBytes slot size bs)
+  definition-readable size same = resident-readable ws bs k slot (g .clear .there) resident size same
 
   pub standing : (count : ℕ) → count ≡ countIn ws → Standing (nodeWords ws) count at
   standing count same =

@@ -1,13 +1,13 @@
 -- The nodes of a well-formed state by their places, and the definitions that synths hold, by their slots' bytes.
-use Prim.Native.Nat.{ℕ, zero, suc, _+_, _*_, _≤_, _<_}
-use mathlib.Core.Bool.{Bool, true, false}
+use Prim.Native.Nat.{ℕ, _+_, _*_, _<_}
+use mathlib.Core.Bool.{true, false}
 use mathlib.Core.Path.{_≡_, refl, sym, ap, ap₂, _∙_}
-use mathlib.Core.List.{List, [], _∷_}
+use mathlib.Core.List.{List, _∷_}
 use native.Mathlib.Omega.{arith}
 use native.Mathlib.Nat.{zero-add}
 use lib.ListN.{length, take, drop, getD}
 use lib.Dec.{leb}
-use Rattle.words.specs.Choice.{pick, both, both-true}
+use Rattle.words.specs.Choice.{both, both-true}
 use Rattle.words.specs.Parts.{region}
 use Rattle.synthdef.specs.declared.lookup.Found.the-variants as found
 use Rattle.synthdef.specs.Read.{Read, got, bad}
@@ -15,16 +15,16 @@ use Rattle.synthdef.specs.Definition.{Definition}
 use Rattle.synthdef.specs.Reader.{sizeLimit, readDefinition}
 use Rattle.synthdef.specs.Lookup.{unitsIn, nameIn, nameOfIn, firstName}
 use Rattle.synthdef.specs.LookupOf.{units-of, name-of, first-name-of}
-use Rattle.nodes.specs.declared.Node.{Node}
+use Rattle.readable.specs.Readable.{ReadableWhole}
 use Rattle.nodes.specs.Table.{row-from}
 use Rattle.nodes.specs.Place.{groupSlot, isGroup}
-use Rattle.model.specs.Layout.{slotCount, slotRoom, lengthsPlace, nodesPlace, nodesWords, countIn, lengthsIn, nodesIn, controlsIn}
-use Rattle.model.specs.Engine.{Slot, decode, noDefinition, valueOr, definitionIn, slotAt, definitionOf, held, slotTaken}
+use Rattle.model.specs.Layout.{slotCount, slotRoom, lengthsPlace, nodesPlace, nodesWords, countIn, lengthsIn, nodesIn}
+use Rattle.model.specs.Engine.{Slot, decode, noDefinition, valueOr, definitionIn, slotAt, definitionOf, slotTaken}
 use Rattle.model.specs.Formed.{isWhole, slotFormed}
-use Rattle.model.specs.View.{Kind, group, synth, kindIn}
 use Rattle.state.specs.Known.{Known}
 use Rattle.controls.specs.Encoded.{frontIn}
-use Rattle.controls.specs.Ready.{Ready, Synth, nodeIn, slotBytes, slot-bytes, held-at, slot-formed, decoded-many, either-true, synth-ready}
+use Rattle.controls.specs.Ready.{Ready, nodeIn, slotBytes, slot-bytes, held-at, slot-formed, decoded-many, either-true, synth-ready}
+use Rattle.controls.specs.Formed.{bounds-ready}
 use Rattle.controls.specs.Synth.{Bounds, slot-word, slot-bound}
 
 -- a node at a place of the table of a well-formed state
@@ -36,13 +36,7 @@ pub ready : (ws bs : List ℕ) → Known ws bs → Ready ws bs
 ready ws bs k = record { size = k .size; shelfSize = k .shelfSize; few = k .few; fields = k .tree .fields; slots = k .slots }
 
 pub bounds : (ws bs : List ℕ) (i : ℕ) → At ws bs i → Bounds ws bs i
-bounds ws bs i a = record {
-  size = a .state .size;
-  shelfSize = a .state .shelfSize;
-  place = omega (arith, a .live, a .state .few);
-  slot = λ e. synth-ready ws bs (ready ws bs (a .state)) i (a .live) e .slot;
-  row = λ e. synth-ready ws bs (ready ws bs (a .state)) i (a .live) e .row;
-}
+bounds ws bs i a = bounds-ready ws bs (ready ws bs (a .state)) i (a .live)
 
 -- a record and what follows it
 pub node-there : (ws bs : List ℕ) (i : ℕ) → At ws bs i → drop i (nodesIn ws) ≡ nodeIn ws i ∷ drop (i + 1) (nodesIn ws)
@@ -73,6 +67,9 @@ module _ (ws bs : List ℕ) (i : ℕ) (a : At ws bs i) (single : isGroup (nodeIn
       let whole : both (leb (getD (lengthsIn ws) slot 0) sizeLimit) (isWhole (getD (lengthsIn ws) slot 0) (readDefinition (slotAt slots slot .bytes) 0)) ≡ true = rw taken at formed in
       whole-read (slotAt slots slot) (getD (lengthsIn ws) slot 0) (readDefinition (slotAt slots slot .bytes) 0) refl (both-true (leb (getD (lengthsIn ws) slot 0) sizeLimit) _ whole .1)
       (λ next e. k next (ap (λ (s : List ℕ). readDefinition s 0) (sym (slot-bytes ws bs slot low)) ∙ e))
+
+  pub held-readable : ReadableWhole (slotBytes ws bs slot)
+  held-readable = synth-ready ws bs (ready ws bs (a .state)) i (a .live) single .whole
 
   -- what its bytes tell is what its definition has
   pub held-units : unitsIn (slotBytes ws bs slot) ≡ found.At (length (definitionOf slots (nodeIn ws i) .units))

@@ -2,8 +2,6 @@
 use controls::slot_bytes;
 use model::Answer;
 use replies::send_words;
-use synthdef::Found;
-use synthdef::units_in;
 use words::wide;
 ghost use mathlib.Core.Path.{_≡_};
 ghost use Prim.Native.Nat.{ℕ};
@@ -26,10 +24,7 @@ fn units_at(words: &[u32], shelf: &[u8], place: usize) -> u32
         return 0;
     }
     let size = words[4 + wide(slot)];
-    match units_in(slot_bytes(shelf, slot, size)) {
-        Found::At(units) => units,
-        Found::Nothing => 0,
-    }
+    readable::units(slot_bytes(shelf, slot, size))
 }
 
 // Units over live synths.

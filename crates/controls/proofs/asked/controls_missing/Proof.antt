@@ -9,7 +9,7 @@ use Rattle.nodes.specs.Place.{isGroup}
 use Rattle.model.specs.Engine.{decode, definitionOf}
 use Rattle.model.specs.Meaning.{isNegative, negativeKey, startOf, hasControls}
 use Rattle.controls.specs.Encoded.{frontOnly}
-use Rattle.controls.specs.Ready.{nodeIn, synth-ready}
+use Rattle.controls.specs.Ready.{nodeIn, synth-ready, synth-readable}
 use Rattle.controls.specs.Asked.{synth-has}
 use Rattle.controls.proofs.asked.controls_missing.Statement.{statement}
 use Rattle.controls.proofs.asked.controls_missing.Tie as tie
@@ -46,7 +46,11 @@ node-definition-requires c κs =
     (p .0 .size, omega (arith, p .0 .few, p .1), synth-ready (a .words .now) (a .shelf .now) (p .0) (a .place) (p .1) single .slot)
 
 has-controls-requires : tie.Need-has-controls-requires
-has-controls-requires c κs = search needs
+has-controls-requires c κs =
+    let a = c .before .before .before .before .before .before .before .before .before .args in
+    let p = c .before .before .before .before .before .before .before .before .before .pre in
+    let single : isGroup (nodeIn (a .words .now) (a .place)) ≡ false = sym (c .before .before .node-is-group .ensures) ∙ c .before .if3 .left in
+    synth-readable (a .words .now) (a .shelf .now) (p .0) (a .place) (p .1) single (c .node-definition .ensures)
 
 returns-4 : tie.Need-returns-4
 returns-4 c =

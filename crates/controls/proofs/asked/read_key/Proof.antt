@@ -10,7 +10,7 @@ use Rattle.values.specs.Controls.{shownBy}
 use Rattle.model.specs.Layout.{controlsIn, busesIn}
 use Rattle.model.specs.Meaning.{startOf}
 use Rattle.controls.specs.Encoded.{frontIn, frontOnly, foundAt, values-few}
-use Rattle.controls.specs.Ready.{nodeIn, slotBytes, synth-ready}
+use Rattle.controls.specs.Ready.{nodeIn, slotBytes, synth-ready, synth-readable}
 use Rattle.controls.specs.Asked.{controlIn, read-none, read-past, read-there}
 use Rattle.controls.proofs.asked.read_key.Statement.{statement}
 use Rattle.controls.proofs.asked.read_key.Tie as tie
@@ -22,13 +22,19 @@ node-definition-requires c κs =
     (p .0 .size, omega (arith, p .0 .few, p .1), synth-ready (a .words .now) (a .shelf .now) (p .0) (a .place) (p .1) (p .2) .slot)
 
 control-start-requires : tie.Need-control-start-requires
-control-start-requires c κs = search needs
+control-start-requires c κs =
+    let a = c .before .before .before .before .args in
+    let p = c .before .before .before .before .pre in
+    synth-readable (a .words .now) (a .shelf .now) (p .0) (a .place) (p .1) (p .2) (c .node-definition .ensures)
 
 enum-known-start : tie.Need-enum-known-start
 enum-known-start c = search needs
 
 parameter-count-requires : tie.Need-parameter-count-requires
-parameter-count-requires c κs = search needs
+parameter-count-requires c κs =
+    let a = c .before .before .before .before .before .before .before .before .args in
+    let p = c .before .before .before .before .before .before .before .before .pre in
+    synth-readable (a .words .now) (a .shelf .now) (p .0) (a .place) (p .1) (p .2) (c .before .before .before .before .node-definition .ensures)
 
 returns : tie.Need-returns
 returns c =

@@ -13,8 +13,8 @@ enum-known-key c = search needs
 enum-told : tie.Need-enum-told
 enum-told c = search needs
 
-index-of-name-requires : tie.Need-index-of-name-requires
-index-of-name-requires c κs = search needs
+index-of-requires : tie.Need-index-of-requires
+index-of-requires c κs = search needs
 
 returns : tie.Need-returns
 returns c =
@@ -25,10 +25,10 @@ returns-2 : tie.Need-returns-2
 returns-2 c =
     let a = c .before .before .before .before .before .args in
     let named : a .key ≡ Name = cc in
-    ap foundAt (c .index-of-name .ensures)
+    ap foundAt (c .index-of .ensures)
     ∙ index-told (a .name .now) (a .definition .now)
     ∙ sym (ap (λ (k : Key). startOf k (a .name .now) (frontOnly (a .definition .now))) named)
 
 pub control-start-spec : {M : Type 1} → statement M
 control-start-spec =
-    tie.close (tie.spec enum-known-key enum-told index-of-name-requires returns returns-2)
+    tie.close (tie.spec enum-known-key enum-told index-of-requires returns returns-2)

@@ -12,8 +12,8 @@ use Rattle.controls.specs.Initial.{floatsFrom, values-told, values-none,
 use Rattle.controls.proofs.definition.initial_row.Statement.{statement}
 use Rattle.controls.proofs.definition.initial_row.Tie as tie
 
-values-in-requires : tie.Need-values-in-requires
-values-in-requires c κs = search needs
+values-requires : tie.Need-values-requires
+values-requires c κs = search needs
 
 enum-known-start : tie.Need-enum-known-start
 enum-known-start c = search needs
@@ -21,7 +21,7 @@ enum-known-start c = search needs
 returns : tie.Need-returns
 returns c =
     let a = c .before .before .before .before .before .before .before .args in
-    let t = values-told (a .definition .now) (sym (c .before .before .before .before .values-in .ensures) ∙ c .before .before .start .given .1) in
+    let t = values-told (a .definition .now) (sym (c .before .before .before .before .values .ensures) ∙ c .before .before .start .given .1) in
     sym (nothing-written (64 * a .row) (frontIn (a .definition .now) .values) (a .controls .now) (empty (frontIn (a .definition .now) .values) (omega arith)))
 
 wide-requires : tie.Need-wide-requires
@@ -36,7 +36,7 @@ wide-requires-2 c κs = search needs
 write-initial-requires : tie.Need-write-initial-requires
 write-initial-requires c κs =
     let a = c .before .before .before .before .before .before .before .before .before .before .args in
-    let t = values-told (a .definition .now) (sym (c .before .before .before .before .before .before .before .values-in .ensures) ∙ c .before .before .before .before .before .start .given .1) in
+    let t = values-told (a .definition .now) (sym (c .before .before .before .before .before .before .before .values .ensures) ∙ c .before .before .before .before .before .start .given .1) in
     let few = values-few (a .definition .now) in
     let end = t .end (omega arith) in
     (omega arith, omega arith)
@@ -53,7 +53,7 @@ returns-2 c =
     let start = c .before .before .before .before .before .before .before .before .start .given .0 .0 in
     let t =
     values-told (a .definition .now)
-    (sym (c .before .before .before .before .before .before .before .before .before .before .values-in .ensures) ∙ c .before .before .before .before .before .before .before .before .start .given .1) in
+    (sym (c .before .before .before .before .before .before .before .before .before .before .values .ensures) ∙ c .before .before .before .before .before .before .before .before .start .given .1) in
     c .before .before .write-initial .ensures
     ∙ ap₂ (λ (k : ℕ) (xs : List ℕ). over k (initialWords xs) (a .controls .now))
     (ap (λ (k : ℕ). 64 * k) (c .before .before .before .before .wide .ensures))
@@ -69,7 +69,7 @@ pub initial-row-spec : {M : Type 1} → statement M
 initial-row-spec =
     tie.close
     (tie.spec
-    values-in-requires
+    values-requires
     enum-known-start
     returns
     wide-requires

@@ -1,14 +1,15 @@
 use Prim.Native.Nat.{ℕ, _+_, _*_}
-use mathlib.Core.Path.{_≡_, sym, ap, _∙_}
+use mathlib.Core.Path.{_≡_, sym, ap, _∙_, subst}
 use mathlib.Core.List.{List}
 use native.Mathlib.Omega.{arith}
 use borrow.Author.Needs.{needs}
 use lib.ListN.{length, take, drop, getD}
 use Rattle.words.specs.Parts.{region, region-length}
+use Rattle.readable.specs.Readable.{Readable}
 use Rattle.model.specs.Layout.{controlsIn, putControls}
 use Rattle.controls.specs.Change.{changeOf}
 use Rattle.controls.specs.Ready.{slotBytes}
-use Rattle.controls.specs.Synth.{changeSynth, slot-bound, row-bound, node-group, node-synth, same-controls}
+use Rattle.controls.specs.Synth.{changeSynth, slot-bound, bytes-readable, row-bound, node-group, node-synth, same-controls}
 use Rattle.controls.proofs.synth.change_node.Statement.{statement}
 use Rattle.controls.proofs.synth.change_node.Tie as tie
 
@@ -70,11 +71,17 @@ part-change-synth-end c = search needs
 
 change-synth-requires : tie.Need-change-synth-requires
 change-synth-requires c κs =
+    let a = c .before .before .before .before .before .before .before .before .before .before .args in
     let p = c .before .before .before .before .before .before .before .before .before .before .pre in
-    let ws = c .before .before .before .before .before .before .before .before .before .before .args .words .now in
-    let low = row-bound p (c .before .before .before .before .before .if1 .left) in
+    let ws = a .words .now in
+    let other = c .before .before .before .before .before .if1 .left in
+    let low = row-bound p other in
     let long : length (region 1603 16384 ws) ≡ 16384 = region-length 1603 16384 ws (omega arith) in
-    omega arith
+    let slot = getD ws (68 + 5 * a .place + 3) 0 in
+    let size : getD ws (4 + c .before .before .before .wide .result) 0 ≡ getD ws (4 + slot) 0 = ap (λ (k : ℕ). getD ws (4 + k) 0) (c .before .before .before .wide .ensures) in
+    let bytes : c .before .slot-bytes .result .now ≡ slotBytes ws (a .shelf .now) slot =
+    c .before .slot-bytes .ensures ∙ ap (λ (k : ℕ). take k (take 2048 (drop (2048 * slot) (a .shelf .now)))) size in
+    (omega arith, subst Readable (sym bytes) (bytes-readable p other))
 
 same-length : tie.Need-same-length
 same-length c = search needs

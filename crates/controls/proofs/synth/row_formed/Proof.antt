@@ -20,7 +20,7 @@ abbrev μ-loop : tie.MeasureT-loop
 μ-loop controls definition row many start end i₀ i = end - i
 
 parameter-count-requires : tie.Need-parameter-count-requires Inv-loop μ-loop
-parameter-count-requires c κs = tt
+parameter-count-requires c κs = c .before .before .pre
 
 wide-requires : tie.Need-wide-requires Inv-loop μ-loop
 wide-requires c κs = tt

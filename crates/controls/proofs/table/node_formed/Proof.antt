@@ -1,9 +1,10 @@
 use Prim.Native.Nat.{ℕ}
 use mathlib.Core.Bool.{true, false}
-use mathlib.Core.Path.{_≡_, sym, ap₂, _∙_}
+use mathlib.Core.Path.{_≡_, sym, ap₂, _∙_, subst}
 use mathlib.Core.List.{List}
 use borrow.Author.Needs.{needs}
 use Rattle.nodes.specs.Place.{isGroup}
+use Rattle.readable.specs.Readable.{Readable}
 use Rattle.model.specs.Layout.{controlsIn}
 use Rattle.controls.specs.Ready.{nodeIn}
 use Rattle.controls.specs.Formed.{rowFormed}
@@ -37,7 +38,9 @@ node-definition-requires c κs =
     (p .size, p .place, p .slot (sym (c .before .before .before .node-is-group .ensures) ∙ c .before .before .if1 .left))
 
 row-formed-requires : tie.Need-row-formed-requires
-row-formed-requires c κs = search needs
+row-formed-requires c κs =
+    let p = c .before .before .before .before .before .before .before .pre in
+    subst Readable (sym (c .node-definition .ensures)) (p .readable (sym (c .before .before .before .before .node-is-group .ensures) ∙ c .before .before .before .if1 .left))
 
 returns-2 : tie.Need-returns-2
 returns-2 c =

@@ -2,15 +2,16 @@
 use native.Mathlib.Omega.{arith}
 use borrow.Author.Needs.{needs}
 use Prim.Native.Nat.{ℕ, _+_, _*_}
-use mathlib.Core.Path.{refl, ap, _∙_}
+use mathlib.Core.Path.{refl, sym, ap, _∙_, subst}
 use mathlib.Core.List.{List}
 use lib.ListN.{getD}
 use Rattle.words.specs.Parts.{region, put}
+use Rattle.readable.specs.Readable.{Readable}
 use Rattle.nodes.specs.Table.{over}
 use Rattle.model.specs.Layout.{controlsPlace, controlsWords}
 use Rattle.model.specs.Effects.{initialWords}
 use Rattle.controls.specs.Encoded.{frontIn}
-use Rattle.making.specs.Synth.{next-some, standing, synth-ready, mid-size, row-fits, synth-done}
+use Rattle.making.specs.Synth.{next-some, standing, synth-ready, mid-size, row-fits, definition-readable, synth-done}
 use Rattle.making.proofs.synth.put_synth.Statement.{statement}
 use Rattle.making.proofs.synth.put_synth.Tie as tie
 
@@ -96,7 +97,11 @@ initial-row-requires : tie.Need-initial-row-requires
 initial-row-requires c κs =
     let a = c .before .before .before .before .before .before .before .before .before .before .before .before .before .before .before .before .before .before .before .before .before .before .args in
     let p = c .before .before .before .before .before .before .before .before .before .before .before .before .before .before .before .before .before .before .before .before .before .before .pre in
-    row-fits (a .number) (a .action) (p .target) (a .at) (a .slot) (p .bytes) (a .words .now) (a .shelf .now) (p .ground) (c .before .before .before .before .before .before .before .before .before .before .before .before .before .before .before .before .before .before .wide .result) (c .before .before .before .before .before .before .before .before .before .before .before .before .before .before .before .before .before .before .wide .ensures) (c .before .before .before .before .before .before .before .before .before .before .before .before .row-for .result) (c .before .before .before .before .before .before .before .before .before .before .before .before .row-for .ensures) (getD (a .words .now) 2 0) refl (c .before .before .before .before .before .before .before .before .before .before .before .number-for .result) (c .before .before .before .before .before .before .before .before .before .before .before .number-for .ensures) (c .before .before .before .before .before .before .before .before .before .add-node .last .0) (c .before .before .before .before .before .before .before .before .before .add-node .result) (c .before .before .before .before .before .before .before .before .before .add-node .ensures) (c .before .before .before .before .before .before .next-after .result) (c .before .before .before .before .before .before .next-after .ensures) (c .before .before .before .before .settle .last .0) (c .before .before .before .before .settle .ensures)
+    let size = getD (a .words .now) (4 + c .before .before .before .before .before .before .before .before .before .before .before .before .before .before .before .before .wide2 .result) 0 in
+    let there = ap (λ (j : ℕ). getD (a .words .now) (4 + j) 0) (c .before .before .before .before .before .before .before .before .before .before .before .before .before .before .before .before .wide2 .ensures) in (
+      row-fits (a .number) (a .action) (p .target) (a .at) (a .slot) (p .bytes) (a .words .now) (a .shelf .now) (p .ground) (c .before .before .before .before .before .before .before .before .before .before .before .before .before .before .before .before .before .before .wide .result) (c .before .before .before .before .before .before .before .before .before .before .before .before .before .before .before .before .before .before .wide .ensures) (c .before .before .before .before .before .before .before .before .before .before .before .before .row-for .result) (c .before .before .before .before .before .before .before .before .before .before .before .before .row-for .ensures) (getD (a .words .now) 2 0) refl (c .before .before .before .before .before .before .before .before .before .before .before .number-for .result) (c .before .before .before .before .before .before .before .before .before .before .before .number-for .ensures) (c .before .before .before .before .before .before .before .before .before .add-node .last .0) (c .before .before .before .before .before .before .before .before .before .add-node .result) (c .before .before .before .before .before .before .before .before .before .add-node .ensures) (c .before .before .before .before .before .before .next-after .result) (c .before .before .before .before .before .before .next-after .ensures) (c .before .before .before .before .settle .last .0) (c .before .before .before .before .settle .ensures),
+      subst Readable (sym (c .before .slot-bytes .ensures)) (definition-readable (a .number) (a .action) (p .target) (a .at) (a .slot) (p .bytes) (a .words .now) (a .shelf .now) (p .ground) size there),
+    )
 
 same-length : tie.Need-same-length
 same-length c = search needs

@@ -1,12 +1,13 @@
-use mathlib.Core.Path.{sym, ap, _∙_}
+use mathlib.Core.Path.{sym, ap, _∙_, subst}
 use mathlib.Core.List.{List}
 use Prim.Native.Nat.{ℕ}
 use native.Mathlib.Omega.{arith}
 use borrow.Author.Needs.{needs}
 use Rattle.synthdef.specs.Lookup.{unitsIn}
+use Rattle.readable.specs.Readable.{ReadableWhole}
 use Rattle.controls.specs.Encoded.{numberOr}
 use Rattle.controls.specs.Synth.{is-group, is-synth}
-use Rattle.queries.specs.Held.{bounds, bytes-told, slot-low}
+use Rattle.queries.specs.Held.{bounds, held-readable, bytes-told, slot-low}
 use Rattle.queries.specs.Status.{units-group, units-synth}
 use Rattle.queries.proofs.status.units_at.Statement.{statement}
 use Rattle.queries.proofs.status.units_at.Tie as tie
@@ -47,37 +48,26 @@ shared-slice-read-size c = omega (arith, slot-low (c .before .before .before .be
 slot-bytes-requires : tie.Need-slot-bytes-requires
 slot-bytes-requires c κs = search needs
 
-units-in-requires : tie.Need-units-in-requires
-units-in-requires c κs = search needs
-
-enum-known-units : tie.Need-enum-known-units
-enum-known-units c = search needs
-
-enum-told : tie.Need-enum-told
-enum-told c = search needs
+units-requires : tie.Need-units-requires
+units-requires c κs =
+    let s = c .before .before .before .before .before .before .before in
+    let ws = s .args .words .now in
+    let bs = s .args .shelf .now in
+    let i = s .args .place in
+    let single = is-synth ws i (bounds ws bs i (s .pre) .place) (c .before .before .before .if1 .left) in
+    subst ReadableWhole
+    (sym (c .slot-bytes .ensures ∙ bytes-told ws bs i (c .before .before .wide .result) (s .pre) (c .before .before .wide .ensures)))
+    (held-readable ws bs i (s .pre) single)
 
 returns-2 : tie.Need-returns-2
 returns-2 c =
-    let s = c .before .before .before .before .before .before .before .before .before .before .before in
+    let s = c .before .before .before .before .before .before .before .before in
     let ws = s .args .words .now in
     let bs = s .args .shelf .now in
     let i = s .args .place in
-    let single = is-synth ws i (bounds ws bs i (s .pre) .place) (c .before .before .before .before .before .before .before .if1 .left) in
-    sym (ap numberOr (c .before .units .given .1))
-    ∙ ap numberOr (c .before .before .before .units-in .ensures)
-    ∙ ap (λ (l : List ℕ). numberOr (unitsIn l)) (c .before .before .before .before .slot-bytes .ensures ∙ bytes-told ws bs i (c .before .before .before .before .before .before .wide .result) (s .pre) (c .before .before .before .before .before .before .wide .ensures))
-    ∙ sym (units-synth ws bs i (s .pre) single)
-
-returns-3 : tie.Need-returns-3
-returns-3 c =
-    let s = c .before .before .before .before .before .before .before .before .before .before in
-    let ws = s .args .words .now in
-    let bs = s .args .shelf .now in
-    let i = s .args .place in
-    let single = is-synth ws i (bounds ws bs i (s .pre) .place) (c .before .before .before .before .before .before .if1 .left) in
-    sym (ap numberOr (c .enum-told .given .1))
-    ∙ ap numberOr (c .before .before .units-in .ensures)
-    ∙ ap (λ (l : List ℕ). numberOr (unitsIn l)) (c .before .before .before .slot-bytes .ensures ∙ bytes-told ws bs i (c .before .before .before .before .before .wide .result) (s .pre) (c .before .before .before .before .before .wide .ensures))
+    let single = is-synth ws i (bounds ws bs i (s .pre) .place) (c .before .before .before .before .if1 .left) in
+    ap numberOr (c .units .ensures)
+    ∙ ap (λ (l : List ℕ). numberOr (unitsIn l)) (c .before .slot-bytes .ensures ∙ bytes-told ws bs i (c .before .before .before .wide .result) (s .pre) (c .before .before .before .wide .ensures))
     ∙ sym (units-synth ws bs i (s .pre) single)
 
 pub units-at-spec : {M : Type 1} → statement M
@@ -95,8 +85,5 @@ units-at-spec =
     mul-size
     shared-slice-read-size
     slot-bytes-requires
-    units-in-requires
-    enum-known-units
-    enum-told
-    returns-2
-    returns-3)
+    units-requires
+    returns-2)

@@ -4,9 +4,10 @@ use native.Mathlib.Omega.{arith}
 use borrow.Author.Needs.{needs}
 use lib.ListN.{getD}
 use Rattle.model.specs.Layout.{nodesPlace, nodesWords, controlsIn}
-use Rattle.controls.specs.Ready.{part-word}
+use Rattle.controls.specs.Ready.{part-word, synth-readable}
 use Rattle.controls.specs.Asked.{controlIn}
-use Rattle.queries.specs.Held.{bounds}
+use Rattle.queries.specs.Held.{ready, bounds}
+use Rattle.treequery.specs.RowArguments.{bytes-synth}
 use Rattle.treequery.specs.RowPlaces.{Shown, piece-first, piece-children, piece-second, piece-title, piece-many, piece-label, piece-value, index-few}
 use Rattle.treequery.proofs.row.piece_at.Statement.{statement}
 use Rattle.treequery.proofs.row.piece_at.Tie as tie
@@ -67,7 +68,14 @@ returns-4 c =
     piece-title (a .shown) ws bs d (a .end) (a .place) (a .k) (s .pre .0) (s .pre .1) (sym (c .before .before .before .node-is-group .ensures) ∙ c .before .before .if2 .left) (c .if4 .taken)
 
 parameter-count-requires : tie.Need-parameter-count-requires
-parameter-count-requires c κs = search needs
+parameter-count-requires c κs =
+    let s = c .before .before .before .before .before .before .before .before .before in
+    let ws = s .args .words .now in
+    let bs = s .args .shelf .now in
+    let i = s .args .place in
+    let at = s .pre .0 .at in
+    let single = sym (c .before .before .before .before .node-is-group .ensures) ∙ c .before .before .before .if2 .left in
+    synth-readable ws bs (ready ws bs (at .state)) i (at .live) single (s .pre .0 .bytes ∙ sym (bytes-synth ws bs i single))
 
 returns-5 : tie.Need-returns-5
 returns-5 c =

@@ -1,6 +1,9 @@
 use mathlib.Core.Path.{sym, _∙_}
 use native.Mathlib.Omega.{arith}
 use borrow.Author.Needs.{needs}
+use Rattle.controls.specs.Ready.{synth-readable}
+use Rattle.queries.specs.Held.{ready}
+use Rattle.treequery.specs.RowArguments.{bytes-synth}
 use Rattle.treequery.specs.RowPlaces.{group-length, hidden-length, shown-length, parameters-few}
 use Rattle.treequery.proofs.row.row_length.Statement.{statement}
 use Rattle.treequery.proofs.row.row_length.Tie as tie
@@ -15,7 +18,14 @@ returns c =
     (sym size, omega arith)
 
 parameter-count-requires : tie.Need-parameter-count-requires
-parameter-count-requires c κs = search needs
+parameter-count-requires c κs =
+    let s = c .before .before .before .before .before .before in
+    let ws = s .args .words .now in
+    let bs = s .args .shelf .now in
+    let i = s .args .place in
+    let at = s .pre .at in
+    let single = sym (c .before .before .node-is-group .ensures) ∙ c .before .if1 .left in
+    synth-readable ws bs (ready ws bs (at .state)) i (at .live) single (s .pre .bytes ∙ sym (bytes-synth ws bs i single))
 
 wide-requires : tie.Need-wide-requires
 wide-requires c κs = search needs

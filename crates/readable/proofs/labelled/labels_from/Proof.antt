@@ -1,0 +1,140 @@
+use mathlib.Core.Logic.{⊎-elim}
+use Prim.Native.Nat.{_-_, _<_}
+use native.Mathlib.Omega.{arith}
+use Rattle.readable.specs.Entries.{entries-turn}
+use Rattle.readable.specs.Labels.{Labelling, labels-first, label-set, label-skip, labels-last}
+use Rattle.synthdef.specs.Reader.{mostParameters}
+use Rattle.readable.proofs.labelled.labels_from.Statement.{statement}
+use Rattle.readable.proofs.labelled.labels_from.Tie as tie
+
+abbrev Inv-loop : tie.InvT-loop
+Inv-loop s first count table₀ at₀ i₀ table at i = Labelling s first count i at table
+
+abbrev μ-loop : tie.MeasureT-loop
+μ-loop s first count table₀ at₀ i₀ table at i = count - i
+
+loop-holds : tie.Need-loop-holds Inv-loop μ-loop
+loop-holds c =
+    let a = c .before in
+    labels-first (a .args .s .now) (a .args .first) (a .args .count) (a .pre .0) (a .pre .2)
+
+shared-slice-read-size : tie.Need-shared-slice-read-size Inv-loop μ-loop
+shared-slice-read-size c =
+    let a = c .before .before .before .before in
+    let l = c .before .before .loop in
+    let t = entries-turn (a .args .s .now) mostParameters (a .args .count) (l .i) (l .at) (omega arith) (l .inv .left) in
+    omega (arith, t .within)
+
+cast-size : tie.Need-cast-size Inv-loop μ-loop
+cast-size c =
+    omega (arith, c .shared-slice-known2 .given (c .before .before .loop .at))
+
+add-end : tie.Need-add-end Inv-loop μ-loop
+add-end c =
+    let a = c .before .before .before .before in
+    let l = c .before .before .loop in
+    let t = entries-turn (a .args .s .now) mostParameters (a .args .count) (l .i) (l .at) (omega arith) (l .inv .left) in
+    let size = a .pre .1 in
+    omega (arith, t .within)
+
+add-end-2 : tie.Need-add-end-2 Inv-loop μ-loop
+add-end-2 c =
+    let a = c .before .before .before .before in
+    let l = c .before .before .loop in
+    let t = entries-turn (a .args .s .now) mostParameters (a .args .count) (l .i) (l .at) (omega arith) (l .inv .left) in
+    let size = a .pre .1 in
+    omega (arith, t .within)
+
+word-at-requires : tie.Need-word-at-requires Inv-loop μ-loop
+word-at-requires c κs =
+    let a = c .before .before .before .before in
+    let l = c .before .before .loop in
+    let t = entries-turn (a .args .s .now) mostParameters (a .args .count) (l .i) (l .at) (omega arith) (l .inv .left) in
+    t .within
+
+cast-index : tie.Need-cast-index Inv-loop μ-loop
+cast-index c = omega arith
+
+mul-if1 : tie.Need-mul-if1 Inv-loop μ-loop
+mul-if1 c = omega arith
+
+array-read-if1 : tie.Need-array-read-if1 Inv-loop μ-loop
+array-read-if1 c =
+    let a = c .before .before .before .before .before in
+    let l = c .before .before .before .loop in
+    let t = entries-turn (a .args .s .now) mostParameters (a .args .count) (l .i) (l .at) (omega arith) (l .inv .left) in
+    rw (c .word-at .ensures) (t .below)
+
+cast-table : tie.Need-cast-table Inv-loop μ-loop
+cast-table c =
+    let a = c .before .before .before .before .before .before in
+    let l = c .before .before .before .before .loop in
+    let t = entries-turn (a .args .s .now) mostParameters (a .args .count) (l .i) (l .at) (omega arith) (l .inv .left) in
+    let size = a .pre .1 in
+    omega (arith, t .within)
+
+mul-table : tie.Need-mul-table Inv-loop μ-loop
+mul-table c = omega arith
+
+array-write-table : tie.Need-array-write-table Inv-loop μ-loop
+array-write-table c =
+    let a = c .before .before .before .before .before .before in
+    let l = c .before .before .before .before .loop in
+    let t = entries-turn (a .args .s .now) mostParameters (a .args .count) (l .i) (l .at) (omega arith) (l .inv .left) in
+    rw (c .before .word-at .ensures) (t .below)
+
+add-at : tie.Need-add-at Inv-loop μ-loop
+add-at c =
+    let a = c .before .before .before .before .before .before in
+    let l = c .before .before .before .before .loop in
+    let t = entries-turn (a .args .s .now) mostParameters (a .args .count) (l .i) (l .at) (omega arith) (l .inv .left) in
+    let size = a .pre .1 in
+    omega (arith, t .within)
+
+add-i : tie.Need-add-i Inv-loop μ-loop
+add-i c = omega arith
+
+loop-less : tie.Need-loop-less Inv-loop μ-loop
+loop-less c = omega arith
+
+loop-again : tie.Need-loop-again Inv-loop μ-loop
+loop-again c =
+    let a = c .before .before .before .before .before .before in
+    let l = c .before .before .before .before .loop in
+    let less : l .i < a .args .count = omega arith in
+    let index = c .before .word-at .ensures in
+    ⊎-elim
+    (λ w. rw (w .1, index) (label-set (a .args .s .now) (a .args .first) (a .args .count) (l .i) (l .at) (l .table) (l .inv) less (rw index at (w .0 .taken))))
+    (λ w.
+    let other = rw index at (w .0 .left) in
+    rw (w .1) (label-skip (a .args .s .now) (a .args .first) (a .args .count) (l .i) (l .at) (l .table) (l .inv) less (omega arith)))
+    (c .if1 .came)
+
+returns : tie.Need-returns Inv-loop μ-loop
+returns c =
+    let a = c .before .before .before .args in
+    labels-last (a .s .now) (a .first) (a .count) (c .before .loop .i) (c .before .loop .at) (c .before .loop .table) (c .before .loop .inv) (omega arith)
+
+pub labels-from-spec : {M : Type 1} → statement M
+labels-from-spec =
+    tie.close
+    (tie.spec
+    Inv-loop
+    μ-loop
+    loop-holds
+    shared-slice-read-size
+    cast-size
+    add-end
+    add-end-2
+    word-at-requires
+    cast-index
+    mul-if1
+    array-read-if1
+    cast-table
+    mul-table
+    array-write-table
+    add-at
+    add-i
+    loop-less
+    loop-again
+    returns)

@@ -1,0 +1,17 @@
+use Rattle.readable.specs.Readable.{name-told}
+use Prim.Native.Nat.{_-_}
+use mathlib.Core.Path.{_∙_}
+use borrow.Author.Needs.{needs}
+use Rattle.readable.proofs.lookups.name.Statement.{statement}
+use Rattle.readable.proofs.lookups.name.Tie as tie
+
+name-at-requires : tie.Need-name-at-requires
+name-at-requires c κs = search needs
+
+returns : tie.Need-returns
+returns c =
+    let k = c .before .before .pre in
+    c .name-at .ensures ∙ name-told (c .before .before .args .s .now) k
+
+pub name-spec : {M : Type 1} → statement M
+name-spec = tie.close (tie.spec name-at-requires returns)

@@ -1,0 +1,19 @@
+use Rattle.synthdef.specs.declared.front.Counts.{Counts}
+use Rattle.synthdef.specs.declared.lookup.ValuesFound.the-variants.{At}
+use Prim.Native.Nat.{_-_}
+use mathlib.Core.Path.{ap}
+use borrow.Author.Needs.{needs}
+use Rattle.readable.proofs.lookups.values.Statement.{statement}
+use Rattle.readable.proofs.lookups.values.Tie as tie
+
+counts-requires : tie.Need-counts-requires
+counts-requires c κs = search needs
+
+returns : tie.Need-returns
+returns c =
+    let k = c .before .before .pre in
+    let e = c .counts .ensures (k .front) (k .past) (k .reads) in
+    rw (k .reads) (ap (λ (p : Counts). At (p .values) (p .parameters)) e)
+
+pub values-spec : {M : Type 1} → statement M
+values-spec = tie.close (tie.spec counts-requires returns)

@@ -1,0 +1,146 @@
+-- Parameter names by their shape: where each stands and ends, from its bytes alone.
+use Prim.Native.Nat.{ℕ, zero, suc, _+_, _-_, _≤_, _<_}
+use mathlib.Core.Bool.{Bool, true, false}
+use mathlib.Core.Path.{_≡_, sym, ap, ap₂, _∙_}
+use mathlib.Core.List.{List, [], _∷_}
+use native.Mathlib.Omega.{arith}
+use borrow.Author.Tests.{ltb-true}
+use lib.ListN.{length, getD}
+use lib.Dec.{ltb}
+use Rattle.words.specs.Choice.{pick}
+use Rattle.words.specs.Parts.{region}
+use Rattle.words.specs.declared.Refusal.the-variants.{BadIndex}
+use Rattle.synthdef.specs.Read.{got, repeat}
+use Rattle.synthdef.specs.Fields.{stringAt, name, integer, indexBelow}
+use Rattle.synthdef.specs.FieldLaws.{word, checked-got}
+use Rattle.synthdef.specs.RepeatLaws.{went-on, got-value, got-place}
+use Rattle.synthdef.specs.Endings.{field-got}
+use Rattle.synthdef.specs.Units.{name-got}
+use Rattle.synthdef.specs.Definition.{ParameterName}
+use Rattle.synthdef.specs.Lookup.{nothing, atNumber, firstOf, firstNamed}
+use Rattle.synthdef.specs.Reader.{mostParameters, parameterName, sameName}
+
+-- "N parameter names (pstring, int32 index)": the place of an entry's index, and the place past the entry
+abbrev pub indexPlace : List ℕ → ℕ → ℕ
+indexPlace s at = at + 1 + getD s at 0
+
+abbrev pub entryEnd : List ℕ → ℕ → ℕ
+entryEnd s at = indexPlace s at + 4
+
+-- the entry at a place
+abbrev pub entryAt : List ℕ → ℕ → ParameterName
+entryAt s at = record { name = stringAt s at; index = word s (indexPlace s at) }
+
+-- so many entries from a place on, and the place past them
+unfoldable pub entriesFrom : List ℕ → ℕ → ℕ → List ParameterName
+entriesFrom s zero at = []
+entriesFrom s (suc n) at = entryAt s at ∷ entriesFrom s n (entryEnd s at)
+
+unfoldable pub entriesEnd : List ℕ → ℕ → ℕ → ℕ
+entriesEnd s zero at = at
+entriesEnd s (suc n) at = entriesEnd s n (entryEnd s at)
+
+-- they lie in the bytes, and their indices are below a bound
+unfoldable pub Entries : List ℕ → ℕ → ℕ → ℕ → Type 0
+Entries s bound zero at = at ≤ length s
+Entries s bound (suc n) at = (word s (indexPlace s at) < bound) × (entryEnd s at ≤ length s) × Entries s bound n (entryEnd s at)
+
+-- what is known of one entry that is not the last of so many, and of those behind it
+pub record Turn (s : List ℕ) (bound n i at : ℕ) : Type 0 where
+  pub below : word s (indexPlace s at) < bound
+  pub within : entryEnd s at ≤ length s
+  pub more : Entries s bound (n - (i + 1)) (entryEnd s at)
+  pub first : entriesFrom s (n - i) at ≡ entryAt s at ∷ entriesFrom s (n - (i + 1)) (entryEnd s at)
+  pub end : entriesEnd s (n - i) at ≡ entriesEnd s (n - (i + 1)) (entryEnd s at)
+
+pub entries-turn : (s : List ℕ) (bound n i at : ℕ) → i < n → Entries s bound (n - i) at → Turn s bound n i at
+unfolding Entries entriesFrom entriesEnd
+entries-turn s bound n i at h l =
+    let e : n - i ≡ suc (n - (i + 1)) = omega arith in
+    let w : Entries s bound (suc (n - (i + 1))) at = rw e at l in
+    record { below = w .0; within = w .1; more = w .2; first = rw e; end = rw e }
+
+pub entries-none : (s : List ℕ) (n i at : ℕ) → n ≤ i → entriesFrom s (n - i) at ≡ []
+unfolding entriesFrom
+entries-none s n i at h = let e : n - i ≡ 0 = omega arith in rw e
+
+pub entries-last : (s : List ℕ) (n i at : ℕ) → n ≤ i → entriesEnd s (n - i) at ≡ at
+unfolding entriesEnd
+entries-last s n i at h = let e : n - i ≡ 0 = omega arith in rw e
+
+-- an entry that was read
+pub record EntryGot (p : ℕ) (s : List ℕ) (at : ℕ) (x : ParameterName) (next : ℕ) : Type 0 where
+  pub same : x ≡ entryAt s at
+  pub past : next ≡ entryEnd s at
+  pub below : word s (indexPlace s at) < p
+  pub within : next ≤ length s
+
+entry-got : (p : ℕ) (s : List ℕ) (at : ℕ) {x : ParameterName} {next : ℕ} → parameterName p s at ≡ got x next → EntryGot p s at x next
+entry-got p s at {x} {next} h =
+    went-on (name s at) _ h (λ n p1 e1 r1.
+    went-on (indexBelow p s p1) _ r1 (λ i p2 e2 r2.
+    let a = name-got s at e1 in
+    let b = checked-got BadIndex (λ k. ltb k p) p1 (integer s p1) e2 in
+    let d = field-got 4 s p1 (word s p1) (b .0) in
+    let here : p1 ≡ indexPlace s at = omega arith in
+    let index : i ≡ word s (indexPlace s at) = sym (d .0) ∙ ap (word s) here in
+    let last : p2 ≡ next = got-place r2 in
+    record {
+      same = sym (got-value r2) ∙ ap₂ (λ (l : List ℕ) (k : ℕ). record { name = l; index = k }) (sym (a .0)) index;
+      past = omega arith;
+      below = rw index at (ltb-true i p (b .1));
+      within = omega arith;
+    }))
+
+-- entries that were read
+pub record EntriesGot (p : ℕ) (s : List ℕ) (n at : ℕ) (names : List ParameterName) (end : ℕ) : Type 0 where
+  pub same : names ≡ entriesFrom s n at
+  pub past : end ≡ entriesEnd s n at
+  pub known : Entries s p n at
+  pub within : end ≤ length s
+
+pub entries-got : (p : ℕ) (s : List ℕ) (n at : ℕ) {names : List ParameterName} {end : ℕ} → at ≤ length s → repeat (parameterName p s) n at ≡ got names end
+    → EntriesGot p s n at names end
+unfolding repeat Entries entriesFrom entriesEnd
+entries-got p s zero at {names} {end} l h =
+    let last : at ≡ end = got-place h in
+    record { same = sym (got-value h); past = sym last; known = l; within = omega arith }
+entries-got p s (suc n) at {names} {end} l h =
+    went-on (parameterName p s at) _ h (λ x next e1 r1.
+    went-on (repeat (parameterName p s) n next) _ r1 (λ xs last e2 r2.
+    let one = entry-got p s at e1 in
+    let here : repeat (parameterName p s) n (entryEnd s at) ≡ got xs last = rw (one .past) at e2 in
+    let more = entries-got p s n (entryEnd s at) (rw (one .past) at (one .within)) here in
+    record {
+      same = sym (got-value r2) ∙ ap₂ (λ (y : ParameterName) (l : List ParameterName). y ∷ l) (one .same) (more .same);
+      past = sym (got-place r2) ∙ more .past;
+      known = (one .below, rw (one .past) at (one .within), more .known);
+      within = rw (got-place r2) at (more .within);
+    }))
+
+-- a higher bound
+pub entries-below : (s : List ℕ) (p q n at : ℕ) → p ≤ q → Entries s p n at → Entries s q n at
+unfolding Entries
+entries-below s p q zero at h l = l
+entries-below s p q (suc n) at h l = (omega (arith, l .0), l .1, entries-below s p q n (entryEnd s at) h (l .2))
+
+-- the first entry of a name, by one entry and those behind it
+pub named-turn : (s name : List ℕ) (n i at : ℕ) → Turn s mostParameters n i at
+    → firstNamed name (entriesFrom s (n - i) at) ≡ pick (sameName (stringAt s at) name) (atNumber (word s (indexPlace s at))) (firstNamed name (entriesFrom s (n - (i + 1)) (entryEnd s at)))
+unfolding firstOf
+named-turn s name n i at t = ap (firstNamed name) (t .first)
+
+pub named-none : (s name : List ℕ) (n i at : ℕ) → n ≤ i → firstNamed name (entriesFrom s (n - i) at) ≡ nothing
+unfolding firstOf
+named-none s name n i at h = ap (firstNamed name) (entries-none s n i at h)
+
+-- by a test of its bytes
+module _ (s name : List ℕ) (n i at : ℕ) (t : Turn s mostParameters n i at) {same : Bool} (said : same ≡ sameName (region (at + 1) (at + 1 + getD s at 0 - (at + 1)) s) name) where
+  tested : sameName (stringAt s at) name ≡ same
+  tested = let size : getD s at 0 ≡ at + 1 + getD s at 0 - (at + 1) = omega arith in ap (λ (k : ℕ). sameName (region (at + 1) k s) name) size ∙ sym said
+
+  pub named-here : same ≡ true → firstNamed name (entriesFrom s (n - i) at) ≡ atNumber (word s (indexPlace s at))
+  named-here e = named-turn s name n i at t ∙ rw (tested ∙ e)
+
+  pub named-behind : same ≡ false → firstNamed name (entriesFrom s (n - i) at) ≡ firstNamed name (entriesFrom s (n - (i + 1)) (entryEnd s at))
+  named-behind e = named-turn s name n i at t ∙ rw (tested ∙ e)

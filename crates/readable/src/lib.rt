@@ -1,0 +1,12 @@
+// Lookups in a definition whose front is known to be readable. They go straight to a place, and validate nothing.
+mod entries;
+mod labelled;
+mod lookups;
+mod places;
+
+pub use labelled::labels;
+pub use lookups::index_of;
+pub use lookups::name;
+pub use lookups::parameters;
+pub use lookups::units;
+pub use lookups::values;
