@@ -5,7 +5,7 @@ use mathlib.Core.Path.{_≡_, refl, sym, ap, _∙_}
 use mathlib.Core.List.{List, [], _∷_, _++_}
 use native.Mathlib.Omega.{arith}
 use borrow.Author.Tests.{ne-eqb}
-use lib.ListN.{length, replicate, length-replicate}
+use lib.ListN.{length}
 use lib.Dec.{eqb}
 use Rattle.synthdef.specs.Bounds.{every}
 use Rattle.nodes.specs.declared.Node.{Node}
@@ -14,16 +14,8 @@ use Rattle.model.specs.Layout.{slotCount, wordsLength, shelfLength}
 use Rattle.model.specs.Engine.{Slot, slotsFrom, decode, held}
 use Rattle.model.specs.Checks.{staying}
 use Rattle.model.specs.After.{root, freshState, freshShelf}
+use Rattle.state.specs.Fresh.{fresh-nodes}
 use Rattle.definitions.specs.Exported.{AllOut}
-
-pub fresh-length : length freshState ≡ wordsLength
-unfolding encode
-fresh-length =
-    let a : length (replicate {A = ℕ} 22010 0) ≡ 22010 = length-replicate {A = ℕ} 22010 0 in
-    omega (arith, a)
-
-pub shelf-length : length freshShelf ≡ shelfLength
-shelf-length = length-replicate {A = ℕ} shelfLength 0
 
 pub fresh-many : length (decode freshState freshShelf .slots) ≡ slotCount
 unfolding decode slotsFrom encode
@@ -32,10 +24,6 @@ fresh-many = refl
 pub fresh-out : AllOut (decode freshState freshShelf .slots)
 unfolding decode slotsFrom encode every
 fresh-out = refl
-
-fresh-nodes : decode freshState freshShelf .nodes ≡ root ∷ []
-unfolding decode rows encode
-fresh-nodes = refl
 
 pub fresh-idle : (k : ℕ) → k < slotCount → held k (decode freshState freshShelf .nodes) ≡ false
 unfolding held

@@ -24,7 +24,8 @@ use Rattle.model.specs.After.{wordsAfter, shelfAfter, freshState, freshShelf}
 use Rattle.model.specs.Demands.{receive}
 use Rattle.state.specs.Decoded.{Backed, slots-decoded}
 use Rattle.definitions.specs.Retiring.{retired-length}
-use Rattle.exports.specs.Fresh.{fresh-length, shelf-length, fresh-many}
+use Rattle.state.specs.Fresh.{fresh-length, shelf-length}
+use Rattle.exports.specs.Fresh.{fresh-many}
 
 -- a resident put in is backed
 backed-set : (slots old : List Slot) (k : ℕ) (x : Slot) → Backed slots old → x .resident ≡ true → length (x .bytes) ≤ slotRoom → Backed (set slots k x) old

@@ -54,14 +54,14 @@ abbrev oneUnit : ℕ → List ℕ
 oneUnit u = int 1 ++ (1 ∷ 85 ∷ 0 ∷ []) ++ int 1 ++ int 1 ++ (0 ∷ 0 ∷ []) ++ int u ++ int 0 ++ (0 ∷ [])
 
 -- "ping" with one parameter "freq", 440.0 (43 DC 00 00), no units
-abbrev ping : List ℕ
+abbrev pub ping : List ℕ
 ping =
     83 ∷ 67 ∷ 103 ∷ 102 ∷ 0 ∷ 0 ∷ 0 ∷ 2 ∷ 0 ∷ 1 ∷ 4 ∷ 112 ∷ 105 ∷ 110 ∷ 103 ∷ 0 ∷ 0 ∷ 0 ∷ 0 ∷ 0 ∷ 0 ∷ 0 ∷ 1 ∷ 67 ∷ 220 ∷ 0 ∷ 0 ∷ 0 ∷ 0 ∷ 0 ∷ 1 ∷ 4 ∷ 102 ∷ 114 ∷ 101 ∷ 113 ∷ 0 ∷ 0 ∷ 0 ∷ 0 ∷ 0 ∷ 0 ∷ 0 ∷ 0 ∷ 0 ∷ 0 ∷ []
 
-abbrev pingName : List ℕ
+abbrev pub pingName : List ℕ
 pingName = 112 ∷ 105 ∷ 110 ∷ 103 ∷ []
 
-abbrev freqName : List ℕ
+abbrev pub freqName : List ℕ
 freqName = 102 ∷ 114 ∷ 101 ∷ 113 ∷ []
 
 -- group 1 at tail of 0, "ping" 1000 at tail of 1, "ping" 1001 before 1000

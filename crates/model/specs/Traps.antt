@@ -33,11 +33,8 @@ use Rattle.model.specs.Checks.{firstOf, namesOf, staying}
 use Rattle.model.specs.Effects.{retired, freeFrom, loaded, freeRowFrom, initialWords, changeWords, changeAll, effect}
 use Rattle.model.specs.Replies.{plainNamed, controlArguments, rowsBelow, rowsAt, treeArguments, subtreeRows, unitCount, groupCount, synthCount, definitionsIn, replyTo}
 use Rattle.model.specs.Door.{queryAnswer, answerIn}
+use Rattle.model.specs.Examples.{ping, pingName, freqName}
 use Rattle.model.specs.Script.{Line, line, played, told, replied, answersOf, orderAfter, verdict, Example, example, agrees}
-
-abbrev ping : List ℕ
-ping =
-    83 ∷ 67 ∷ 103 ∷ 102 ∷ 0 ∷ 0 ∷ 0 ∷ 2 ∷ 0 ∷ 1 ∷ 4 ∷ 112 ∷ 105 ∷ 110 ∷ 103 ∷ 0 ∷ 0 ∷ 0 ∷ 0 ∷ 0 ∷ 0 ∷ 0 ∷ 1 ∷ 67 ∷ 220 ∷ 0 ∷ 0 ∷ 0 ∷ 0 ∷ 0 ∷ 1 ∷ 4 ∷ 102 ∷ 114 ∷ 101 ∷ 113 ∷ 0 ∷ 0 ∷ 0 ∷ 0 ∷ 0 ∷ 0 ∷ 0 ∷ 0 ∷ 0 ∷ 0 ∷ []
 
 abbrev rain : List ℕ
 rain =
@@ -51,14 +48,8 @@ abbrev twice : List ℕ
 twice =
     83 ∷ 67 ∷ 103 ∷ 102 ∷ 0 ∷ 0 ∷ 0 ∷ 2 ∷ 0 ∷ 2 ∷ 4 ∷ 112 ∷ 105 ∷ 110 ∷ 103 ∷ 0 ∷ 0 ∷ 0 ∷ 0 ∷ 0 ∷ 0 ∷ 0 ∷ 1 ∷ 67 ∷ 220 ∷ 0 ∷ 0 ∷ 0 ∷ 0 ∷ 0 ∷ 1 ∷ 4 ∷ 102 ∷ 114 ∷ 101 ∷ 113 ∷ 0 ∷ 0 ∷ 0 ∷ 0 ∷ 0 ∷ 0 ∷ 0 ∷ 0 ∷ 0 ∷ 0 ∷ 4 ∷ 112 ∷ 105 ∷ 110 ∷ 103 ∷ 0 ∷ 0 ∷ 0 ∷ 0 ∷ 0 ∷ 0 ∷ 0 ∷ 0 ∷ 0 ∷ 0 ∷ 0 ∷ 0 ∷ 0 ∷ 0 ∷ 0 ∷ 0 ∷ 0 ∷ 0 ∷ []
 
-abbrev pingName : List ℕ
-pingName = 112 ∷ 105 ∷ 110 ∷ 103 ∷ []
-
 abbrev rainName : List ℕ
 rainName = 114 ∷ 97 ∷ 105 ∷ 110 ∷ []
-
-abbrev freqName : List ℕ
-freqName = 102 ∷ 114 ∷ 101 ∷ 113 ∷ []
 
 abbrev ampName : List ℕ
 ampName = 97 ∷ 109 ∷ 112 ∷ []

@@ -16,7 +16,7 @@ use Rattle.model.specs.Meaning.{nodeNamed, meant, node}
 use Rattle.names.specs.Named.{Named, named-place}
 
 -- the record that a search stops at
-named-record : (n : ℕ) (t : List Node) (r : Node) (rest : List Node) → drop (place n t) t ≡ r ∷ rest → nodeNamed n t ≡ r
+pub named-record : (n : ℕ) (t : List Node) (r : Node) (rest : List Node) → drop (place n t) t ≡ r ∷ rest → nodeNamed n t ≡ r
 unfolding place nodeNamed
 named-record n [] r rest h = absurd (nil≢cons h)
 named-record n (x ∷ l) r rest h = go (named-record n l r rest) (eqb (x .number) n) h

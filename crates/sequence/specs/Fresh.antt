@@ -32,19 +32,7 @@ use Rattle.model.specs.View.{viewRows, view}
 use Rattle.model.specs.Demands.{meaningIn, voiceOf}
 use Rattle.replay.specs.Names.{Once, means, meaning-means}
 use Rattle.replay.specs.Kept.{Kept}
-
-fresh-length : length freshState ≡ wordsLength
-unfolding encode
-fresh-length =
-    let a : length (replicate {A = ℕ} 22010 0) ≡ 22010 = length-replicate {A = ℕ} 22010 0 in
-    omega (arith, a)
-
-shelf-length : length freshShelf ≡ shelfLength
-shelf-length = length-replicate {A = ℕ} shelfLength 0
-
-fresh-nodes : decode freshState freshShelf .nodes ≡ root ∷ []
-unfolding decode rows encode
-fresh-nodes = refl
+use Rattle.state.specs.Fresh.{fresh-length, shelf-length, fresh-nodes}
 
 all3 : (a b c : Bool) → a ≡ true → b ≡ true → c ≡ true → both a (both b c) ≡ true
 all3 a b c p q r = rw (p, q) r

@@ -2,3 +2,4 @@ pub mod Known
 pub mod Does
 pub mod Regions
 pub mod Decoded
+pub mod Fresh

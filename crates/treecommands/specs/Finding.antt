@@ -2,7 +2,7 @@
 use Prim.Native.Nat.{ℕ, suc, _+_, _≤_, _<_}
 use mathlib.Core.Bool.{Bool, true, false}
 use mathlib.Core.Path.{_≡_, refl, sym, ap, _∙_}
-use mathlib.Core.List.{List, [], _∷_, nil≢cons, head-eq-of-cons-eq}
+use mathlib.Core.List.{List, [], _∷_}
 use native.Mathlib.Omega.{arith}
 use lib.ListN.{drop}
 use lib.Dec.{eqb}
@@ -16,6 +16,7 @@ use Rattle.values.specs.Targets.{targetOf}
 use Rattle.model.specs.Layout.{countIn, latestIn, nodesIn}
 use Rattle.model.specs.Meaning.{meantBy, knownBy, nodeNamed}
 use Rattle.names.specs.Named.{Named}
+use Rattle.names.specs.Here.{named-record}
 use Rattle.treecommands.specs.Ready.{Ready, nodeWords, nodeIn}
 
 -- the number that an argument means, and whether such a node lives
@@ -50,16 +51,6 @@ root-first n (r ∷ l) h = go (eqb (r .number) n) refl
     go : (b : Bool) → eqb (r .number) n ≡ b → eqb n 0 ≡ eqb (pick b 0 (suc (place n l))) 0
     go true e = eq-eqb n 0 (sym (eqb-true (r .number) n e) ∙ zero)
     go false e = ne-eqb n 0 (λ q. eqb-false (r .number) n e (zero ∙ sym q)) ∙ sym (ne-eqb (suc (place n l)) 0 (λ q. omega arith))
-
--- the record that a search stops at
-named-record : (n : ℕ) (t : List Node) (r : Node) (rest : List Node) → drop (place n t) t ≡ r ∷ rest → nodeNamed n t ≡ r
-unfolding place nodeNamed
-named-record n [] r rest h = absurd (nil≢cons h)
-named-record n (x ∷ l) r rest h = go (named-record n l r rest) (eqb (x .number) n) h
-  where
-    go : (drop (place n l) l ≡ r ∷ rest → nodeNamed n l ≡ r) → (b : Bool) → drop (pick b 0 (suc (place n l))) (x ∷ l) ≡ r ∷ rest → pick b x (nodeNamed n l) ≡ r
-    go ih true e = head-eq-of-cons-eq e
-    go ih false e = ih e
 
 module _ (a : ℕ) (ws : List ℕ) (at : ℕ) (f : Found a ws at) where
   pub is-root : Ready ws → at ≡ 0 → eqb (meantIn a ws) 0 ≡ true
