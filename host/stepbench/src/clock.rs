@@ -1,21 +1,20 @@
-//! Times as medians of samples in turns.
+//! Times as the least of many short samples: what else the machine does only adds to a time.
 
 use std::time::{Duration, Instant};
 
-pub const SAMPLES: usize = 41;
-const SAMPLE: Duration = Duration::from_millis(2);
+pub const SAMPLES: usize = 201;
+const SAMPLE: Duration = Duration::from_micros(200);
 
-/// The median time of each work in nanoseconds. They take turns, a sample each.
-pub fn medians(mut works: Vec<Box<dyn FnMut() + '_>>) -> Vec<f64> {
+/// The least time of each work in nanoseconds. They take turns, a sample each.
+pub fn least(mut works: Vec<Box<dyn FnMut() + '_>>) -> Vec<f64> {
     let turns: Vec<usize> = works.iter_mut().map(turns).collect();
-    let mut times = vec![Vec::new(); works.len()];
+    let mut times = vec![Duration::MAX; works.len()];
     for _ in 0..SAMPLES {
-        for (place, work) in works.iter_mut().enumerate() {
-            times[place].push(time(turns[place], work));
+        for ((work, &turns), best) in works.iter_mut().zip(&turns).zip(&mut times) {
+            *best = time(turns, work).min(*best);
         }
     }
-    let each =
-        |(times, turns): (Vec<Duration>, usize)| median(times).as_secs_f64() * 1e9 / turns as f64;
+    let each = |(time, turns): (Duration, usize)| time.as_secs_f64() * 1e9 / turns as f64;
     times.into_iter().zip(turns).map(each).collect()
 }
 
@@ -34,9 +33,4 @@ fn time(turns: usize, mut work: impl FnMut()) -> Duration {
         work();
     }
     start.elapsed()
-}
-
-fn median(mut times: Vec<Duration>) -> Duration {
-    times.sort();
-    times[times.len() / 2]
 }

@@ -7,7 +7,7 @@ mod clock;
 mod commands;
 mod step;
 
-use clock::{medians, SAMPLES};
+use clock::{least, SAMPLES};
 use commands::{commands, definition, definitions, engine_of};
 use independent::engine::packed;
 use independent::{layout, well_formed, Call, Definition, Engine, Random, Unit, MOST_BYTES};
@@ -67,7 +67,7 @@ const WAYS: [(&str, Way); 2] = [("apply", State::apply), ("step", State::step)];
 
 fn main() {
     println!("Proved engine against independent Rust engine, the same commands on the same state.");
-    println!("Times are nanoseconds a command, each the median of {SAMPLES} samples in turns.");
+    println!("Times are nanoseconds a command, each the least of {SAMPLES} samples in turns.");
     println!("Of commands that undo each other the mean is given.");
     for nodes in [8, 64, 256] {
         println!();
@@ -112,7 +112,7 @@ fn measure(name: &str, nodes: usize, calls: &[Call]) {
         });
         work
     });
-    let times = medians(std::iter::once(plain).chain(proved).collect());
+    let times = least(std::iter::once(plain).chain(proved).collect());
     let times: Vec<f64> = times.iter().map(|time| time / calls.len() as f64).collect();
     print!("{name:44} {:>9.0}", times[0]);
     for time in &times[1..] {
@@ -176,7 +176,7 @@ fn checks() {
             let work: Box<dyn FnMut() + '_> = Box::new(|| assert_eq!(way(state, &call), 17));
             work
         });
-        let times = medians(works.collect());
+        let times = least(works.collect());
         let check = times[0] - times[1];
         println!("{name:44} {:>9.0} {:>9.0} {check:>9.0}", times[0], times[1]);
     }
