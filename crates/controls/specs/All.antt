@@ -12,21 +12,23 @@ use Rattle.synthdef.specs.Definition.{Front}
 use Rattle.readable.specs.Readable.{Readable, whole-readable}
 use Rattle.nodes.specs.declared.Node.{Node}
 use Rattle.nodes.specs.Table.{width, rows, nodeFrom, row-from}
-use Rattle.nodes.specs.Place.{isGroup, place, deeper}
+use Rattle.nodes.specs.Place.{groupSlot, isGroup, place, deeper}
 use Rattle.nodes.specs.Edit.{sink, runOf}
 use Rattle.nodes.specs.Split.{runOf-at}
-use Rattle.nodes.specs.Formed.{mostRows}
+use Rattle.nodes.specs.Formed.{mostNodes, mostRows}
 use Rattle.values.specs.declared.Key.{Key}
 use Rattle.values.specs.Controls.{ControlValue}
 use Rattle.model.specs.Layout.{slotCount, lengthsPlace, slotRoom, nodesPlace, nodesWords, controlsPlace, controlsWords, wordsLength, countIn, nodesIn, controlsIn, putControls}
 use Rattle.model.specs.Engine.{Slot, decode, definitionOf}
 use Rattle.model.specs.Meaning.{startOf}
-use Rattle.model.specs.Effects.{changeStart, changeAll}
+use Rattle.model.specs.Effects.{changeRow, changeStart, changeAll}
 use Rattle.state.specs.Regions.{region-before, word-before}
 use Rattle.state.specs.Decoded.{controls-size}
 use Rattle.controls.specs.Encoded.{frontIn, frontOnly, start-front}
 use Rattle.controls.specs.Ready.{Ready, nodeIn, slotBytes, synth-ready}
-use Rattle.controls.specs.Synth.{changeSynth, changeNode, Bounds}
+use Rattle.controls.specs.Synth.{changeSynth, changeNode, Bounds, row-word, is-synth, slot-bound, bytes-readable, node-group, node-synth, same-controls}
+use Rattle.controls.specs.Reach.{Reaches}
+use Rattle.controls.specs.declared.reach.Reach.{Reach}
 
 -- a part put over another put at the same place
 pub put-put : (a k : ℕ) (xs ys ws : List ℕ) → a ≤ length ws → length xs ≡ k → put a k ys (put a k xs ws) ≡ put a k ys ws
@@ -46,7 +48,7 @@ module _ (cs ws : List ℕ) (size : length ws ≡ wordsLength) (many : length cs
       ap (λ (us : List ℕ). nodeFrom us (width * i))
       (region-before controlsPlace controlsWords cs ws (omega arith) many nodesPlace nodesWords (omega arith))
 
-  bytes-kept : (shelf : List ℕ) (k : ℕ) → k < 32 → slotBytes (putControls cs ws) shelf k ≡ slotBytes ws shelf k
+  pub bytes-kept : (shelf : List ℕ) (k : ℕ) → k < 32 → slotBytes (putControls cs ws) shelf k ≡ slotBytes ws shelf k
   bytes-kept shelf k h =
       ap (λ (n : ℕ). take n (take slotRoom (drop (slotRoom * k) shelf)))
       (word-before controlsPlace controlsWords cs ws (omega arith) many (lengthsPlace + k) (omega arith))
@@ -151,3 +153,43 @@ module _ (f : ControlValue → ControlValue) (key : Key) (name : List ℕ) (coun
       ap (λ (l : List Node). changeAll f key name count slots l xs) (runOf-at c us n at here live d e deep end)
       ∙ all-sink d (nodeFrom us (width * at) ∷ take (deeper d (drop (at + 1) t)) (drop (at + 1) t)) xs
       ∙ sym (ap₂ (λ (k : ℕ) (l : List Node). changeAll f key name count slots (take k l) xs) many (row-from c us at live))
+
+-- the synth at a place of words that differ from the first in their controls alone
+pub record Lent (ws₀ shelf ws : List ℕ) (i : ℕ) : Type 0 where
+  pub place : i < mostNodes
+  pub low : getD ws (nodesPlace + 5 * i + 3) 0 < slotCount
+  pub row : nodeIn ws i .row < mostRows
+  pub readable : Readable (slotBytes ws shelf (getD ws (nodesPlace + 5 * i + 3) 0))
+  pub kept : slotBytes ws shelf (getD ws (nodesPlace + 5 * i + 3) 0) ≡ slotBytes ws₀ shelf (getD ws (nodesPlace + 5 * i + 3) 0)
+
+-- its place in the table
+pub bounds-lent : (ws₀ shelf ws : List ℕ) (i : ℕ) → Ready ws₀ shelf → length ws ≡ wordsLength → ws ≡ putControls (controlsIn ws) ws₀ → i < countIn ws₀ → Bounds ws shelf i
+bounds-lent ws₀ shelf ws i ready size rest few =
+    let many = region-length controlsPlace controlsWords ws (omega arith) in
+    subst (λ (us : List ℕ). Bounds us shelf i) (sym rest) (bounds-kept (controlsIn ws) ws₀ (ready .size) many shelf ready i few)
+
+pub synth-lent : (ws₀ shelf ws : List ℕ) (i : ℕ) → Ready ws₀ shelf → length ws ≡ wordsLength → ws ≡ putControls (controlsIn ws) ws₀ → i < countIn ws₀
+    → (getD ws (nodesPlace + 5 * i + 3) 0 ≡ groupSlot → ⊥) → Lent ws₀ shelf ws i
+synth-lent ws₀ shelf ws i ready size rest few other =
+    let many = region-length controlsPlace controlsWords ws (omega arith) in
+    let b = bounds-lent ws₀ shelf ws i ready size rest few in
+    let low = slot-bound b other in
+    record {
+      place = b .place;
+      low = low;
+      row = b .row (is-synth ws i (b .place) other);
+      readable = bytes-readable b other;
+      kept = ap (λ (us : List ℕ). slotBytes us shelf (getD ws (nodesPlace + 5 * i + 3) 0)) rest ∙ bytes-kept (controlsIn ws) ws₀ (ready .size) many shelf (getD ws (nodesPlace + 5 * i + 3) 0) low;
+    }
+
+-- its change, by what a key reaches; and no change of a group
+module _ (f : ControlValue → ControlValue) (key : Key) (name : List ℕ) (count : ℕ) (ws shelf : List ℕ) (i : ℕ) (few : i < mostNodes) where
+  pub reach-change : (r : Reach) → (getD ws (nodesPlace + 5 * i + 3) 0 ≡ groupSlot → ⊥) → Reaches key name (slotBytes ws shelf (getD ws (nodesPlace + 5 * i + 3) 0)) r
+      → changeRow f (nodeIn ws i .row) (r .start) count (r .controls) (controlsIn ws) ≡ changeNode f key name count ws shelf i (controlsIn ws)
+  reach-change r other reaches =
+      reaches .same f count (nodeIn ws i .row) (controlsIn ws)
+      ∙ ap (λ (row : ℕ). changeSynth f key name count row (slotBytes ws shelf (getD ws (nodesPlace + 5 * i + 3) 0)) (controlsIn ws)) (row-word ws i few)
+      ∙ sym (node-synth f key name count ws shelf i few (controlsIn ws) other)
+
+  pub no-change : getD ws (nodesPlace + 5 * i + 3) 0 ≡ groupSlot → ws ≡ putControls (changeNode f key name count ws shelf i (controlsIn ws)) ws
+  no-change e = sym (ap (λ (l : List ℕ). putControls l ws) (node-group f key name count ws shelf i few (controlsIn ws) e) ∙ same-controls ws)

@@ -93,9 +93,6 @@ module _ {ws shelf : List ℕ} {i : ℕ} (b : Bounds ws shelf i) (other : getD w
   pub bytes-readable : Readable (slotBytes ws shelf (getD ws (nodesPlace + 5 * i + 3) 0))
   bytes-readable = subst (λ (k : ℕ). Readable (slotBytes ws shelf k)) (slot-word ws i (b .place)) (b .readable (is-synth ws i (b .place) other))
 
-  pub row-bound : getD ws (nodesPlace + 5 * i + 4) 0 < mostRows
-  row-bound = rw (sym (row-word ws i (b .place))) (b .row (is-synth ws i (b .place) other))
-
 -- the node's change, by the words
 module _ (f : ControlValue → ControlValue) (key : Key) (name : List ℕ) (count : ℕ) (ws shelf : List ℕ) (i : ℕ) (few : i < mostNodes) (cs : List ℕ) where
   pub node-group : getD ws (nodesPlace + 5 * i + 3) 0 ≡ groupSlot → changeNode f key name count ws shelf i cs ≡ cs

@@ -3,6 +3,7 @@ mod asked;
 mod buses;
 mod control;
 mod definition;
+mod reach;
 mod synth;
 mod table;
 

@@ -1,22 +1,23 @@
 // A synth's controls in the words: changed by its own definition, checked and read.
 use crate::control::Change;
 use crate::control::change_row;
-use crate::definition::control_start;
 use crate::definition::parameter_count;
-use synthdef::Found;
+use crate::reach::Reach;
 use values::Control;
-use values::Key;
 use words::wide;
 ghost use Prim.Native.Nat.{_+_, _*_, _≤_, _<_, min};
 ghost use mathlib.Core.Path.{_≡_};
 ghost use lib.ListN.{length, take, drop, getD};
 ghost use Rattle.readable.specs.Readable.{Readable};
+ghost use Rattle.synthdef.specs.Reader.{mostParameters};
+ghost use Rattle.nodes.specs.Formed.{mostNodes, mostRows};
 ghost use Rattle.values.specs.Controls.{controlAt, shownBy};
 ghost use Rattle.model.specs.Formed.{mappingsFormed};
-ghost use Rattle.model.specs.Layout.{slotRoom, putControls, controlsIn};
+ghost use Rattle.model.specs.Layout.{slotRoom, wordsLength, putControls, controlsIn};
+ghost use Rattle.model.specs.Effects.{changeRow};
 ghost use Rattle.controls.specs.Change.{changeOf};
 ghost use Rattle.controls.specs.Encoded.{frontIn};
-ghost use Rattle.controls.specs.Synth.{changeSynth, changeNode, Bounds};
+ghost use Rattle.controls.specs.Ready.{nodeIn};
 
 // The lesser of two numbers.
 fn least(a: usize, b: usize) -> usize
@@ -40,56 +41,18 @@ pub fn slot_bytes(shelf: &[u8], slot: u32, size: u32) -> &[u8]
     &shelf[start..end]
 }
 
-// The controls of one synth changed, by its own definition.
-fn change_synth(
-    controls: &mut [u32],
-    definition: &[u8],
-    row: u32,
-    key: Key,
-    name: &[u8],
-    count: u32,
-    change: Change,
-)
-    requires { ⌜ (64 * row + 64 ≤ length (now controls)) × Readable (now definition) ⌝ }
-    ensures { λ r. ⌜ now (controls .exit) ≡ changeSynth (changeOf change) key (now (name .entry)) count row (now (definition .entry)) (now (controls .entry)) ⌝ }
+// The controls of the synth at a place of the table changed, as far as they are reached.
+pub fn change_node(words: &mut [u32], place: usize, reach: Reach, count: u32, change: Change)
+    requires { ⌜ (length (now words) ≡ wordsLength) × (place < mostNodes) × (nodeIn (now words) place .row < mostRows) × (reach .controls ≤ mostParameters) ⌝ }
+    ensures { λ r. ⌜ now (words .exit) ≡ putControls (changeRow (changeOf change) (nodeIn (now (words .entry)) place .row) (reach .start) count (reach .controls) (controlsIn (now (words .entry)))) (now (words .entry)) ⌝ }
 {
-    match control_start(definition, key, name) {
-        Found::At(start) => {
-            let p = parameter_count(definition);
-            change_row(controls, row, start, count, p, change);
-        }
-        Found::Nothing => {}
-    }
-}
-
-// The node at a place of the table: a synth's controls changed, and nothing at a group.
-pub fn change_node(
-    words: &mut [u32],
-    shelf: &[u8],
-    place: usize,
-    key: Key,
-    name: &[u8],
-    count: u32,
-    change: Change,
-)
-    requires { ⌜ Bounds (now words) (now shelf) place ⌝ }
-    ensures { λ r. ⌜ now (words .exit) ≡ putControls (changeNode (changeOf change) key (now (name .entry)) count (now (words .entry)) (now (shelf .entry)) place (controlsIn (now (words .entry)))) (now (words .entry)) ⌝ }
-{
-    let at = 68 + 5 * place;
-    let slot = words[at + 3];
-    if slot == 32 {
-        return;
-    }
-    let row = words[at + 4];
-    let size = words[4 + wide(slot)];
-    let definition = slot_bytes(shelf, slot, size);
-    change_synth(
+    let row = words[68 + 5 * place + 4];
+    change_row(
         &mut words[1603..17987],
-        definition,
         row,
-        key,
-        name,
+        reach.start,
         count,
+        reach.controls,
         change,
     );
 }

@@ -1,5 +1,8 @@
 // The controls of the synths of the node table.
 use crate::control::Change;
+use crate::reach::Reach;
+use crate::reach::UNKNOWN;
+use crate::reach::slot_reach;
 use crate::synth::change_node;
 use crate::synth::row_formed;
 use crate::synth::slot_bytes;
@@ -19,7 +22,7 @@ ghost use Rattle.controls.specs.Ready.{Ready, nodeIn, slotBytes};
 ghost use Rattle.controls.specs.Synth.{Bounds};
 ghost use Rattle.controls.specs.Formed.{nodeFormed};
 
-// The controls of the synths among the nodes from one place of the table to another.
+// The controls of the synths among the nodes from one place of the table to another. Each slot is looked up once.
 pub fn change_all(
     words: &mut [u32],
     shelf: &[u8],
@@ -33,9 +36,19 @@ pub fn change_all(
     requires { ⌜ (Ready (now words) (now shelf)) × (to ≤ countIn (now words)) ⌝ }
     ensures { λ r. ⌜ now (words .exit) ≡ putControls (changeAll (changeOf change) key (now (name .entry)) count (decode (now (words .entry)) (now (shelf .entry)) .slots) (take (to - from) (drop from (nodesIn (now (words .entry))))) (controlsIn (now (words .entry)))) (now (words .entry)) ⌝ }
 {
+    let mut reaches = [Reach {
+        start: 0,
+        controls: UNKNOWN,
+    }; 32];
     let mut i = from;
     while i < to {
-        change_node(words, shelf, i, key, name, count, change);
+        let slot = words[68 + 5 * i + 3];
+        if slot != 32 {
+            let k = wide(slot);
+            let reach = slot_reach(words, shelf, slot, key, name, reaches[k]);
+            reaches[k] = reach;
+            change_node(words, i, reach, count, change);
+        }
         i += 1;
     }
 }

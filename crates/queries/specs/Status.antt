@@ -1,35 +1,35 @@
 -- The counts of /status, a record at a time, and its reply.
 use Prim.Native.Nat.{ℕ, zero, suc, _+_, _-_, _*_, _/_, _%_, _≤_, _<_}
 use mathlib.Core.Bool.{Bool, true, false}
-use mathlib.Core.Path.{_≡_, refl, sym, ap, ap₂, _∙_}
+use mathlib.Core.Path.{_≡_, refl, sym, ap, _∙_}
 use mathlib.Core.List.{List, [], _∷_, _++_}
 use native.Mathlib.Omega.{arith}
-use lib.ListN.{length, drop, getD}
-use lib.Seq.{getD-drop, drop-drop}
+use lib.ListN.{length, drop, getD, set, replicate, length-set, length-replicate, getD-replicate}
+use lib.Seq.{getD-drop, drop-drop, getD-set-same, getD-set-other}
 use lib.Dec.{eqb}
+use borrow.Author.Tests.{eqb-true, eqb-false}
 use Rattle.words.specs.Choice.{pick}
 use Rattle.words.specs.Bytes.{bytes32}
 use Rattle.words.specs.Parts.{region}
-use Rattle.synthdef.specs.declared.lookup.Found.{Found}
-use Rattle.synthdef.specs.declared.lookup.Found.the-variants as found
 use Rattle.synthdef.specs.Lookup.{unitsIn}
 use Rattle.osc.specs.Message.{int, message, tags, arguments, padded}
 use Rattle.nodes.specs.declared.Node.{Node}
-use Rattle.nodes.specs.Table.{rows, rows-end, rows-length}
+use Rattle.nodes.specs.Table.{rows-end, rows-length}
 use Rattle.nodes.specs.Place.{groupSlot, isGroup}
+use Rattle.nodes.specs.Formed.{mostNodes}
 use Rattle.model.specs.declared.Query.the-variants as query
 use Rattle.model.specs.declared.Answer.{Answer}
 use Rattle.model.specs.Layout.{slotCount, slotRoom, residentPlace, nodesPlace, nodesWords, countIn, lengthsIn, residentIn, nodesIn, controlsIn}
 use Rattle.model.specs.Engine.{Slot, Engine, decode, slotsFrom, residents}
-use Rattle.model.specs.View.{Kind, group, synth, Row, kindIn, viewRows, view, isGroupKind}
+use Rattle.model.specs.View.{Kind, group, Row, kindIn, viewRows, view, isGroupKind}
 use Rattle.model.specs.Checks.{firstOf, queryChecks}
 use Rattle.model.specs.Replies.{reply, replyTo, statusAddress, unitsOf, unitCount, groupCount, synthCount}
 use Rattle.replies.specs.Words.{wordBytes}
 use Rattle.replies.specs.Sent.{wordMessage}
 use Rattle.controls.specs.Encoded.{numberOr}
 use Rattle.controls.specs.Ready.{nodeIn, slotBytes, part-word}
-use Rattle.controls.specs.Synth.{slot-word}
-use Rattle.queries.specs.Held.{At, bounds, node-there, held-units}
+use Rattle.controls.specs.Synth.{slot-word, is-group, is-synth}
+use Rattle.queries.specs.Held.{At, bounds, node-there, held-units, slot-low}
 
 -- the engine's nodes as the plain tree knows them, from a place on
 abbrev pub viewFrom : List ℕ → List ℕ → ℕ → List Row
@@ -56,6 +56,56 @@ units-group ws bs i h = rw h
 
 pub units-synth : (ws bs : List ℕ) (i : ℕ) → At ws bs i → isGroup (nodeIn ws i) ≡ false → unitsOf (kindAt ws bs i) ≡ numberOr (unitsIn (slotBytes ws bs (nodeIn ws i .slot)))
 units-synth ws bs i a h = rw h (ap numberOr (sym (held-units ws bs i a h)))
+
+-- no number of units
+abbrev pub unknown : ℕ
+unknown = 4294967295
+
+-- the units of the slots that were looked up
+pub record Told (ws bs told : List ℕ) : Type 0 where
+  pub size : length told ≡ slotCount
+  pub same : (k : ℕ) → k < slotCount → (getD told k 0 ≡ unknown → ⊥) → getD told k 0 ≡ numberOr (unitsIn (slotBytes ws bs k))
+
+pub told-none : (ws bs : List ℕ) → Told ws bs (replicate slotCount unknown)
+told-none ws bs = record {
+  size = length-replicate {A = ℕ} slotCount unknown;
+  same = λ k h other. absurd (other (getD-replicate {A = ℕ} slotCount k unknown 0 h));
+}
+
+-- one slot more
+told-set : (ws bs told : List ℕ) → Told ws bs told → (slot units : ℕ) → slot < slotCount → units ≡ numberOr (unitsIn (slotBytes ws bs slot)) → Told ws bs (set told slot units)
+told-set ws bs told t slot units low here = record { size = length-set told slot units ∙ t .size; same = λ k h other. by k h other (eqb k slot) refl }
+  where
+    by : (k : ℕ) → k < slotCount → (getD (set told slot units) k 0 ≡ unknown → ⊥) → (b : Bool) → eqb k slot ≡ b → getD (set told slot units) k 0 ≡ numberOr (unitsIn (slotBytes ws bs k))
+    by k h other true e =
+        let same : k ≡ slot = eqb-true k slot e in
+        rw same (getD-set-same told slot units 0 (rw (t .size) low) ∙ here)
+    by k h other false e =
+        let kept : getD (set told slot units) k 0 ≡ getD told k 0 = getD-set-other told slot k units 0 (eqb-false k slot e) in
+        kept ∙ t .same k h (rw kept at other)
+
+-- of the node at a place, by its slot's word
+module _ (ws bs : List ℕ) (i : ℕ) (a : At ws bs i) (k : ℕ) (same : k ≡ getD ws (nodesPlace + 5 * i + 3) 0) where
+  abbrev few : i < mostNodes
+  few = bounds ws bs i a .place
+
+  pub units-none : k ≡ groupSlot → unitsOf (kindAt ws bs i) ≡ 0
+  units-none e = units-group ws bs i (is-group ws i few (sym same ∙ e))
+
+  module _ (other : k ≡ groupSlot → ⊥) where
+    pub slot-there : k < slotCount
+    slot-there = rw same (slot-low ws bs i a (λ e. other (same ∙ e)))
+
+    pub units-slot : unitsOf (kindAt ws bs i) ≡ numberOr (unitsIn (slotBytes ws bs k))
+    units-slot =
+        units-synth ws bs i a (is-synth ws i few (λ e. other (same ∙ e)))
+        ∙ ap (λ (j : ℕ). numberOr (unitsIn (slotBytes ws bs j))) (slot-word ws i few ∙ sym same)
+
+    pub units-told : (told : List ℕ) → Told ws bs told → (getD told k 0 ≡ unknown → ⊥) → getD told k 0 ≡ unitsOf (kindAt ws bs i)
+    units-told told t known = t .same k slot-there known ∙ sym units-slot
+
+    pub told-more : (told : List ℕ) → Told ws bs told → (units : ℕ) → units ≡ unitsOf (kindAt ws bs i) → Told ws bs (set told k units)
+    told-more told t units here = told-set ws bs told t k units slot-there (here ∙ units-slot)
 
 module _ (ws bs : List ℕ) (i : ℕ) (a : At ws bs i) where
   pub units-turn : unitCount (viewFrom ws bs i) ≡ unitsOf (kindAt ws bs i) + unitCount (viewFrom ws bs (i + 1))

@@ -12,7 +12,10 @@ ghost use Rattle.model.specs.Replies.{unitsOf, unitCount, groupCount};
 ghost use Rattle.state.specs.Known.{Known};
 ghost use Rattle.state.specs.Does.{Reply};
 ghost use Rattle.queries.specs.Held.{At};
-ghost use Rattle.queries.specs.Status.{kindAt, viewFrom, flagCount};
+ghost use Rattle.queries.specs.Status.{kindAt, viewFrom, flagCount, unknown};
+
+// No number of units.
+const UNKNOWN: u32 = 0xFFFF_FFFF;
 
 // The units of the definition that a synth holds; none at a group.
 fn units_at(words: &[u32], shelf: &[u8], place: usize) -> u32
@@ -27,17 +30,34 @@ fn units_at(words: &[u32], shelf: &[u8], place: usize) -> u32
     readable::units(slot_bytes(shelf, slot, size))
 }
 
-// Units over live synths.
+// The same, where it may be known already.
+fn units_known(words: &[u32], shelf: &[u8], place: usize, known: u32) -> u32
+    requires { ⌜ (At (now words) (now shelf) place) × ((known ≡ unknown → ⊥) → known ≡ unitsOf (kindAt (now words) (now shelf) place)) ⌝ }
+    ensures { λ r. ⌜ r ≡ unitsOf (kindAt (now (words .entry)) (now (shelf .entry)) place) ⌝ }
+{
+    if known != UNKNOWN {
+        return known;
+    }
+    units_at(words, shelf, place)
+}
+
+// Units over live synths. Each slot is looked up once.
 fn unit_count(words: &[u32], shelf: &[u8]) -> usize
     requires { ⌜ Known (now words) (now shelf) ⌝ }
     ensures { λ r. ⌜ r ≡ unitCount (viewFrom (now (words .entry)) (now (shelf .entry)) 0) ⌝ }
 {
     let count = wide(words[0]);
+    let mut told = [UNKNOWN; 32];
     let mut units: usize = 0;
     let mut i = 0;
     while i < count {
-        let more = wide(units_at(words, shelf, i));
-        units += more;
+        let slot = words[68 + 5 * i + 3];
+        if slot != 32 {
+            let k = wide(slot);
+            let more = units_known(words, shelf, i, told[k]);
+            told[k] = more;
+            units += wide(more);
+        }
         i += 1;
     }
     units

@@ -1,19 +1,22 @@
+use Prim.{tt}
 use Prim.Native.Nat.{_+_, _*_, _-_, _≤_}
-use mathlib.Core.Path.{_≡_}
+use mathlib.Core.Path.{_≡_, refl, sym, _∙_}
+use mathlib.Core.Logic.{⊎-elim}
 use native.Mathlib.Omega.{arith}
-use borrow.Author.Needs.{needs}
-use Rattle.model.specs.Layout.{countIn}
+use lib.ListN.{getD}
+use Rattle.model.specs.Layout.{countIn, nodesPlace}
 use Rattle.model.specs.Replies.{unitCount}
-use Rattle.queries.specs.Status.{viewFrom, units-turn, units-end}
+use Rattle.queries.specs.Held.{At}
+use Rattle.queries.specs.Status.{viewFrom, Told, told-none, units-none, slot-there, units-told, told-more, units-turn, units-end}
 use Rattle.queries.proofs.status.unit_count.Statement.{statement}
 use Rattle.queries.proofs.status.unit_count.Tie as tie
 
 abbrev Inv-loop : tie.InvT-loop
-Inv-loop words shelf count units₀ i₀ units i =
-    (i ≤ countIn words) × (units ≤ 4294967296 * i) × (units + unitCount (viewFrom words shelf i) ≡ unitCount (viewFrom words shelf 0))
+Inv-loop words shelf count told₀ units₀ i₀ told units i =
+    (i ≤ countIn words) × (units ≤ 4294967296 * i) × (units + unitCount (viewFrom words shelf i) ≡ unitCount (viewFrom words shelf 0)) × Told words shelf told
 
 abbrev μ-loop : tie.MeasureT-loop
-μ-loop words shelf count units₀ i₀ units i = countIn words - i
+μ-loop words shelf count told₀ units₀ i₀ told units i = countIn words - i
 
 shared-slice-read-wide : tie.Need-shared-slice-read-wide Inv-loop μ-loop
 shared-slice-read-wide c = omega arith
@@ -22,13 +25,78 @@ wide-requires : tie.Need-wide-requires Inv-loop μ-loop
 wide-requires c κs = tt
 
 loop-holds : tie.Need-loop-holds Inv-loop μ-loop
-loop-holds c = (omega arith, omega arith, omega arith)
+loop-holds c = (omega arith, omega arith, omega arith, told-none (c .before .before .before .before .args .words .now) (c .before .before .before .before .args .shelf .now))
 
-units-at-requires : tie.Need-units-at-requires Inv-loop μ-loop
-units-at-requires c κs = record { state = c .before .before .before .before .before .before .pre; live = omega arith }
+mul-slot : tie.Need-mul-slot Inv-loop μ-loop
+mul-slot c = omega arith
+
+add-slot : tie.Need-add-slot Inv-loop μ-loop
+add-slot c = omega arith
+
+add-slot-2 : tie.Need-add-slot-2 Inv-loop μ-loop
+add-slot-2 c = omega arith
+
+mul-slot-2 : tie.Need-mul-slot-2 Inv-loop μ-loop
+mul-slot-2 c = omega arith
+
+shared-slice-read-slot : tie.Need-shared-slice-read-slot Inv-loop μ-loop
+shared-slice-read-slot c = omega arith
 
 wide-requires-2 : tie.Need-wide-requires-2 Inv-loop μ-loop
 wide-requires-2 c κs = tt
+
+mul-units-known : tie.Need-mul-units-known Inv-loop μ-loop
+mul-units-known c =
+    let s = c .before .before .before .before .before .before .before .before .before in
+    let l = c .before .before .before .before .loop in
+    let a : At (s .args .words .now) (s .args .shelf .now) (l .i) = record { state = s .pre; live = omega arith } in
+    let same = c .wide2 .ensures in
+    let other : c .wide2 .result ≡ 32 → ⊥ = λ e. c .before .if1 .taken (sym same ∙ e) in
+    let there = slot-there (s .args .words .now) (s .args .shelf .now) (l .i) a (c .wide2 .result) same other in
+    omega arith
+
+array-read-units-known : tie.Need-array-read-units-known Inv-loop μ-loop
+array-read-units-known c =
+    let s = c .before .before .before .before .before .before .before .before .before in
+    let l = c .before .before .before .before .loop in
+    let a : At (s .args .words .now) (s .args .shelf .now) (l .i) = record { state = s .pre; live = omega arith } in
+    let same = c .wide2 .ensures in
+    let other : c .wide2 .result ≡ 32 → ⊥ = λ e. c .before .if1 .taken (sym same ∙ e) in
+    let there = slot-there (s .args .words .now) (s .args .shelf .now) (l .i) a (c .wide2 .result) same other in
+    omega arith
+
+units-known-requires : tie.Need-units-known-requires Inv-loop μ-loop
+units-known-requires c κs =
+    let s = c .before .before .before .before .before .before .before .before .before in
+    let l = c .before .before .before .before .loop in
+    let a : At (s .args .words .now) (s .args .shelf .now) (l .i) = record { state = s .pre; live = omega arith } in
+    let same = c .wide2 .ensures in
+    let other : c .wide2 .result ≡ 32 → ⊥ = λ e. c .before .if1 .taken (sym same ∙ e) in
+    let there = slot-there (s .args .words .now) (s .args .shelf .now) (l .i) a (c .wide2 .result) same other in
+    (a, units-told (s .args .words .now) (s .args .shelf .now) (l .i) a (c .wide2 .result) same other (l .told) (l .inv .3))
+
+mul-told : tie.Need-mul-told Inv-loop μ-loop
+mul-told c =
+    let s = c .before .before .before .before .before .before .before .before .before .before in
+    let l = c .before .before .before .before .before .loop in
+    let a : At (s .args .words .now) (s .args .shelf .now) (l .i) = record { state = s .pre; live = omega arith } in
+    let same = c .before .wide2 .ensures in
+    let other : c .before .wide2 .result ≡ 32 → ⊥ = λ e. c .before .before .if1 .taken (sym same ∙ e) in
+    let there = slot-there (s .args .words .now) (s .args .shelf .now) (l .i) a (c .before .wide2 .result) same other in
+    omega arith
+
+array-write-told : tie.Need-array-write-told Inv-loop μ-loop
+array-write-told c =
+    let s = c .before .before .before .before .before .before .before .before .before .before in
+    let l = c .before .before .before .before .before .loop in
+    let a : At (s .args .words .now) (s .args .shelf .now) (l .i) = record { state = s .pre; live = omega arith } in
+    let same = c .before .wide2 .ensures in
+    let other : c .before .wide2 .result ≡ 32 → ⊥ = λ e. c .before .before .if1 .taken (sym same ∙ e) in
+    let there = slot-there (s .args .words .now) (s .args .shelf .now) (l .i) a (c .before .wide2 .result) same other in
+    omega arith
+
+wide-requires-3 : tie.Need-wide-requires-3 Inv-loop μ-loop
+wide-requires-3 c κs = tt
 
 add-units : tie.Need-add-units Inv-loop μ-loop
 add-units c = omega arith
@@ -42,8 +110,18 @@ loop-less c = omega arith
 loop-again : tie.Need-loop-again Inv-loop μ-loop
 loop-again c =
     let s = c .before .before .before .before .before .before .before .before in
-    let turn = units-turn (s .args .words .now) (s .args .shelf .now) (c .before .before .before .loop .i) (record { state = s .pre; live = omega arith }) in
-    (omega arith, omega arith, omega (arith, c .before .units-at .ensures))
+    let l = c .before .before .before .loop in
+    let a : At (s .args .words .now) (s .args .shelf .now) (l .i) = record { state = s .pre; live = omega arith } in
+    let turn = units-turn (s .args .words .now) (s .args .shelf .now) (l .i) a in
+    ⊎-elim
+    (λ w.
+    let other : w .1 .result ≡ 32 → ⊥ = λ e. w .0 .taken (sym (w .1 .ensures) ∙ e) in
+    let more = told-more (s .args .words .now) (s .args .shelf .now) (l .i) a (w .1 .result) (w .1 .ensures) other (l .told) (l .inv .3) (w .2 .result) (w .2 .ensures) in
+    (omega arith, omega (arith, w .5, w .3 .ensures), omega (arith, w .5, w .3 .ensures, w .2 .ensures), rw (w .4) more))
+    (λ w.
+    let none = units-none (s .args .words .now) (s .args .shelf .now) (l .i) a (getD (s .args .words .now) (nodesPlace + 5 * l .i + 3) 0) refl (w .0 .left) in
+    (omega arith, omega (arith, w .2), omega (arith, w .2), rw (w .1) (l .inv .3)))
+    (c .if1 .came)
 
 returns : tie.Need-returns Inv-loop μ-loop
 returns c =
@@ -59,8 +137,18 @@ unit-count-spec =
     shared-slice-read-wide
     wide-requires
     loop-holds
-    units-at-requires
+    mul-slot
+    add-slot
+    add-slot-2
+    mul-slot-2
+    shared-slice-read-slot
     wide-requires-2
+    mul-units-known
+    array-read-units-known
+    units-known-requires
+    mul-told
+    array-write-told
+    wide-requires-3
     add-units
     add-i
     loop-less

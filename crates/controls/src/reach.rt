@@ -1,0 +1,59 @@
+// What a key means in a definition: the control where it starts, and how many controls there are.
+use crate::definition::control_start;
+use crate::definition::parameter_count;
+use crate::synth::slot_bytes;
+use synthdef::Found;
+use values::Key;
+use words::wide;
+ghost use Prim.Native.Nat.{_<_};
+ghost use mathlib.Core.Path.{_≡_};
+ghost use lib.ListN.{length};
+ghost use Rattle.readable.specs.Readable.{Readable};
+ghost use Rattle.model.specs.Layout.{slotCount, wordsLength};
+ghost use Rattle.controls.specs.Reach.{Reaches, unknown};
+ghost use Rattle.controls.specs.Ready.{slotBytes};
+
+// Where a name is not there, it reaches none of no controls.
+pub struct Reach {
+    pub start: u32,
+    pub controls: u32,
+}
+
+// No number of controls: a definition has at most 32.
+pub(crate) const UNKNOWN: u32 = 33;
+
+// By the definition.
+fn reach_in(definition: &[u8], key: Key, name: &[u8]) -> Reach
+    requires { ⌜ Readable (now definition) ⌝ }
+    ensures { λ r. ⌜ Reaches key (now (name .entry)) (now (definition .entry)) r ⌝ }
+{
+    match control_start(definition, key, name) {
+        Found::At(start) => Reach {
+            start: start,
+            controls: parameter_count(definition),
+        },
+        Found::Nothing => Reach {
+            start: 0,
+            controls: 0,
+        },
+    }
+}
+
+// By a slot's definition, where it is not known already.
+pub fn slot_reach(
+    words: &[u32],
+    shelf: &[u8],
+    slot: u32,
+    key: Key,
+    name: &[u8],
+    known: Reach,
+) -> Reach
+    requires { ⌜ (length (now words) ≡ wordsLength) × (slot < slotCount) × (Readable (slotBytes (now words) (now shelf) slot)) × ((known .controls ≡ unknown → ⊥) → Reaches key (now name) (slotBytes (now words) (now shelf) slot) known) ⌝ }
+    ensures { λ r. ⌜ Reaches key (now (name .entry)) (slotBytes (now (words .entry)) (now (shelf .entry)) slot) r ⌝ }
+{
+    if known.controls != UNKNOWN {
+        return known;
+    }
+    let size = words[4 + wide(slot)];
+    reach_in(slot_bytes(shelf, slot, size), key, name)
+}
