@@ -1,23 +1,25 @@
 -- The state check's part on controls, node by node.
 use Prim.Native.Nat.{ℕ, _+_, _*_, _≤_, _<_}
 use mathlib.Core.Bool.{Bool, true, false}
-use mathlib.Core.Path.{_≡_, refl, ap, ap₂, _∙_}
+use mathlib.Core.Path.{_≡_, refl, sym, ap, ap₂, _∙_}
 use mathlib.Core.List.{List}
 use native.Mathlib.Omega.{arith}
 use lib.ListN.{length, drop, getD}
 use Rattle.words.specs.Choice.{pick, both}
 use Rattle.words.specs.Parts.{region}
 use Rattle.synthdef.specs.Definition.{Front}
-use Rattle.readable.specs.Readable.{whole-readable}
+use Rattle.synthdef.specs.Reader.{mostParameters}
+use Rattle.readable.specs.Readable.{Readable, whole-readable}
 use Rattle.nodes.specs.Table.{row-from, rows-end}
 use Rattle.nodes.specs.Place.{groupSlot, isGroup}
-use Rattle.nodes.specs.Formed.{mostNodes}
-use Rattle.model.specs.Layout.{nodesPlace, nodesWords, rowWords, countIn, nodesIn, controlsIn}
+use Rattle.nodes.specs.Formed.{mostNodes, mostRows}
+use Rattle.model.specs.Layout.{slotCount, nodesPlace, nodesWords, rowWords, countIn, nodesIn, controlsIn}
 use Rattle.model.specs.Engine.{decode, definitionOf}
 use Rattle.model.specs.Formed.{mappingsFormed, controlsFormed}
-use Rattle.controls.specs.Encoded.{frontIn}
+use Rattle.controls.specs.Encoded.{frontIn, values-few}
 use Rattle.controls.specs.Ready.{Ready, nodeIn, slotBytes, synth-ready}
-use Rattle.controls.specs.Synth.{Bounds, slot-word, row-word, is-group, is-synth}
+use Rattle.controls.specs.Synth.{Bounds, slot-word, row-word, is-group, is-synth, slot-bound, bytes-readable}
+use Rattle.controls.specs.Reach.{controlsOn}
 
 -- a row's mapping words, by a definition's bytes
 abbrev pub rowFormed : List ℕ → ℕ → List ℕ → Bool
@@ -68,4 +70,23 @@ module _ (ws shelf : List ℕ) (ready : Ready ws shelf) where
         slot = λ e. synth-ready ws shelf ready i few e .slot;
         row = λ e. synth-ready ws shelf ready i few e .row;
         readable = λ e. whole-readable (slotBytes ws shelf (nodeIn ws i .slot)) (synth-ready ws shelf ready i few e .whole);
+      }
+
+  -- a synth at a place, by the words
+  pub record Here (i : ℕ) : Type 0 where
+    pub low : getD ws (nodesPlace + 5 * i + 3) 0 < slotCount
+    pub row : getD ws (nodesPlace + 5 * i + 4) 0 < mostRows
+    pub readable : Readable (slotBytes ws shelf (getD ws (nodesPlace + 5 * i + 3) 0))
+    pub few : controlsOn ws shelf (getD ws (nodesPlace + 5 * i + 3) 0) ≤ mostParameters
+    pub test : nodeFormed ws shelf i ≡ mappingsFormed (controlsOn ws shelf (getD ws (nodesPlace + 5 * i + 3) 0)) (drop (rowWords * getD ws (nodesPlace + 5 * i + 4) 0) (controlsIn ws))
+
+  pub synth-here : (i : ℕ) → i < countIn ws → (getD ws (nodesPlace + 5 * i + 3) 0 ≡ groupSlot → ⊥) → Here i
+  synth-here i few other =
+      let b = bounds-ready i few in
+      record {
+        low = slot-bound b other;
+        row = rw (sym (row-word ws i (b .place))) (b .row (is-synth ws i (b .place) other));
+        readable = bytes-readable b other;
+        few = values-few (slotBytes ws shelf (getD ws (nodesPlace + 5 * i + 3) 0));
+        test = formed-synth ws shelf i (b .place) other;
       }

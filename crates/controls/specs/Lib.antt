@@ -4,6 +4,7 @@ pub mod Encoded
 pub mod Initial
 pub mod Ready
 pub mod Synth
+pub mod Noted
 pub mod Reach
 pub mod All
 pub mod Formed

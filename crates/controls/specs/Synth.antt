@@ -1,11 +1,11 @@
 -- A change of one synth's controls, by its definition's encoded bytes.
-use Prim.Native.Nat.{ℕ, zero, suc, _+_, _-_, _*_, _≤_, _<_, min}
+use Prim.Native.Nat.{ℕ, zero, suc, _+_, _-_, _*_, _<_, min}
 use mathlib.Core.Bool.{true, false}
-use mathlib.Core.Path.{_≡_, refl, sym, ap, ap₂, _∙_, subst}
+use mathlib.Core.Path.{_≡_, sym, ap, ap₂, _∙_, subst}
 use mathlib.Core.List.{List, [], _∷_, _++_}
 use mathlib.Core.Option.{none}
 use native.Mathlib.Omega.{arith}
-use lib.ListN.{length, take, drop, getD, length-drop, List·getD-eq-default, take-append-drop}
+use lib.ListN.{length, take, drop, getD, take-append-drop}
 use lib.Seq.{take-nil, getD-drop, drop-drop}
 use lib.Dec.{leb}
 use borrow.Author.Tests.{eq-eqb, ne-eqb}
@@ -56,12 +56,6 @@ mappings-turn us n i h =
     let more : n - i ≡ suc (n - (i + 1)) = omega arith in
     let next : 2 * i + 2 ≡ 2 * (i + 1) = omega arith in
     rw (more, getD-drop (2 * i) us 1 0, drop-drop 2 (2 * i) us, next)
-
-pub mappings-end : (us : List ℕ) (n : ℕ) → length us ≤ 1 → mappingsFormed n us ≡ true
-unfolding mappingsFormed
-mappings-end us zero h = refl
-mappings-end us (suc n) h =
-    rw (List·getD-eq-default us 0 {n = 1} h) (mappings-end (drop 2 us) n (simp length-drop (omega arith)))
 
 pub mappings-none : (us : List ℕ) (n : ℕ) → n ≡ 0 → mappingsFormed n us ≡ true
 unfolding mappingsFormed

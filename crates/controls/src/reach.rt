@@ -10,7 +10,7 @@ ghost use mathlib.Core.Path.{_≡_};
 ghost use lib.ListN.{length};
 ghost use Rattle.readable.specs.Readable.{Readable};
 ghost use Rattle.model.specs.Layout.{slotCount, wordsLength};
-ghost use Rattle.controls.specs.Reach.{Reaches, unknown};
+ghost use Rattle.controls.specs.Reach.{Reaches, unknown, controlsOn};
 ghost use Rattle.controls.specs.Ready.{slotBytes};
 
 // Where a name is not there, it reaches none of no controls.
@@ -56,4 +56,16 @@ pub fn slot_reach(
     }
     let size = words[4 + wide(slot)];
     reach_in(slot_bytes(shelf, slot, size), key, name)
+}
+
+// How many controls a slot's definition has, where it is not known already.
+pub fn slot_controls(words: &[u32], shelf: &[u8], slot: u32, known: u32) -> u32
+    requires { ⌜ (length (now words) ≡ wordsLength) × (slot < slotCount) × (Readable (slotBytes (now words) (now shelf) slot)) × ((known ≡ unknown → ⊥) → known ≡ controlsOn (now words) (now shelf) slot) ⌝ }
+    ensures { λ r. ⌜ r ≡ controlsOn (now (words .entry)) (now (shelf .entry)) slot ⌝ }
+{
+    if known != UNKNOWN {
+        return known;
+    }
+    let size = words[4 + wide(slot)];
+    parameter_count(slot_bytes(shelf, slot, size))
 }

@@ -1,14 +1,12 @@
 // A synth's controls in the words: changed by its own definition, checked and read.
 use crate::control::Change;
 use crate::control::change_row;
-use crate::definition::parameter_count;
 use crate::reach::Reach;
 use values::Control;
 use words::wide;
 ghost use Prim.Native.Nat.{_+_, _*_, _≤_, _<_, min};
 ghost use mathlib.Core.Path.{_≡_};
 ghost use lib.ListN.{length, take, drop, getD};
-ghost use Rattle.readable.specs.Readable.{Readable};
 ghost use Rattle.synthdef.specs.Reader.{mostParameters};
 ghost use Rattle.nodes.specs.Formed.{mostNodes, mostRows};
 ghost use Rattle.values.specs.Controls.{controlAt, shownBy};
@@ -16,7 +14,6 @@ ghost use Rattle.model.specs.Formed.{mappingsFormed};
 ghost use Rattle.model.specs.Layout.{slotRoom, wordsLength, putControls, controlsIn};
 ghost use Rattle.model.specs.Effects.{changeRow};
 ghost use Rattle.controls.specs.Change.{changeOf};
-ghost use Rattle.controls.specs.Encoded.{frontIn};
 ghost use Rattle.controls.specs.Ready.{nodeIn};
 
 // The lesser of two numbers.
@@ -57,19 +54,15 @@ pub fn change_node(words: &mut [u32], place: usize, reach: Reach, count: u32, ch
     );
 }
 
-// The mapping words of a row's first controls, as many as the definition has: each at most 4,096.
-pub fn row_formed(controls: &[u32], definition: &[u8], row: u32) -> bool
-    requires { ⌜ Readable (now definition) ⌝ }
-    ensures { λ r. ⌜ r ≡ mappingsFormed (length (frontIn (now (definition .entry)) .values)) (drop (64 * row) (now (controls .entry))) ⌝ }
+// The mapping words of a row's first controls, so many: each at most 4,096.
+pub fn row_formed(controls: &[u32], row: u32, many: u32) -> bool
+    requires { ⌜ 64 * row + 2 * many ≤ length (now controls) ⌝ }
+    ensures { λ r. ⌜ r ≡ mappingsFormed many (drop (64 * row) (now (controls .entry))) ⌝ }
 {
-    let many = parameter_count(definition);
     let start = 64 * wide(row) + 1;
     let end = wide(many);
     let mut i = 0;
     while i < end {
-        if controls.len() <= start + 2 * i {
-            return true;
-        }
         if 4096 < controls[start + 2 * i] {
             return false;
         }

@@ -2,6 +2,7 @@
 use crate::control::Change;
 use crate::reach::Reach;
 use crate::reach::UNKNOWN;
+use crate::reach::slot_controls;
 use crate::reach::slot_reach;
 use crate::synth::change_node;
 use crate::synth::row_formed;
@@ -19,8 +20,6 @@ ghost use Rattle.model.specs.Effects.{changeAll};
 ghost use Rattle.model.specs.Formed.{controlsFormed};
 ghost use Rattle.controls.specs.Change.{changeOf};
 ghost use Rattle.controls.specs.Ready.{Ready, nodeIn, slotBytes};
-ghost use Rattle.controls.specs.Synth.{Bounds};
-ghost use Rattle.controls.specs.Formed.{nodeFormed};
 
 // The controls of the synths among the nodes from one place of the table to another. Each slot is looked up once.
 pub fn change_all(
@@ -79,32 +78,23 @@ pub fn node_row(words: &[u32], place: usize) -> u32
     words[68 + 5 * place + 4]
 }
 
-// The state check's part on controls, of one node: a synth's own mapping words, and nothing at a group.
-fn node_formed(words: &[u32], shelf: &[u8], place: usize) -> bool
-    requires { ⌜ Bounds (now words) (now shelf) place ⌝ }
-    ensures { λ r. ⌜ r ≡ nodeFormed (now (words .entry)) (now (shelf .entry)) place ⌝ }
-{
-    if node_is_group(words, place) {
-        return true;
-    }
-    let row = node_row(words, place);
-    row_formed(
-        &words[1603..17987],
-        node_definition(words, shelf, place),
-        row,
-    )
-}
-
-// The state check's part on controls: the mapping words of each synth's own controls.
+// The state check's part on controls: the mapping words of each synth's own controls. Each slot is looked up once.
 pub fn controls_formed(words: &[u32], shelf: &[u8]) -> bool
     requires { ⌜ Ready (now words) (now shelf) ⌝ }
     ensures { λ r. ⌜ r ≡ controlsFormed (decode (now (words .entry)) (now (shelf .entry)) .slots) (controlsIn (now (words .entry))) (nodesIn (now (words .entry))) ⌝ }
 {
     let count = wide(words[0]);
+    let mut told = [UNKNOWN; 32];
     let mut i = 0;
     while i < count {
-        if !node_formed(words, shelf, i) {
-            return false;
+        let slot = words[68 + 5 * i + 3];
+        if slot != 32 {
+            let k = wide(slot);
+            let many = slot_controls(words, shelf, slot, told[k]);
+            told[k] = many;
+            if !row_formed(&words[1603..17987], words[68 + 5 * i + 4], many) {
+                return false;
+            }
         }
         i += 1;
     }

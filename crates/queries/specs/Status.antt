@@ -4,10 +4,9 @@ use mathlib.Core.Bool.{Bool, true, false}
 use mathlib.Core.Path.{_≡_, refl, sym, ap, _∙_}
 use mathlib.Core.List.{List, [], _∷_, _++_}
 use native.Mathlib.Omega.{arith}
-use lib.ListN.{length, drop, getD, set, replicate, length-set, length-replicate, getD-replicate}
-use lib.Seq.{getD-drop, drop-drop, getD-set-same, getD-set-other}
+use lib.ListN.{length, drop, getD, set}
+use lib.Seq.{getD-drop, drop-drop}
 use lib.Dec.{eqb}
-use borrow.Author.Tests.{eqb-true, eqb-false}
 use Rattle.words.specs.Choice.{pick}
 use Rattle.words.specs.Bytes.{bytes32}
 use Rattle.words.specs.Parts.{region}
@@ -27,6 +26,7 @@ use Rattle.model.specs.Replies.{reply, replyTo, statusAddress, unitsOf, unitCou
 use Rattle.replies.specs.Words.{wordBytes}
 use Rattle.replies.specs.Sent.{wordMessage}
 use Rattle.controls.specs.Encoded.{numberOr}
+use Rattle.controls.specs.Noted.{Noted, noted-more}
 use Rattle.controls.specs.Ready.{nodeIn, slotBytes, part-word}
 use Rattle.controls.specs.Synth.{slot-word, is-group, is-synth}
 use Rattle.queries.specs.Held.{At, bounds, node-there, held-units, slot-low}
@@ -62,27 +62,8 @@ abbrev pub unknown : ℕ
 unknown = 4294967295
 
 -- the units of the slots that were looked up
-pub record Told (ws bs told : List ℕ) : Type 0 where
-  pub size : length told ≡ slotCount
-  pub same : (k : ℕ) → k < slotCount → (getD told k 0 ≡ unknown → ⊥) → getD told k 0 ≡ numberOr (unitsIn (slotBytes ws bs k))
-
-pub told-none : (ws bs : List ℕ) → Told ws bs (replicate slotCount unknown)
-told-none ws bs = record {
-  size = length-replicate {A = ℕ} slotCount unknown;
-  same = λ k h other. absurd (other (getD-replicate {A = ℕ} slotCount k unknown 0 h));
-}
-
--- one slot more
-told-set : (ws bs told : List ℕ) → Told ws bs told → (slot units : ℕ) → slot < slotCount → units ≡ numberOr (unitsIn (slotBytes ws bs slot)) → Told ws bs (set told slot units)
-told-set ws bs told t slot units low here = record { size = length-set told slot units ∙ t .size; same = λ k h other. by k h other (eqb k slot) refl }
-  where
-    by : (k : ℕ) → k < slotCount → (getD (set told slot units) k 0 ≡ unknown → ⊥) → (b : Bool) → eqb k slot ≡ b → getD (set told slot units) k 0 ≡ numberOr (unitsIn (slotBytes ws bs k))
-    by k h other true e =
-        let same : k ≡ slot = eqb-true k slot e in
-        rw same (getD-set-same told slot units 0 (rw (t .size) low) ∙ here)
-    by k h other false e =
-        let kept : getD (set told slot units) k 0 ≡ getD told k 0 = getD-set-other told slot k units 0 (eqb-false k slot e) in
-        kept ∙ t .same k h (rw kept at other)
+abbrev pub Told : List ℕ → List ℕ → List ℕ → Type 0
+Told ws bs told = Noted (λ (n : ℕ). n ≡ unknown) (λ (k n : ℕ). n ≡ numberOr (unitsIn (slotBytes ws bs k))) told
 
 -- of the node at a place, by its slot's word
 module _ (ws bs : List ℕ) (i : ℕ) (a : At ws bs i) (k : ℕ) (same : k ≡ getD ws (nodesPlace + 5 * i + 3) 0) where
@@ -102,10 +83,10 @@ module _ (ws bs : List ℕ) (i : ℕ) (a : At ws bs i) (k : ℕ) (same : k ≡ g
         ∙ ap (λ (j : ℕ). numberOr (unitsIn (slotBytes ws bs j))) (slot-word ws i few ∙ sym same)
 
     pub units-told : (told : List ℕ) → Told ws bs told → (getD told k 0 ≡ unknown → ⊥) → getD told k 0 ≡ unitsOf (kindAt ws bs i)
-    units-told told t known = t .same k slot-there known ∙ sym units-slot
+    units-told told t known = t .same 0 k slot-there known ∙ sym units-slot
 
     pub told-more : (told : List ℕ) → Told ws bs told → (units : ℕ) → units ≡ unitsOf (kindAt ws bs i) → Told ws bs (set told k units)
-    told-more told t units here = told-set ws bs told t k units slot-there (here ∙ units-slot)
+    told-more told t units here = noted-more _ _ told t k units slot-there (here ∙ units-slot)
 
 module _ (ws bs : List ℕ) (i : ℕ) (a : At ws bs i) where
   pub units-turn : unitCount (viewFrom ws bs i) ≡ unitsOf (kindAt ws bs i) + unitCount (viewFrom ws bs (i + 1))

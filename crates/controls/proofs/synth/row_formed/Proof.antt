@@ -1,26 +1,24 @@
+use Prim.{tt}
+use native.Mathlib.Nat.{sub-zero}
+use lib.Seq.{getD-drop}
+use lib.Dec.{leb}
+use Rattle.model.specs.Formed.{mappingsFormed}
+use Rattle.controls.specs.Synth.{mappings-turn, mappings-none}
 use Prim.Native.Nat.{ℕ, _+_, _*_, _-_, _≤_}
 use mathlib.Core.Bool.{true, false}
 use mathlib.Core.Path.{_≡_, sym, ap, _∙_}
 use native.Mathlib.Omega.{arith}
 use borrow.Author.Tests.{le-leb, lt-leb}
-use lib.ListN.{length, drop, getD, length-drop}
-use native.Mathlib.Nat.{sub-zero}
-use lib.Seq.{getD-drop}
-use lib.Dec.{leb}
-use Rattle.model.specs.Formed.{mappingsFormed}
-use Rattle.controls.specs.Synth.{mappings-turn, mappings-end, mappings-none}
+use lib.ListN.{drop, getD}
 use Rattle.controls.proofs.synth.row_formed.Statement.{statement}
 use Rattle.controls.proofs.synth.row_formed.Tie as tie
 
 abbrev Inv-loop : tie.InvT-loop
-Inv-loop controls definition row many start end i₀ i =
+Inv-loop controls row many start end i₀ i =
     (i ≤ end) × (mappingsFormed (end - i) (drop (2 * i) (drop (64 * row) controls)) ≡ mappingsFormed end (drop (64 * row) controls))
 
 abbrev μ-loop : tie.MeasureT-loop
-μ-loop controls definition row many start end i₀ i = end - i
-
-parameter-count-requires : tie.Need-parameter-count-requires Inv-loop μ-loop
-parameter-count-requires c κs = c .before .before .pre
+μ-loop controls row many start end i₀ i = end - i
 
 wide-requires : tie.Need-wide-requires Inv-loop μ-loop
 wide-requires c κs = tt
@@ -36,7 +34,8 @@ wide-requires-2 c κs = tt
 
 loop-holds : tie.Need-loop-holds Inv-loop μ-loop
 loop-holds c =
-    (omega arith, ap (λ (n : ℕ). mappingsFormed n (drop (64 * c .before .before .before .before .before .args .row) (c .before .before .before .before .before .args .controls .now))) (sub-zero (c .wide2 .result)))
+    let a = c .before .before .before .args in
+    (omega arith, ap (λ (n : ℕ). mappingsFormed n (drop (64 * a .row) (a .controls .now))) (sub-zero (c .wide2 .result)))
 
 mul-if1 : tie.Need-mul-if1 Inv-loop μ-loop
 mul-if1 c = omega arith
@@ -44,40 +43,25 @@ mul-if1 c = omega arith
 add-if1 : tie.Need-add-if1 Inv-loop μ-loop
 add-if1 c = omega arith
 
+mul-if1-2 : tie.Need-mul-if1-2 Inv-loop μ-loop
+mul-if1-2 c = omega arith
+
+shared-slice-read-if1 : tie.Need-shared-slice-read-if1 Inv-loop μ-loop
+shared-slice-read-if1 c = omega arith
+
 returns : tie.Need-returns Inv-loop μ-loop
 returns c =
-    let a = c .before .before .before .before .before .before .before .before .args in
-    let l = c .before .before .loop in
+    let a = c .before .before .before .before .before .before .before .args in
+    let l = c .before .before .before .loop in
     let us = drop (64 * a .row) (a .controls .now) in
-    let end = c .before .before .before .wide2 .result in
-    let short : length (drop (2 * l .i) us) ≤ 1 = simp length-drop (omega arith) in
-    sym (mappings-end (drop (2 * l .i) us) (end - l .i) short) ∙ l .inv .1 ∙ ap (λ (n : ℕ). mappingsFormed n us) (c .before .before .before .wide2 .ensures ∙ c .before .before .before .before .before .parameter-count .ensures)
-
-mul-if2 : tie.Need-mul-if2 Inv-loop μ-loop
-mul-if2 c = omega arith
-
-add-if2 : tie.Need-add-if2 Inv-loop μ-loop
-add-if2 c = omega arith
-
-mul-if2-2 : tie.Need-mul-if2-2 Inv-loop μ-loop
-mul-if2-2 c = omega arith
-
-shared-slice-read-if2 : tie.Need-shared-slice-read-if2 Inv-loop μ-loop
-shared-slice-read-if2 c = omega arith
-
-returns-2 : tie.Need-returns-2 Inv-loop μ-loop
-returns-2 c =
-    let a = c .before .before .before .before .before .before .before .before .before .before .args in
-    let l = c .before .before .before .before .loop in
-    let us = drop (64 * a .row) (a .controls .now) in
-    let w = c .before .before .before .before .before in
+    let w = c .before .before .before .before in
     let place : 64 * a .row + (2 * l .i + 1) ≡ 64 * w .before .wide .result + 1 + 2 * l .i = omega arith in
     let word : getD us (2 * l .i + 1) 0 ≡ getD (a .controls .now) (64 * w .before .wide .result + 1 + 2 * l .i) 0 =
     getD-drop (64 * a .row) (a .controls .now) (2 * l .i + 1) 0 ∙ ap (λ (k : ℕ). getD (a .controls .now) k 0) place in
     let high : leb (getD us (2 * l .i + 1) 0) 4096 ≡ false = lt-leb (getD us (2 * l .i + 1) 0) 4096 (omega arith) in
     sym (rw high at (mappings-turn us (w .wide2 .result) (l .i) (omega arith)))
     ∙ l .inv .1
-    ∙ ap (λ (n : ℕ). mappingsFormed n us) (w .wide2 .ensures ∙ w .before .before .parameter-count .ensures)
+    ∙ ap (λ (n : ℕ). mappingsFormed n us) (w .wide2 .ensures)
 
 add-i : tie.Need-add-i Inv-loop μ-loop
 add-i c = omega arith
@@ -87,25 +71,25 @@ loop-less c = omega arith
 
 loop-again : tie.Need-loop-again Inv-loop μ-loop
 loop-again c =
-    let a = c .before .before .before .before .before .before .before .before .before .before .args in
-    let l = c .before .before .before .before .loop in
+    let a = c .before .before .before .before .before .before .before .args in
+    let l = c .before .before .before .loop in
     let us = drop (64 * a .row) (a .controls .now) in
-    let w = c .before .before .before .before .before in
+    let w = c .before .before .before .before in
     let place : 64 * a .row + (2 * l .i + 1) ≡ 64 * w .before .wide .result + 1 + 2 * l .i = omega arith in
     let word : getD us (2 * l .i + 1) 0 ≡ getD (a .controls .now) (64 * w .before .wide .result + 1 + 2 * l .i) 0 =
     getD-drop (64 * a .row) (a .controls .now) (2 * l .i + 1) 0 ∙ ap (λ (k : ℕ). getD (a .controls .now) k 0) place in
     let low : leb (getD us (2 * l .i + 1) 0) 4096 ≡ true = le-leb (getD us (2 * l .i + 1) 0) 4096 (omega arith) in
     (omega arith, sym (rw low at (mappings-turn us (w .wide2 .result) (l .i) (omega arith))) ∙ l .inv .1)
 
-returns-3 : tie.Need-returns-3 Inv-loop μ-loop
-returns-3 c =
-    let a = c .before .before .before .before .before .before .before .args in
+returns-2 : tie.Need-returns-2 Inv-loop μ-loop
+returns-2 c =
+    let a = c .before .before .before .before .before .args in
     let l = c .before .loop in
     let us = drop (64 * a .row) (a .controls .now) in
     let w = c .before .before in
     sym (mappings-none (drop (2 * l .i) us) (w .wide2 .result - l .i) (omega arith))
     ∙ l .inv .1
-    ∙ ap (λ (n : ℕ). mappingsFormed n us) (w .wide2 .ensures ∙ w .before .before .parameter-count .ensures)
+    ∙ ap (λ (n : ℕ). mappingsFormed n us) (w .wide2 .ensures)
 
 pub row-formed-spec : {M : Type 1} → statement M
 row-formed-spec =
@@ -113,7 +97,6 @@ row-formed-spec =
     (tie.spec
     Inv-loop
     μ-loop
-    parameter-count-requires
     wide-requires
     mul-start
     add-start
@@ -121,13 +104,10 @@ row-formed-spec =
     loop-holds
     mul-if1
     add-if1
+    mul-if1-2
+    shared-slice-read-if1
     returns
-    mul-if2
-    add-if2
-    mul-if2-2
-    shared-slice-read-if2
-    returns-2
     add-i
     loop-less
     loop-again
-    returns-3)
+    returns-2)

@@ -14,7 +14,8 @@ use Rattle.controls.specs.Change.{changeOf}
 use Rattle.controls.specs.Synth.{same-controls}
 use Rattle.controls.specs.All.{synth-lent, bounds-lent, reach-change, no-change, turned, all-none}
 use Rattle.controls.specs.Ready.{slotBytes}
-use Rattle.controls.specs.Reach.{Reaches, Reached, reached-none, reached-more}
+use Rattle.controls.specs.Noted.{noted-none, noted-more}
+use Rattle.controls.specs.Reach.{Reaches, Reached, noReach}
 use Rattle.controls.proofs.table.change_all.Statement.{statement}
 use Rattle.controls.proofs.table.change_all.Tie as tie
 
@@ -32,7 +33,7 @@ loop-holds : tie.Need-loop-holds Inv-loop μ-loop
 loop-holds c =
     let s = c .before .before .before in
     let a = s .args in
-    (s .pre .0 .size, sym (same-controls (a .words .now)), refl, reached-none (a .key) (a .name .now) (a .words .now) (a .shelf .now))
+    (s .pre .0 .size, sym (same-controls (a .words .now)), refl, noted-none _ _ noReach refl)
 
 mul-slot : tie.Need-mul-slot Inv-loop μ-loop
 mul-slot c = omega arith
@@ -133,7 +134,7 @@ loop-again c =
     (s .pre .0) (omega arith) (s .pre .1) (l .inv .0) (l .inv .1) (w .6 .kept .0) told in
     let here =
     subst (λ (bytes : List ℕ). Reaches (a .key) (a .name .now) bytes (w .4 .result)) (e .kept ∙ ap (slotBytes (a .words .now) (a .shelf .now)) (sym (w .1 .ensures))) (w .4 .ensures) in
-    let more = reached-more (a .key) (a .name .now) (a .words .now) (a .shelf .now) (l .reaches) (l .inv .3) (w .1 .result) (w .4 .result) (omega (arith, e .low, w .1 .ensures)) here in
+    let more = noted-more _ _ (l .reaches) (l .inv .3) (w .1 .result) (w .4 .result) (omega (arith, e .low, w .1 .ensures)) here in
     (rw (w .9) (t .size), rw (w .9) (t .rest), rw (w .9) (t .left ∙ l .inv .2), rw (w .10) more))
     (λ w.
     let b = bounds-lent (a .words .now) (a .shelf .now) (l .words) (l .i) (s .pre .0) (l .inv .0) (l .inv .1) live in

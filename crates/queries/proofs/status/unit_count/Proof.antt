@@ -6,8 +6,9 @@ use native.Mathlib.Omega.{arith}
 use lib.ListN.{getD}
 use Rattle.model.specs.Layout.{countIn, nodesPlace}
 use Rattle.model.specs.Replies.{unitCount}
+use Rattle.controls.specs.Noted.{noted-none}
 use Rattle.queries.specs.Held.{At}
-use Rattle.queries.specs.Status.{viewFrom, Told, told-none, units-none, slot-there, units-told, told-more, units-turn, units-end}
+use Rattle.queries.specs.Status.{viewFrom, Told, unknown, units-none, slot-there, units-told, told-more, units-turn, units-end}
 use Rattle.queries.proofs.status.unit_count.Statement.{statement}
 use Rattle.queries.proofs.status.unit_count.Tie as tie
 
@@ -25,7 +26,7 @@ wide-requires : tie.Need-wide-requires Inv-loop μ-loop
 wide-requires c κs = tt
 
 loop-holds : tie.Need-loop-holds Inv-loop μ-loop
-loop-holds c = (omega arith, omega arith, omega arith, told-none (c .before .before .before .before .args .words .now) (c .before .before .before .before .args .shelf .now))
+loop-holds c = (omega arith, omega arith, omega arith, noted-none _ _ unknown refl)
 
 mul-slot : tie.Need-mul-slot Inv-loop μ-loop
 mul-slot c = omega arith
