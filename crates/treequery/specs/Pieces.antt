@@ -1,4 +1,4 @@
--- An argument of /g_queryTree's reply, as the code knows it: a number, a float, a name of a definition's bytes, its own name, or a bus.
+-- An argument of /g_queryTree's reply, as the code knows it: a number, a float, a name of a definition's bytes, or a bus.
 use Prim.Native.Nat.{ℕ, _+_, _-_, _/_, _%_, _≤_, _<_}
 use mathlib.Core.Bool.{Bool, true, false}
 use mathlib.Core.Path.{_≡_, refl, sym, ap, _∙_}
@@ -6,21 +6,13 @@ use mathlib.Core.List.{List, [], _∷_, _++_}
 use native.Mathlib.Omega.{arith}
 use lib.ListN.{length, replicate, length-take, length-drop, length-replicate}
 use lib.Dec.{ltb}
-use Rattle.words.specs.Choice.{pick, both}
+use Rattle.words.specs.Choice.{pick}
 use Rattle.words.specs.Parts.{region}
-use Rattle.words.specs.declared.Refusal.the-variants.{BadName}
-use Rattle.synthdef.specs.Read.{Read, got, bad, repeat}
-use Rattle.synthdef.specs.Fields.{nameBytes, pstring, definitionName, count, countTo, float32}
-use Rattle.synthdef.specs.FieldLaws.{checked-got, pstring-got}
-use Rattle.synthdef.specs.RepeatLaws.{got-value, went-on}
-use Rattle.synthdef.specs.Definition.{Front}
-use Rattle.synthdef.specs.Reader.{mostParameters, parameterName, readFront}
-use Rattle.synthdef.specs.Lookup.{onRead, nameIn}
-use Rattle.osc.specs.Message.{Argument, int, float, text, tagOf, argumentBytes, padded, decimal}
+use Rattle.osc.specs.Message.{Argument, int, float, text, argumentBytes, padded, decimal}
 use Rattle.osc.specs.Over.{over, over-over}
 use Rattle.osc.specs.Lengths.{padded-size}
 use Rattle.treequery.specs.declared.piece.Piece.{Piece}
-use Rattle.treequery.specs.declared.piece.Piece.the-variants.{Whole, Pattern, Part, Title, Mapped}
+use Rattle.treequery.specs.declared.piece.Piece.the-variants.{Whole, Pattern, Part, Mapped}
 
 -- "a mapped control shows 'c' and the decimal bus"
 abbrev pub mappedText : ℕ → List ℕ
@@ -30,7 +22,6 @@ abbrev pub pieceArgument : List ℕ → Piece → Argument
 pieceArgument s (Whole n) = int n
 pieceArgument s (Pattern p) = float p
 pieceArgument s (Part start end) = text (region start (end - start) s)
-pieceArgument s Title = text (nameIn s)
 pieceArgument s (Mapped bus) = text (mappedText bus)
 
 abbrev pub pieceBytes : List ℕ → Piece → List ℕ
@@ -41,7 +32,6 @@ abbrev pub isSmall : Piece → Bool
 isSmall (Whole n) = true
 isSmall (Pattern p) = true
 isSmall (Part start end) = true
-isSmall Title = true
 isSmall (Mapped bus) = ltb bus 10000
 
 -- a definition's bytes
@@ -57,31 +47,9 @@ pub record Puts (s : List ℕ) (p : Piece) (at : ℕ) (out : List ℕ) : Type 0 
   pub small : isSmall p ≡ true
   pub room : at + length (pieceBytes s p) ≤ length out
 
--- a part is no longer than the whole, and so is a name
+-- a part is no longer than the whole
 pub part-short : (a n : ℕ) (s : List ℕ) → length (region a n s) ≤ length s
 part-short a n s = simp (length-take, length-drop) (omega arith)
-
-name-read : (s : List ℕ) {f : Front} {next : ℕ} → readFront s 0 ≡ got f next → length (f .name) ≤ length s
-unfolding readFront
-name-read s {f} {next} h =
-    went-on (definitionName s 0) _ h (λ n p1 e1 h1.
-    went-on (count s p1) _ h1 (λ k p2 e2 h2.
-    went-on (repeat (float32 s) k p2) _ h2 (λ constants p3 e3 h3.
-    went-on (countTo mostParameters s p3) _ h3 (λ p p4 e4 h4.
-    went-on (repeat (float32 s) p p4) _ h4 (λ values p5 e5 h5.
-    went-on (count s p5) _ h5 (λ many p6 e6 h6.
-    went-on (repeat (parameterName p s) many p6) _ h6 (λ names p7 e7 h7.
-    let same : n ≡ f .name = ap (λ (x : Front). x .name) (got-value h7) in
-    let read = pstring-got s 0 (checked-got BadName (λ (l : List ℕ). both (ltb 0 (length l)) (nameBytes l)) 0 (pstring s 0) e1 .0) in
-    let short : length n ≤ length s = omega (arith, read .0, read .1 .1) in
-    rw (sym same) short)))))))
-
-name-or : (s : List ℕ) (r : Read Front) → readFront s 0 ≡ r → length (onRead r [] (λ f next. f .name)) ≤ length s
-name-or s (got f next) e = name-read s e
-name-or s (bad q place) e = omega arith
-
-pub name-short : (s : List ℕ) → length (nameIn s) ≤ length s
-name-short s = name-or s (readFront s 0) refl
 
 -- room for 'c' and a bus's digits
 pub record MappedRoom (bus at : ℕ) (out : List ℕ) : Type 0 where

@@ -1,44 +1,33 @@
--- The arguments of one row of /g_queryTree's reply, by their places.
-use Prim.Native.Nat.{ℕ, zero, suc, _+_, _*_, _-_, _/_, _%_, _≤_, _<_}
+-- The rows of /g_queryTree's reply, and the arguments of each.
+use Prim.Native.Nat.{ℕ, zero, suc, _+_, _*_, _≤_, _<_}
 use mathlib.Core.Bool.{Bool, true, false}
-use mathlib.Core.Path.{_≡_, refl, sym, ap, ap₂, _∙_}
+use mathlib.Core.Path.{_≡_, refl, sym, ap, _∙_}
 use mathlib.Core.List.{List, [], _∷_, _++_, nil≢cons, head-eq-of-cons-eq}
-use mathlib.Core.Option.{Option, none, some}
+use mathlib.Core.Option.{Option, some}
 use native.Mathlib.Omega.{arith}
-use lib.ListN.{length, take, drop, getD, length-take}
+use lib.ListN.{length, drop, getD}
 use lib.Seq.{getD-drop}
-use lib.Dec.{ltb, leb, eqb}
-use borrow.Author.Tests.{lt-ltb, leb-true}
+use lib.Dec.{leb, eqb}
+use borrow.Author.Tests.{leb-true}
 use Rattle.words.specs.Choice.{pick, both-true}
 use Rattle.words.specs.Parts.{region}
-use Rattle.synthdef.specs.Definition.{ParameterName, Front, Definition}
-use Rattle.synthdef.specs.declared.lookup.NameFound.{NameFound}
-use Rattle.synthdef.specs.declared.lookup.NameFound.the-variants as named
-use Rattle.synthdef.specs.Lookup.{firstOf, partOf, nameOfIn}
+use Rattle.synthdef.specs.Definition.{ParameterName, Definition}
+use Rattle.synthdef.specs.Lookup.{firstOf}
 use Rattle.synthdef.specs.Lookup as lookup
 use Rattle.nodes.specs.declared.Node.{Node}
-use Rattle.nodes.specs.Table.{rows, nodeFrom, row-from, rows-end}
-use Rattle.nodes.specs.Place.{groupSlot, isGroup}
+use Rattle.nodes.specs.Table.{rows, row-from, rows-end}
+use Rattle.nodes.specs.Place.{isGroup}
 use Rattle.nodes.specs.Structure.{noNode}
-use Rattle.osc.specs.Message.{Argument, int, float, text}
-use Rattle.values.specs.declared.Mapping.{Mapping}
-use Rattle.values.specs.declared.Mapping.the-variants.{Unmapped, Bus}
-use Rattle.values.specs.declared.Control.{Control}
-use Rattle.values.specs.Controls.{ControlValue, controlAt, mappingOf, seen}
-use Rattle.model.specs.Layout.{busCount, slotRoom, rowWords, countIn, nodesIn, nodesPlace, nodesWords, controlsIn}
+use Rattle.osc.specs.Message.{Argument, int, text}
+use Rattle.values.specs.Controls.{ControlValue}
+use Rattle.model.specs.Layout.{busCount, rowWords, nodesIn, nodesPlace, nodesWords, controlsIn}
 use Rattle.model.specs.Engine.{Slot, decode, definitionOf, controlsFrom, controlsOf, firstName}
-use Rattle.model.specs.View.{Kind, group, synth, Row, viewRows}
+use Rattle.model.specs.View.{Row, viewRows}
 use Rattle.model.specs.Formed.{mappingsFormed, controlsFormed}
-use Rattle.model.specs.Replies.{mappingArgument, labelArgument, controlArguments, flagged, kindArguments, rowsBelow, rowsAt, treeArguments, noControl}
-use Rattle.state.specs.Known.{Known}
-use Rattle.controls.specs.Encoded.{frontIn, values-few}
-use Rattle.controls.specs.Ready.{nodeIn, slotBytes}
-use Rattle.controls.specs.Asked.{controlIn, control-in}
-use Rattle.queries.specs.Held.{At, node-there, held-front, held-name, held-first-name}
+use Rattle.model.specs.Replies.{controlArguments, flagged, kindArguments, rowsBelow, rowsAt, treeArguments}
+use Rattle.controls.specs.Ready.{nodeIn}
+use Rattle.queries.specs.Held.{At, node-there}
 use Rattle.queries.specs.Status.{kindAt}
-use Rattle.treequery.specs.declared.piece.Piece.{Piece}
-use Rattle.treequery.specs.declared.piece.Piece.the-variants.{Whole, Pattern, Part, Title, Mapped}
-use Rattle.treequery.specs.Pieces.{pieceArgument, isSmall, mostBytes}
 
 -- the rows from one place to another, as the plain tree knows them
 abbrev pub viewTo : List ℕ → List ℕ → ℕ → ℕ → List Row
@@ -66,42 +55,8 @@ unfolding treeArguments viewRows
 rows-none shown ws bs end i h =
     ap (λ (t : List Node). treeArguments shown (viewRows (decode ws bs .slots) (controlsIn ws) t)) (rows-end end (region nodesPlace nodesWords ws) i h)
 
--- the bytes of the definition of a row's synth; none at a group
-unfoldable pub rowBytes : List ℕ → List ℕ → ℕ → List ℕ
-rowBytes ws bs i = pick (isGroup (nodeIn ws i)) [] (slotBytes ws bs (nodeIn ws i .slot))
-
-pub bytes-group : (ws bs : List ℕ) (i : ℕ) → isGroup (nodeIn ws i) ≡ true → [] ≡ rowBytes ws bs i
-unfolding rowBytes
-bytes-group ws bs i h = rw h
-
-pub bytes-synth : (ws bs : List ℕ) (i : ℕ) → isGroup (nodeIn ws i) ≡ false → slotBytes ws bs (nodeIn ws i .slot) ≡ rowBytes ws bs i
-unfolding rowBytes
-bytes-synth ws bs i h = rw h
-
-slot-few : (ws bs : List ℕ) (k : ℕ) → length (slotBytes ws bs k) ≤ mostBytes
-slot-few ws bs k = simp length-take (omega arith)
-
-pub bytes-few : (ws bs : List ℕ) (i : ℕ) → length (rowBytes ws bs i) ≤ mostBytes
-unfolding rowBytes
-bytes-few ws bs i = go (isGroup (nodeIn ws i))
-  where
-    go : (b : Bool) → length (pick b [] (slotBytes ws bs (nodeIn ws i .slot))) ≤ mostBytes
-    go true = omega arith
-    go false = slot-few ws bs (nodeIn ws i .slot)
-
--- a row of the part of the table that is shown, with its definition's bytes
-pub record RowOf (ws bs definition : List ℕ) (end i : ℕ) : Type 0 where
-  pub at : At ws bs i
-  pub inside : i < end
-  pub ends : end ≤ countIn ws
-  pub bytes : definition ≡ rowBytes ws bs i
-
 -- the arguments of a group's row, and of a synth's
 module _ (shown : Bool) (ws bs : List ℕ) (end i : ℕ) where
-  pub row-first : getD (rowArguments shown ws bs end i) 0 (int 0) ≡ int (nodeIn ws i .number)
-  unfolding rowArguments
-  row-first = refl
-
   pub row-group : isGroup (nodeIn ws i) ≡ true → rowArguments shown ws bs end i ≡ int (nodeIn ws i .number) ∷ (int (childrenAt ws bs end i) ∷ [])
   unfolding rowArguments
   row-group h = rw h
@@ -127,32 +82,11 @@ unfolding controlArguments
 controls-length i names [] = refl
 controls-length i names (c ∷ l) = let e : length (controlArguments (i + 1) names l) ≡ 2 * length l = controls-length (i + 1) names l in omega arith
 
-pub label-place : (i j : ℕ) (names : List ParameterName) (l : List ControlValue) → j < length l → getD (controlArguments i names l) (2 * j) (int 0) ≡ labelArgument (firstName (i + j) names) (i + j)
-unfolding controlArguments
-label-place i j names [] h = absurd (omega arith)
-label-place i zero names (c ∷ l) h = let e : i + 0 ≡ i = omega arith in rw e
-label-place i (suc j) names (c ∷ l) h =
-    let on : i + 1 + j ≡ i + suc j = omega arith in
-    let two : 2 * suc j ≡ suc (suc (2 * j)) = omega arith in
-    rw two (label-place (i + 1) j names l (omega arith) ∙ ap (λ (k : ℕ). labelArgument (firstName k names) k) on)
-
-pub value-place : (i j : ℕ) (names : List ParameterName) (l : List ControlValue) → j < length l
-    → getD (controlArguments i names l) (2 * j + 1) (int 0) ≡ mappingArgument (getD l j noControl .mapping) (getD l j noControl .own)
-unfolding controlArguments
-value-place i j names [] h = absurd (omega arith)
-value-place i zero names (c ∷ l) h = refl
-value-place i (suc j) names (c ∷ l) h =
-    let two : 2 * suc j + 1 ≡ suc (suc (2 * j + 1)) = omega arith in
-    rw two (value-place (i + 1) j names l (omega arith))
-
 -- a lookup's first name is the model's
 pub first-same : (i : ℕ) (names : List ParameterName) → lookup.firstName i names ≡ firstName i names
 unfolding firstOf firstName
 first-same i [] = refl
 first-same i (p ∷ names) = ap (λ (o : Option (List ℕ)). pick (eqb (p .index) i) (some (p .name)) o) (first-same i names)
-
-label-found : (s : List ℕ) (j : ℕ) (f : NameFound) (p : Piece) → (o : Option (List ℕ)) → partOf s f ≡ o → pieceArgument s p ≡ labelArgument (partOf s f) j → pieceArgument s p ≡ labelArgument o j
-label-found s j f p o e h = h ∙ ap (λ (x : Option (List ℕ)). labelArgument x j) e
 
 -- a mapping word of a synth's own controls is at most 4,096
 mapping-few : (n j : ℕ) (us : List ℕ) → j < n → mappingsFormed n us ≡ true → getD us (2 * j + 1) 0 ≤ busCount

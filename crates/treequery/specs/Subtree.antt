@@ -1,10 +1,10 @@
 -- /g_queryTree: the rows below the group, its checks and its reply.
-use Prim.Native.Nat.{ℕ, zero, suc, _+_, _*_, _-_, _%_, _≤_, _<_}
+use Prim.Native.Nat.{ℕ, suc, _+_, _*_, _-_, _≤_, _<_}
 use mathlib.Core.Bool.{Bool, true, false, not}
 use mathlib.Core.Path.{_≡_, refl, sym, ap, ap₂, _∙_}
-use mathlib.Core.List.{List, [], _∷_, _++_, append-assoc}
+use mathlib.Core.List.{List, [], _∷_}
 use native.Mathlib.Omega.{arith}
-use lib.ListN.{length, take, drop, getD, replicate, length-append, length-drop, length-replicate}
+use lib.ListN.{length, take, drop, getD, length-drop}
 use lib.Seq.{take-add, drop-at, length-take-le}
 use lib.Dec.{ltb, eqb}
 use Rattle.words.specs.Choice.{pick}
@@ -12,12 +12,10 @@ use Rattle.words.specs.Parts.{region}
 use Rattle.words.specs.declared.Refusal.the-variants.{NoNode, WrongKind}
 use Rattle.nodes.specs.declared.Node.{Node}
 use Rattle.nodes.specs.Table.{width, rows, rows-length, rows-take}
-use Rattle.nodes.specs.Place.{place, deeper, deeper-most, isGroup}
+use Rattle.nodes.specs.Place.{deeper, deeper-most, isGroup}
 use Rattle.nodes.specs.Structure.{childCount}
 use Rattle.tree.specs.Sizes.{endAt}
-use Rattle.osc.specs.Message.{Argument, int, message, padded, tags, arguments}
-use Rattle.osc.specs.Over.{over, over-over}
-use Rattle.osc.specs.Lengths.{padded-size, tags-size, frontSize, message-size}
+use Rattle.osc.specs.Message.{int, message}
 use Rattle.model.specs.declared.Query.the-variants as query
 use Rattle.model.specs.declared.Answer.{Answer}
 use Rattle.model.specs.declared.Answer.the-variants.{Refused}
@@ -27,7 +25,6 @@ use Rattle.model.specs.View.{Row, view, viewRows, viewOf}
 use Rattle.model.specs.Meaning.{meant}
 use Rattle.model.specs.Checks.{firstOf, queryChecks}
 use Rattle.model.specs.Replies.{reply, replyTo, treeReply, treeAddress, flagNumber, treeArguments, subtreeRows, rowsBelow}
-use Rattle.replies.specs.Words.{wordBytes}
 use Rattle.names.specs.Named.{Named, named-known, named-unknown}
 use Rattle.controls.specs.Ready.{nodeIn}
 use Rattle.queries.specs.Held.{At}
@@ -36,7 +33,7 @@ use Rattle.queries.specs.Found.{subtree-found}
 use Rattle.queries.specs.Info.{here, number-here, node-here}
 use Rattle.queries.specs.Status.{viewFrom, view-from}
 use Rattle.treequery.specs.RowArguments.{viewTo}
-use Rattle.treequery.specs.Left.{leftRows}
+use Rattle.treequery.specs.Rows.{leftRows}
 
 -- the rows below a depth are the run of deeper records
 below-rows : (slots : List Slot) (cs : List ℕ) (d : ℕ) (l : List Node) → rowsBelow d (viewRows slots cs l) ≡ viewRows slots cs (take (deeper d l) l)

@@ -6,7 +6,6 @@ use osc::put_decimal;
 use osc::put_int;
 use osc::put_padded;
 use osc::put_zeros;
-use synthdef::definition_name_in;
 use synthdef::part;
 ghost use Prim.Native.Nat.{ℕ, _+_, _≤_, _<_};
 ghost use mathlib.Core.List.{List};
@@ -16,12 +15,11 @@ ghost use Rattle.osc.specs.Message.{tagOf, padded};
 ghost use Rattle.osc.specs.Over.{over};
 ghost use Rattle.treequery.specs.Pieces.{pieceArgument, pieceBytes, mappedText, mostBytes, Sized, Puts, MappedRoom};
 
-// An integer; a float; a name, a part of a definition's bytes; the definition's own name; 'c' and the decimal bus.
+// An integer; a float; a name, a part of a definition's bytes; 'c' and the decimal bus.
 pub enum Piece {
     Whole(u32),
     Pattern(u32),
     Part(usize, usize),
-    Title,
     Mapped(u32),
 }
 
@@ -33,7 +31,6 @@ pub fn piece_tag(piece: Piece) -> u8
         Piece::Whole(_n) => 105,
         Piece::Pattern(_p) => 102,
         Piece::Part(_start, _end) => 115,
-        Piece::Title => 115,
         Piece::Mapped(_bus) => 115,
     }
 }
@@ -47,7 +44,6 @@ pub fn piece_size(definition: &[u8], piece: Piece) -> usize
         Piece::Whole(_n) => 4,
         Piece::Pattern(_p) => 4,
         Piece::Part(start, end) => padded_length(part(definition, start, end).len()),
-        Piece::Title => padded_length(definition_name_in(definition).len()),
         Piece::Mapped(bus) => padded_length(1 + decimal_length(bus)),
     }
 }
@@ -72,7 +68,6 @@ pub fn put_piece(out: &mut [u8], at: usize, definition: &[u8], piece: Piece)
         Piece::Whole(n) => put_int(out, at, n),
         Piece::Pattern(pattern) => put_int(out, at, pattern),
         Piece::Part(start, end) => put_padded(out, at, part(definition, start, end)),
-        Piece::Title => put_padded(out, at, definition_name_in(definition)),
         Piece::Mapped(bus) => put_mapped(out, at, bus),
     }
 }

@@ -1,8 +1,8 @@
 // The whole reply.
-use crate::write::put_tree_arguments;
-use crate::write::put_tree_tags;
-use crate::write::tree_bytes;
-use crate::write::tree_tags;
+use crate::count::count_tree;
+use crate::places::Places;
+use crate::shapes::tree_shapes;
+use crate::write::put_tree;
 use controls::node_is_group;
 use model::Answer;
 use names::node_place;
@@ -15,21 +15,18 @@ use tree::child_count;
 use tree::subtree_end;
 use words::Refusal;
 use words::wide;
-ghost use Prim.Native.Nat.{ℕ, _+_, _≤_};
 ghost use mathlib.Core.Bool.{not};
 ghost use mathlib.Core.List.{_∷_};
 ghost use mathlib.Core.Path.{_≡_};
 ghost use lib.Dec.{eqb};
-ghost use lib.ListN.{length};
-ghost use Rattle.osc.specs.Message.{int, message, tags, arguments};
-ghost use Rattle.osc.specs.Over.{over};
+ghost use Rattle.osc.specs.Message.{int, message};
 ghost use Rattle.model.specs.declared.Query.the-variants as query;
 ghost use Rattle.model.specs.Replies.{treeAddress, flagNumber};
 ghost use Rattle.replies.specs.Sent.{Sends};
 ghost use Rattle.state.specs.Known.{Known};
 ghost use Rattle.state.specs.Does.{Reply};
-ghost use Rattle.treequery.specs.Left.{Run, leftRows};
-ghost use Rattle.treequery.specs.TreeMessage.{treeHead, treeBody, HeadRoom};
+ghost use Rattle.treequery.specs.Rows.{Run, leftRows};
+ghost use Rattle.treequery.specs.TreeMessage.{treeFront, FrontRoom};
 
 // "Any nonzero flag is 1."
 fn is_shown(flag: u32) -> bool
@@ -47,43 +44,16 @@ fn flag_number(shown: bool) -> u32
     0
 }
 
-// The address and the tags.
-fn put_head(
-    out: &mut [u8],
-    words: &[u32],
-    shelf: &[u8],
-    shown: bool,
-    from: usize,
-    end: usize,
-    many: usize,
-)
-    requires { ⌜ (Run (now words) (now shelf) from end) × (HeadRoom (tags (leftRows shown (now words) (now shelf) end from)) many (now out)) ⌝ }
-    ensures { λ r. ⌜ now (out .exit) ≡ over 0 (treeHead (tags (leftRows shown (now (words .entry)) (now (shelf .entry)) end from))) (now (out .entry)) ⌝ }
+// What stands before and between the rows' tags and arguments: the address, the first tags, the zeros behind the tags, the first arguments.
+fn put_front(out: &mut [u8], many: usize, front: usize, shown: bool, number: u32, children: u32)
+    requires { ⌜ FrontRoom many front (now out) ⌝ }
+    ensures { λ r. ⌜ now (out .exit) ≡ treeFront many front (flagNumber shown) number children (now (out .entry)) ⌝ }
 {
     put_padded(out, 0, b"/g_queryTree.reply");
     put_bytes(out, 20, b",iii");
-    let next = put_tree_tags(out, 24, words, shelf, shown, from, end);
-    put_zeros(out, next, 4 - (many + 4) % 4);
-}
-
-// The arguments.
-fn put_body(
-    out: &mut [u8],
-    at: usize,
-    words: &[u32],
-    shelf: &[u8],
-    shown: bool,
-    from: usize,
-    end: usize,
-    number: u32,
-    children: u32,
-)
-    requires { ⌜ (Run (now words) (now shelf) from end) × (at + (12 + length (arguments (leftRows shown (now words) (now shelf) end from))) ≤ length (now out)) ⌝ }
-    ensures { λ r. ⌜ now (out .exit) ≡ over at (treeBody (flagNumber shown) number children (arguments (leftRows shown (now (words .entry)) (now (shelf .entry)) end from))) (now (out .entry)) ⌝ }
-{
+    put_zeros(out, 24 + many, 4 - (many + 4) % 4);
     let told = [flag_number(shown), number, children];
-    put_words(out, at, &told);
-    put_tree_arguments(out, at + 12, words, shelf, shown, from, end);
+    put_words(out, front, &told);
 }
 
 // The reply of the rows from one place to another.
@@ -100,16 +70,21 @@ fn send_tree(
     requires { ⌜ Run (now words) (now shelf) from end ⌝ }
     ensures { λ r. ⌜ Sends (message treeAddress (int (flagNumber shown) ∷ (int number ∷ (int children ∷ leftRows shown (now (words .entry)) (now (shelf .entry)) end from)))) (now (out .entry)) r (now (out .exit)) ⌝ }
 {
-    let many = tree_tags(words, shelf, shown, from, end);
-    let bytes = tree_bytes(words, shelf, shown, from, end);
+    let shapes = tree_shapes(words, shelf, shown, from, end);
+    let size = count_tree(words, shelf, &shapes, shown, from, end);
+    let many = size.tag;
     let front = 20 + padded_length(many + 4);
-    let size = front + 12 + bytes;
-    if out.len() < size {
+    let whole = front + 12 + size.byte;
+    if out.len() < whole {
         return Answer::Refused(Refusal::NoRoom);
     }
-    put_head(out, words, shelf, shown, from, end, many);
-    put_body(out, front, words, shelf, shown, from, end, number, children);
-    Answer::Replied(size)
+    put_front(out, many, front, shown, number, children);
+    let places = Places {
+        tag: 24,
+        byte: front + 12,
+    };
+    put_tree(out, places, words, shelf, &shapes, shown, from, end);
+    Answer::Replied(whole)
 }
 
 // The tree below a group.

@@ -4,8 +4,7 @@ use native.Mathlib.Omega.{arith}
 use borrow.Author.Needs.{needs}
 use lib.ListN.{length}
 use Rattle.words.specs.Parts.{region}
-use Rattle.synthdef.specs.Lookup.{nameIn}
-use Rattle.treequery.specs.Pieces.{pieceArgument, mappedText, digits-few, part-short, name-short, sized-text}
+use Rattle.treequery.specs.Pieces.{pieceArgument, mappedText, digits-few, part-short, sized-text}
 use Rattle.treequery.proofs.piece.piece_size.Statement.{statement}
 use Rattle.treequery.proofs.piece.piece_size.Tie as tie
 
@@ -24,15 +23,6 @@ part-requires c κs = search needs
 padded-length-requires : tie.Need-padded-length-requires
 padded-length-requires c κs = search needs
 
-enum-told : tie.Need-enum-told
-enum-told c = search needs
-
-definition-name-in-requires : tie.Need-definition-name-in-requires
-definition-name-in-requires c κs = search needs
-
-padded-length-requires-2 : tie.Need-padded-length-requires-2
-padded-length-requires-2 c κs = search needs
-
 enum-known-piece-4 : tie.Need-enum-known-piece-4
 enum-known-piece-4 c = search needs
 
@@ -42,8 +32,8 @@ decimal-length-requires c κs = search needs
 add-padded-length : tie.Need-add-padded-length
 add-padded-length c = omega (arith, c .decimal-length .ensures, digits-few (c .before .before .piece4 .given .0 .0))
 
-padded-length-requires-3 : tie.Need-padded-length-requires-3
-padded-length-requires-3 c κs = omega (arith, c .decimal-length .ensures, digits-few (c .before .before .piece4 .given .0 .0))
+padded-length-requires-2 : tie.Need-padded-length-requires-2
+padded-length-requires-2 c κs = omega (arith, c .decimal-length .ensures, digits-few (c .before .before .piece4 .given .0 .0))
 
 returns : tie.Need-returns
 returns c = search needs
@@ -61,16 +51,10 @@ returns-3 c =
 
 returns-4 : tie.Need-returns-4
 returns-4 c =
-    let s = c .before .before .before .before .before .args .definition .now in
-    sized-text s (c .before .before .before .before .before .args .piece) (nameIn s) (length (c .before .definition-name-in .result .now)) (c .padded-length2 .result) (ap (pieceArgument s) (c .before .before .enum-told .given .1)) (ap length (c .before .definition-name-in .ensures))
-    (omega (arith, name-short s)) (c .padded-length2 .ensures)
-
-returns-5 : tie.Need-returns-5
-returns-5 c =
     let s = c .before .before .before .before .before .before .args .definition .now in
     let g = c .before .before .before .piece4 .given in
-    sized-text s (c .before .before .before .before .before .before .args .piece) (mappedText (g .0 .0)) (1 + c .before .decimal-length .result) (c .padded-length3 .result) (ap (pieceArgument s) (g .1)) (omega (arith, c .before .decimal-length .ensures))
-    (omega (arith, digits-few (g .0 .0))) (c .padded-length3 .ensures)
+    sized-text s (c .before .before .before .before .before .before .args .piece) (mappedText (g .0 .0)) (1 + c .before .decimal-length .result) (c .padded-length2 .result) (ap (pieceArgument s) (g .1)) (omega (arith, c .before .decimal-length .ensures))
+    (omega (arith, digits-few (g .0 .0))) (c .padded-length2 .ensures)
 
 pub piece-size-spec : {M : Type 1} → statement M
 piece-size-spec =
@@ -81,15 +65,11 @@ piece-size-spec =
     enum-known-piece-3
     part-requires
     padded-length-requires
-    enum-told
-    definition-name-in-requires
-    padded-length-requires-2
     enum-known-piece-4
     decimal-length-requires
     add-padded-length
-    padded-length-requires-3
+    padded-length-requires-2
     returns
     returns-2
     returns-3
-    returns-4
-    returns-5)
+    returns-4)

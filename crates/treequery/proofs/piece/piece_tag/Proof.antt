@@ -15,9 +15,6 @@ enum-known-piece-2 c = search needs
 enum-known-piece-3 : tie.Need-enum-known-piece-3
 enum-known-piece-3 c = search needs
 
-enum-told : tie.Need-enum-told
-enum-told c = search needs
-
 enum-known-piece-4 : tie.Need-enum-known-piece-4
 enum-known-piece-4 c = search needs
 
@@ -31,10 +28,7 @@ returns-3 : tie.Need-returns-3
 returns-3 c = λ s. sym (ap (λ (p : Piece). tagOf (pieceArgument s p)) (c .before .piece3 .given .1))
 
 returns-4 : tie.Need-returns-4
-returns-4 c = λ s. sym (ap (λ (p : Piece). tagOf (pieceArgument s p)) (c .enum-told .given .1))
-
-returns-5 : tie.Need-returns-5
-returns-5 c = λ s. sym (ap (λ (p : Piece). tagOf (pieceArgument s p)) (c .before .piece4 .given .1))
+returns-4 c = λ s. sym (ap (λ (p : Piece). tagOf (pieceArgument s p)) (c .before .piece4 .given .1))
 
 pub piece-tag-spec : {M : Type 1} → statement M
 piece-tag-spec =
@@ -43,10 +37,8 @@ piece-tag-spec =
     enum-known-piece
     enum-known-piece-2
     enum-known-piece-3
-    enum-told
     enum-known-piece-4
     returns
     returns-2
     returns-3
-    returns-4
-    returns-5)
+    returns-4)

@@ -32,15 +32,6 @@ part-requires c κs = search needs
 put-padded-requires : tie.Need-put-padded-requires
 put-padded-requires c κs = omega (arith, ap (length {A = ℕ}) (ap (pieceBytes (c .before .before .before .before .before .before .before .args .definition .now)) (c .before .before .before .piece3 .given .1)), ap (λ (l : List ℕ). length (padded l)) (c .part .ensures))
 
-enum-told : tie.Need-enum-told
-enum-told c = search needs
-
-definition-name-in-requires : tie.Need-definition-name-in-requires
-definition-name-in-requires c κs = search needs
-
-put-padded-requires-2 : tie.Need-put-padded-requires-2
-put-padded-requires-2 c κs = omega (arith, ap (length {A = ℕ}) (ap (pieceBytes (c .before .before .before .before .before .before .args .definition .now)) (c .before .before .enum-told .given .1)), ap (λ (l : List ℕ). length (padded l)) (c .definition-name-in .ensures))
-
 enum-known-piece-4 : tie.Need-enum-known-piece-4
 enum-known-piece-4 c = search needs
 
@@ -80,14 +71,6 @@ same-length-4 c = search needs
 returns-4 : tie.Need-returns-4
 returns-4 c =
     let a = c .before .before .before .before .before .before .before .before .before .args in
-    c .before .before .put-padded2 .ensures ∙ ap (λ (l : List ℕ). over (a .at) (padded l) (a .out .now)) (c .before .before .before .definition-name-in .ensures) ∙ ap (λ (l : List ℕ). over (a .at) l (a .out .now)) (sym (ap (pieceBytes (c .before .before .before .before .before .before .before .before .before .args .definition .now)) (c .before .before .before .before .before .enum-told .given .1)))
-
-same-length-5 : tie.Need-same-length-5
-same-length-5 c = search needs
-
-returns-5 : tie.Need-returns-5
-returns-5 c =
-    let a = c .before .before .before .before .before .before .before .before .before .args in
     c .before .before .put-mapped .ensures ∙ ap (λ (l : List ℕ). over (a .at) l (a .out .now)) (sym (ap (pieceBytes (c .before .before .before .before .before .before .before .before .before .args .definition .now)) (c .before .before .before .before .before .piece4 .given .1)))
 
 pub put-piece-spec : {M : Type 1} → statement M
@@ -101,9 +84,6 @@ put-piece-spec =
     enum-known-piece-3
     part-requires
     put-padded-requires
-    enum-told
-    definition-name-in-requires
-    put-padded-requires-2
     enum-known-piece-4
     put-mapped-requires
     same-length
@@ -113,6 +93,4 @@ put-piece-spec =
     same-length-3
     returns-3
     same-length-4
-    returns-4
-    same-length-5
-    returns-5)
+    returns-4)

@@ -3,11 +3,10 @@ use mathlib.Core.Path.{_≡_}
 use mathlib.Core.List.{List}
 use mathlib.Core.Logic.{⊎-elim}
 use native.Mathlib.Omega.{arith}
-use borrow.Author.Needs.{needs}
 use borrow.Author.Tests.{lt-ltb, le-ltb, eq-eqb, ne-eqb}
 use Rattle.model.specs.Replies.{rowsBelow, rowsAt}
 use Rattle.treequery.specs.RowArguments.{depthAt, viewTo, childrenAt}
-use Rattle.treequery.specs.RowPlaces.{children-turn, children-end}
+use Rattle.treequery.specs.Rows.{children-turn, children-end}
 use Rattle.treequery.proofs.row.children_at.Statement.{statement}
 use Rattle.treequery.proofs.row.children_at.Tie as tie
 

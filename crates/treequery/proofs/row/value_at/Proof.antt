@@ -1,12 +1,11 @@
 use Prim.Native.Nat.{ℕ, _+_, _*_}
 use mathlib.Core.Path.{_≡_, ap₂, subst, _∙_}
-use native.Mathlib.Omega.{arith}
 use borrow.Author.Needs.{needs}
 use lib.ListN.{getD}
 use Rattle.values.specs.Controls.{ControlValue, controlAt, seen}
 use Rattle.model.specs.Layout.{controlsIn}
 use Rattle.controls.specs.Asked.{controlIn}
-use Rattle.treequery.specs.RowPlaces.{Shown}
+use Rattle.treequery.specs.Rows.{Shown}
 use Rattle.treequery.proofs.row.value_at.Statement.{statement}
 use Rattle.treequery.proofs.row.value_at.Tie as tie
 

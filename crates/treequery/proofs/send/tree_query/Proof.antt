@@ -18,7 +18,7 @@ use Rattle.controls.specs.Ready.{nodeIn}
 use Rattle.queries.specs.Answers.{reply-refused, reply-sent}
 use Rattle.queries.specs.Held.{At}
 use Rattle.queries.specs.Info.{here-number}
-use Rattle.treequery.specs.Left.{leftRows}
+use Rattle.treequery.specs.Rows.{leftRows}
 use Rattle.treequery.specs.Subtree.{end-most, tree-unknown, tree-synth, tree-passes, tree-reply}
 use Rattle.treequery.proofs.send.tree_query.Statement.{statement}
 use Rattle.treequery.proofs.send.tree_query.Tie as tie

@@ -1,0 +1,80 @@
+use Prim.Native.Nat.{_+_, _-_, _≤_, _<_}
+use native.Mathlib.Omega.{arith}
+use borrow.Author.Needs.{needs}
+use Rattle.treequery.specs.RowArguments.{rowArguments, rows-turn, rows-none}
+use Rattle.treequery.specs.Places.{Left, left-all, left-some, left-less, left-none}
+use Rattle.treequery.specs.Rows.{leftRows, row-of}
+use Rattle.treequery.proofs.write.put_tree.Statement.{statement}
+use Rattle.treequery.proofs.write.put_tree.Tie as tie
+
+abbrev Inv-loop : tie.InvT-loop
+Inv-loop out₀ words shelf shapes shown from end next₀ i₀ out next i =
+    (from ≤ i)
+    × (i ≤ end)
+    × Left next₀ (leftRows shown words shelf end from) out₀ next (leftRows shown words shelf end i) out
+
+abbrev μ-loop : tie.MeasureT-loop
+μ-loop out₀ words shelf shapes shown from end next₀ i₀ out next i = end - i
+
+loop-holds : tie.Need-loop-holds Inv-loop μ-loop
+loop-holds c =
+    let s = c .before .before .before in
+    (omega arith, s .pre .0 .run .order, left-all (s .pre .1))
+
+put-row-requires : tie.Need-put-row-requires Inv-loop μ-loop
+put-row-requires c κs =
+    let s = c .before .before .before .before .before .before in
+    let ws = s .args .words .now in
+    let bs = s .args .shelf .now in
+    let shown = s .args .shown in
+    let end = s .args .end in
+    let i = c .before .before .loop .i in
+    let inv = c .before .before .loop .inv in
+    let less : i < end = omega (arith, c .before .loop-test .taken) in
+    (row-of shown ws bs (s .args .shapes .now) (s .args .from) end i (s .pre .0) (inv .0) less, left-some (rowArguments shown ws bs end i) (leftRows shown ws bs end (i + 1)) (inv .2) (rows-turn shown ws bs end i less))
+
+add-i : tie.Need-add-i Inv-loop μ-loop
+add-i c = omega arith
+
+loop-less : tie.Need-loop-less Inv-loop μ-loop
+loop-less c = omega arith
+
+loop-again : tie.Need-loop-again Inv-loop μ-loop
+loop-again c =
+    let s = c .before .before .before .before .before .before .before .before .before in
+    let ws = s .args .words .now in
+    let bs = s .args .shelf .now in
+    let shown = s .args .shown in
+    let end = s .args .end in
+    let i = c .before .before .before .before .before .loop .i in
+    let inv = c .before .before .before .before .before .loop .inv in
+    let less : i < end = omega (arith, c .before .before .before .before .loop-test .taken) in
+    (omega arith, omega arith, left-less (rowArguments shown ws bs end i) (leftRows shown ws bs end (i + 1)) (inv .2) (rows-turn shown ws bs end i less) (c .before .before .put-row .ensures))
+
+same-length : tie.Need-same-length Inv-loop μ-loop
+same-length c = search needs
+
+returns : tie.Need-returns Inv-loop μ-loop
+returns c =
+    let s = c .before .before .before .before .before in
+    let ws = s .args .words .now in
+    let bs = s .args .shelf .now in
+    let shown = s .args .shown in
+    let end = s .args .end in
+    let i = c .before .loop .i in
+    let inv = c .before .loop .inv in
+    left-none (inv .2) (rows-none shown ws bs end i (omega (arith, c .loop-test .left)))
+
+pub put-tree-spec : {M : Type 1} → statement M
+put-tree-spec =
+    tie.close
+    (tie.spec
+    Inv-loop
+    μ-loop
+    loop-holds
+    put-row-requires
+    add-i
+    loop-less
+    loop-again
+    same-length
+    returns)

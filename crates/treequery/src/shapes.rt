@@ -1,0 +1,84 @@
+// What the reply needs of the definitions, looked up once for each slot: 33 words, P + 1 (0 before the slot was looked up) and for each
+// control the place of its label, 0 where it has no name.
+use controls::node_definition;
+use controls::node_is_group;
+use controls::node_row;
+use controls::parameter_count;
+use readable::labels;
+use words::wide;
+ghost use Prim.Native.Nat.{_<_};
+ghost use mathlib.Core.Bool.{true};
+ghost use mathlib.Core.Path.{_≡_};
+ghost use lib.ListN.{length};
+ghost use Rattle.readable.specs.Readable.{Readable};
+ghost use Rattle.queries.specs.Held.{At};
+ghost use Rattle.treequery.specs.Shapes.{shapesLength, Shapes, Filled, Told, LookedUp};
+ghost use Rattle.treequery.specs.Rows.{Run, Shaped, SynthAt};
+
+// A synth: the row of its controls, the place of its definition's shape, P.
+pub struct Synth {
+    pub row: u32,
+    pub first: usize,
+    pub many: u32,
+}
+
+// The synth at a place of the table.
+pub fn synth_at(words: &[u32], shelf: &[u8], shapes: &[u32; 1056], place: usize) -> Synth
+    requires { ⌜ Shaped (now words) (now shelf) (now shapes) place ⌝ }
+    ensures { λ r. ⌜ SynthAt (now (words .entry)) (now (shelf .entry)) place r ⌝ }
+{
+    let row = node_row(words, place);
+    let first = 33 * wide(words[68 + 5 * place + 3]);
+    Synth {
+        row: row,
+        first: first,
+        many: shapes[first] - 1,
+    }
+}
+
+// A definition's shape into its slot's part.
+fn look_up(shapes: &mut [u32; 1056], slot: usize, definition: &[u8])
+    requires { ⌜ (slot < 32) × (length (now shapes) ≡ shapesLength) × (Readable (now definition)) ⌝ }
+    ensures { λ r. ⌜ Filled (now (definition .entry)) slot (now (shapes .entry)) (now (shapes .exit)) ⌝ }
+{
+    let places = labels(definition);
+    let first = 33 * slot;
+    shapes[first] = parameter_count(definition) + 1;
+    let mut j = 0;
+    while j < 32 {
+        shapes[first + 1 + j] = places[j];
+        j += 1;
+    }
+}
+
+// The shape of the definition of a row's synth, unless its slot was looked up before.
+fn look_up_row(shapes: &mut [u32; 1056], words: &[u32], shelf: &[u8], place: usize)
+    requires { ⌜ (At (now words) (now shelf) place) × (Told (now words) (now shelf) (now shapes)) ⌝ }
+    ensures { λ r. ⌜ LookedUp (now (words .entry)) (now (shelf .entry)) place (now (shapes .entry)) (now (shapes .exit)) ⌝ }
+{
+    if node_is_group(words, place) {
+        return;
+    }
+    let slot = wide(words[68 + 5 * place + 3]);
+    if shapes[33 * slot] != 0 {
+        return;
+    }
+    look_up(shapes, slot, node_definition(words, shelf, place));
+}
+
+// The shapes of the synths' definitions, from one place of the table to another, where controls are shown.
+pub fn tree_shapes(words: &[u32], shelf: &[u8], shown: bool, from: usize, end: usize) -> [u32; 1056]
+    requires { ⌜ Run (now words) (now shelf) from end ⌝ }
+    ensures { λ r. ⌜ (shown ≡ true → Shapes (now (words .entry)) (now (shelf .entry)) from end r) ⌝ }
+{
+    let mut shapes = [0u32; 1056];
+    if !shown {
+        return shapes;
+    }
+    let mut i = from;
+    while i < end {
+        look_up_row(&mut shapes, words, shelf, i);
+        i += 1;
+    }
+    shapes
+}
