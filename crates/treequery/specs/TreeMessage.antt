@@ -9,7 +9,8 @@ use Rattle.osc.specs.Over.{over, over-length, over-over}
 use Rattle.osc.specs.Lengths.{padded-size}
 use Rattle.model.specs.Replies.{treeAddress}
 use Rattle.replies.specs.Words.{wordBytes, word-bytes-size}
-use Rattle.treequery.specs.Places.{mostTags, over-before, over-swap}
+use Rattle.treequery.specs.Places.{mostTags}
+use Rattle.treequery.specs.Apart.{over-before, over-swap}
 
 -- the tags of the flag, the group and the number of its children
 abbrev pub firstTags : List ℕ

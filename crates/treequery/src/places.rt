@@ -9,7 +9,8 @@ ghost use Prim.Native.Nat.{ℕ};
 ghost use mathlib.Core.List.{[], _∷_};
 ghost use Rattle.osc.specs.Message.{int};
 ghost use Rattle.treequery.specs.Pieces.{pieceArgument};
-ghost use Rattle.treequery.specs.Places.{Counts, Counted, CountsPiece, Room, Wrote, PutsPiece};
+ghost use Rattle.treequery.specs.Counting.{Counts, Counted, CountsPiece};
+ghost use Rattle.treequery.specs.Writing.{Room, Wrote, PutsPiece};
 
 // The place of the next tag, and of the next argument's first byte.
 pub struct Places {

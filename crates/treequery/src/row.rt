@@ -17,7 +17,9 @@ ghost use Rattle.model.specs.Replies.{labelArgument};
 ghost use Rattle.controls.specs.Asked.{controlIn};
 ghost use Rattle.treequery.specs.Pieces.{pieceArgument, isSmall};
 ghost use Rattle.treequery.specs.RowArguments.{childrenAt};
-ghost use Rattle.treequery.specs.Rows.{Table, Shown, LabelThere};
+ghost use Rattle.treequery.specs.Children.{Table};
+ghost use Rattle.treequery.specs.Shown.{Shown};
+ghost use Rattle.treequery.specs.Controls.{LabelThere};
 
 // How many children the node at a place has, among the records before an end.
 pub fn children_at(words: &[u32], end: usize, place: usize) -> u32

@@ -13,7 +13,8 @@ ghost use lib.ListN.{length};
 ghost use Rattle.readable.specs.Readable.{Readable};
 ghost use Rattle.queries.specs.Held.{At};
 ghost use Rattle.treequery.specs.Shapes.{shapesLength, Shapes, Filled, Told, LookedUp};
-ghost use Rattle.treequery.specs.Rows.{Run, Shaped, SynthAt};
+ghost use Rattle.treequery.specs.Rows.{Run};
+ghost use Rattle.treequery.specs.Controls.{Shaped, SynthAt};
 
 // A synth: the row of its controls, the place of its definition's shape, P.
 pub struct Synth {

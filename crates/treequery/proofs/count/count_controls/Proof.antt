@@ -5,8 +5,9 @@ use native.Mathlib.Omega.{arith}
 use Rattle.osc.specs.Message.{Argument, int}
 use Rattle.queries.specs.Held.{bounds}
 use Rattle.treequery.specs.Pieces.{pieceArgument}
-use Rattle.treequery.specs.Places.{Counting, counting-all, counting-some, counting-less, counting-none}
-use Rattle.treequery.specs.Rows.{Controls, controlsLeft, controls-short, controls-all, controls-end, control-few, control-row, label-there, valueOf, control-turn}
+use Rattle.treequery.specs.Counting.{Counting, counting-all, counting-some, counting-less, counting-none}
+use Rattle.treequery.specs.Controls.{Controls, controls-short, controls-all, controls-end, control-few, control-row, label-there, valueOf, control-turn}
+use Rattle.treequery.specs.SynthRow.{controlsLeft}
 use Rattle.treequery.proofs.count.count_controls.Statement.{statement}
 use Rattle.treequery.proofs.count.count_controls.Tie as tie
 

@@ -9,8 +9,9 @@ use Rattle.controls.specs.Ready.{nodeIn}
 use Rattle.queries.specs.Held.{bounds}
 use Rattle.treequery.specs.Pieces.{pieceArgument}
 use Rattle.treequery.specs.RowArguments.{childrenAt, row-group}
-use Rattle.treequery.specs.Places.{counting-all, counting-some, counting-less, counting-none}
-use Rattle.treequery.specs.Rows.{controlsShown, row-some, synth-short, title-within, synth-turn, synth-hidden}
+use Rattle.treequery.specs.Counting.{counting-all, counting-some, counting-less, counting-none}
+use Rattle.treequery.specs.SynthRow.{controlsShown, synth-short, title-within, synth-turn, synth-hidden}
+use Rattle.treequery.specs.Rows.{row-some}
 use Rattle.treequery.proofs.count.count_row.Statement.{statement}
 use Rattle.treequery.proofs.count.count_row.Tie as tie
 

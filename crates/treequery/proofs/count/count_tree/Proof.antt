@@ -1,7 +1,8 @@
 use Prim.Native.Nat.{_+_, _-_, _≤_, _<_}
 use native.Mathlib.Omega.{arith}
 use Rattle.treequery.specs.RowArguments.{rowArguments, rows-turn, rows-none}
-use Rattle.treequery.specs.Places.{nowhere, counts-first, counted-all, Counting, counting-all, counting-some, counting-less, counting-none}
+use Rattle.treequery.specs.Places.{nowhere}
+use Rattle.treequery.specs.Counting.{counts-first, counted-all, Counting, counting-all, counting-some, counting-less, counting-none}
 use Rattle.treequery.specs.Rows.{leftRows, row-of, rows-few}
 use Rattle.treequery.proofs.count.count_tree.Statement.{statement}
 use Rattle.treequery.proofs.count.count_tree.Tie as tie

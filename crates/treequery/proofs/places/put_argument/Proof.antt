@@ -1,6 +1,7 @@
 use native.Mathlib.Omega.{arith}
 use borrow.Author.Needs.{needs}
-use Rattle.treequery.specs.Places.{piece-bytes-size, wrote-piece}
+use Rattle.treequery.specs.Places.{piece-bytes-size}
+use Rattle.treequery.specs.Writing.{wrote-piece}
 use Rattle.treequery.proofs.places.put_argument.Statement.{statement}
 use Rattle.treequery.proofs.places.put_argument.Tie as tie
 

@@ -1,6 +1,7 @@
 use native.Mathlib.Omega.{arith}
 use borrow.Author.Needs.{needs}
-use Rattle.treequery.specs.Places.{pair-size, wrote-pair}
+use Rattle.treequery.specs.Places.{pair-size}
+use Rattle.treequery.specs.Writing.{wrote-pair}
 use Rattle.treequery.proofs.places.put_pair.Statement.{statement}
 use Rattle.treequery.proofs.places.put_pair.Tie as tie
 

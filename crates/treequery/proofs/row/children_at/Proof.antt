@@ -6,7 +6,7 @@ use native.Mathlib.Omega.{arith}
 use borrow.Author.Tests.{lt-ltb, le-ltb, eq-eqb, ne-eqb}
 use Rattle.model.specs.Replies.{rowsBelow, rowsAt}
 use Rattle.treequery.specs.RowArguments.{depthAt, viewTo, childrenAt}
-use Rattle.treequery.specs.Rows.{children-turn, children-end}
+use Rattle.treequery.specs.Children.{children-turn, children-end}
 use Rattle.treequery.proofs.row.children_at.Statement.{statement}
 use Rattle.treequery.proofs.row.children_at.Tie as tie
 

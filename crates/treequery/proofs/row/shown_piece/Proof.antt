@@ -2,7 +2,7 @@ use mathlib.Core.Path.{_∙_}
 use borrow.Author.Needs.{needs}
 use Rattle.values.specs.Controls.{seen}
 use Rattle.values.specs.ControlLaws.{seen-mapping}
-use Rattle.treequery.specs.Rows.{shown-own, shown-bus}
+use Rattle.treequery.specs.Shown.{shown-own, shown-bus}
 use Rattle.treequery.proofs.row.shown_piece.Statement.{statement}
 use Rattle.treequery.proofs.row.shown_piece.Tie as tie
 

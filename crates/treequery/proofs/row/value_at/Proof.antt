@@ -5,7 +5,7 @@ use lib.ListN.{getD}
 use Rattle.values.specs.Controls.{ControlValue, controlAt, seen}
 use Rattle.model.specs.Layout.{controlsIn}
 use Rattle.controls.specs.Asked.{controlIn}
-use Rattle.treequery.specs.Rows.{Shown}
+use Rattle.treequery.specs.Shown.{Shown}
 use Rattle.treequery.proofs.row.value_at.Statement.{statement}
 use Rattle.treequery.proofs.row.value_at.Tie as tie
 

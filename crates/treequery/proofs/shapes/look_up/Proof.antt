@@ -3,7 +3,7 @@ use mathlib.Core.Path.{_≡_, _∙_}
 use native.Mathlib.Omega.{arith}
 use lib.ListN.{set, length-set}
 use Rattle.controls.specs.Encoded.{values-few}
-use Rattle.treequery.specs.Shapes.{Filling, filling-none, filling-turn, filling-done}
+use Rattle.treequery.specs.Filling.{Filling, filling-none, filling-turn, filling-done}
 use Rattle.treequery.proofs.shapes.look_up.Statement.{statement}
 use Rattle.treequery.proofs.shapes.look_up.Tie as tie
 
@@ -20,7 +20,7 @@ mul-first : tie.Need-mul-first Inv-loop μ-loop
 mul-first c = omega arith
 
 parameter-count-requires : tie.Need-parameter-count-requires Inv-loop μ-loop
-parameter-count-requires c κs = tt
+parameter-count-requires c κs = c .before .before .pre .2
 
 add-shapes : tie.Need-add-shapes Inv-loop μ-loop
 add-shapes c = omega (arith, c .parameter-count .ensures, values-few (c .before .before .before .args .definition .now))

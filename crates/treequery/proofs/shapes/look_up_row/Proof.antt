@@ -7,8 +7,9 @@ use lib.ListN.{getD}
 use native.Mathlib.Nat.{pos-of-ne-zero}
 use Rattle.controls.specs.Ready.{nodeIn, slotBytes}
 use Rattle.queries.specs.Held.{bounds}
-use Rattle.treequery.specs.Shapes.{Filled, looked-group, looked-before, looked-now}
-use Rattle.treequery.specs.Rows.{slot-told, synth-slot, synth-readable}
+use Rattle.treequery.specs.Shapes.{Filled}
+use Rattle.treequery.specs.LookUp.{looked-group, looked-before, looked-now}
+use Rattle.treequery.specs.SynthRow.{slot-told, synth-slot, synth-readable}
 use Rattle.treequery.proofs.shapes.look_up_row.Statement.{statement}
 use Rattle.treequery.proofs.shapes.look_up_row.Tie as tie
 

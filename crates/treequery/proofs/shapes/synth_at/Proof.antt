@@ -4,7 +4,7 @@ use native.Mathlib.Omega.{arith}
 use borrow.Author.Needs.{needs}
 use lib.ListN.{getD}
 use Rattle.queries.specs.Held.{bounds}
-use Rattle.treequery.specs.Rows.{slot-told, synth-slot}
+use Rattle.treequery.specs.SynthRow.{slot-told, synth-slot}
 use Rattle.treequery.proofs.shapes.synth_at.Statement.{statement}
 use Rattle.treequery.proofs.shapes.synth_at.Tie as tie
 

@@ -5,7 +5,8 @@ use native.Mathlib.Omega.{arith}
 use lib.ListN.{getD}
 use Rattle.nodes.specs.Place.{isGroup}
 use Rattle.controls.specs.Ready.{nodeIn}
-use Rattle.treequery.specs.Shapes.{Told, looked-more, looked-all, told-none}
+use Rattle.treequery.specs.Shapes.{Told}
+use Rattle.treequery.specs.LookUp.{looked-more, looked-all, told-none}
 use Rattle.treequery.specs.Rows.{run-at, run-slot}
 use Rattle.treequery.proofs.shapes.tree_shapes.Statement.{statement}
 use Rattle.treequery.proofs.shapes.tree_shapes.Tie as tie

@@ -6,8 +6,9 @@ use borrow.Author.Needs.{needs}
 use Rattle.osc.specs.Message.{Argument, int}
 use Rattle.queries.specs.Held.{bounds}
 use Rattle.treequery.specs.Pieces.{pieceArgument}
-use Rattle.treequery.specs.Places.{Left, left-all, left-some, left-less, left-none}
-use Rattle.treequery.specs.Rows.{Controls, controlsLeft, controls-short, controls-all, controls-end, control-few, control-row, label-there, valueOf, control-turn, value-small}
+use Rattle.treequery.specs.Writing.{Left, left-all, left-some, left-less, left-none}
+use Rattle.treequery.specs.Controls.{Controls, controls-short, controls-all, controls-end, control-few, control-row, label-there, valueOf, control-turn, value-small}
+use Rattle.treequery.specs.SynthRow.{controlsLeft}
 use Rattle.treequery.proofs.write.put_controls.Statement.{statement}
 use Rattle.treequery.proofs.write.put_controls.Tie as tie
 

@@ -11,8 +11,9 @@ use Rattle.model.specs.Layout.{nodesPlace}
 use Rattle.controls.specs.Ready.{nodeIn, slotBytes}
 use Rattle.queries.specs.Held.{bounds}
 use Rattle.treequery.specs.Pieces.{pieceArgument}
-use Rattle.treequery.specs.Places.{left-all, left-some, left-less, left-none}
-use Rattle.treequery.specs.Rows.{controlsShown, group-turn, number-told, synth-short, title-within, synth-pair, synth-turn, synth-hidden}
+use Rattle.treequery.specs.Writing.{left-all, left-some, left-less, left-none}
+use Rattle.treequery.specs.SynthRow.{controlsShown, synth-short, title-within, synth-pair, synth-turn, synth-hidden}
+use Rattle.treequery.specs.Rows.{group-turn, number-told}
 use Rattle.treequery.proofs.write.put_row.Statement.{statement}
 use Rattle.treequery.proofs.write.put_row.Tie as tie
 

@@ -2,7 +2,7 @@ use Prim.Native.Nat.{_+_, _-_, _≤_, _<_}
 use native.Mathlib.Omega.{arith}
 use borrow.Author.Needs.{needs}
 use Rattle.treequery.specs.RowArguments.{rowArguments, rows-turn, rows-none}
-use Rattle.treequery.specs.Places.{Left, left-all, left-some, left-less, left-none}
+use Rattle.treequery.specs.Writing.{Left, left-all, left-some, left-less, left-none}
 use Rattle.treequery.specs.Rows.{leftRows, row-of}
 use Rattle.treequery.proofs.write.put_tree.Statement.{statement}
 use Rattle.treequery.proofs.write.put_tree.Tie as tie
