@@ -27,15 +27,28 @@ fn make_room(words: &mut [u32], from: usize, to: usize, at: usize)
     }
 }
 
-// The words from `from` up to `to` taken out, and put in at a place of those that are left.
+// The words from `from` up to `to` taken out, and put in at a place of those that are left, by way of `run`.
+fn move_through(words: &mut [u32], from: usize, to: usize, at: usize, run: &mut [u32])
+    requires { ⌜ (from ≤ to) × ((to ≤ length (now words)) × ((at + (to - from) ≤ length (now words)) × (to - from ≤ length (now run)))) ⌝ }
+    ensures { λ r. ⌜ now (words .exit) ≡ putIn at (take (to - from) (drop from (now (words .entry)))) (without from to (now (words .entry))) ⌝ }
+{
+    copy_words(run, 0, &words[from..to], to - from);
+    make_room(words, from, to, at);
+    copy_words(words, at, run, to - from);
+}
+
+// The same. A short run, of up to 16 records, goes by way of a short array.
 fn move_words(words: &mut [u32], from: usize, to: usize, at: usize)
     requires { ⌜ (from ≤ to) × ((to ≤ length (now words)) × ((at + (to - from) ≤ length (now words)) × (to - from ≤ 1280))) ⌝ }
     ensures { λ r. ⌜ now (words .exit) ≡ putIn at (take (to - from) (drop from (now (words .entry)))) (without from to (now (words .entry))) ⌝ }
 {
-    let mut run = [0u32; 1280];
-    copy_words(&mut run, 0, &words[from..to], to - from);
-    make_room(words, from, to, at);
-    copy_words(words, at, &run, to - from);
+    if to - from <= 80 {
+        let mut run = [0u32; 80];
+        move_through(words, from, to, at, &mut run);
+    } else {
+        let mut run = [0u32; 1280];
+        move_through(words, from, to, at, &mut run);
+    }
 }
 
 // The records from `from` up to `to` taken from the depth `old` to the depth `new`.

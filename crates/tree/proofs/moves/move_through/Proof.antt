@@ -1,5 +1,5 @@
--- `tree::moves::move_words` meets its contract: the words are copied out, room is made, and they are copied in.
-use lib.ListN.{replicate, length-take, take, drop, length-drop}
+-- `tree::moves::move_through` meets its contract: the words are copied out, room is made, and they are copied in.
+use lib.ListN.{length-take, take, drop, length-drop}
 use native.Mathlib.Nat.{zero-add}
 use lib.Seq.{take-take, take-paste, paste}
 use Prim.Native.Nat.{ℕ, _-_}
@@ -8,11 +8,8 @@ use mathlib.Core.List.{List}
 use native.Mathlib.Omega.{arith}
 use borrow.Author.Needs.{needs}
 use Rattle.tree.specs.Moves.{put-between}
-use Rattle.tree.proofs.moves.move_words.Statement.{statement}
-use Rattle.tree.proofs.moves.move_words.Tie as tie
-
-slice-aggregate-copy-words : tie.Need-slice-aggregate-copy-words
-slice-aggregate-copy-words c = search needs
+use Rattle.tree.proofs.moves.move_through.Statement.{statement}
+use Rattle.tree.proofs.moves.move_through.Tie as tie
 
 mul-copy-words : tie.Need-mul-copy-words
 mul-copy-words c = search needs
@@ -35,9 +32,6 @@ copy-words-requires c κs = search needs
 make-room-requires : tie.Need-make-room-requires
 make-room-requires c κs = search needs
 
-slice-aggregate-copy-words-2 : tie.Need-slice-aggregate-copy-words-2
-slice-aggregate-copy-words-2 c = search needs
-
 sub-copy-words-3 : tie.Need-sub-copy-words-3
 sub-copy-words-3 c = search needs
 
@@ -47,24 +41,26 @@ copy-words-requires-2 c κs = search needs
 same-length : tie.Need-same-length
 same-length c = search needs
 
+same-length-2 : tie.Need-same-length-2
+same-length-2 c = search needs
+
 returns : tie.Need-returns
 returns c =
     let r = c .before .before .before .before .before .before .before in
-    let f = r .before .before .before in
-    let a = f .before .before .before .before .before .args in
+    let f = r .before .before .before .before in
+    let a = f .before .before .before .before .before .before .args in
     let us = a .words .now in
     let g = a .to - a .from in
     let out : take g (f .copy-words .last .0) ≡ take g (take g (drop (a .from) us)) =
-    ap (λ (l : List ℕ). take g l) (f .copy-words .ensures) ∙ ap (λ (k : ℕ). take k (paste (replicate 1280 0) 0 (take g (drop (a .from) us)) g)) (sym (zero-add g))
-    ∙ take-paste (replicate 1280 0) 0 (take g (drop (a .from) us)) g (omega arith) (simp (length-take, length-drop) (omega arith)) in
+    ap (λ (l : List ℕ). take g l) (f .copy-words .ensures) ∙ ap (λ (k : ℕ). take k (paste (a .run .now) 0 (take g (drop (a .from) us)) g)) (sym (zero-add g))
+    ∙ take-paste (a .run .now) 0 (take g (drop (a .from) us)) g (omega arith) (simp (length-take, length-drop) (omega arith)) in
     c .before .before .copy-words2 .ensures
     ∙ put-between us (a .from) (a .to) (a .at) (omega arith) (omega arith) (r .make-room .last .0) (f .copy-words .last .0) (r .make-room .ensures) (out ∙ take-take g g (drop (a .from) us) (omega arith))
 
-pub move-words-spec : {M : Type 1} → statement M
-move-words-spec =
+pub move-through-spec : {M : Type 1} → statement M
+move-through-spec =
     tie.close
     (tie.spec
-    slice-aggregate-copy-words
     mul-copy-words
     sub-copy-words
     part-copy-words-start
@@ -72,8 +68,8 @@ move-words-spec =
     sub-copy-words-2
     copy-words-requires
     make-room-requires
-    slice-aggregate-copy-words-2
     sub-copy-words-3
     copy-words-requires-2
     same-length
+    same-length-2
     returns)
