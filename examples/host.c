@@ -12,13 +12,13 @@
 static const uint8_t ping[46] = "SCgf\0\0\0\2\0\1\4ping\0\0\0\0\0\0\0\1\x43\xdc\0\0\0\0\0\1\4freq\0\0\0\0\0\0\0";
 
 int main(void) {
-    uint64_t words_length = engine_words(), shelf_length = engine_shelf();
+    uint64_t words_length = engine_words(), arena_length = engine_arena();
     uint32_t *words = malloc(4 * words_length);
-    uint8_t *shelf = malloc(shelf_length), reply[64] = {0};
-    if (!words || !shelf) return 2;
+    uint8_t *arena = malloc(arena_length), reply[64] = {0};
+    if (!words || !arena) return 2;
 #define APPLY(op, a, b, c, d, e, bytes, length) \
-    engine_apply(op, a, b, c, d, e, (const uint8_t *)(bytes), length, words, words_length, shelf, shelf_length, reply, sizeof reply)
-    printf("fresh: %" PRIu32 "\n", engine_fresh(words, words_length, shelf, shelf_length));
+    engine_apply(op, a, b, c, d, e, (const uint8_t *)(bytes), length, words, words_length, arena, arena_length, reply, sizeof reply)
+    printf("fresh: %" PRIu32 "\n", engine_fresh(words, words_length, arena, arena_length));
     printf("/d_recv: %" PRIu64 "\n", APPLY(1, 0, 0, 0, 0, 0, ping, sizeof ping));
     printf("/s_new ping 1000 1 0: %" PRIu64 "\n", APPLY(3, 1000, 1, 0, 0, 0, "ping", 4));
     printf("/s_new ping 1000 1 0, again: %" PRIu64 "\n", APPLY(3, 1000, 1, 0, 0, 0, "ping", 4));
@@ -28,6 +28,6 @@ int main(void) {
     for (uint64_t i = 0; i < answer / 256; i++) printf(" %02x", reply[i]);
     printf("\n");
     free(words);
-    free(shelf);
+    free(arena);
     return 0;
 }

@@ -36,10 +36,10 @@ uint64_t synthdef_name_end(const uint8_t *file, size_t length, uint32_t index);
 
 /* The lengths of the runs, in words and in bytes. */
 uint64_t engine_words(void);
-uint64_t engine_shelf(void);
+uint64_t engine_arena(void);
 
 /* Makes a fresh engine of the two runs. Answers 0, or 1 where a length is wrong. */
-uint32_t engine_fresh(uint32_t *words, size_t words_length, uint8_t *shelf, size_t shelf_length);
+uint32_t engine_fresh(uint32_t *words, size_t words_length, uint8_t *arena, size_t arena_length);
 
 /* Does a command, or refuses it and changes nothing. Answers the refusal's number, 0 where it was
  * accepted, plus 256 times the place (refusals 2 to 11) or the length that was written to the reply
@@ -67,7 +67,7 @@ uint32_t engine_fresh(uint32_t *words, size_t words_length, uint8_t *shelf, size
 uint64_t engine_apply(uint32_t op, uint32_t a, uint32_t b, uint32_t c, uint32_t d, uint32_t e,
                       const uint8_t *bytes, size_t bytes_length,
                       uint32_t *words, size_t words_length,
-                      uint8_t *shelf, size_t shelf_length,
+                      uint8_t *arena, size_t arena_length,
                       uint8_t *reply, size_t reply_length);
 
 #ifdef __cplusplus

@@ -1,19 +1,18 @@
--- What the commands of buses do: they look neither at the shelf nor at the bytes beside the command.
-use Prim.Native.Nat.{ℕ, _+_, _≤_}
+-- What the commands of buses do: they look neither at the arena nor at the bytes beside the command.
+use Prim.Native.Nat.{ℕ, _+_}
 use mathlib.Core.Bool.{Bool, true, false, not}
 use mathlib.Core.Path.{_≡_, refl, sym, ap, _∙_}
 use mathlib.Core.List.{List}
 use native.Mathlib.Omega.{arith}
-use borrow.Author.Tests.{le-leb, leb-true}
 use lib.ListN.{length, set, replicate}
 use lib.Dec.{leb}
-use Rattle.words.specs.Choice.{pick, both, both-true}
+use Rattle.words.specs.Choice.{pick, both-true}
 use Rattle.words.specs.Parts.{put, region-length}
-use Rattle.words.specs.declared.Refusal.the-variants.{NoBus, BadValue}
+use Rattle.refusals.specs.declared.Refusal.the-variants.{NoBus, BadValue}
 use Rattle.values.specs.declared.Value.{Value}
 use Rattle.values.specs.declared.ValuePattern.the-variants.{Pattern, OutOfBounds}
-use Rattle.values.specs.Values.{inBounds, pattern, patternOf}
-use Rattle.values.specs.ValueLaws.{pattern-told, bounds-told}
+use Rattle.values.specs.Values.{patternOf}
+use Rattle.values.specs.ValueLaws.{pattern-fact, bounds-fact}
 use Rattle.model.specs.declared.BusCommand.{BusCommand}
 use Rattle.model.specs.declared.BusCommand.the-variants.{Set, Fill}
 use Rattle.model.specs.declared.Command.the-variants as command
@@ -25,7 +24,7 @@ use Rattle.model.specs.Meaning.{isNegative, isBus, isBusRange}
 use Rattle.model.specs.Checks.{firstOf}
 use Rattle.model.specs.Effects.{effect, busEffect}
 use Rattle.model.specs.After.{wordsAfter}
-use Rattle.model.specs.Door.{answerIn}
+use Rattle.model.specs.Apply.{answerIn}
 use Rattle.state.specs.Does.{WordsStep}
 
 abbrev pub Steps : BusCommand → List ℕ → Answer → List ℕ → Type 0
@@ -44,12 +43,12 @@ module _ (bus : ℕ) (value : Value) (ws : List ℕ) where
 
   pub set-bad-value : isBus bus ≡ true → patternOf value ≡ OutOfBounds → Steps (Set bus value) ws (Refused BadValue) ws
   unfolding answerIn firstOf
-  set-bad-value h v bytes bs = record { answers = rw (h, bounds-told value v); words = refl }
+  set-bad-value h v bytes bs = record { answers = rw (h, bounds-fact value v); words = refl }
 
   pub set-done : isBus bus ≡ true → (p : ℕ) → patternOf value ≡ Pattern p → Steps (Set bus value) ws Done (putBuses (set (busesIn ws) bus p) ws)
   unfolding answerIn firstOf
   set-done h p v bytes bs =
-      let t = pattern-told value p v in
+      let t = pattern-fact value p v in
       record {
         answers = rw (h, t .0);
         words = ap (λ (k : ℕ). putBuses (set (busesIn ws) bus k) ws) (sym (t .1)) ∙ sym (after (Set bus value) bytes ws bs);
@@ -63,7 +62,7 @@ module _ (start count : ℕ) (value : Value) (ws : List ℕ) where
 
   pub fill-bad-value : isBusRange start count ≡ true → patternOf value ≡ OutOfBounds → Steps (Fill start count value) ws (Refused BadValue) ws
   unfolding answerIn firstOf
-  fill-bad-value h v bytes bs = record { answers = rw (h, bounds-told value v); words = refl }
+  fill-bad-value h v bytes bs = record { answers = rw (h, bounds-fact value v); words = refl }
 
   -- a range of buses is all there
   range-there : length ws ≡ wordsLength → isBusRange start count ≡ true → leb (start + count) (length (busesIn ws)) ≡ true
@@ -73,7 +72,7 @@ module _ (start count : ℕ) (value : Value) (ws : List ℕ) where
       → Steps (Fill start count value) ws Done (putBuses (pick (leb (start + count) (length (busesIn ws))) (put start count (replicate count p) (busesIn ws)) (busesIn ws)) ws)
   unfolding answerIn firstOf
   fill-done size h p v bytes bs =
-      let t = pattern-told value p v in
+      let t = pattern-fact value p v in
       record {
         answers = rw (h, t .0);
         words = ap (λ (b : Bool). putBuses (pick b (put start count (replicate count p) (busesIn ws)) (busesIn ws)) ws) (range-there size h)

@@ -1,40 +1,38 @@
 -- What the commands of controls do: each row of the table, and the change of the node's run of places.
-use Prim.Native.Nat.{ℕ, _+_, _-_, _*_, _≤_, _<_}
+use Prim.Native.Nat.{ℕ, _+_, _-_, _≤_, _<_}
 use mathlib.Core.Bool.{Bool, true, false, not}
 use mathlib.Core.Path.{_≡_, refl, sym, ap, _∙_}
 use mathlib.Core.List.{List, [], _∷_}
 use native.Mathlib.Omega.{arith}
-use lib.ListN.{length, take, drop}
+use lib.ListN.{take, drop}
 use lib.Dec.{eqb}
 use Rattle.words.specs.Choice.{pick, either}
-use Rattle.words.specs.Parts.{region, region-length}
-use Rattle.words.specs.declared.Refusal.{Refusal}
-use Rattle.words.specs.declared.Refusal.the-variants.{NoNode, NoControl, NoBus, BadValue}
+use Rattle.words.specs.Parts.{region}
+use Rattle.refusals.specs.declared.Refusal.{Refusal}
+use Rattle.refusals.specs.declared.Refusal.the-variants.{NoNode, NoControl, NoBus, BadValue}
 use Rattle.nodes.specs.declared.Node.{Node}
-use Rattle.nodes.specs.Table.{width, rows, nodeFrom}
 use Rattle.nodes.specs.Place.{end-most}
-use Rattle.nodes.specs.Edit.{runOf}
 use Rattle.values.specs.declared.Key.{Key}
 use Rattle.values.specs.declared.Value.{Value}
-use Rattle.values.specs.declared.ValuePattern.the-variants.{Pattern, OutOfBounds}
+use Rattle.values.specs.declared.ValuePattern.the-variants.{Pattern}
 use Rattle.values.specs.Controls.{ControlValue, setTo, mapTo}
 use Rattle.values.specs.Values.{inBounds, pattern, patternOf}
-use Rattle.values.specs.ValueLaws.{pattern-told, bounds-told}
+use Rattle.values.specs.ValueLaws.{pattern-fact}
 use Rattle.model.specs.declared.ControlCommand.{ControlCommand}
 use Rattle.model.specs.declared.ControlCommand.the-variants as controls
 use Rattle.model.specs.declared.Command.the-variants as command
 use Rattle.model.specs.declared.Answer.{Answer}
 use Rattle.model.specs.declared.Answer.the-variants.{Done, Refused}
-use Rattle.model.specs.Layout.{wordsLength, nodesPlace, nodesWords, countIn, nodesIn, controlsIn, putControls}
-use Rattle.model.specs.Engine.{Slot, Engine, decode}
-use Rattle.model.specs.Meaning.{minusOne, isBus, meant, known, node, mappingTo}
-use Rattle.model.specs.Checks.{Check, check, firstOf, noControls}
+use Rattle.model.specs.Layout.{nodesPlace, nodesWords, countIn, nodesIn, controlsIn, putControls}
+use Rattle.model.specs.Engine.{Engine, decode}
+use Rattle.model.specs.Meaning.{minusOne, isBus, meant, known, mappingTo}
+use Rattle.model.specs.Checks.{check, firstOf, noControls}
 use Rattle.model.specs.Effects.{effect, controlEffect, changeAll, changed}
 use Rattle.model.specs.After.{wordsAfter}
-use Rattle.model.specs.Door.{answerIn, isAccepted}
+use Rattle.model.specs.Apply.{answerIn, isAccepted}
 use Rattle.state.specs.Known.{Known}
 use Rattle.state.specs.Does.{WordsStep}
-use Rattle.tree.specs.Sizes.{Placed, depthAt, endAt}
+use Rattle.tree.specs.Sizes.{depthAt, endAt}
 use Rattle.names.specs.Named.{Named, named-known, named-unknown, named-place}
 use Rattle.names.specs.Here.{named-here}
 use Rattle.controls.specs.declared.control.Change.{Change}
@@ -49,7 +47,7 @@ Steps c bytes ws bs a ws′ = WordsStep (command.Controls c) bytes ws bs a ws′
 
 -- what the functions of `controls` ask
 pub ready : (ws bs : List ℕ) → Known ws bs → Ready ws bs
-ready ws bs k = record { size = k .size; shelfSize = k .shelfSize; few = k .few; fields = k .tree .fields; slots = k .slots }
+ready ws bs k = record { size = k .size; arenaSize = k .arenaSize; few = k .few; fields = k .tree .fields; slots = k .slots }
 
 -- the end of the run of the node at a place
 abbrev pub runEnd : List ℕ → ℕ → ℕ
@@ -158,14 +156,14 @@ module _ (n : ℕ) (key : Key) (bytes ws bs : List ℕ) where
 -- what each command comes to once its node is found and its value or bus is one
 module _ (n : ℕ) (key : Key) (bytes ws bs : List ℕ) (at : ℕ) (named : Named n ws at) (live : at < countIn ws) (a : Answer) (ws′ : List ℕ) where
   pub set-ran : (value : Value) (p : ℕ) → patternOf value ≡ Pattern p → Changed (change.Set p) key 1 bytes at ws bs a ws′ → Steps (controls.Set n key value) bytes ws bs a ws′
-  set-ran value p told changes =
-      let t = pattern-told value p told in
+  set-ran value p fact changes =
+      let t = pattern-fact value p fact in
       ran n ws bs at named live (controls.Set n key value) (change.Set p) (setTo (pattern value)) key 1 bytes BadValue (not (inBounds value)) a ws′
       (set-row n key bytes ws bs value) refl (ap setTo (sym (t .1))) (ap not (t .0)) changes
 
   pub fill-ran : (count : ℕ) (value : Value) (p : ℕ) → patternOf value ≡ Pattern p → Changed (change.Set p) key count bytes at ws bs a ws′ → Steps (controls.Fill n key count value) bytes ws bs a ws′
-  fill-ran count value p told changes =
-      let t = pattern-told value p told in
+  fill-ran count value p fact changes =
+      let t = pattern-fact value p fact in
       ran n ws bs at named live (controls.Fill n key count value) (change.Set p) (setTo (pattern value)) key count bytes BadValue (not (inBounds value)) a ws′
       (fill-row n key bytes ws bs count value) refl (ap setTo (sym (t .1))) (ap not (t .0)) changes
 

@@ -6,13 +6,13 @@ use controls::is_bus;
 use model::Answer;
 use model::ControlCommand;
 use names::node_place;
+use refusals::Refusal;
 use tree::subtree_end;
 use values::Key;
 use values::Mapping;
 use values::Value;
 use values::ValuePattern;
 use values::value_pattern;
-use words::Refusal;
 use words::wide;
 ghost use Prim.Native.Nat.{_<_};
 ghost use mathlib.Core.Path.{_≡_};
@@ -27,22 +27,22 @@ ghost use Rattle.controlcommands.specs.Steps.{Steps, Changed};
 // Refusal 21, or the controls of the node at a place and of all below it changed.
 fn change_run(
     words: &mut [u32],
-    shelf: &[u8],
+    arena: &[u8],
     at: usize,
     key: Key,
     bytes: &[u8],
     count: u32,
     change: Change,
 ) -> Answer
-    requires { ⌜ Known (now words) (now shelf) × (at < countIn (now words)) ⌝ }
-    ensures { λ r. ⌜ Changed change key count (now (bytes .entry)) at (now (words .entry)) (now (shelf .entry)) r (now (words .exit)) ⌝ }
+    requires { ⌜ Known (now words) (now arena) × (at < countIn (now words)) ⌝ }
+    ensures { λ r. ⌜ Changed change key count (now (bytes .entry)) at (now (words .entry)) (now (arena .entry)) r (now (words .exit)) ⌝ }
 {
-    if controls_missing(words, shelf, at, key, bytes, count) {
+    if controls_missing(words, arena, at, key, bytes, count) {
         return Answer::Refused(Refusal::NoControl);
     }
     let many = wide(words[0]);
     let end = subtree_end(&words[68..1348], many, at);
-    change_all(words, shelf, at, end, key, bytes, count, change);
+    change_all(words, arena, at, end, key, bytes, count, change);
     Answer::Done
 }
 
@@ -53,10 +53,10 @@ fn set_control(
     value: Value,
     bytes: &[u8],
     words: &mut [u32],
-    shelf: &[u8],
+    arena: &[u8],
 ) -> Answer
-    requires { ⌜ Known (now words) (now shelf) ⌝ }
-    ensures { λ r. ⌜ Steps (ControlCommand.Set node key value) (now (bytes .entry)) (now (words .entry)) (now (shelf .entry)) r (now (words .exit)) ⌝ }
+    requires { ⌜ Known (now words) (now arena) ⌝ }
+    ensures { λ r. ⌜ Steps (ControlCommand.Set node key value) (now (bytes .entry)) (now (words .entry)) (now (arena .entry)) r (now (words .exit)) ⌝ }
 {
     let at = node_place(words, node);
     if wide(words[0]) <= at {
@@ -65,7 +65,7 @@ fn set_control(
     match value_pattern(value) {
         ValuePattern::Pattern(pattern) => {
             let change = Change::Set(pattern);
-            change_run(words, shelf, at, key, bytes, 1, change)
+            change_run(words, arena, at, key, bytes, 1, change)
         }
         ValuePattern::OutOfBounds => Answer::Refused(Refusal::BadValue),
     }
@@ -79,10 +79,10 @@ fn fill_controls(
     value: Value,
     bytes: &[u8],
     words: &mut [u32],
-    shelf: &[u8],
+    arena: &[u8],
 ) -> Answer
-    requires { ⌜ Known (now words) (now shelf) ⌝ }
-    ensures { λ r. ⌜ Steps (ControlCommand.Fill node key count value) (now (bytes .entry)) (now (words .entry)) (now (shelf .entry)) r (now (words .exit)) ⌝ }
+    requires { ⌜ Known (now words) (now arena) ⌝ }
+    ensures { λ r. ⌜ Steps (ControlCommand.Fill node key count value) (now (bytes .entry)) (now (words .entry)) (now (arena .entry)) r (now (words .exit)) ⌝ }
 {
     let at = node_place(words, node);
     if wide(words[0]) <= at {
@@ -91,7 +91,7 @@ fn fill_controls(
     match value_pattern(value) {
         ValuePattern::Pattern(pattern) => {
             let change = Change::Set(pattern);
-            change_run(words, shelf, at, key, bytes, count, change)
+            change_run(words, arena, at, key, bytes, count, change)
         }
         ValuePattern::OutOfBounds => Answer::Refused(Refusal::BadValue),
     }
@@ -124,10 +124,10 @@ fn map_control(
     bus: u32,
     bytes: &[u8],
     words: &mut [u32],
-    shelf: &[u8],
+    arena: &[u8],
 ) -> Answer
-    requires { ⌜ Known (now words) (now shelf) ⌝ }
-    ensures { λ r. ⌜ Steps (ControlCommand.Map node key bus) (now (bytes .entry)) (now (words .entry)) (now (shelf .entry)) r (now (words .exit)) ⌝ }
+    requires { ⌜ Known (now words) (now arena) ⌝ }
+    ensures { λ r. ⌜ Steps (ControlCommand.Map node key bus) (now (bytes .entry)) (now (words .entry)) (now (arena .entry)) r (now (words .exit)) ⌝ }
 {
     let at = node_place(words, node);
     if wide(words[0]) <= at {
@@ -138,7 +138,7 @@ fn map_control(
     }
     let mapping = mapping_to(bus);
     let change = Change::Map(mapping);
-    change_run(words, shelf, at, key, bytes, 1, change)
+    change_run(words, arena, at, key, bytes, 1, change)
 }
 
 // A command of controls.
@@ -146,23 +146,23 @@ pub fn control_step(
     command: ControlCommand,
     bytes: &[u8],
     words: &mut [u32],
-    shelf: &[u8],
+    arena: &[u8],
 ) -> Answer
-    requires { ⌜ Known (now words) (now shelf) ⌝ }
-    ensures { λ r. ⌜ Steps command (now (bytes .entry)) (now (words .entry)) (now (shelf .entry)) r (now (words .exit)) ⌝ }
+    requires { ⌜ Known (now words) (now arena) ⌝ }
+    ensures { λ r. ⌜ Steps command (now (bytes .entry)) (now (words .entry)) (now (arena .entry)) r (now (words .exit)) ⌝ }
 {
     match command {
         ControlCommand::Set { node, key, value } => {
-            set_control(node, key, value, bytes, words, shelf)
+            set_control(node, key, value, bytes, words, arena)
         }
         ControlCommand::Fill {
             node,
             key,
             count,
             value,
-        } => fill_controls(node, key, count, value, bytes, words, shelf),
+        } => fill_controls(node, key, count, value, bytes, words, arena),
         ControlCommand::Map { node, key, bus } => {
-            map_control(node, key, bus, bytes, words, shelf)
+            map_control(node, key, bus, bytes, words, arena)
         }
     }
 }

@@ -48,43 +48,43 @@ module _ (cs ws : List ℕ) (size : length ws ≡ wordsLength) (many : length cs
       ap (λ (us : List ℕ). nodeFrom us (width * i))
       (region-before controlsPlace controlsWords cs ws (omega arith) many nodesPlace nodesWords (omega arith))
 
-  pub bytes-kept : (shelf : List ℕ) (k : ℕ) → k < 32 → slotBytes (putControls cs ws) shelf k ≡ slotBytes ws shelf k
-  bytes-kept shelf k h =
-      ap (λ (n : ℕ). take n (take slotRoom (drop (slotRoom * k) shelf)))
+  pub bytes-kept : (arena : List ℕ) (k : ℕ) → k < 32 → slotBytes (putControls cs ws) arena k ≡ slotBytes ws arena k
+  bytes-kept arena k h =
+      ap (λ (n : ℕ). take n (take slotRoom (drop (slotRoom * k) arena)))
       (word-before controlsPlace controlsWords cs ws (omega arith) many (lengthsPlace + k) (omega arith))
 
   -- the node at a place of them
-  module _ (shelf : List ℕ) (ready : Ready ws shelf) (i : ℕ) (few : i < countIn ws) where
-    pub bounds-kept : Bounds (putControls cs ws) shelf i
+  module _ (arena : List ℕ) (ready : Ready ws arena) (i : ℕ) (few : i < countIn ws) where
+    pub bounds-kept : Bounds (putControls cs ws) arena i
     bounds-kept =
         record {
-          size = controls-size cs ws shelf size many;
-          shelfSize = ready .shelfSize;
+          size = controls-size cs ws arena size many;
+          arenaSize = ready .arenaSize;
           place = omega (arith, ready .few);
-          slot = λ e. subst (λ (r : Node). r .slot < slotCount) (sym (node-kept i)) (synth-ready ws shelf ready i few (ap isGroup (sym (node-kept i)) ∙ e) .slot);
-          row = λ e. subst (λ (r : Node). r .row < mostRows) (sym (node-kept i)) (synth-ready ws shelf ready i few (ap isGroup (sym (node-kept i)) ∙ e) .row);
+          slot = λ e. subst (λ (r : Node). r .slot < slotCount) (sym (node-kept i)) (synth-ready ws arena ready i few (ap isGroup (sym (node-kept i)) ∙ e) .slot);
+          row = λ e. subst (λ (r : Node). r .row < mostRows) (sym (node-kept i)) (synth-ready ws arena ready i few (ap isGroup (sym (node-kept i)) ∙ e) .row);
           readable = λ e.
-              let s = synth-ready ws shelf ready i few (ap isGroup (sym (node-kept i)) ∙ e) in
-              let same = ap (λ (r : Node). slotBytes (putControls cs ws) shelf (r .slot)) (node-kept i) ∙ bytes-kept shelf (nodeIn ws i .slot) (s .slot) in
-              subst Readable (sym same) (whole-readable (slotBytes ws shelf (nodeIn ws i .slot)) (s .whole));
+              let s = synth-ready ws arena ready i few (ap isGroup (sym (node-kept i)) ∙ e) in
+              let same = ap (λ (r : Node). slotBytes (putControls cs ws) arena (r .slot)) (node-kept i) ∙ bytes-kept arena (nodeIn ws i .slot) (s .slot) in
+              subst Readable (sym same) (whole-readable (slotBytes ws arena (nodeIn ws i .slot)) (s .whole));
         }
 
     -- its change is the one that its definition gives
     pub change-kept : (f : ControlValue → ControlValue) (key : Key) (name : List ℕ) (count : ℕ) (xs : List ℕ)
-        → changeNode f key name count (putControls cs ws) shelf i xs ≡ changeOne f key name count (decode ws shelf .slots) (nodeIn ws i) xs
+        → changeNode f key name count (putControls cs ws) arena i xs ≡ changeOne f key name count (decode ws arena .slots) (nodeIn ws i) xs
     change-kept f key name count xs =
-        ap (λ (r : Node). pick (isGroup r) xs (changeSynth f key name count (r .row) (slotBytes (putControls cs ws) shelf (r .slot)) xs)) (node-kept i)
+        ap (λ (r : Node). pick (isGroup r) xs (changeSynth f key name count (r .row) (slotBytes (putControls cs ws) arena (r .slot)) xs)) (node-kept i)
         ∙ go (isGroup (nodeIn ws i)) refl
       where
         go : (b : Bool) → isGroup (nodeIn ws i) ≡ b
-            → pick b xs (changeSynth f key name count (nodeIn ws i .row) (slotBytes (putControls cs ws) shelf (nodeIn ws i .slot)) xs)
-            ≡ pick b xs (changeStart f (startOf key name (definitionOf (decode ws shelf .slots) (nodeIn ws i))) (nodeIn ws i .row) count (length (definitionOf (decode ws shelf .slots) (nodeIn ws i) .front .values)) xs)
+            → pick b xs (changeSynth f key name count (nodeIn ws i .row) (slotBytes (putControls cs ws) arena (nodeIn ws i .slot)) xs)
+            ≡ pick b xs (changeStart f (startOf key name (definitionOf (decode ws arena .slots) (nodeIn ws i))) (nodeIn ws i .row) count (length (definitionOf (decode ws arena .slots) (nodeIn ws i) .front .values)) xs)
         go true e = refl
         go false e =
-            let s = synth-ready ws shelf ready i few e in
-            let d = definitionOf (decode ws shelf .slots) (nodeIn ws i) in
-            let bytes = slotBytes (putControls cs ws) shelf (nodeIn ws i .slot) in
-            let front : frontIn bytes ≡ d .front = ap frontIn (bytes-kept shelf (nodeIn ws i .slot) (s .slot)) ∙ sym (s .front) in
+            let s = synth-ready ws arena ready i few e in
+            let d = definitionOf (decode ws arena .slots) (nodeIn ws i) in
+            let bytes = slotBytes (putControls cs ws) arena (nodeIn ws i .slot) in
+            let front : frontIn bytes ≡ d .front = ap frontIn (bytes-kept arena (nodeIn ws i .slot) (s .slot)) ∙ sym (s .front) in
             ap (λ (n : ℕ). changeStart f (startOf key name (frontOnly bytes)) (nodeIn ws i .row) count n xs) (ap (λ (x : Front). length (x .values)) front)
             ∙ rw (start-front key name (frontOnly bytes) d front)
 
@@ -107,34 +107,34 @@ pub put-size : (a k : ℕ) (ys ws : List ℕ) → a + k ≤ length ws → length
 put-size a k ys ws h e = omega (arith, simp (length-append, length-take, length-drop) at e)
 
 -- words that differ from the first in their controls alone, and one node more changed in them
-pub record Turned (f : ControlValue → ControlValue) (key : Key) (name : List ℕ) (count : ℕ) (ws₀ shelf : List ℕ) (to i : ℕ) (ws ws′ : List ℕ) : Type 0 where
+pub record Turned (f : ControlValue → ControlValue) (key : Key) (name : List ℕ) (count : ℕ) (ws₀ arena : List ℕ) (to i : ℕ) (ws ws′ : List ℕ) : Type 0 where
   pub size : length ws′ ≡ wordsLength
   pub rest : ws′ ≡ putControls (controlsIn ws′) ws₀
-  pub left : changeAll f key name count (decode ws₀ shelf .slots) (take (to - (i + 1)) (drop (i + 1) (nodesIn ws₀))) (controlsIn ws′)
-      ≡ changeAll f key name count (decode ws₀ shelf .slots) (take (to - i) (drop i (nodesIn ws₀))) (controlsIn ws)
+  pub left : changeAll f key name count (decode ws₀ arena .slots) (take (to - (i + 1)) (drop (i + 1) (nodesIn ws₀))) (controlsIn ws′)
+      ≡ changeAll f key name count (decode ws₀ arena .slots) (take (to - i) (drop i (nodesIn ws₀))) (controlsIn ws)
 
-pub turned : (f : ControlValue → ControlValue) (key : Key) (name : List ℕ) (count : ℕ) (ws₀ shelf : List ℕ) (to i : ℕ) (ws ws′ : List ℕ)
-    → Ready ws₀ shelf → i < to → to ≤ countIn ws₀ → length ws ≡ wordsLength → ws ≡ putControls (controlsIn ws) ws₀
-    → length ws′ ≡ length ws → ws′ ≡ putControls (changeNode f key name count ws shelf i (controlsIn ws)) ws
-    → Turned f key name count ws₀ shelf to i ws ws′
-turned f key name count ws₀ shelf to i ws ws′ ready h k size rest long told =
+pub turned : (f : ControlValue → ControlValue) (key : Key) (name : List ℕ) (count : ℕ) (ws₀ arena : List ℕ) (to i : ℕ) (ws ws′ : List ℕ)
+    → Ready ws₀ arena → i < to → to ≤ countIn ws₀ → length ws ≡ wordsLength → ws ≡ putControls (controlsIn ws) ws₀
+    → length ws′ ≡ length ws → ws′ ≡ putControls (changeNode f key name count ws arena i (controlsIn ws)) ws
+    → Turned f key name count ws₀ arena to i ws ws′
+turned f key name count ws₀ arena to i ws ws′ ready h k size rest long fact =
     let cs : List ℕ = controlsIn ws in
-    let next : List ℕ = changeNode f key name count ws shelf i cs in
+    let next : List ℕ = changeNode f key name count ws arena i cs in
     let many : length cs ≡ controlsWords = region-length controlsPlace controlsWords ws (omega arith) in
-    let many′ : length next ≡ controlsWords = put-size controlsPlace controlsWords next ws (omega arith) (sym (ap length told) ∙ long) in
-    let here : controlsIn ws′ ≡ next = ap controlsIn told ∙ region-put controlsPlace controlsWords next ws (omega arith) many′ in
-    let step : next ≡ changeOne f key name count (decode ws₀ shelf .slots) (nodeIn ws₀ i) cs =
-    ap (λ (w : List ℕ). changeNode f key name count w shelf i cs) rest ∙ change-kept cs ws₀ (ready .size) many shelf ready i (omega arith) f key name count cs in
+    let many′ : length next ≡ controlsWords = put-size controlsPlace controlsWords next ws (omega arith) (sym (ap length fact) ∙ long) in
+    let here : controlsIn ws′ ≡ next = ap controlsIn fact ∙ region-put controlsPlace controlsWords next ws (omega arith) many′ in
+    let step : next ≡ changeOne f key name count (decode ws₀ arena .slots) (nodeIn ws₀ i) cs =
+    ap (λ (w : List ℕ). changeNode f key name count w arena i cs) rest ∙ change-kept cs ws₀ (ready .size) many arena ready i (omega arith) f key name count cs in
     record {
       size = long ∙ size;
       rest =
-          told
+          fact
           ∙ ap (putControls next) rest
           ∙ put-put controlsPlace controlsWords cs next ws₀ (omega (arith, ready .size)) many
           ∙ ap (λ (l : List ℕ). putControls l ws₀) (sym here);
       left =
-          ap (changeAll f key name count (decode ws₀ shelf .slots) (take (to - (i + 1)) (drop (i + 1) (nodesIn ws₀)))) (here ∙ step)
-          ∙ sym (all-turn f key name count (decode ws₀ shelf .slots) ws₀ to i cs h k);
+          ap (changeAll f key name count (decode ws₀ arena .slots) (take (to - (i + 1)) (drop (i + 1) (nodesIn ws₀)))) (here ∙ step)
+          ∙ sym (all-turn f key name count (decode ws₀ arena .slots) ws₀ to i cs h k);
     }
 
 -- a change looks at no depth
@@ -155,41 +155,41 @@ module _ (f : ControlValue → ControlValue) (key : Key) (name : List ℕ) (coun
       ∙ sym (ap₂ (λ (k : ℕ) (l : List Node). changeAll f key name count slots (take k l) xs) many (row-from c us at live))
 
 -- the synth at a place of words that differ from the first in their controls alone
-pub record Lent (ws₀ shelf ws : List ℕ) (i : ℕ) : Type 0 where
+pub record Lent (ws₀ arena ws : List ℕ) (i : ℕ) : Type 0 where
   pub place : i < mostNodes
   pub low : getD ws (nodesPlace + 5 * i + 3) 0 < slotCount
   pub row : nodeIn ws i .row < mostRows
-  pub readable : Readable (slotBytes ws shelf (getD ws (nodesPlace + 5 * i + 3) 0))
-  pub kept : slotBytes ws shelf (getD ws (nodesPlace + 5 * i + 3) 0) ≡ slotBytes ws₀ shelf (getD ws (nodesPlace + 5 * i + 3) 0)
+  pub readable : Readable (slotBytes ws arena (getD ws (nodesPlace + 5 * i + 3) 0))
+  pub kept : slotBytes ws arena (getD ws (nodesPlace + 5 * i + 3) 0) ≡ slotBytes ws₀ arena (getD ws (nodesPlace + 5 * i + 3) 0)
 
 -- its place in the table
-pub bounds-lent : (ws₀ shelf ws : List ℕ) (i : ℕ) → Ready ws₀ shelf → length ws ≡ wordsLength → ws ≡ putControls (controlsIn ws) ws₀ → i < countIn ws₀ → Bounds ws shelf i
-bounds-lent ws₀ shelf ws i ready size rest few =
+pub bounds-lent : (ws₀ arena ws : List ℕ) (i : ℕ) → Ready ws₀ arena → length ws ≡ wordsLength → ws ≡ putControls (controlsIn ws) ws₀ → i < countIn ws₀ → Bounds ws arena i
+bounds-lent ws₀ arena ws i ready size rest few =
     let many = region-length controlsPlace controlsWords ws (omega arith) in
-    subst (λ (us : List ℕ). Bounds us shelf i) (sym rest) (bounds-kept (controlsIn ws) ws₀ (ready .size) many shelf ready i few)
+    subst (λ (us : List ℕ). Bounds us arena i) (sym rest) (bounds-kept (controlsIn ws) ws₀ (ready .size) many arena ready i few)
 
-pub synth-lent : (ws₀ shelf ws : List ℕ) (i : ℕ) → Ready ws₀ shelf → length ws ≡ wordsLength → ws ≡ putControls (controlsIn ws) ws₀ → i < countIn ws₀
-    → (getD ws (nodesPlace + 5 * i + 3) 0 ≡ groupSlot → ⊥) → Lent ws₀ shelf ws i
-synth-lent ws₀ shelf ws i ready size rest few other =
+pub synth-lent : (ws₀ arena ws : List ℕ) (i : ℕ) → Ready ws₀ arena → length ws ≡ wordsLength → ws ≡ putControls (controlsIn ws) ws₀ → i < countIn ws₀
+    → (getD ws (nodesPlace + 5 * i + 3) 0 ≡ groupSlot → ⊥) → Lent ws₀ arena ws i
+synth-lent ws₀ arena ws i ready size rest few other =
     let many = region-length controlsPlace controlsWords ws (omega arith) in
-    let b = bounds-lent ws₀ shelf ws i ready size rest few in
+    let b = bounds-lent ws₀ arena ws i ready size rest few in
     let low = slot-bound b other in
     record {
       place = b .place;
       low = low;
       row = b .row (is-synth ws i (b .place) other);
       readable = bytes-readable b other;
-      kept = ap (λ (us : List ℕ). slotBytes us shelf (getD ws (nodesPlace + 5 * i + 3) 0)) rest ∙ bytes-kept (controlsIn ws) ws₀ (ready .size) many shelf (getD ws (nodesPlace + 5 * i + 3) 0) low;
+      kept = ap (λ (us : List ℕ). slotBytes us arena (getD ws (nodesPlace + 5 * i + 3) 0)) rest ∙ bytes-kept (controlsIn ws) ws₀ (ready .size) many arena (getD ws (nodesPlace + 5 * i + 3) 0) low;
     }
 
 -- its change, by what a key reaches; and no change of a group
-module _ (f : ControlValue → ControlValue) (key : Key) (name : List ℕ) (count : ℕ) (ws shelf : List ℕ) (i : ℕ) (few : i < mostNodes) where
-  pub reach-change : (r : Reach) → (getD ws (nodesPlace + 5 * i + 3) 0 ≡ groupSlot → ⊥) → Reaches key name (slotBytes ws shelf (getD ws (nodesPlace + 5 * i + 3) 0)) r
-      → changeRow f (nodeIn ws i .row) (r .start) count (r .controls) (controlsIn ws) ≡ changeNode f key name count ws shelf i (controlsIn ws)
+module _ (f : ControlValue → ControlValue) (key : Key) (name : List ℕ) (count : ℕ) (ws arena : List ℕ) (i : ℕ) (few : i < mostNodes) where
+  pub reach-change : (r : Reach) → (getD ws (nodesPlace + 5 * i + 3) 0 ≡ groupSlot → ⊥) → Reaches key name (slotBytes ws arena (getD ws (nodesPlace + 5 * i + 3) 0)) r
+      → changeRow f (nodeIn ws i .row) (r .start) count (r .controls) (controlsIn ws) ≡ changeNode f key name count ws arena i (controlsIn ws)
   reach-change r other reaches =
       reaches .same f count (nodeIn ws i .row) (controlsIn ws)
-      ∙ ap (λ (row : ℕ). changeSynth f key name count row (slotBytes ws shelf (getD ws (nodesPlace + 5 * i + 3) 0)) (controlsIn ws)) (row-word ws i few)
-      ∙ sym (node-synth f key name count ws shelf i few (controlsIn ws) other)
+      ∙ ap (λ (row : ℕ). changeSynth f key name count row (slotBytes ws arena (getD ws (nodesPlace + 5 * i + 3) 0)) (controlsIn ws)) (row-word ws i few)
+      ∙ sym (node-synth f key name count ws arena i few (controlsIn ws) other)
 
-  pub no-change : getD ws (nodesPlace + 5 * i + 3) 0 ≡ groupSlot → ws ≡ putControls (changeNode f key name count ws shelf i (controlsIn ws)) ws
-  no-change e = sym (ap (λ (l : List ℕ). putControls l ws) (node-group f key name count ws shelf i few (controlsIn ws) e) ∙ same-controls ws)
+  pub no-change : getD ws (nodesPlace + 5 * i + 3) 0 ≡ groupSlot → ws ≡ putControls (changeNode f key name count ws arena i (controlsIn ws)) ws
+  no-change e = sym (ap (λ (l : List ℕ). putControls l ws) (node-group f key name count ws arena i few (controlsIn ws) e) ∙ same-controls ws)

@@ -60,15 +60,15 @@ control-in n cs row i h =
     ∙ ap₂ (λ (x y : ℕ). controlAt x y) (getD-drop (rowWords * row) cs (2 * i) 0) (getD-drop (rowWords * row) cs (2 * i + 1) 0 ∙ ap (λ (k : ℕ). getD cs k 0) mapping)
 
 -- of a synth at a place of the table, by its definition's bytes
-module _ (ws shelf : List ℕ) (ready : Ready ws shelf) (i : ℕ) (few : i < countIn ws) (single : isGroup (nodeIn ws i) ≡ false) where
-  front : definitionOf (decode ws shelf .slots) (nodeIn ws i) .front ≡ frontIn (slotBytes ws shelf (nodeIn ws i .slot))
-  front = synth-ready ws shelf ready i few single .front
+module _ (ws arena : List ℕ) (ready : Ready ws arena) (i : ℕ) (few : i < countIn ws) (single : isGroup (nodeIn ws i) ≡ false) where
+  front : definitionOf (decode ws arena .slots) (nodeIn ws i) .front ≡ frontIn (slotBytes ws arena (nodeIn ws i .slot))
+  front = synth-ready ws arena ready i few single .front
 
   pub synth-start : (key : Key) (name : List ℕ)
-      → startOf key name (definitionOf (decode ws shelf .slots) (nodeIn ws i)) ≡ startOf key name (frontOnly (slotBytes ws shelf (nodeIn ws i .slot)))
-  synth-start key name = start-front key name (definitionOf (decode ws shelf .slots) (nodeIn ws i)) (frontOnly (slotBytes ws shelf (nodeIn ws i .slot))) front
+      → startOf key name (definitionOf (decode ws arena .slots) (nodeIn ws i)) ≡ startOf key name (frontOnly (slotBytes ws arena (nodeIn ws i .slot)))
+  synth-start key name = start-front key name (definitionOf (decode ws arena .slots) (nodeIn ws i)) (frontOnly (slotBytes ws arena (nodeIn ws i .slot))) front
 
-  pub synth-many : length (definitionOf (decode ws shelf .slots) (nodeIn ws i) .front .values) ≡ length (frontIn (slotBytes ws shelf (nodeIn ws i .slot)) .values)
+  pub synth-many : length (definitionOf (decode ws arena .slots) (nodeIn ws i) .front .values) ≡ length (frontIn (slotBytes ws arena (nodeIn ws i .slot)) .values)
   synth-many = ap (λ (f : Front). length (f .values)) front
 
   has-front : (o : Option ℕ) (count : ℕ) (d e : Definition) → d .front ≡ e .front → hasControls o count d ≡ hasControls o count e
@@ -76,29 +76,29 @@ module _ (ws shelf : List ℕ) (ready : Ready ws shelf) (i : ℕ) (few : i < cou
   has-front (some start) count d e h = ap (λ (f : Front). leb (start + count) (length (f .values))) h
 
   pub synth-has : (key : Key) (name : List ℕ) (count : ℕ)
-      → hasControls (startOf key name (definitionOf (decode ws shelf .slots) (nodeIn ws i))) count (definitionOf (decode ws shelf .slots) (nodeIn ws i))
-      ≡ hasControls (startOf key name (frontOnly (slotBytes ws shelf (nodeIn ws i .slot)))) count (frontOnly (slotBytes ws shelf (nodeIn ws i .slot)))
+      → hasControls (startOf key name (definitionOf (decode ws arena .slots) (nodeIn ws i))) count (definitionOf (decode ws arena .slots) (nodeIn ws i))
+      ≡ hasControls (startOf key name (frontOnly (slotBytes ws arena (nodeIn ws i .slot)))) count (frontOnly (slotBytes ws arena (nodeIn ws i .slot)))
   synth-has key name count =
-      let d = definitionOf (decode ws shelf .slots) (nodeIn ws i) in
-      let e = frontOnly (slotBytes ws shelf (nodeIn ws i .slot)) in
+      let d = definitionOf (decode ws arena .slots) (nodeIn ws i) in
+      let e = frontOnly (slotBytes ws arena (nodeIn ws i .slot)) in
       ap (λ (o : Option ℕ). hasControls o count d) (synth-start key name) ∙ has-front (startOf key name e) count d e front
 
   -- what reading a control gives
-  pub read-none : (key : Key) (name : List ℕ) → startOf key name (frontOnly (slotBytes ws shelf (nodeIn ws i .slot))) ≡ none
-      → readAt (busesIn ws) (controlsOf (decode ws shelf .slots) (controlsIn ws) (nodeIn ws i)) (startOf key name (definitionOf (decode ws shelf .slots) (nodeIn ws i))) ≡ 0
+  pub read-none : (key : Key) (name : List ℕ) → startOf key name (frontOnly (slotBytes ws arena (nodeIn ws i .slot))) ≡ none
+      → readAt (busesIn ws) (controlsOf (decode ws arena .slots) (controlsIn ws) (nodeIn ws i)) (startOf key name (definitionOf (decode ws arena .slots) (nodeIn ws i))) ≡ 0
   read-none key name e = rw (synth-start key name ∙ e)
 
-  pub read-past : (key : Key) (name : List ℕ) (start : ℕ) → startOf key name (frontOnly (slotBytes ws shelf (nodeIn ws i .slot))) ≡ some start
-      → length (frontIn (slotBytes ws shelf (nodeIn ws i .slot)) .values) ≤ start
-      → readAt (busesIn ws) (controlsOf (decode ws shelf .slots) (controlsIn ws) (nodeIn ws i)) (startOf key name (definitionOf (decode ws shelf .slots) (nodeIn ws i))) ≡ 0
+  pub read-past : (key : Key) (name : List ℕ) (start : ℕ) → startOf key name (frontOnly (slotBytes ws arena (nodeIn ws i .slot))) ≡ some start
+      → length (frontIn (slotBytes ws arena (nodeIn ws i .slot)) .values) ≤ start
+      → readAt (busesIn ws) (controlsOf (decode ws arena .slots) (controlsIn ws) (nodeIn ws i)) (startOf key name (definitionOf (decode ws arena .slots) (nodeIn ws i))) ≡ 0
   read-past key name start e h =
       rw (synth-start key name ∙ e)
-      (ap (shownBy (busesIn ws)) (control-past (length (definitionOf (decode ws shelf .slots) (nodeIn ws i) .front .values)) (drop (rowWords * nodeIn ws i .row) (controlsIn ws)) start (rw synth-many h)))
+      (ap (shownBy (busesIn ws)) (control-past (length (definitionOf (decode ws arena .slots) (nodeIn ws i) .front .values)) (drop (rowWords * nodeIn ws i .row) (controlsIn ws)) start (rw synth-many h)))
 
-  pub read-there : (key : Key) (name : List ℕ) (start : ℕ) → startOf key name (frontOnly (slotBytes ws shelf (nodeIn ws i .slot))) ≡ some start
-      → start < length (frontIn (slotBytes ws shelf (nodeIn ws i .slot)) .values)
-      → readAt (busesIn ws) (controlsOf (decode ws shelf .slots) (controlsIn ws) (nodeIn ws i)) (startOf key name (definitionOf (decode ws shelf .slots) (nodeIn ws i)))
+  pub read-there : (key : Key) (name : List ℕ) (start : ℕ) → startOf key name (frontOnly (slotBytes ws arena (nodeIn ws i .slot))) ≡ some start
+      → start < length (frontIn (slotBytes ws arena (nodeIn ws i .slot)) .values)
+      → readAt (busesIn ws) (controlsOf (decode ws arena .slots) (controlsIn ws) (nodeIn ws i)) (startOf key name (definitionOf (decode ws arena .slots) (nodeIn ws i)))
       ≡ shownBy (busesIn ws) (controlIn (controlsIn ws) (nodeIn ws i .row) start)
   read-there key name start e h =
       rw (synth-start key name ∙ e)
-      (ap (shownBy (busesIn ws)) (control-in (length (definitionOf (decode ws shelf .slots) (nodeIn ws i) .front .values)) (controlsIn ws) (nodeIn ws i .row) start (rw synth-many h)))
+      (ap (shownBy (busesIn ws)) (control-in (length (definitionOf (decode ws arena .slots) (nodeIn ws i) .front .values)) (controlsIn ws) (nodeIn ws i .row) start (rw synth-many h)))

@@ -18,7 +18,7 @@ use Rattle.synthdef.specs.RepeatLaws.{went-on, repeat-length}
 use Rattle.synthdef.specs.Definition.{ParameterName, Front, Definition}
 use Rattle.synthdef.specs.Reader.{sameName, mostParameters, parameterName, readFront, readUnits, variant, readDefinition}
 use Rattle.words.specs.Choice.{pick}
-use Rattle.words.specs.declared.Refusal.the-variants.{BadCount}
+use Rattle.faults.specs.declared.Fault.the-variants.{BadCount}
 use Rattle.values.specs.declared.Key.{Key}
 use Rattle.values.specs.declared.Key.the-variants.{Index, Name}
 use Rattle.model.specs.Engine.{valueOr, firstIndex}
@@ -89,9 +89,9 @@ count-of : (r : Read Front) → numberOr (onRead r found.Nothing (λ f next. fou
 count-of (got f p) = refl
 count-of (bad q place) = refl
 
-pub parameters-told : (s : List ℕ) → numberOr (parametersIn s) ≡ length (frontIn s .values)
+pub parameters-fact : (s : List ℕ) → numberOr (parametersIn s) ≡ length (frontIn s .values)
 unfolding frontIn
-parameters-told s = count-of (readFront s 0)
+parameters-fact s = count-of (readFront s 0)
 
 -- the first entry of a name
 first-of : (name : List ℕ) (l : List ParameterName) → foundAt (firstNamed name l) ≡ firstIndex name l
@@ -108,9 +108,9 @@ unfolding firstIndex
 index-of name (got f p) = first-of name (f .names)
 index-of name (bad q place) = refl
 
-pub index-told : (name s : List ℕ) → foundAt (indexIn name s) ≡ firstIndex name (frontIn s .names)
+pub index-fact : (name s : List ℕ) → foundAt (indexIn name s) ≡ firstIndex name (frontIn s .names)
 unfolding frontIn
-index-told name s = index-of name (readFront s 0)
+index-fact name s = index-of name (readFront s 0)
 
 -- the test of a start and a count, without a sum
 pub has-past : (start count p : ℕ) → p < start → leb (start + count) p ≡ false

@@ -103,11 +103,11 @@ pub record ValuesAt (s : List ℕ) (start count : ℕ) (xs : List ℕ) : Type 0 
   pub end : 0 < count → start + 4 * count ≤ length s
   pub same : floatsFrom s count start ≡ xs
 
-abbrev told : Read Front → ValuesFound
-told r = onRead r values.Nothing (λ f next. values.At (valuesAt 0 f) (length (f .values)))
+abbrev fact : Read Front → ValuesFound
+fact r = onRead r values.Nothing (λ f next. values.At (valuesAt 0 f) (length (f .values)))
 
-told-at : (s : List ℕ) (r : Read Front) {start count : ℕ} → readFront s 0 ≡ r → told r ≡ values.At start count → ValuesAt s start count (valueOr noFront r .values)
-told-at s (got f p) {start} {count} e h =
+fact-at : (s : List ℕ) (r : Read Front) {start count : ℕ} → readFront s 0 ≡ r → fact r ≡ values.At start count → ValuesAt s start count (valueOr noFront r .values)
+fact-at s (got f p) {start} {count} e h =
     let from : valuesAt 0 f ≡ start = cc in
     let many : length (f .values) ≡ count = cc in
     let read = front-got s 0 e .values in
@@ -116,19 +116,19 @@ told-at s (got f p) {start} {count} e h =
       end = λ some. rw (sym from, sym many) (floats-end s (length (f .values)) (valuesAt 0 f) read (rw (sym many) at some));
       same = rw (sym from, sym many) (floats-read s (length (f .values)) (valuesAt 0 f) read);
     }
-told-at s (bad q place) {start} {count} e h = let z : _≡_ {A = ℕ} 0 1 = cc in absurd (omega arith)
+fact-at s (bad q place) {start} {count} e h = let z : _≡_ {A = ℕ} 0 1 = cc in absurd (omega arith)
 
-pub values-told : (s : List ℕ) {start count : ℕ} → valuesIn s ≡ values.At start count → ValuesAt s start count (frontIn s .values)
+pub values-fact : (s : List ℕ) {start count : ℕ} → valuesIn s ≡ values.At start count → ValuesAt s start count (frontIn s .values)
 unfolding frontIn
-values-told s h = told-at s (readFront s 0) refl h
+values-fact s h = fact-at s (readFront s 0) refl h
 
-told-none : (r : Read Front) → told r ≡ values.Nothing → valueOr noFront r .values ≡ []
-told-none (got f p) h = let z : _≡_ {A = ℕ} 0 1 = cc in absurd (omega arith)
-told-none (bad q place) h = refl
+fact-none : (r : Read Front) → fact r ≡ values.Nothing → valueOr noFront r .values ≡ []
+fact-none (got f p) h = let z : _≡_ {A = ℕ} 0 1 = cc in absurd (omega arith)
+fact-none (bad q place) h = refl
 
 pub values-none : (s : List ℕ) → valuesIn s ≡ values.Nothing → frontIn s .values ≡ []
 unfolding frontIn
-values-none s h = told-none (readFront s 0) h
+values-none s h = fact-none (readFront s 0) h
 
 -- a definition without controls writes nothing
 pub nothing-written : (at : ℕ) (xs us : List ℕ) → xs ≡ [] → over at (initialWords xs) us ≡ us

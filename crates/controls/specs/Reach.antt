@@ -52,11 +52,11 @@ noReach = record { start = 0; controls = unknown }
 
 -- what is reached in the slots that were looked up
 abbrev pub Reached : Key → List ℕ → List ℕ → List ℕ → List Reach → Type 0
-Reached key name ws shelf reaches = Noted (λ (r : Reach). r .controls ≡ unknown) (λ (k : ℕ) (r : Reach). Reaches key name (slotBytes ws shelf k) r) reaches
+Reached key name ws arena reaches = Noted (λ (r : Reach). r .controls ≡ unknown) (λ (k : ℕ) (r : Reach). Reaches key name (slotBytes ws arena k) r) reaches
 
 -- how many controls the definition in a slot has
 abbrev pub controlsOn : List ℕ → List ℕ → ℕ → ℕ
-controlsOn ws shelf k = length (frontIn (slotBytes ws shelf k) .values)
+controlsOn ws arena k = length (frontIn (slotBytes ws arena k) .values)
 
 abbrev pub Counted : List ℕ → List ℕ → List ℕ → Type 0
-Counted ws shelf counts = Noted (λ (n : ℕ). n ≡ unknown) (λ (k n : ℕ). n ≡ controlsOn ws shelf k) counts
+Counted ws arena counts = Noted (λ (n : ℕ). n ≡ unknown) (λ (k n : ℕ). n ≡ controlsOn ws arena k) counts

@@ -19,7 +19,7 @@ use Rattle.nodes.specs.declared.Node.{Node}
 use Rattle.nodes.specs.Table.{width, nodeFrom, row-from}
 use Rattle.nodes.specs.Place.{groupSlot, isGroup}
 use Rattle.nodes.specs.Formed.{mostNodes, mostRows, numberFormed, rowFormed, fieldsFormed, allFormed}
-use Rattle.model.specs.Layout.{slotCount, slotRoom, lengthsPlace, nodesPlace, nodesWords, wordsLength, shelfLength, countIn, nextIn, lengthsIn, residentIn, nodesIn}
+use Rattle.model.specs.Layout.{slotCount, slotRoom, lengthsPlace, nodesPlace, nodesWords, wordsLength, arenaLength, countIn, nextIn, lengthsIn, flagsIn, nodesIn}
 use Rattle.model.specs.Engine.{Slot, slotsFrom, decode, noDefinition, valueOr, definitionIn, slotAt, definitionOf, held, slotTaken}
 use Rattle.model.specs.Formed.{isWhole, slotFormed, slotsFormed}
 use Rattle.state.specs.Known.{Known}
@@ -31,48 +31,48 @@ nodeIn ws i = nodeFrom (region nodesPlace nodesWords ws) (width * i)
 
 -- the bytes of the slot k
 abbrev pub slotBytes : List ℕ → List ℕ → ℕ → List ℕ
-slotBytes ws shelf k = take (getD ws (lengthsPlace + k) 0) (take slotRoom (drop (slotRoom * k) shelf))
+slotBytes ws arena k = take (getD ws (lengthsPlace + k) 0) (take slotRoom (drop (slotRoom * k) arena))
 
 -- a state of which the check has passed the sizes, the nodes' fields and the slots
-pub record Ready (ws shelf : List ℕ) : Type 0 where
+pub record Ready (ws arena : List ℕ) : Type 0 where
   pub size : length ws ≡ wordsLength
-  pub shelfSize : length shelf ≡ shelfLength
+  pub arenaSize : length arena ≡ arenaLength
   pub few : countIn ws ≤ mostNodes
   pub fields : allFormed (nextIn ws) (nodesIn ws) ≡ true
-  pub slots : slotsFormed 0 (lengthsIn ws) (decode ws shelf .slots) (nodesIn ws) ≡ true
+  pub slots : slotsFormed 0 (lengthsIn ws) (decode ws arena .slots) (nodesIn ws) ≡ true
 
-pub ready-known : (ws shelf : List ℕ) → Known ws shelf → Ready ws shelf
-ready-known ws shelf k = record { size = k .size; shelfSize = k .shelfSize; few = k .few; fields = k .tree .fields; slots = k .slots }
+pub ready-known : (ws arena : List ℕ) → Known ws arena → Ready ws arena
+ready-known ws arena k = record { size = k .size; arenaSize = k .arenaSize; few = k .few; fields = k .tree .fields; slots = k .slots }
 
 -- a synth of such a state: its slot and row are there, and its definition's front is what its slot's bytes tell
-pub record Synth (ws shelf : List ℕ) (r : Node) : Type 0 where
+pub record Synth (ws arena : List ℕ) (r : Node) : Type 0 where
   pub slot : r .slot < slotCount
   pub row : r .row < mostRows
-  pub front : definitionOf (decode ws shelf .slots) r .front ≡ frontIn (slotBytes ws shelf (r .slot))
-  pub whole : ReadableWhole (slotBytes ws shelf (r .slot))
+  pub front : definitionOf (decode ws arena .slots) r .front ≡ frontIn (slotBytes ws arena (r .slot))
+  pub whole : ReadableWhole (slotBytes ws arena (r .slot))
 
 -- a word of a part
 pub part-word : (a m i : ℕ) (ws : List ℕ) → i < m → getD (region a m ws) i 0 ≡ getD ws (a + i) 0
 part-word a m i ws h = getD-take m (drop a ws) i 0 h ∙ getD-drop a ws i 0
 
-slots-from : (n k : ℕ) (lengths flags shelf : List ℕ) → k < n
-    → slotAt (slotsFrom n lengths flags shelf) k .bytes ≡ take (getD lengths k 0) (take slotRoom (drop (slotRoom * k) shelf))
+slots-from : (n k : ℕ) (lengths flags arena : List ℕ) → k < n
+    → slotAt (slotsFrom n lengths flags arena) k .bytes ≡ take (getD lengths k 0) (take slotRoom (drop (slotRoom * k) arena))
 unfolding slotsFrom
-slots-from zero k lengths flags shelf h = absurd (omega arith)
-slots-from (suc n) zero lengths flags shelf h = refl
-slots-from (suc n) (suc k) lengths flags shelf h =
+slots-from zero k lengths flags arena h = absurd (omega arith)
+slots-from (suc n) zero lengths flags arena h = refl
+slots-from (suc n) (suc k) lengths flags arena h =
     let one : 1 + k ≡ suc k = omega arith in
     let more : slotRoom + slotRoom * k ≡ slotRoom * suc k = omega arith in
-    slots-from n k (drop 1 lengths) (drop 1 flags) (drop slotRoom shelf) (omega arith)
+    slots-from n k (drop 1 lengths) (drop 1 flags) (drop slotRoom arena) (omega arith)
     ∙ ap₂ (λ (j : ℕ) (l : List ℕ). take j (take slotRoom l))
     (getD-drop 1 lengths k 0 ∙ ap (λ (j : ℕ). getD lengths j 0) one)
-    (drop-drop (slotRoom * k) slotRoom shelf ∙ ap (λ (j : ℕ). drop j shelf) more)
+    (drop-drop (slotRoom * k) slotRoom arena ∙ ap (λ (j : ℕ). drop j arena) more)
 
-pub slot-bytes : (ws shelf : List ℕ) (k : ℕ) → k < slotCount → slotAt (decode ws shelf .slots) k .bytes ≡ slotBytes ws shelf k
+pub slot-bytes : (ws arena : List ℕ) (k : ℕ) → k < slotCount → slotAt (decode ws arena .slots) k .bytes ≡ slotBytes ws arena k
 unfolding decode
-slot-bytes ws shelf k h =
-    slots-from slotCount k (lengthsIn ws) (residentIn ws) shelf h
-    ∙ ap (λ (j : ℕ). take j (take slotRoom (drop (slotRoom * k) shelf))) (part-word lengthsPlace slotCount k ws h)
+slot-bytes ws arena k h =
+    slots-from slotCount k (lengthsIn ws) (flagsIn ws) arena h
+    ∙ ap (λ (j : ℕ). take j (take slotRoom (drop (slotRoom * k) arena))) (part-word lengthsPlace slotCount k ws h)
 
 -- a record of the table: its fields are formed, and it holds its slot
 pub fields-at : (next : ℕ) (t : List Node) (i : ℕ) (r : Node) (rest : List Node) → drop i t ≡ r ∷ rest → allFormed next t ≡ true → fieldsFormed next r ≡ true
@@ -107,14 +107,14 @@ slot-formed k (suc j) sizes (s ∷ more) t l h =
     rw (place, size)
     (slot-formed (k + 1) j (drop 1 sizes) more t (omega arith) (both-true (slotFormed k (getD sizes 0 0) s t) (slotsFormed (k + 1) (drop 1 sizes) more t) h .1))
 
-slots-many : (n : ℕ) (lengths flags shelf : List ℕ) → length (slotsFrom n lengths flags shelf) ≡ n
+slots-many : (n : ℕ) (lengths flags arena : List ℕ) → length (slotsFrom n lengths flags arena) ≡ n
 unfolding slotsFrom
-slots-many zero lengths flags shelf = refl
-slots-many (suc n) lengths flags shelf = ap suc (slots-many n (drop 1 lengths) (drop 1 flags) (drop slotRoom shelf))
+slots-many zero lengths flags arena = refl
+slots-many (suc n) lengths flags arena = ap suc (slots-many n (drop 1 lengths) (drop 1 flags) (drop slotRoom arena))
 
-pub decoded-many : (ws shelf : List ℕ) → length (decode ws shelf .slots) ≡ slotCount
+pub decoded-many : (ws arena : List ℕ) → length (decode ws arena .slots) ≡ slotCount
 unfolding decode
-decoded-many ws shelf = slots-many slotCount (lengthsIn ws) (residentIn ws) shelf
+decoded-many ws arena = slots-many slotCount (lengthsIn ws) (flagsIn ws) arena
 
 whole-front : (s : List ℕ) (size : ℕ) (r : Read Definition) → readDefinition s 0 ≡ r → isWhole size r ≡ true → valueOr noDefinition r .front ≡ frontIn s
 whole-front s size (got d next) e h = sym (front-read s e)
@@ -126,16 +126,16 @@ taken-front k size s t held formed =
     let whole : both (leb size sizeLimit) (isWhole size (readDefinition (s .bytes) 0)) ≡ true = rw taken at formed in
     whole-front (s .bytes) size (readDefinition (s .bytes) 0) refl (both-true (leb size sizeLimit) (isWhole size (readDefinition (s .bytes) 0)) whole .1)
 
-slot-front : (ws shelf : List ℕ) (k : ℕ) → slotsFormed 0 (lengthsIn ws) (decode ws shelf .slots) (nodesIn ws) ≡ true → held k (nodesIn ws) ≡ true → k < slotCount
-    → definitionIn (slotAt (decode ws shelf .slots) k) .front ≡ frontIn (slotBytes ws shelf k)
-slot-front ws shelf k formed held h =
-    taken-front k (getD (lengthsIn ws) k 0) (slotAt (decode ws shelf .slots) k) (nodesIn ws) held
-    (rw zero-add at (slot-formed 0 k (lengthsIn ws) (decode ws shelf .slots) (nodesIn ws) (rw (decoded-many ws shelf) h) formed))
-    ∙ ap frontIn (slot-bytes ws shelf k h)
+slot-front : (ws arena : List ℕ) (k : ℕ) → slotsFormed 0 (lengthsIn ws) (decode ws arena .slots) (nodesIn ws) ≡ true → held k (nodesIn ws) ≡ true → k < slotCount
+    → definitionIn (slotAt (decode ws arena .slots) k) .front ≡ frontIn (slotBytes ws arena k)
+slot-front ws arena k formed held h =
+    taken-front k (getD (lengthsIn ws) k 0) (slotAt (decode ws arena .slots) k) (nodesIn ws) held
+    (rw zero-add at (slot-formed 0 k (lengthsIn ws) (decode ws arena .slots) (nodesIn ws) (rw (decoded-many ws arena) h) formed))
+    ∙ ap frontIn (slot-bytes ws arena k h)
 
 -- and those bytes are a readable definition
-pub bytes-short : (ws shelf : List ℕ) (k : ℕ) → length (slotBytes ws shelf k) ≤ sizeLimit
-bytes-short ws shelf k = simp length-take (omega arith)
+pub bytes-short : (ws arena : List ℕ) (k : ℕ) → length (slotBytes ws arena k) ≤ sizeLimit
+bytes-short ws arena k = simp length-take (omega arith)
 
 whole-read : (s : List ℕ) (size : ℕ) (r : Read Definition) → readDefinition s 0 ≡ r → isWhole size r ≡ true → length s ≤ sizeLimit → ReadableWhole s
 whole-read s size (got d next) e h l = record { definition = d; past = next; reads = e; short = l }
@@ -147,17 +147,17 @@ taken-whole k size s t held formed short =
     let whole : both (leb size sizeLimit) (isWhole size (readDefinition (s .bytes) 0)) ≡ true = rw taken at formed in
     whole-read (s .bytes) size (readDefinition (s .bytes) 0) refl (both-true (leb size sizeLimit) (isWhole size (readDefinition (s .bytes) 0)) whole .1) short
 
-slot-whole : (ws shelf : List ℕ) (k : ℕ) → slotsFormed 0 (lengthsIn ws) (decode ws shelf .slots) (nodesIn ws) ≡ true → held k (nodesIn ws) ≡ true → k < slotCount
-    → ReadableWhole (slotBytes ws shelf k)
-slot-whole ws shelf k formed held h =
-    subst ReadableWhole (slot-bytes ws shelf k h)
-    (taken-whole k (getD (lengthsIn ws) k 0) (slotAt (decode ws shelf .slots) k) (nodesIn ws) held
-    (rw zero-add at (slot-formed 0 k (lengthsIn ws) (decode ws shelf .slots) (nodesIn ws) (rw (decoded-many ws shelf) h) formed))
-    (rw (slot-bytes ws shelf k h) (bytes-short ws shelf k)))
+slot-whole : (ws arena : List ℕ) (k : ℕ) → slotsFormed 0 (lengthsIn ws) (decode ws arena .slots) (nodesIn ws) ≡ true → held k (nodesIn ws) ≡ true → k < slotCount
+    → ReadableWhole (slotBytes ws arena k)
+slot-whole ws arena k formed held h =
+    subst ReadableWhole (slot-bytes ws arena k h)
+    (taken-whole k (getD (lengthsIn ws) k 0) (slotAt (decode ws arena .slots) k) (nodesIn ws) held
+    (rw zero-add at (slot-formed 0 k (lengthsIn ws) (decode ws arena .slots) (nodesIn ws) (rw (decoded-many ws arena) h) formed))
+    (rw (slot-bytes ws arena k h) (bytes-short ws arena k)))
 
 -- a synth at a place of the table
-pub synth-ready : (ws shelf : List ℕ) → Ready ws shelf → (i : ℕ) → i < countIn ws → isGroup (nodeIn ws i) ≡ false → Synth ws shelf (nodeIn ws i)
-synth-ready ws shelf ready i h single =
+pub synth-ready : (ws arena : List ℕ) → Ready ws arena → (i : ℕ) → i < countIn ws → isGroup (nodeIn ws i) ≡ false → Synth ws arena (nodeIn ws i)
+synth-ready ws arena ready i h single =
     let r = nodeIn ws i in
     let found : drop i (nodesIn ws) ≡ r ∷ drop (i + 1) (nodesIn ws) = row-from (countIn ws) (region nodesPlace nodesWords ws) i h in
     let a = both-true (numberFormed (nextIn ws) r) _ (fields-at (nextIn ws) (nodesIn ws) i r (drop (i + 1) (nodesIn ws)) found (ready .fields)) in
@@ -170,10 +170,10 @@ synth-ready ws shelf ready i h single =
     record {
       slot = low;
       row = ltb-true (r .row) mostRows row;
-      front = slot-front ws shelf (r .slot) (ready .slots) (held-at (nodesIn ws) i r (drop (i + 1) (nodesIn ws)) found) low;
-      whole = slot-whole ws shelf (r .slot) (ready .slots) (held-at (nodesIn ws) i r (drop (i + 1) (nodesIn ws)) found) low;
+      front = slot-front ws arena (r .slot) (ready .slots) (held-at (nodesIn ws) i r (drop (i + 1) (nodesIn ws)) found) low;
+      whole = slot-whole ws arena (r .slot) (ready .slots) (held-at (nodesIn ws) i r (drop (i + 1) (nodesIn ws)) found) low;
     }
 
 -- the bytes of its definition, as they are lent
-pub synth-readable : (ws shelf : List ℕ) → Ready ws shelf → (i : ℕ) → i < countIn ws → isGroup (nodeIn ws i) ≡ false → {s : List ℕ} → s ≡ slotBytes ws shelf (nodeIn ws i .slot) → Readable s
-synth-readable ws shelf ready i h single e = subst Readable (sym e) (whole-readable (slotBytes ws shelf (nodeIn ws i .slot)) (synth-ready ws shelf ready i h single .whole))
+pub synth-readable : (ws arena : List ℕ) → Ready ws arena → (i : ℕ) → i < countIn ws → isGroup (nodeIn ws i) ≡ false → {s : List ℕ} → s ≡ slotBytes ws arena (nodeIn ws i .slot) → Readable s
+synth-readable ws arena ready i h single e = subst Readable (sym e) (whole-readable (slotBytes ws arena (nodeIn ws i .slot)) (synth-ready ws arena ready i h single .whole))

@@ -15,7 +15,7 @@ use Rattle.nodes.specs.Place.{groupSlot, isGroup}
 use Rattle.nodes.specs.Formed.{mostNodes, mostRows}
 use Rattle.values.specs.declared.Key.{Key}
 use Rattle.values.specs.Controls.{ControlValue}
-use Rattle.model.specs.Layout.{slotCount, busCount, nodesPlace, nodesWords, controlsPlace, controlsWords, controlsIn, putControls, wordsLength, shelfLength}
+use Rattle.model.specs.Layout.{slotCount, busCount, nodesPlace, nodesWords, controlsPlace, controlsWords, controlsIn, putControls, wordsLength, arenaLength}
 use Rattle.model.specs.Meaning.{startOf}
 use Rattle.model.specs.Formed.{mappingsFormed}
 use Rattle.model.specs.Effects.{changeStart}
@@ -28,17 +28,17 @@ changeSynth f key name count row s cs = changeStart f (startOf key name (frontOn
 
 -- of the node at a place of the table
 abbrev pub changeNode : (ControlValue → ControlValue) → Key → List ℕ → ℕ → List ℕ → List ℕ → ℕ → List ℕ → List ℕ
-changeNode f key name count ws shelf i cs =
-    pick (isGroup (nodeIn ws i)) cs (changeSynth f key name count (nodeIn ws i .row) (slotBytes ws shelf (nodeIn ws i .slot)) cs)
+changeNode f key name count ws arena i cs =
+    pick (isGroup (nodeIn ws i)) cs (changeSynth f key name count (nodeIn ws i .row) (slotBytes ws arena (nodeIn ws i .slot)) cs)
 
 -- the words' sizes, that the slot and the row of the synth at a place are there, and that its definition is readable
-pub record Bounds (ws shelf : List ℕ) (i : ℕ) : Type 0 where
+pub record Bounds (ws arena : List ℕ) (i : ℕ) : Type 0 where
   pub size : length ws ≡ wordsLength
-  pub shelfSize : length shelf ≡ shelfLength
+  pub arenaSize : length arena ≡ arenaLength
   pub place : i < mostNodes
   pub slot : isGroup (nodeIn ws i) ≡ false → nodeIn ws i .slot < slotCount
   pub row : isGroup (nodeIn ws i) ≡ false → nodeIn ws i .row < mostRows
-  pub readable : isGroup (nodeIn ws i) ≡ false → Readable (slotBytes ws shelf (nodeIn ws i .slot))
+  pub readable : isGroup (nodeIn ws i) ≡ false → Readable (slotBytes ws arena (nodeIn ws i .slot))
 
 -- a part of a part
 pub take-least : (k m : ℕ) (l : List ℕ) → take (min (min m (length l)) k) l ≡ take k (take m l)
@@ -80,24 +80,24 @@ module _ (ws : List ℕ) (i : ℕ) (few : i < mostNodes) where
   is-synth other = ne-eqb (nodeIn ws i .slot) groupSlot (λ e. other (sym slot-word ∙ e))
 
 -- the bounds of a synth, by the words
-module _ {ws shelf : List ℕ} {i : ℕ} (b : Bounds ws shelf i) (other : getD ws (nodesPlace + 5 * i + 3) 0 ≡ groupSlot → ⊥) where
+module _ {ws arena : List ℕ} {i : ℕ} (b : Bounds ws arena i) (other : getD ws (nodesPlace + 5 * i + 3) 0 ≡ groupSlot → ⊥) where
   pub slot-bound : getD ws (nodesPlace + 5 * i + 3) 0 < slotCount
   slot-bound = rw (sym (slot-word ws i (b .place))) (b .slot (is-synth ws i (b .place) other))
 
-  pub bytes-readable : Readable (slotBytes ws shelf (getD ws (nodesPlace + 5 * i + 3) 0))
-  bytes-readable = subst (λ (k : ℕ). Readable (slotBytes ws shelf k)) (slot-word ws i (b .place)) (b .readable (is-synth ws i (b .place) other))
+  pub bytes-readable : Readable (slotBytes ws arena (getD ws (nodesPlace + 5 * i + 3) 0))
+  bytes-readable = subst (λ (k : ℕ). Readable (slotBytes ws arena k)) (slot-word ws i (b .place)) (b .readable (is-synth ws i (b .place) other))
 
 -- the node's change, by the words
-module _ (f : ControlValue → ControlValue) (key : Key) (name : List ℕ) (count : ℕ) (ws shelf : List ℕ) (i : ℕ) (few : i < mostNodes) (cs : List ℕ) where
-  pub node-group : getD ws (nodesPlace + 5 * i + 3) 0 ≡ groupSlot → changeNode f key name count ws shelf i cs ≡ cs
+module _ (f : ControlValue → ControlValue) (key : Key) (name : List ℕ) (count : ℕ) (ws arena : List ℕ) (i : ℕ) (few : i < mostNodes) (cs : List ℕ) where
+  pub node-group : getD ws (nodesPlace + 5 * i + 3) 0 ≡ groupSlot → changeNode f key name count ws arena i cs ≡ cs
   node-group e = rw (is-group ws i few e)
 
   pub node-synth : (getD ws (nodesPlace + 5 * i + 3) 0 ≡ groupSlot → ⊥)
-      → changeNode f key name count ws shelf i cs
-      ≡ changeSynth f key name count (getD ws (nodesPlace + 5 * i + 4) 0) (slotBytes ws shelf (getD ws (nodesPlace + 5 * i + 3) 0)) cs
+      → changeNode f key name count ws arena i cs
+      ≡ changeSynth f key name count (getD ws (nodesPlace + 5 * i + 4) 0) (slotBytes ws arena (getD ws (nodesPlace + 5 * i + 3) 0)) cs
   node-synth other =
       rw (is-synth ws i few other)
-      (ap₂ (λ (row slot : ℕ). changeSynth f key name count row (slotBytes ws shelf slot) cs) (row-word ws i few) (slot-word ws i few))
+      (ap₂ (λ (row slot : ℕ). changeSynth f key name count row (slotBytes ws arena slot) cs) (row-word ws i few) (slot-word ws i few))
 
 -- the controls put back as they were
 pub same-controls : (ws : List ℕ) → putControls (controlsIn ws) ws ≡ ws

@@ -35,14 +35,14 @@ fn negative_key(key: Key) -> bool
 // Refusal 21's test on the node at a place: a negative index or count always; on a synth, controls that it lacks; on a group no more.
 pub fn controls_missing(
     words: &[u32],
-    shelf: &[u8],
+    arena: &[u8],
     place: usize,
     key: Key,
     name: &[u8],
     count: u32,
 ) -> bool
-    requires { ⌜ (Ready (now words) (now shelf)) × (place < countIn (now words)) ⌝ }
-    ensures { λ r. ⌜ r ≡ controlsMissing key count (now (name .entry)) (decode (now (words .entry)) (now (shelf .entry)) .slots) (nodeIn (now (words .entry)) place) ⌝ }
+    requires { ⌜ (Ready (now words) (now arena)) × (place < countIn (now words)) ⌝ }
+    ensures { λ r. ⌜ r ≡ controlsMissing key count (now (name .entry)) (decode (now (words .entry)) (now (arena .entry)) .slots) (nodeIn (now (words .entry)) place) ⌝ }
 {
     if negative_key(key) {
         return true;
@@ -53,7 +53,7 @@ pub fn controls_missing(
     if node_is_group(words, place) {
         return false;
     }
-    !has_controls(node_definition(words, shelf, place), key, name, count)
+    !has_controls(node_definition(words, arena, place), key, name, count)
 }
 
 // What reading a control of a row gives: the bus where it is mapped, otherwise its own float.
@@ -66,11 +66,11 @@ pub fn read_control(words: &[u32], row: u32, index: u32) -> u32
 }
 
 // What reading the control that a key names gives, of the synth at a place; 0 where it lacks it.
-pub fn read_key(words: &[u32], shelf: &[u8], place: usize, key: Key, name: &[u8]) -> u32
-    requires { ⌜ (Ready (now words) (now shelf)) × (place < countIn (now words)) × (isGroup (nodeIn (now words) place) ≡ false) ⌝ }
-    ensures { λ r. ⌜ r ≡ readAt (busesIn (now (words .entry))) (controlsOf (decode (now (words .entry)) (now (shelf .entry)) .slots) (controlsIn (now (words .entry))) (nodeIn (now (words .entry)) place)) (startOf key (now (name .entry)) (definitionOf (decode (now (words .entry)) (now (shelf .entry)) .slots) (nodeIn (now (words .entry)) place))) ⌝ }
+pub fn read_key(words: &[u32], arena: &[u8], place: usize, key: Key, name: &[u8]) -> u32
+    requires { ⌜ (Ready (now words) (now arena)) × (place < countIn (now words)) × (isGroup (nodeIn (now words) place) ≡ false) ⌝ }
+    ensures { λ r. ⌜ r ≡ readAt (busesIn (now (words .entry))) (controlsOf (decode (now (words .entry)) (now (arena .entry)) .slots) (controlsIn (now (words .entry))) (nodeIn (now (words .entry)) place)) (startOf key (now (name .entry)) (definitionOf (decode (now (words .entry)) (now (arena .entry)) .slots) (nodeIn (now (words .entry)) place))) ⌝ }
 {
-    let definition = node_definition(words, shelf, place);
+    let definition = node_definition(words, arena, place);
     match control_start(definition, key, name) {
         Found::At(start) => {
             if parameter_count(definition) <= start {

@@ -42,30 +42,30 @@ fn reach_in(definition: &[u8], key: Key, name: &[u8]) -> Reach
 // By a slot's definition, where it is not known already.
 pub fn slot_reach(
     words: &[u32],
-    shelf: &[u8],
+    arena: &[u8],
     slot: u32,
     key: Key,
     name: &[u8],
     known: Reach,
 ) -> Reach
-    requires { ⌜ (length (now words) ≡ wordsLength) × (slot < slotCount) × (Readable (slotBytes (now words) (now shelf) slot)) × ((known .controls ≡ unknown → ⊥) → Reaches key (now name) (slotBytes (now words) (now shelf) slot) known) ⌝ }
-    ensures { λ r. ⌜ Reaches key (now (name .entry)) (slotBytes (now (words .entry)) (now (shelf .entry)) slot) r ⌝ }
+    requires { ⌜ (length (now words) ≡ wordsLength) × (slot < slotCount) × (Readable (slotBytes (now words) (now arena) slot)) × ((known .controls ≡ unknown → ⊥) → Reaches key (now name) (slotBytes (now words) (now arena) slot) known) ⌝ }
+    ensures { λ r. ⌜ Reaches key (now (name .entry)) (slotBytes (now (words .entry)) (now (arena .entry)) slot) r ⌝ }
 {
     if known.controls != UNKNOWN {
         return known;
     }
     let size = words[4 + wide(slot)];
-    reach_in(slot_bytes(shelf, slot, size), key, name)
+    reach_in(slot_bytes(arena, slot, size), key, name)
 }
 
 // How many controls a slot's definition has, where it is not known already.
-pub fn slot_controls(words: &[u32], shelf: &[u8], slot: u32, known: u32) -> u32
-    requires { ⌜ (length (now words) ≡ wordsLength) × (slot < slotCount) × (Readable (slotBytes (now words) (now shelf) slot)) × ((known ≡ unknown → ⊥) → known ≡ controlsOn (now words) (now shelf) slot) ⌝ }
-    ensures { λ r. ⌜ r ≡ controlsOn (now (words .entry)) (now (shelf .entry)) slot ⌝ }
+pub fn slot_controls(words: &[u32], arena: &[u8], slot: u32, known: u32) -> u32
+    requires { ⌜ (length (now words) ≡ wordsLength) × (slot < slotCount) × (Readable (slotBytes (now words) (now arena) slot)) × ((known ≡ unknown → ⊥) → known ≡ controlsOn (now words) (now arena) slot) ⌝ }
+    ensures { λ r. ⌜ r ≡ controlsOn (now (words .entry)) (now (arena .entry)) slot ⌝ }
 {
     if known != UNKNOWN {
         return known;
     }
     let size = words[4 + wide(slot)];
-    parameter_count(slot_bytes(shelf, slot, size))
+    parameter_count(slot_bytes(arena, slot, size))
 }

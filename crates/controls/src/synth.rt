@@ -27,15 +27,15 @@ fn least(a: usize, b: usize) -> usize
 }
 
 // The bytes of a slot, of which so many are taken.
-pub fn slot_bytes(shelf: &[u8], slot: u32, size: u32) -> &[u8]
-    ensures { λ r. ⌜ now r ≡ take size (take slotRoom (drop (slotRoom * slot) (now (shelf .entry)))) ⌝ }
+pub fn slot_bytes(arena: &[u8], slot: u32, size: u32) -> &[u8]
+    ensures { λ r. ⌜ now r ≡ take size (take slotRoom (drop (slotRoom * slot) (now (arena .entry)))) ⌝ }
 {
     let start = 2048 * wide(slot);
-    if shelf.len() <= start {
-        return &shelf[..0];
+    if arena.len() <= start {
+        return &arena[..0];
     }
-    let end = start + least(least(2048, shelf.len() - start), wide(size));
-    &shelf[start..end]
+    let end = start + least(least(2048, arena.len() - start), wide(size));
+    &arena[start..end]
 }
 
 // The controls of the synth at a place of the table changed, as far as they are reached.

@@ -24,7 +24,7 @@ ghost use Rattle.controls.specs.Ready.{Ready, nodeIn, slotBytes};
 // The controls of the synths among the nodes from one place of the table to another. Each slot is looked up once.
 pub fn change_all(
     words: &mut [u32],
-    shelf: &[u8],
+    arena: &[u8],
     from: usize,
     to: usize,
     key: Key,
@@ -32,8 +32,8 @@ pub fn change_all(
     count: u32,
     change: Change,
 )
-    requires { ⌜ (Ready (now words) (now shelf)) × (to ≤ countIn (now words)) ⌝ }
-    ensures { λ r. ⌜ now (words .exit) ≡ putControls (changeAll (changeOf change) key (now (name .entry)) count (decode (now (words .entry)) (now (shelf .entry)) .slots) (take (to - from) (drop from (nodesIn (now (words .entry))))) (controlsIn (now (words .entry)))) (now (words .entry)) ⌝ }
+    requires { ⌜ (Ready (now words) (now arena)) × (to ≤ countIn (now words)) ⌝ }
+    ensures { λ r. ⌜ now (words .exit) ≡ putControls (changeAll (changeOf change) key (now (name .entry)) count (decode (now (words .entry)) (now (arena .entry)) .slots) (take (to - from) (drop from (nodesIn (now (words .entry))))) (controlsIn (now (words .entry)))) (now (words .entry)) ⌝ }
 {
     let mut reaches = [Reach {
         start: 0,
@@ -44,7 +44,7 @@ pub fn change_all(
         let slot = words[68 + 5 * i + 3];
         if slot != 32 {
             let k = wide(slot);
-            let reach = slot_reach(words, shelf, slot, key, name, reaches[k]);
+            let reach = slot_reach(words, arena, slot, key, name, reaches[k]);
             reaches[k] = reach;
             change_node(words, i, reach, count, change);
         }
@@ -53,13 +53,13 @@ pub fn change_all(
 }
 
 // The bytes of the definition of the synth at a place.
-pub fn node_definition<'a, 'b>(words: &'b [u32], shelf: &'a [u8], place: usize) -> &'a [u8]
+pub fn node_definition<'a, 'b>(words: &'b [u32], arena: &'a [u8], place: usize) -> &'a [u8]
     requires { ⌜ (length (now words) ≡ wordsLength) × (place < mostNodes) × (nodeIn (now words) place .slot < slotCount) ⌝ }
-    ensures { λ r. ⌜ now r ≡ slotBytes (now (words .entry)) (now (shelf .entry)) (nodeIn (now (words .entry)) place .slot) ⌝ }
+    ensures { λ r. ⌜ now r ≡ slotBytes (now (words .entry)) (now (arena .entry)) (nodeIn (now (words .entry)) place .slot) ⌝ }
 {
     let slot = words[68 + 5 * place + 3];
     let size = words[4 + wide(slot)];
-    slot_bytes(shelf, slot, size)
+    slot_bytes(arena, slot, size)
 }
 
 // The node at a place is a group.
@@ -79,19 +79,19 @@ pub fn node_row(words: &[u32], place: usize) -> u32
 }
 
 // The state check's part on controls: the mapping words of each synth's own controls. Each slot is looked up once.
-pub fn controls_formed(words: &[u32], shelf: &[u8]) -> bool
-    requires { ⌜ Ready (now words) (now shelf) ⌝ }
-    ensures { λ r. ⌜ r ≡ controlsFormed (decode (now (words .entry)) (now (shelf .entry)) .slots) (controlsIn (now (words .entry))) (nodesIn (now (words .entry))) ⌝ }
+pub fn controls_formed(words: &[u32], arena: &[u8]) -> bool
+    requires { ⌜ Ready (now words) (now arena) ⌝ }
+    ensures { λ r. ⌜ r ≡ controlsFormed (decode (now (words .entry)) (now (arena .entry)) .slots) (controlsIn (now (words .entry))) (nodesIn (now (words .entry))) ⌝ }
 {
     let count = wide(words[0]);
-    let mut told = [UNKNOWN; 32];
+    let mut known = [UNKNOWN; 32];
     let mut i = 0;
     while i < count {
         let slot = words[68 + 5 * i + 3];
         if slot != 32 {
             let k = wide(slot);
-            let many = slot_controls(words, shelf, slot, told[k]);
-            told[k] = many;
+            let many = slot_controls(words, arena, slot, known[k]);
+            known[k] = many;
             if !row_formed(&words[1603..17987], words[68 + 5 * i + 4], many) {
                 return false;
             }

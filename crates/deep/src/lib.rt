@@ -1,7 +1,7 @@
 // Deep free, in place: the synths below a group go, at any depth, and the groups stay.
 ghost use mathlib.Core.Path.{_≡_};
 ghost use Prim.Native.Nat.{ℕ, _+_, _-_, _*_, _≤_, _<_};
-ghost use lib.ListN.{length, take, drop, getD};
+ghost use lib.ListN.{length};
 ghost use Rattle.nodes.specs.Table.{width, nodeFrom, wordsOf, over, rows};
 ghost use Rattle.nodes.specs.Place.{place};
 ghost use Rattle.nodes.specs.Edit.{deepFree};

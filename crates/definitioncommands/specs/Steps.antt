@@ -1,16 +1,15 @@
 -- What the commands of definitions do, by the rows of the table; and the export.
-use Prim.Native.Nat.{ℕ, _+_, _-_, _≤_, _<_}
+use Prim.Native.Nat.{ℕ, _-_, _≤_, _<_}
 use mathlib.Core.Bool.{Bool, true, false}
 use mathlib.Core.Path.{_≡_, refl, sym, ap, ap₂, _∙_}
-use mathlib.Core.List.{List, [], _∷_, _++_}
+use mathlib.Core.List.{List, _++_}
 use native.Mathlib.Omega.{arith}
 use borrow.Author.Tests.{lt-ltb, le-ltb, le-leb, lt-leb}
 use lib.ListN.{length, drop}
-use lib.Dec.{ltb, leb}
-use Rattle.words.specs.Choice.{pick}
+use lib.Dec.{ltb}
 use Rattle.words.specs.Parts.{region, put}
-use Rattle.words.specs.declared.Refusal.{Refusal}
-use Rattle.words.specs.declared.Refusal.the-variants.{NoSlot, NoDefinition, NoRoom}
+use Rattle.faults.specs.declared.Fault.{Fault}
+use Rattle.refusals.specs.declared.Refusal.the-variants.{NoSlot, NoDefinition, NoRoom}
 use Rattle.synthdef.specs.Read.{Read, got, bad}
 use Rattle.synthdef.specs.Definition.{Definition}
 use Rattle.synthdef.specs.Reader.{readFile}
@@ -23,32 +22,31 @@ use Rattle.model.specs.declared.Query.the-variants as query
 use Rattle.model.specs.declared.Command.the-variants as command
 use Rattle.model.specs.declared.Answer.{Answer}
 use Rattle.model.specs.declared.Answer.the-variants.{Done, Replied, Refused, RefusedAt}
-use Rattle.model.specs.Layout.{slotCount, lengthsPlace, nodesPlace, nodesWords, countIn, lengthsIn, residentIn, nodesIn}
-use Rattle.model.specs.Engine.{Slot, slotsFrom, decode, residentOf}
+use Rattle.model.specs.Layout.{slotCount, lengthsPlace, nodesPlace, nodesWords, countIn, lengthsIn, flagsIn, nodesIn}
+use Rattle.model.specs.Engine.{Slot, decode, residentOf}
 use Rattle.model.specs.Checks.{firstOf, faultOf, definitionsOf, namesOf, staying, noSlot, noResident}
 use Rattle.model.specs.Effects.{retire}
 use Rattle.model.specs.Replies.{exportFile, replyTo, reply}
-use Rattle.model.specs.After.{wordsAfter, shelfAfter}
-use Rattle.model.specs.Door.{queryAnswer, answerIn}
+use Rattle.model.specs.After.{wordsAfter, arenaAfter}
+use Rattle.model.specs.Apply.{queryAnswer, answerIn}
 use Rattle.state.specs.Known.{Known}
 use Rattle.state.specs.Does.{Step, Reply}
 use Rattle.definitions.specs.Slots.{tableWords, slotsOn, slots-length, slots-lent, Formed}
 use Rattle.definitions.specs.Holders.{HeldBy, holders}
 use Rattle.definitions.specs.Files.{Accepted, definitionsOn}
 use Rattle.definitions.specs.Storing.{tableOf}
-use Rattle.definitions.specs.Loading.{Loaded, loadedOn}
-use Rattle.definitions.specs.Lent.{tableIn, formed-lent, staying-lent, receive-lent, free-lent}
+use Rattle.definitions.specs.Lent.{tableIn, formed-lent, staying-lent, free-lent}
 
 abbrev pub Steps : DefinitionCommand → List ℕ → List ℕ → List ℕ → Answer → List ℕ → List ℕ → Type 0
 Steps c bytes ws bs a ws′ bs′ = Step (command.Definitions c) bytes ws bs a ws′ bs′
 
 -- the table of slots, as it is lent from words that passed the check
 pub formed-table : (ws bs : List ℕ) → Known ws bs → Formed (tableIn ws) bs
-formed-table ws bs k = formed-lent ws bs (k .size) (k .shelfSize) (k .flags) (k .slots)
+formed-table ws bs k = formed-lent ws bs (k .size) (k .arenaSize) (k .flags) (k .slots)
 
 slots-many : (ws bs : List ℕ) → length (decode ws bs .slots) ≡ slotCount
 unfolding decode
-slots-many ws bs = slots-length slotCount (lengthsIn ws) (residentIn ws) bs
+slots-many ws bs = slots-length slotCount (lengthsIn ws) (flagsIn ws) bs
 
 -- what the check of a file tells
 pub verdict-bad : (r : Read (List Definition)) {q : Refusal} {at : ℕ} → verdict r ≡ checked.Refused q at → r ≡ bad q at
@@ -61,53 +59,53 @@ verdict-got (bad p place) h = absurd (let z : _≡_ {A = ℕ} 0 1 = cc in omega 
 
 -- /d_recv
 module _ (bytes ws bs : List ℕ) where
-  pub receive-fault : (q : Refusal) (at : ℕ) → readFile bytes ≡ bad q at → Steps Receive bytes ws bs (RefusedAt q at) ws bs
+  pub receive-fault : (q : Fault) (at : ℕ) → readFile bytes ≡ bad q at → Steps Receive bytes ws bs (RefusedAt q at) ws bs
   unfolding answerIn firstOf
-  receive-fault q at h = record { answers = rw h; words = refl; shelf = refl }
+  receive-fault q at h = record { answers = rw h; words = refl; arena = refl }
 
   pub receive-full : Accepted bytes → noSlot (definitionsOn bytes) (decode ws bs) ≡ true → Steps Receive bytes ws bs (Refused NoSlot) ws bs
   unfolding answerIn firstOf
-  receive-full fine full = record { answers = rw (fine, full); words = refl; shelf = refl }
+  receive-full fine full = record { answers = rw (fine, full); words = refl; arena = refl }
 
   pub receive-done : (ws′ bs′ : List ℕ) → Accepted bytes → noSlot (definitionsOn bytes) (decode ws bs) ≡ false
-      → (ws′ ≡ wordsAfter (command.Definitions Receive) bytes ws bs) × (bs′ ≡ shelfAfter (command.Definitions Receive) bytes ws bs)
+      → (ws′ ≡ wordsAfter (command.Definitions Receive) bytes ws bs) × (bs′ ≡ arenaAfter (command.Definitions Receive) bytes ws bs)
       → Steps Receive bytes ws bs Done ws′ bs′
   unfolding answerIn firstOf
-  receive-done ws′ bs′ fine room left = record { answers = rw (fine, room); words = left .0; shelf = left .1 }
+  receive-done ws′ bs′ fine room left = record { answers = rw (fine, room); words = left .0; arena = left .1 }
 
   -- the nodes whose slots are held
   pub held-here : (many : ℕ) (tests : List Bool) → many ≡ countIn ws → HeldBy tests (rows many (region nodesPlace nodesWords ws)) → HeldBy tests (nodesIn ws)
   held-here many tests same held = rw same at held
 
   -- the count that the code tests is the table's
-  pub full-told : (many count stay : ℕ) (tests : List Bool) → many ≡ countIn ws → HeldBy tests (rows many (region nodesPlace nodesWords ws)) → length (definitionsOn bytes) ≡ count
+  pub full-fact : (many count stay : ℕ) (tests : List Bool) → many ≡ countIn ws → HeldBy tests (rows many (region nodesPlace nodesWords ws)) → length (definitionsOn bytes) ≡ count
       → stay ≡ staying 0 (namesOf (definitionsOn bytes)) (slotsOn (tableIn ws) bs) (holders tests)
       → ltb (slotCount - stay) count ≡ noSlot (definitionsOn bytes) (decode ws bs)
   unfolding decode
-  full-told many count stay tests same held long told =
+  full-fact many count stay tests same held long fact =
       ap₂ (λ (x y : ℕ). ltb (slotCount - x) y)
-      (told ∙ staying-lent ws bs tests (held-here many tests same held) (namesOf (definitionsOn bytes)))
+      (fact ∙ staying-lent ws bs tests (held-here many tests same held) (namesOf (definitionsOn bytes)))
       (sym long)
 
 -- /d_free
-module _ (bytes ws bs : List ℕ) (k : ℕ) (told : k ≡ residentOf bytes (slotsOn (tableIn ws) bs)) where
+module _ (bytes ws bs : List ℕ) (k : ℕ) (fact : k ≡ residentOf bytes (slotsOn (tableIn ws) bs)) where
   here : k ≡ residentOf bytes (decode ws bs .slots)
-  here = told ∙ ap (λ (l : List Slot). residentOf bytes l) (slots-lent ws bs)
+  here = fact ∙ ap (λ (l : List Slot). residentOf bytes l) (slots-lent ws bs)
 
   pub free-none : slotCount ≤ k → Steps Free bytes ws bs (Refused NoDefinition) ws bs
   unfolding answerIn firstOf
   free-none h =
       let none : noResident bytes (decode ws bs) ≡ true = le-leb (length (decode ws bs .slots)) (residentOf bytes (decode ws bs .slots)) (omega (arith, slots-many ws bs, here)) in
-      record { answers = rw none; words = refl; shelf = refl }
+      record { answers = rw none; words = refl; arena = refl }
 
-  pub free-done : (known : Known ws bs) (table : List ℕ) → k < slotCount → ((shelf : List ℕ) → Formed (tableIn ws) shelf → table ≡ tableOf (retire k (slotsOn (tableIn ws) shelf)) (tableIn ws))
+  pub free-done : (known : Known ws bs) (table : List ℕ) → k < slotCount → ((arena : List ℕ) → Formed (tableIn ws) arena → table ≡ tableOf (retire k (slotsOn (tableIn ws) arena)) (tableIn ws))
       → Steps Free bytes ws bs Done (put lengthsPlace tableWords table ws) bs
   unfolding answerIn firstOf
   free-done known table h o =
       let some : noResident bytes (decode ws bs) ≡ false = lt-leb (length (decode ws bs .slots)) (residentOf bytes (decode ws bs .slots)) (omega (arith, slots-many ws bs, here)) in
       let left = free-lent ws bs bytes table (known .size) (omega (arith, here))
-      (o bs (formed-table ws bs known) ∙ ap (λ (j : ℕ). tableOf (retire j (slotsOn (tableIn ws) bs)) (tableIn ws)) told) in
-      record { answers = rw some; words = left .0; shelf = left .1 }
+      (o bs (formed-table ws bs known) ∙ ap (λ (j : ℕ). tableOf (retire j (slotsOn (tableIn ws) bs)) (tableIn ws)) fact) in
+      record { answers = rw some; words = left .0; arena = left .1 }
 
 -- the export
 module _ (ws bs out : List ℕ) where

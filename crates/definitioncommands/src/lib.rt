@@ -8,9 +8,9 @@ use definitions::retire;
 use definitions::staying_count;
 use model::Answer;
 use model::DefinitionCommand;
+use refusals::Refusal;
 use synthdef::Checked;
 use synthdef::check_file;
-use words::Refusal;
 use words::wide;
 ghost use Prim.Native.Nat.{ℕ, _-_};
 ghost use mathlib.Core.Path.{_≡_};
@@ -36,36 +36,36 @@ fn no_slot(staying: u32, count: u32) -> bool
 }
 
 // An accepted file of so many definitions: refusal 12, or it is loaded.
-fn load_file(bytes: &[u8], count: u32, words: &mut [u32], shelf: &mut [u8]) -> Answer
-    requires { ⌜ Known (now words) (now shelf) × (Accepted (now bytes) × (length (definitionsOn (now bytes)) ≡ count)) ⌝ }
-    ensures { λ r. ⌜ Steps DefinitionCommand.Receive (now (bytes .entry)) (now (words .entry)) (now (shelf .entry)) r (now (words .exit)) (now (shelf .exit)) ⌝ }
+fn load_file(bytes: &[u8], count: u32, words: &mut [u32], arena: &mut [u8]) -> Answer
+    requires { ⌜ Known (now words) (now arena) × (Accepted (now bytes) × (length (definitionsOn (now bytes)) ≡ count)) ⌝ }
+    ensures { λ r. ⌜ Steps DefinitionCommand.Receive (now (bytes .entry)) (now (words .entry)) (now (arena .entry)) r (now (words .exit)) (now (arena .exit)) ⌝ }
 {
     let held = held_slots(&words[68..1348], wide(words[0]));
-    let staying = staying_count(&words[4..68], shelf, held, bytes);
+    let staying = staying_count(&words[4..68], arena, held, bytes);
     if no_slot(staying, count) {
         return Answer::Refused(Refusal::NoSlot);
     }
-    load(&mut words[4..68], shelf, held, bytes);
+    load(&mut words[4..68], arena, held, bytes);
     Answer::Done
 }
 
 // /d_recv
-fn receive(bytes: &[u8], words: &mut [u32], shelf: &mut [u8]) -> Answer
-    requires { ⌜ Known (now words) (now shelf) ⌝ }
-    ensures { λ r. ⌜ Steps DefinitionCommand.Receive (now (bytes .entry)) (now (words .entry)) (now (shelf .entry)) r (now (words .exit)) (now (shelf .exit)) ⌝ }
+fn receive(bytes: &[u8], words: &mut [u32], arena: &mut [u8]) -> Answer
+    requires { ⌜ Known (now words) (now arena) ⌝ }
+    ensures { λ r. ⌜ Steps DefinitionCommand.Receive (now (bytes .entry)) (now (words .entry)) (now (arena .entry)) r (now (words .exit)) (now (arena .exit)) ⌝ }
 {
     match check_file(bytes) {
-        Checked::Accepted(count) => load_file(bytes, count, words, shelf),
-        Checked::Refused(refusal, place) => Answer::RefusedAt(refusal, place),
+        Checked::Accepted(count) => load_file(bytes, count, words, arena),
+        Checked::Refused(fault, place) => Answer::RefusedAt(fault, place),
     }
 }
 
 // /d_free
-fn free(bytes: &[u8], words: &mut [u32], shelf: &[u8]) -> Answer
-    requires { ⌜ Known (now words) (now shelf) ⌝ }
-    ensures { λ r. ⌜ Steps DefinitionCommand.Free (now (bytes .entry)) (now (words .entry)) (now (shelf .entry)) r (now (words .exit)) (now (shelf .entry)) ⌝ }
+fn free(bytes: &[u8], words: &mut [u32], arena: &[u8]) -> Answer
+    requires { ⌜ Known (now words) (now arena) ⌝ }
+    ensures { λ r. ⌜ Steps DefinitionCommand.Free (now (bytes .entry)) (now (words .entry)) (now (arena .entry)) r (now (words .exit)) (now (arena .entry)) ⌝ }
 {
-    let k = find_resident(&words[4..68], shelf, bytes);
+    let k = find_resident(&words[4..68], arena, bytes);
     if 32 <= k {
         return Answer::Refused(Refusal::NoDefinition);
     }
@@ -78,26 +78,26 @@ pub fn definition_step(
     command: DefinitionCommand,
     bytes: &[u8],
     words: &mut [u32],
-    shelf: &mut [u8],
+    arena: &mut [u8],
 ) -> Answer
-    requires { ⌜ Known (now words) (now shelf) ⌝ }
-    ensures { λ r. ⌜ Steps command (now (bytes .entry)) (now (words .entry)) (now (shelf .entry)) r (now (words .exit)) (now (shelf .exit)) ⌝ }
+    requires { ⌜ Known (now words) (now arena) ⌝ }
+    ensures { λ r. ⌜ Steps command (now (bytes .entry)) (now (words .entry)) (now (arena .entry)) r (now (words .exit)) (now (arena .exit)) ⌝ }
 {
     match command {
-        DefinitionCommand::Receive => receive(bytes, words, shelf),
-        DefinitionCommand::Free => free(bytes, words, shelf),
+        DefinitionCommand::Receive => receive(bytes, words, arena),
+        DefinitionCommand::Free => free(bytes, words, arena),
     }
 }
 
 // The export: a version 2 file of all residents, or refusal 24.
-pub fn export_query(words: &[u32], shelf: &[u8], out: &mut [u8]) -> Answer
-    requires { ⌜ Known (now words) (now shelf) ⌝ }
-    ensures { λ r. ⌜ ((bytes : List ℕ) → Reply Query.Export bytes (now (words .entry)) (now (shelf .entry)) (now (out .entry)) r (now (out .exit))) ⌝ }
+pub fn export_query(words: &[u32], arena: &[u8], out: &mut [u8]) -> Answer
+    requires { ⌜ Known (now words) (now arena) ⌝ }
+    ensures { λ r. ⌜ ((bytes : List ℕ) → Reply Query.Export bytes (now (words .entry)) (now (arena .entry)) (now (out .entry)) r (now (out .exit))) ⌝ }
 {
-    let size = export_length(&words[4..68], shelf);
+    let size = export_length(&words[4..68], arena);
     if out.len() < size {
         return Answer::Refused(Refusal::NoRoom);
     }
-    export(&words[4..68], shelf, out);
+    export(&words[4..68], arena, out);
     Answer::Replied(size)
 }

@@ -1,25 +1,25 @@
 -- The state check's part on slots.
-use Prim.{Unit, tt}
+use Prim.{Unit}
 use Prim.Native.Nat.{ℕ, zero, suc, _+_, _*_, _-_, _≤_, _<_}
 use mathlib.Core.Bool.{Bool, true, false, not}
-use mathlib.Core.Path.{_≡_, refl, sym, ap, ap₂, _∙_}
-use mathlib.Core.List.{List, [], _∷_, _++_}
+use mathlib.Core.Path.{_≡_, refl, sym, ap, _∙_}
+use mathlib.Core.List.{List}
 use native.Mathlib.Omega.{arith}
-use native.Mathlib.Nat.{add-zero, zero-add}
+use native.Mathlib.Nat.{add-zero}
 use native.Mathlib.Numerals.{add-one}
-use lib.ListN.{length, take, drop, getD, length-take, length-drop, drop-of-length-le}
+use lib.ListN.{length, take, drop, getD, length-drop, drop-of-length-le}
 use lib.Seq.{getD-take, getD-drop, drop-drop, drop-cons, take-take, length-take-le}
 use lib.Dec.{leb, eqb}
 use borrow.Author.Tests.{leb-true, le-leb, eqb-true, eqb-false}
 use Rattle.words.specs.Choice.{pick, both, either, both-true}
 use Rattle.synthdef.specs.Read.{Read, got, bad, ending}
 use Rattle.synthdef.specs.Definition.{Definition}
-use Rattle.synthdef.specs.Reader.{readDefinition, sizeLimit, sameName}
+use Rattle.synthdef.specs.Reader.{readDefinition, sizeLimit}
 use Rattle.nodes.specs.declared.Node.{Node}
 use Rattle.model.specs.Layout.{slotCount, slotRoom}
-use Rattle.model.specs.Engine.{Slot, held, slotTaken}
-use Rattle.model.specs.Formed.{flagsFormed, isWhole, slotFormed, slotsFormed, nameResident, namesApart}
-use Rattle.definitions.specs.Slots.{tableWords, lengthsOn, flagsOn, slotsOn, slotOn, bytesOn, residentOn, slots-length, slot-at, slots-end, Sized, Whole, Formed}
+use Rattle.model.specs.Engine.{Slot, held}
+use Rattle.model.specs.Formed.{flagsFormed, isWhole, slotsFormed, nameResident, namesApart}
+use Rattle.definitions.specs.Slots.{tableWords, lengthsOn, flagsOn, slotsOn, bytesOn, residentOn, slot-at, slots-end, SlotsFit, Formed}
 use Rattle.definitions.specs.Names.{nameOn, namedOn}
 
 -- the flags: one step, and the end
@@ -61,12 +61,12 @@ pub whole-ending : (size : ℕ) (r : Read Definition) → isWhole size r ≡ end
 whole-ending size (got d next) = refl
 whole-ending size (bad q at) = refl
 
--- a part of the shelf that was read
-pub part-read : (shelf : List ℕ) (k size : ℕ) (r : Read (Unit {0})) → size ≤ slotRoom → r ≡ ending (readDefinition (take (slotRoom * k + size - slotRoom * k) (drop (slotRoom * k) shelf)) 0)
-    → endsAt size r ≡ both (leb size sizeLimit) (isWhole size (readDefinition (take size (take slotRoom (drop (slotRoom * k) shelf))) 0))
-part-read shelf k size r small e =
+-- a part of the arena that was read
+pub part-read : (arena : List ℕ) (k size : ℕ) (r : Read (Unit {0})) → size ≤ slotRoom → r ≡ ending (readDefinition (take (slotRoom * k + size - slotRoom * k) (drop (slotRoom * k) arena)) 0)
+    → endsAt size r ≡ both (leb size sizeLimit) (isWhole size (readDefinition (take size (take slotRoom (drop (slotRoom * k) arena))) 0))
+part-read arena k size r small e =
     let n : slotRoom * k + size - slotRoom * k ≡ size = omega arith in
-    let room = drop (slotRoom * k) shelf in
+    let room = drop (slotRoom * k) arena in
     let same : take (slotRoom * k + size - slotRoom * k) room ≡ take size (take slotRoom room) = ap (λ (m : ℕ). take m room) n ∙ sym (take-take size slotRoom room small) in
     ap (λ (q : Read (Unit {0})). endsAt size q) (e ∙ ap (λ (l : List ℕ). ending (readDefinition l 0)) same)
     ∙ sym (whole-ending size (readDefinition (take size (take slotRoom room)) 0))
@@ -81,24 +81,24 @@ whole-read size (got d next) t = record { definition = d; read = ap (λ (n : ℕ
 whole-read size (bad q at) t = absurd (let z : _≡_ {A = ℕ} 0 1 = cc in omega arith)
 
 -- the slots: one step, and the end
-module _ (table shelf : List ℕ) (t : List Node) where
+module _ (table arena : List ℕ) (t : List Node) where
   abbrev pub formedOn : ℕ → Bool
-  formedOn k = pick (either (residentOn table k) (held k t)) (both (leb (getD table k 0) sizeLimit) (isWhole (getD table k 0) (readDefinition (bytesOn table shelf k) 0))) true
+  formedOn k = pick (either (residentOn table k) (held k t)) (both (leb (getD table k 0) sizeLimit) (isWhole (getD table k 0) (readDefinition (bytesOn table arena k) 0))) true
 
   pub formed-turn : (k : ℕ) → k < slotCount
-      → slotsFormed k (drop k (lengthsOn table)) (drop k (slotsOn table shelf)) t
-      ≡ both (formedOn k) (slotsFormed (k + 1) (drop (k + 1) (lengthsOn table)) (drop (k + 1) (slotsOn table shelf)) t)
+      → slotsFormed k (drop k (lengthsOn table)) (drop k (slotsOn table arena)) t
+      ≡ both (formedOn k) (slotsFormed (k + 1) (drop (k + 1) (lengthsOn table)) (drop (k + 1) (slotsOn table arena)) t)
   unfolding slotsFormed
   formed-turn k h =
       let size : getD (drop k (lengthsOn table)) 0 0 ≡ getD table k 0 = getD-drop k (lengthsOn table) 0 0 ∙ rw add-zero (getD-take slotCount table k 0 h) in
-      ap (λ (l : List Slot). slotsFormed k (drop k (lengthsOn table)) l t) (slot-at table shelf k h)
+      ap (λ (l : List Slot). slotsFormed k (drop k (lengthsOn table)) l t) (slot-at table arena k h)
       ∙ rw (size, drop-drop 1 k (lengthsOn table))
 
-  pub formed-end : (k : ℕ) → slotCount ≤ k → slotsFormed k (drop k (lengthsOn table)) (drop k (slotsOn table shelf)) t ≡ true
+  pub formed-end : (k : ℕ) → slotCount ≤ k → slotsFormed k (drop k (lengthsOn table)) (drop k (slotsOn table arena)) t ≡ true
   unfolding slotsFormed
-  formed-end k h = ap (λ (l : List Slot). slotsFormed k (drop k (lengthsOn table)) l t) (slots-end table shelf k h)
+  formed-end k h = ap (λ (l : List Slot). slotsFormed k (drop k (lengthsOn table)) l t) (slots-end table arena k h)
 
-  formed-from : (n k : ℕ) → k + n ≡ slotCount → slotsFormed k (drop k (lengthsOn table)) (drop k (slotsOn table shelf)) t ≡ true → (j : ℕ) → k ≤ j → j < slotCount → formedOn j ≡ true
+  formed-from : (n k : ℕ) → k + n ≡ slotCount → slotsFormed k (drop k (lengthsOn table)) (drop k (slotsOn table arena)) t ≡ true → (j : ℕ) → k ≤ j → j < slotCount → formedOn j ≡ true
   formed-from zero k e q j h l = absurd (omega arith)
   formed-from (suc n) k e q j h l =
       let p = both-true (formedOn k) _ (sym (formed-turn k (omega arith)) ∙ q) in
@@ -111,34 +111,34 @@ module _ (table shelf : List ℕ) (t : List Node) where
       by false q here more = more (omega (arith, eqb-false j k q))
 
 -- what passes the check is well formed
-pub check-formed : (table shelf : List ℕ) (t : List Node) → Sized table shelf → flagsFormed (flagsOn table) ≡ true → slotsFormed 0 (lengthsOn table) (slotsOn table shelf) t ≡ true
-    → Formed table shelf
-check-formed table shelf t z flags slots = record {
+pub check-formed : (table arena : List ℕ) (t : List Node) → SlotsFit table arena → flagsFormed (flagsOn table) ≡ true → slotsFormed 0 (lengthsOn table) (slotsOn table arena) t ≡ true
+    → Formed table arena
+check-formed table arena t z flags slots = record {
   sized = z;
   flag = λ k h. flag-from table (z .tableSize) slotCount 0 refl flags k (omega arith) h;
   resident = λ k h e.
-      let p = both-true (leb (getD table k 0) sizeLimit) _ (rw e at (formed-from table shelf t slotCount 0 refl slots k (omega arith) h)) in
-      let w = whole-read (getD table k 0) (readDefinition (bytesOn table shelf k) 0) (p .1) in
+      let p = both-true (leb (getD table k 0) sizeLimit) _ (rw e at (formed-from table arena t slotCount 0 refl slots k (omega arith) h)) in
+      let w = whole-read (getD table k 0) (readDefinition (bytesOn table arena k) 0) (p .1) in
       record { definition = w .definition; small = leb-true (getD table k 0) sizeLimit (p .0); read = w .read };
 }
 
 -- the names: one step, and the end
-module _ (table shelf : List ℕ) where
+module _ (table arena : List ℕ) where
   pub resident-turn : (name : List ℕ) (k : ℕ) → k < slotCount
-      → nameResident name (drop k (slotsOn table shelf)) ≡ pick (namedOn table shelf name k) true (nameResident name (drop (k + 1) (slotsOn table shelf)))
+      → nameResident name (drop k (slotsOn table arena)) ≡ pick (namedOn table arena name k) true (nameResident name (drop (k + 1) (slotsOn table arena)))
   unfolding nameResident
-  resident-turn name k h = ap (λ (l : List Slot). nameResident name l) (slot-at table shelf k h)
+  resident-turn name k h = ap (λ (l : List Slot). nameResident name l) (slot-at table arena k h)
 
-  pub resident-end : (name : List ℕ) (k : ℕ) → slotCount ≤ k → nameResident name (drop k (slotsOn table shelf)) ≡ false
+  pub resident-end : (name : List ℕ) (k : ℕ) → slotCount ≤ k → nameResident name (drop k (slotsOn table arena)) ≡ false
   unfolding nameResident
-  resident-end name k h = ap (λ (l : List Slot). nameResident name l) (slots-end table shelf k h)
+  resident-end name k h = ap (λ (l : List Slot). nameResident name l) (slots-end table arena k h)
 
   pub apart-turn : (k : ℕ) → k < slotCount
-      → namesApart (drop k (slotsOn table shelf))
-      ≡ both (pick (residentOn table k) (not (nameResident (nameOn table shelf k) (drop (k + 1) (slotsOn table shelf)))) true) (namesApart (drop (k + 1) (slotsOn table shelf)))
+      → namesApart (drop k (slotsOn table arena))
+      ≡ both (pick (residentOn table k) (not (nameResident (nameOn table arena k) (drop (k + 1) (slotsOn table arena)))) true) (namesApart (drop (k + 1) (slotsOn table arena)))
   unfolding namesApart
-  apart-turn k h = ap (λ (l : List Slot). namesApart l) (slot-at table shelf k h)
+  apart-turn k h = ap (λ (l : List Slot). namesApart l) (slot-at table arena k h)
 
-  pub apart-end : (k : ℕ) → slotCount ≤ k → namesApart (drop k (slotsOn table shelf)) ≡ true
+  pub apart-end : (k : ℕ) → slotCount ≤ k → namesApart (drop k (slotsOn table arena)) ≡ true
   unfolding namesApart
-  apart-end k h = ap (λ (l : List Slot). namesApart l) (slots-end table shelf k h)
+  apart-end k h = ap (λ (l : List Slot). namesApart l) (slots-end table arena k h)

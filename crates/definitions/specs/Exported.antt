@@ -1,29 +1,29 @@
 -- Export over the reading: what a fresh engine loaded is exported byte for byte, and an export is read as the residents' definitions, in slot order.
-use Prim.Native.Nat.{ℕ, zero, suc, _+_, _*_, _-_, _≤_, _<_}
+use Prim.Native.Nat.{ℕ, zero, suc, _+_, _-_, _≤_, _<_}
 use mathlib.Core.Bool.{Bool, true, false, not}
 use mathlib.Core.Path.{_≡_, refl, sym, ap, ap₂, _∙_}
-use mathlib.Core.List.{List, [], _∷_, _++_, append-assoc, append-nil}
+use mathlib.Core.List.{List, [], _∷_, _++_, append-nil}
 use mathlib.Core.Option.{Option, none, some}
 use native.Mathlib.Omega.{arith}
 use native.Mathlib.Nat.{add-zero, zero-add, sub-zero}
-use lib.ListN.{length, take, drop, getD, set, length-append}
+use lib.ListN.{length, getD, length-append}
 use lib.Seq.{set-append-seam, append-snoc}
-use lib.Dec.{ltb, leb, eqb}
+use lib.Dec.{ltb, leb}
 use borrow.Author.Tests.{not-true, le-leb, leb-true, lt-ltb, le-ltb}
 use Rattle.words.specs.Choice.{pick, both, either, both-true}
-use Rattle.synthdef.specs.Read.{Read, got, bad}
+use Rattle.synthdef.specs.Read.{Read, got}
 use Rattle.synthdef.specs.Definition.{Definition}
 use Rattle.synthdef.specs.Reader.{readDefinition, readFile, sizeLimit, mostDefinitions, sameName, among}
-use Rattle.synthdef.specs.Writer.{writeAll, writeDefinition, writeFile}
+use Rattle.synthdef.specs.Writer.{writeDefinition, writeFile}
 use Rattle.synthdef.specs.Bounds.{every, isDefinition, areDefinitions, isFile}
 use Rattle.nodes.specs.declared.Node.{Node}
 use Rattle.model.specs.Layout.{slotCount}
-use Rattle.model.specs.Engine.{Slot, slotAt, held, slotTaken, definitionIn, noDefinition, valueOr, nameIn, residents, residentFrom, residentOf}
+use Rattle.model.specs.Engine.{Slot, slotAt, held, definitionIn, noDefinition, valueOr, nameIn, residents, residentFrom, residentOf}
 use Rattle.model.specs.Formed.{nameResident, namesApart}
 use Rattle.model.specs.Checks.{namesOf}
-use Rattle.model.specs.Effects.{freeFrom, placed, loaded, retired}
+use Rattle.model.specs.Effects.{freeFrom, loaded, retired}
 use Rattle.model.specs.Replies.{definitionsIn, exportFile}
-use Rattle.model.specs.Demands.{residentIn}
+use Rattle.model.specs.Demands.{definitionAtSlot}
 use Rattle.roundtrip.specs.Stands.{Bytes}
 use Rattle.roundtrip.specs.Back.{definition-back, file-back}
 use Rattle.roundtrip.specs.Forth.{definition-forth, file-forth}
@@ -111,16 +111,16 @@ pub export-read : (slots : List Slot) → length slots ≡ slotCount → AllFine
 export-read slots many fine apart = file-back (definitionsIn (residents slots)) (residents-file slots many fine apart)
 
 -- the slots of a well-formed state
-pub formed-fine : (table shelf : List ℕ) → Bytes shelf → Formed table shelf → AllFine (slotsOn table shelf)
-formed-fine table shelf b f k h r =
-    let less : k < slotCount = rw (slots-length slotCount (lengthsOn table) (flagsOn table) shelf) at h in
-    let is : slotAt (slotsOn table shelf) k ≡ slotOn table shelf k = slot-is table shelf k less in
+pub formed-fine : (table arena : List ℕ) → Bytes arena → Formed table arena → AllFine (slotsOn table arena)
+formed-fine table arena b f k h r =
+    let less : k < slotCount = rw (slots-length slotCount (lengthsOn table) (flagsOn table) arena) at h in
+    let is : slotAt (slotsOn table arena) k ≡ slotOn table arena k = slot-is table arena k less in
     let w = f .resident k less (sym (ap (λ (s : Slot). s .resident) is) ∙ r) in
     let small = w .small in
-    let size = ap length (whole-written table shelf k b (f .sized) less w) ∙ whole-size table shelf k (f .sized) less w in
+    let size = ap length (whole-written table arena k b (f .sized) less w) ∙ whole-size table arena k (f .sized) less w in
     rw is (record {
       bounded = ap (λ (q : Read Definition). isDefinition (valueOr noDefinition q)) (w .read)
-          ∙ definition-forth (bytesOn table shelf k) (bytes-on table shelf k b) 0 (w .definition) (getD table k 0) (w .read) .bounded;
+          ∙ definition-forth (bytesOn table arena k) (bytes-on table arena k b) 0 (w .definition) (getD table k 0) (w .read) .bounded;
       small = omega arith;
     })
 
@@ -263,8 +263,8 @@ meaning-from k name (s ∷ more) = by (s .resident) refl (sameName (nameIn s) na
     by true e false f ih = rw f (on ih)
     by false e q f ih = on ih
 
--- what a name means is told by the residents' definitions
-pub meaning-residents : (name : List ℕ) (slots : List Slot) → residentIn slots (residentOf name slots) ≡ meaningOf name (definitionsIn (residents slots))
+-- what a name means is fact by the residents' definitions
+pub meaning-residents : (name : List ℕ) (slots : List Slot) → definitionAtSlot slots (residentOf name slots) ≡ meaningOf name (definitionsIn (residents slots))
 meaning-residents name slots =
     let all : 0 + length slots ≡ length slots = zero-add (length slots) in
     let here : residentOf name slots - 0 ≡ residentOf name slots = sub-zero (residentOf name slots) in

@@ -1,20 +1,20 @@
 -- An accepted file as a run of definitions, one behind the other.
-use Prim.Native.Nat.{ℕ, zero, suc, _+_, _*_, _-_, _≤_, _<_}
+use Prim.Native.Nat.{ℕ, zero, suc, _+_, _-_, _≤_, _<_}
 use mathlib.Core.Bool.{Bool, true, false}
 use mathlib.Core.Path.{_≡_, refl, sym, ap, _∙_}
 use mathlib.Core.List.{List, [], _∷_, _++_}
 use native.Mathlib.Omega.{arith}
-use lib.ListN.{length, take, drop, getD, length-append}
+use lib.ListN.{length, getD}
 use lib.Dec.{ltb, leb, eqb}
-use borrow.Author.Tests.{ltb-true, ltb-false}
+use borrow.Author.Tests.{ltb-false}
 use Rattle.words.specs.Choice.{pick}
 use Rattle.words.specs.Parts.{region, region-length}
-use Rattle.words.specs.declared.Refusal.the-variants.{NotSynthDef, BadVersion, BadCount, TooLong, NameTwice, BytesLeft, BadName}
+use Rattle.faults.specs.declared.Fault.the-variants.{NotSynthDef, BadVersion, BadCount, TooLong, NameTwice, BytesLeft, BadName}
 use Rattle.synthdef.specs.Read.{Read, got, bad, andThen, checked, repeat}
 use Rattle.synthdef.specs.FieldLaws.{checked-got, whole-got}
 use Rattle.synthdef.specs.RepeatLaws.{went-on}
 use Rattle.synthdef.specs.Units.{string-got}
-use Rattle.synthdef.specs.Fields.{int16, int32, float32, stringAt, nameBytes, pstring, definitionName, count, countTo, shortCountTo, highest16}
+use Rattle.synthdef.specs.Fields.{int16, int32, float32, stringAt, pstring, definitionName, count, countTo, shortCountTo, highest16}
 use Rattle.synthdef.specs.NameLaws.{full}
 use Rattle.synthdef.specs.Definition.{Front, Definition}
 use Rattle.synthdef.specs.Reader.{mostParameters, mostDefinitions, sizeLimit, fileType, fileVersion, parameterName, variant, among, fits, readFront, readUnits, readDefinition, readDefinitions, readHeader, readFile}

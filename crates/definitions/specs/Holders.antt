@@ -1,7 +1,7 @@
 -- The slots that live synths hold, as a list of 32 tests beside the nodes.
 use Prim.Native.Nat.{ℕ, zero, suc, _+_, _*_, _≤_, _<_}
-use mathlib.Core.Bool.{Bool, true, false, not}
-use mathlib.Core.Path.{_≡_, refl, sym, ap, ap₂, _∙_}
+use mathlib.Core.Bool.{Bool, true, false}
+use mathlib.Core.Path.{_≡_, refl, sym, ap, _∙_}
 use mathlib.Core.List.{List, [], _∷_}
 use native.Mathlib.Omega.{arith}
 use native.Mathlib.Nat.{add-zero}
@@ -9,21 +9,21 @@ use lib.ListN.{length, drop, getD, set}
 use lib.Seq.{getD-set-same, getD-set-other}
 use lib.Dec.{eqb}
 use borrow.Author.Tests.{eq-eqb, ne-eqb, eqb-true, eqb-false}
-use Rattle.words.specs.Choice.{pick, both, either}
+use Rattle.words.specs.Choice.{pick, either}
 use Rattle.nodes.specs.declared.Node.{Node}
 use Rattle.nodes.specs.Table.{width, rows, rows-end, row-from}
 use Rattle.model.specs.Layout.{slotCount}
-use Rattle.model.specs.Engine.{Slot, held, slotTaken}
-use Rattle.model.specs.Formed.{slotFormed, slotsFormed}
+use Rattle.model.specs.Engine.{Slot, held}
+use Rattle.model.specs.Formed.{slotsFormed}
 use Rattle.model.specs.Checks.{staying}
-use Rattle.model.specs.Effects.{freeFrom, placed, loaded}
+use Rattle.model.specs.Effects.{freeFrom}
 
 -- the tests tell which slots the live synths hold
 pub record HeldBy (tests : List Bool) (t : List Node) : Type 0 where
   pub size : length tests ≡ slotCount
   pub each : (k : ℕ) → k < slotCount → getD tests k false ≡ held k t
 
--- a table of synths that hold just the slots told
+-- a table of synths that hold just the slots fact
 abbrev pub holder : ℕ → Node
 holder k = record { number = 0; depth = 0; run = 0; slot = k; row = 0 }
 
@@ -61,7 +61,7 @@ held-holders tests k =
     let here : 0 + k ≡ k = omega arith in
     ap (λ (j : ℕ). held j (holders tests)) (sym here) ∙ held-from 0 tests k
 
--- what is told of the holders is told of the nodes
+-- what is fact of the holders is fact of the nodes
 pub same-held : {tests : List Bool} {t : List Node} → HeldBy tests t → SameHeld (holders tests) t
 same-held {tests} h k less = held-holders tests k ∙ h .each k less
 

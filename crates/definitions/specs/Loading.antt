@@ -1,28 +1,28 @@
 -- An accepted file's definitions put into slots, one after the other.
 use Prim.Native.Nat.{ℕ, zero, suc, _+_, _*_, _-_, _≤_, _<_}
-use mathlib.Core.Bool.{Bool, true, false, not}
+use mathlib.Core.Bool.{Bool, true, false}
 use mathlib.Core.Path.{_≡_, refl, sym, ap, ap₂, _∙_}
 use mathlib.Core.List.{List, [], _∷_, _++_}
 use native.Mathlib.Omega.{arith}
-use native.Mathlib.Nat.{add-zero, zero-add}
-use lib.ListN.{length, take, drop, getD, set, length-take, length-drop, length-append, length-set, List·getD-eq-default}
-use lib.Seq.{getD-set-same, getD-set-other, set-out, take-all, drop-at, take-take, length-take-le}
+use native.Mathlib.Nat.{zero-add}
+use lib.ListN.{length, set, length-take, length-drop, length-set, List·getD-eq-default}
+use lib.Seq.{getD-set-same, getD-set-other, set-out}
 use lib.Dec.{ltb, eqb}
-use borrow.Author.Tests.{ltb-true, ltb-false, eqb-true, eqb-false, eq-eqb, ne-eqb}
-use Rattle.words.specs.Choice.{pick, both, either, either-false}
+use borrow.Author.Tests.{ltb-true, ltb-false, eqb-true, eqb-false}
+use Rattle.words.specs.Choice.{pick, either-false}
 use Rattle.words.specs.Parts.{region, region-length, put, put-length}
 use Rattle.synthdef.specs.Definition.{Definition}
 use Rattle.synthdef.specs.Writer.{writeDefinition}
 use Rattle.nodes.specs.declared.Node.{Node}
-use Rattle.model.specs.Layout.{slotCount, slotRoom, shelfLength}
+use Rattle.model.specs.Layout.{slotCount, slotRoom, arenaLength}
 use Rattle.model.specs.Engine.{Slot, slotsFrom, slotAt, held, slotTaken}
 use Rattle.model.specs.Effects.{freeFrom, placed, loaded, retired}
 use Rattle.model.specs.Checks.{namesOf}
-use Rattle.model.specs.After.{flagsOf, lengthsOf, shelfOf}
+use Rattle.model.specs.After.{flagsOf, lengthsOf, arenaOf}
 use Rattle.definitions.specs.Holders.{holders}
-use Rattle.definitions.specs.Slots.{tableWords, lengthsOn, flagsOn, slotsOn, slotOn, bytesOn, residentOn, slots-length, Sized, Formed}
-use Rattle.definitions.specs.Files.{Held, Run, firstPlace, definitionsOn}
-use Rattle.definitions.specs.Storing.{tableOf, flags-size, lengths-size, table-size, table-set, Short, shelf-set, shelf-same, flags-back, free-flags}
+use Rattle.definitions.specs.Slots.{lengthsOn, flagsOn, slotsOn, slots-length, SlotsFit, Formed}
+use Rattle.definitions.specs.Files.{Run, firstPlace, definitionsOn}
+use Rattle.definitions.specs.Storing.{tableOf, table-set, Short, arena-set, arena-same, flags-back, free-flags}
 use Rattle.definitions.specs.Naming.{Next, run-last}
 use Rattle.definitions.specs.Retiring.{slot-is, table-same}
 use Rattle.definitions.specs.Retired.{table-flags, retired-lengths, retired-slots}
@@ -60,46 +60,46 @@ pub placed-many : (d : Definition) (slots : List Slot) (t : List Node) → lengt
 placed-many d slots t many = length-set slots (freeFrom 0 slots t) (record { bytes = writeDefinition d; resident = true }) ∙ many
 
 -- the flags in a table of slots
-flags-in : (slots : List Slot) (table shelf : List ℕ) → length slots ≡ slotCount → flagsOf (slotsOn (tableOf slots table) shelf) ≡ flagsOf slots
-flags-in slots table shelf many =
-    ap (λ (l : List ℕ). flagsOf (slotsFrom slotCount (lengthsOn (tableOf slots table)) l shelf)) (table-flags slots table many)
-    ∙ ap (λ (n : ℕ). flagsOf (slotsFrom n (lengthsOn (tableOf slots table)) (flagsOf slots) shelf)) (sym many)
-    ∙ flags-back slots (lengthsOn (tableOf slots table)) shelf
+flags-in : (slots : List Slot) (table arena : List ℕ) → length slots ≡ slotCount → flagsOf (slotsOn (tableOf slots table) arena) ≡ flagsOf slots
+flags-in slots table arena many =
+    ap (λ (l : List ℕ). flagsOf (slotsFrom slotCount (lengthsOn (tableOf slots table)) l arena)) (table-flags slots table many)
+    ∙ ap (λ (n : ℕ). flagsOf (slotsFrom n (lengthsOn (tableOf slots table)) (flagsOf slots) arena)) (sym many)
+    ∙ flags-back slots (lengthsOn (tableOf slots table)) arena
 
 -- the definitions before a place in the file are in their slots
-pub record Loading (table₀ shelf₀ file : List ℕ) (tests : List Bool) (at : ℕ) (table shelf : List ℕ) : Type 0 where
+pub record Loading (table₀ arena₀ file : List ℕ) (tests : List Bool) (at : ℕ) (table arena : List ℕ) : Type 0 where
   pub slots : List Slot
   pub rest : List Definition
   pub run : Run file at rest
-  pub left : loaded rest slots (holders tests) ≡ loaded (definitionsOn file) (slotsOn table₀ shelf₀) (holders tests)
+  pub left : loaded rest slots (holders tests) ≡ loaded (definitionsOn file) (slotsOn table₀ arena₀) (holders tests)
   pub many : length slots ≡ slotCount
   pub short : Short slots
   pub tableNow : table ≡ tableOf slots table₀
-  pub shelfNow : shelf ≡ shelfOf slots shelf₀
-  pub sized : Sized table shelf
+  pub arenaNow : arena ≡ arenaOf slots arena₀
+  pub sized : SlotsFit table arena
 
 -- the slots after a load: "A load first retires residents whose names are in the file, then puts the new ones in the lowest free slots, in file order."
 abbrev pub loadedOn : List ℕ → List ℕ → List Bool → List ℕ → List Slot
-loadedOn table shelf tests file = loaded (definitionsOn file) (retired (namesOf (definitionsOn file)) (slotsOn table shelf)) (holders tests)
+loadedOn table arena tests file = loaded (definitionsOn file) (retired (namesOf (definitionsOn file)) (slotsOn table arena)) (holders tests)
 
 -- what a load leaves
-pub record Loaded (table₀ shelf₀ table shelf : List ℕ) (slots : List Slot) : Type 0 where
+pub record Loaded (table₀ arena₀ table arena : List ℕ) (slots : List Slot) : Type 0 where
   pub words : table ≡ tableOf slots table₀
-  pub bytes : shelf ≡ shelfOf slots shelf₀
+  pub bytes : arena ≡ arenaOf slots arena₀
 
-short-on : (table shelf : List ℕ) → Short (slotsOn table shelf)
-short-on table shelf k e = by (ltb k slotCount) refl
+short-on : (table arena : List ℕ) → Short (slotsOn table arena)
+short-on table arena k e = by (ltb k slotCount) refl
   where
     slots : List Slot
-    slots = slotsOn table shelf
+    slots = slotsOn table arena
 
     by : (b : Bool) → ltb k slotCount ≡ b → length (slotAt slots k .bytes) ≤ slotRoom
     by true q =
         let less : k < slotCount = ltb-true k slotCount q in
-        rw (slot-is table shelf k less) (simp (length-take, length-drop) (omega arith))
+        rw (slot-is table arena k less) (simp (length-take, length-drop) (omega arith))
     by false q =
         let past : slotCount ≤ k = ltb-false k slotCount q in
-        rw (List·getD-eq-default slots (record { bytes = []; resident = false }) {n = k} (rw (slots-length slotCount (lengthsOn table) (flagsOn table) shelf) past)) (omega arith)
+        rw (List·getD-eq-default slots (record { bytes = []; resident = false }) {n = k} (rw (slots-length slotCount (lengthsOn table) (flagsOn table) arena) past)) (omega arith)
 
 short-set : (slots : List Slot) (k : ℕ) (x : Slot) → Short slots → length (x .bytes) ≤ slotRoom → Short (set slots k x)
 short-set slots k x short fits j e = by (eqb j k) refl (ltb k (length slots)) refl
@@ -118,34 +118,34 @@ short-set slots k x short fits j e = by (eqb j k) refl (ltb k (length slots)) re
         let other = getD-set-other slots k j x none (eqb-false j k q) in
         rw other (short j (rw other at e))
 
-pub loading-first : (table shelf file : List ℕ) (tests : List Bool) → Formed table shelf → Run file firstPlace (definitionsOn file)
-    → Loading table shelf file tests firstPlace table shelf
-loading-first table shelf file tests f r = record {
-  slots = slotsOn table shelf;
+pub loading-first : (table arena file : List ℕ) (tests : List Bool) → Formed table arena → Run file firstPlace (definitionsOn file)
+    → Loading table arena file tests firstPlace table arena
+loading-first table arena file tests f r = record {
+  slots = slotsOn table arena;
   rest = definitionsOn file;
   run = r;
   left = refl;
-  many = slots-length slotCount (lengthsOn table) (flagsOn table) shelf;
-  short = short-on table shelf;
-  tableNow = sym (table-same table shelf f);
-  shelfNow = sym (shelf-same slotCount (lengthsOn table) (flagsOn table) shelf);
+  many = slots-length slotCount (lengthsOn table) (flagsOn table) arena;
+  short = short-on table arena;
+  tableNow = sym (table-same table arena f);
+  arenaNow = sym (arena-same slotCount (lengthsOn table) (flagsOn table) arena);
   sized = f .sized;
 }
 
 abbrev newSlot : Definition → Slot
 newSlot d = record { bytes = writeDefinition d; resident = true }
 
-module _ (table₀ shelf₀ file : List ℕ) (tests : List Bool) (at : ℕ) (table shelf : List ℕ)
-    (long : length shelf₀ ≡ shelfLength) (m : Loading table₀ shelf₀ file tests at table shelf) (n : Next file at (m .rest)) (k : ℕ)
+module _ (table₀ arena₀ file : List ℕ) (tests : List Bool) (at : ℕ) (table arena : List ℕ)
+    (long : length arena₀ ≡ arenaLength) (m : Loading table₀ arena₀ file tests at table arena) (n : Next file at (m .rest)) (k : ℕ)
     (found : (s : List ℕ) → k ≡ freeFrom 0 (slotsOn table s) (holders tests)) where
   -- the slot that is found by the table is found in the slots
   found-in : k ≡ freeFrom 0 (m .slots) (holders tests)
   found-in =
-      found shelf
-      ∙ ap (λ (l : List ℕ). freeFrom 0 (slotsOn l shelf) (holders tests)) (m .tableNow)
-      ∙ free-flags 0 (slotsOn (tableOf (m .slots) table₀) shelf) (m .slots) (holders tests) (flags-in (m .slots) table₀ shelf (m .many))
+      found arena
+      ∙ ap (λ (l : List ℕ). freeFrom 0 (slotsOn l arena) (holders tests)) (m .tableNow)
+      ∙ free-flags 0 (slotsOn (tableOf (m .slots) table₀) arena) (m .slots) (holders tests) (flags-in (m .slots) table₀ arena (m .many))
 
-  next-left : loaded (n .rest) (set (m .slots) k (newSlot (n .first))) (holders tests) ≡ loaded (definitionsOn file) (slotsOn table₀ shelf₀) (holders tests)
+  next-left : loaded (n .rest) (set (m .slots) k (newSlot (n .first))) (holders tests) ≡ loaded (definitionsOn file) (slotsOn table₀ arena₀) (holders tests)
   unfolding loaded
   next-left =
       ap (λ (j : ℕ). loaded (n .rest) (set (m .slots) j (newSlot (n .first))) (holders tests)) found-in
@@ -153,7 +153,7 @@ module _ (table₀ shelf₀ file : List ℕ) (tests : List Bool) (at : ℕ) (tab
       ∙ m .left
 
   -- there is no free slot
-  pub loading-skip : slotCount ≤ k → Loading table₀ shelf₀ file tests (n .next) table shelf
+  pub loading-skip : slotCount ≤ k → Loading table₀ arena₀ file tests (n .next) table arena
   loading-skip past = record {
     slots = m .slots;
     rest = n .rest;
@@ -162,12 +162,12 @@ module _ (table₀ shelf₀ file : List ℕ) (tests : List Bool) (at : ℕ) (tab
     many = m .many;
     short = m .short;
     tableNow = m .tableNow;
-    shelfNow = m .shelfNow;
+    arenaNow = m .arenaNow;
     sized = m .sized;
   }
 
   pub loading-next : k < slotCount → (from : List ℕ) → from ≡ region at (n .next - at) file
-      → Loading table₀ shelf₀ file tests (n .next) (set (set table k (length from)) (slotCount + k) 1) (put (slotRoom * k) (length from) from shelf)
+      → Loading table₀ arena₀ file tests (n .next) (set (set table k (length from)) (slotCount + k) 1) (put (slotRoom * k) (length from) from arena)
   loading-next less from e =
       let same : from ≡ writeDefinition (n .first) = e ∙ sym (n .here .written) in
       let on = n .here .forward in
@@ -185,32 +185,32 @@ module _ (table₀ shelf₀ file : List ℕ) (tests : List Bool) (at : ℕ) (tab
         many = length-set (m .slots) k (newSlot (n .first)) ∙ m .many;
         short = short-set (m .slots) k (newSlot (n .first)) (m .short) fits;
         tableNow = rw (same, m .tableNow) (sym (table-set (m .slots) table₀ k (newSlot (n .first)) (m .many) less refl));
-        shelfNow = rw (same, m .shelfNow) (sym (shelf-set (m .slots) shelf₀ k (newSlot (n .first)) (m .short) (omega arith) (omega arith) free refl fits));
+        arenaNow = rw (same, m .arenaNow) (sym (arena-set (m .slots) arena₀ k (newSlot (n .first)) (m .short) (omega arith) (omega arith) free refl fits));
         sized = record {
           tableSize = length-set (set table k (length from)) (slotCount + k) 1 ∙ length-set table k (length from) ∙ m .sized .tableSize;
-          shelfSize = let z = m .sized .shelfSize in put-length (slotRoom * k) (length from) from shelf (omega arith) refl ∙ z;
+          arenaSize = let z = m .sized .arenaSize in put-length (slotRoom * k) (length from) from arena (omega arith) refl ∙ z;
         };
       }
 
-pub loading-last : (table₀ shelf₀ file : List ℕ) (tests : List Bool) (at : ℕ) (table shelf : List ℕ) → Loading table₀ shelf₀ file tests at table shelf → length file ≤ at
-    → Loaded table₀ shelf₀ table shelf (loaded (definitionsOn file) (slotsOn table₀ shelf₀) (holders tests))
+pub loading-last : (table₀ arena₀ file : List ℕ) (tests : List Bool) (at : ℕ) (table arena : List ℕ) → Loading table₀ arena₀ file tests at table arena → length file ≤ at
+    → Loaded table₀ arena₀ table arena (loaded (definitionsOn file) (slotsOn table₀ arena₀) (holders tests))
 unfolding loaded
-loading-last table₀ shelf₀ file tests at table shelf m h =
-    let same : m .slots ≡ loaded (definitionsOn file) (slotsOn table₀ shelf₀) (holders tests) =
+loading-last table₀ arena₀ file tests at table arena m h =
+    let same : m .slots ≡ loaded (definitionsOn file) (slotsOn table₀ arena₀) (holders tests) =
     sym (ap (λ (ds : List Definition). loaded ds (m .slots) (holders tests)) (run-last (m .run) h)) ∙ m .left in
-    record { words = m .tableNow ∙ ap (λ (l : List Slot). tableOf l table₀) same; bytes = m .shelfNow ∙ ap (λ (l : List Slot). shelfOf l shelf₀) same }
+    record { words = m .tableNow ∙ ap (λ (l : List Slot). tableOf l table₀) same; bytes = m .arenaNow ∙ ap (λ (l : List Slot). arenaOf l arena₀) same }
 
 -- the retirement and then the placing
-pub load-whole : (table shelf file : List ℕ) (tests : List Bool) (mid table′ shelf′ : List ℕ) → Formed table shelf
-    → mid ≡ tableOf (retired (namesOf (definitionsOn file)) (slotsOn table shelf)) table
-    → Loaded mid shelf table′ shelf′ (loaded (definitionsOn file) (slotsOn mid shelf) (holders tests))
-    → Loaded table shelf table′ shelf′ (loadedOn table shelf tests file)
-load-whole table shelf file tests mid table′ shelf′ f e l =
+pub load-whole : (table arena file : List ℕ) (tests : List Bool) (mid table′ arena′ : List ℕ) → Formed table arena
+    → mid ≡ tableOf (retired (namesOf (definitionsOn file)) (slotsOn table arena)) table
+    → Loaded mid arena table′ arena′ (loaded (definitionsOn file) (slotsOn mid arena) (holders tests))
+    → Loaded table arena table′ arena′ (loadedOn table arena tests file)
+load-whole table arena file tests mid table′ arena′ f e l =
     let names = namesOf (definitionsOn file) in
-    let slots : slotsOn mid shelf ≡ retired names (slotsOn table shelf) = ap (λ (m : List ℕ). slotsOn m shelf) e ∙ retired-slots table shelf names f in
-    let all : loaded (definitionsOn file) (slotsOn mid shelf) (holders tests) ≡ loadedOn table shelf tests file = ap (λ (s : List Slot). loaded (definitionsOn file) s (holders tests)) slots in
-    let lengths : lengthsOn mid ≡ lengthsOn table = ap (λ (m : List ℕ). lengthsOn m) e ∙ retired-lengths table shelf names f in
+    let slots : slotsOn mid arena ≡ retired names (slotsOn table arena) = ap (λ (m : List ℕ). slotsOn m arena) e ∙ retired-slots table arena names f in
+    let all : loaded (definitionsOn file) (slotsOn mid arena) (holders tests) ≡ loadedOn table arena tests file = ap (λ (s : List Slot). loaded (definitionsOn file) s (holders tests)) slots in
+    let lengths : lengthsOn mid ≡ lengthsOn table = ap (λ (m : List ℕ). lengthsOn m) e ∙ retired-lengths table arena names f in
     record {
       words = l .words ∙ ap₂ (λ (s : List Slot) (ls : List ℕ). lengthsOf s ls ++ flagsOf s) all lengths;
-      bytes = l .bytes ∙ ap (λ (s : List Slot). shelfOf s shelf) all;
+      bytes = l .bytes ∙ ap (λ (s : List Slot). arenaOf s arena) all;
     }

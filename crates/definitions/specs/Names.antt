@@ -1,84 +1,82 @@
 -- The names of residents.
-use Prim.Native.Nat.{ℕ, zero, suc, _+_, _*_, _-_, _≤_, _<_, min}
-use mathlib.Core.Bool.{Bool, true, false, not}
-use mathlib.Core.Path.{_≡_, refl, sym, ap, ap₂, _∙_}
-use mathlib.Core.List.{List, [], _∷_, _++_}
+use Prim.Native.Nat.{ℕ, _+_, _*_, _-_, _≤_, _<_}
+use mathlib.Core.Bool.{Bool, true, false}
+use mathlib.Core.Path.{_≡_, refl, sym, ap, _∙_}
+use mathlib.Core.List.{List}
 use native.Mathlib.Omega.{arith}
-use native.Mathlib.Nat.{add-zero, zero-add}
+use native.Mathlib.Nat.{add-zero}
 use lib.ListN.{length, take, drop, getD, set, length-take, length-drop, length-set}
 use lib.Seq.{getD-take, getD-drop, drop-drop, take-take, getD-set-same, getD-set-other}
 use lib.Dec.{eqb}
-use borrow.Author.Tests.{eq-eqb, ne-eqb, eqb-true, eqb-false}
+use borrow.Author.Tests.{eqb-true, eqb-false}
 use Rattle.words.specs.Choice.{pick, both, either}
-use Rattle.words.specs.Parts.{region}
-use Rattle.synthdef.specs.Read.{Read, got, bad}
+use Rattle.synthdef.specs.Read.{Read}
 use Rattle.synthdef.specs.Fields.{stringAt}
 use Rattle.synthdef.specs.Definition.{Definition}
-use Rattle.synthdef.specs.Reader.{readDefinition, sameName, among}
+use Rattle.synthdef.specs.Reader.{sameName}
 use Rattle.model.specs.Layout.{slotCount, slotRoom}
-use Rattle.model.specs.Engine.{Slot, nameIn, definitionIn, noDefinition, valueOr, residentFrom}
-use Rattle.model.specs.Checks.{namesOf}
+use Rattle.model.specs.Engine.{Slot, nameIn, noDefinition, valueOr, residentFrom}
 use Rattle.definitions.specs.Lists.{region-take}
-use Rattle.definitions.specs.Slots.{slotsOn, slotOn, bytesOn, residentOn, slot-at, slots-end, Sized, Whole, Formed}
+use Rattle.definitions.specs.Slots.{slotsOn, slotOn, bytesOn, residentOn, slot-at, slots-end, SlotsFit, Whole}
 use Rattle.definitions.specs.Files.{definition-named}
 
 -- the name in the slot k
 abbrev pub nameOn : List ℕ → List ℕ → ℕ → List ℕ
-nameOn table shelf k = nameIn (slotOn table shelf k)
+nameOn table arena k = nameIn (slotOn table arena k)
 
--- a resident's name stands on the shelf
-pub record NamedThere (table shelf : List ℕ) (k : ℕ) : Type 0 where
-  pub same : nameOn table shelf k ≡ stringAt shelf (slotRoom * k)
-  pub inside : slotRoom * k + (1 + getD shelf (slotRoom * k) 0) ≤ length shelf
+-- a resident's name stands in the arena
+pub record NamedThere (table arena : List ℕ) (k : ℕ) : Type 0 where
+  pub same : nameOn table arena k ≡ stringAt arena (slotRoom * k)
+  pub inside : slotRoom * k + (1 + getD arena (slotRoom * k) 0) ≤ length arena
 
-pub named-there : (table shelf : List ℕ) (k : ℕ) → Sized table shelf → k < slotCount → Whole table shelf k → NamedThere table shelf k
-named-there table shelf k z h w =
+pub named-there : (table arena : List ℕ) (k : ℕ) → SlotsFit table arena → k < slotCount → Whole table arena k → NamedThere table arena k
+named-there table arena k z h w =
     let n = getD table k 0 in
     let at = slotRoom * k in
-    let room = drop at shelf in
+    let room = drop at arena in
     let small = w .small in
-    let long = z .shelfSize in
-    let d = definition-named (bytesOn table shelf k) 0 (w .read) in
-    let bytes : bytesOn table shelf k ≡ take n room = take-take n slotRoom room small in
+    let long = z .arenaSize in
+    let d = definition-named (bytesOn table arena k) 0 (w .read) in
+    let bytes : bytesOn table arena k ≡ take n room = take-take n slotRoom room small in
     let within : 0 + (1 + getD (take n room) 0 0) ≤ length (take n room) = rw bytes at (d .1) in
     let some : 1 + getD (take n room) 0 0 ≤ n = omega (arith, length-take n room) in
-    let first : getD (take n room) 0 0 ≡ getD shelf at 0 = getD-take n room 0 0 (omega arith) ∙ getD-drop at shelf 0 0 ∙ rw add-zero in
-    let roomSize : length room ≡ length shelf - at = length-drop at shelf in
+    let first : getD (take n room) 0 0 ≡ getD arena at 0 = getD-take n room 0 0 (omega arith) ∙ getD-drop at arena 0 0 ∙ rw add-zero in
+    let roomSize : length room ≡ length arena - at = length-drop at arena in
     record {
       same = ap (λ (r : Read Definition). valueOr noDefinition r .front .name) (w .read)
           ∙ d .0
           ∙ ap (λ (l : List ℕ). stringAt l 0) bytes
           ∙ region-take 1 (getD (take n room) 0 0) n room some
           ∙ ap (λ (m : ℕ). take m (drop 1 room)) first
-          ∙ ap (λ (l : List ℕ). take (getD shelf at 0) l) (drop-drop 1 at shelf);
+          ∙ ap (λ (l : List ℕ). take (getD arena at 0) l) (drop-drop 1 at arena);
       inside = omega (arith, length-take n room);
     }
 
 -- the slot k is resident under a name
 abbrev pub namedOn : List ℕ → List ℕ → List ℕ → ℕ → Bool
-namedOn table shelf name k = both (residentOn table k) (sameName (nameOn table shelf k) name)
+namedOn table arena name k = both (residentOn table k) (sameName (nameOn table arena k) name)
 
 -- a search for the resident of a name: one step, and the end
-module _ (table shelf : List ℕ) (name : List ℕ) where
+module _ (table arena : List ℕ) (name : List ℕ) where
   pub resident-turn : (k : ℕ) → k < slotCount
-      → residentFrom k name (drop k (slotsOn table shelf)) ≡ pick (namedOn table shelf name k) k (residentFrom (k + 1) name (drop (k + 1) (slotsOn table shelf)))
+      → residentFrom k name (drop k (slotsOn table arena)) ≡ pick (namedOn table arena name k) k (residentFrom (k + 1) name (drop (k + 1) (slotsOn table arena)))
   unfolding residentFrom
-  resident-turn k h = ap (λ (l : List Slot). residentFrom k name l) (slot-at table shelf k h)
+  resident-turn k h = ap (λ (l : List Slot). residentFrom k name l) (slot-at table arena k h)
 
-  pub resident-end : (k : ℕ) → slotCount ≤ k → residentFrom k name (drop k (slotsOn table shelf)) ≡ k
+  pub resident-end : (k : ℕ) → slotCount ≤ k → residentFrom k name (drop k (slotsOn table arena)) ≡ k
   unfolding residentFrom
-  resident-end k h = ap (λ (l : List Slot). residentFrom k name l) (slots-end table shelf k h)
+  resident-end k h = ap (λ (l : List Slot). residentFrom k name l) (slots-end table arena k h)
 
 -- the marks with those of residents that have a name
-pub record MarkedMore (table shelf name : List ℕ) (marks after : List Bool) : Type 0 where
+pub record MarkedMore (table arena name : List ℕ) (marks after : List Bool) : Type 0 where
   pub size : length after ≡ slotCount
-  pub each : (k : ℕ) → k < slotCount → getD after k false ≡ either (getD marks k false) (namedOn table shelf name k)
+  pub each : (k : ℕ) → k < slotCount → getD after k false ≡ either (getD marks k false) (namedOn table arena name k)
 
 -- the marks of the slots before k are made
-pub record Marking (table shelf name : List ℕ) (marks : List Bool) (k : ℕ) (now : List Bool) : Type 0 where
+pub record Marking (table arena name : List ℕ) (marks : List Bool) (k : ℕ) (now : List Bool) : Type 0 where
   pub most : k ≤ slotCount
   pub size : length now ≡ slotCount
-  pub before : (j : ℕ) → j < k → getD now j false ≡ either (getD marks j false) (namedOn table shelf name j)
+  pub before : (j : ℕ) → j < k → getD now j false ≡ either (getD marks j false) (namedOn table arena name j)
   pub behind : (j : ℕ) → k ≤ j → getD now j false ≡ getD marks j false
 
 orFalse : (b : Bool) → either b false ≡ b
@@ -89,8 +87,8 @@ orTrue : (b : Bool) → either b true ≡ true
 orTrue true = refl
 orTrue false = refl
 
-module _ (table shelf name : List ℕ) (marks : List Bool) (k : ℕ) (now : List Bool) (m : Marking table shelf name marks k now) (less : k < slotCount) where
-  pub marking-set : namedOn table shelf name k ≡ true → Marking table shelf name marks (k + 1) (set now k true)
+module _ (table arena name : List ℕ) (marks : List Bool) (k : ℕ) (now : List Bool) (m : Marking table arena name marks k now) (less : k < slotCount) where
+  pub marking-set : namedOn table arena name k ≡ true → Marking table arena name marks (k + 1) (set now k true)
   marking-set e =
       let size = m .size in
       record {
@@ -100,7 +98,7 @@ module _ (table shelf name : List ℕ) (marks : List Bool) (k : ℕ) (now : List
         behind = λ j h. getD-set-other now k j true false (λ q. omega arith) ∙ m .behind j (omega arith);
       }
     where
-      by : (j : ℕ) → j < k + 1 → (b : Bool) → eqb j k ≡ b → getD (set now k true) j false ≡ either (getD marks j false) (namedOn table shelf name j)
+      by : (j : ℕ) → j < k + 1 → (b : Bool) → eqb j k ≡ b → getD (set now k true) j false ≡ either (getD marks j false) (namedOn table arena name j)
       by j h true q =
           let same : j ≡ k = eqb-true j k q in
           let size = m .size in
@@ -108,7 +106,7 @@ module _ (table shelf name : List ℕ) (marks : List Bool) (k : ℕ) (now : List
       by j h false q =
           getD-set-other now k j true false (eqb-false j k q) ∙ m .before j (omega (arith, eqb-false j k q))
 
-  pub marking-skip : namedOn table shelf name k ≡ false → Marking table shelf name marks (k + 1) now
+  pub marking-skip : namedOn table arena name k ≡ false → Marking table arena name marks (k + 1) now
   marking-skip e = record {
     most = omega arith;
     size = m .size;
@@ -116,7 +114,7 @@ module _ (table shelf name : List ℕ) (marks : List Bool) (k : ℕ) (now : List
     behind = λ j h. m .behind j (omega arith);
   }
     where
-      by : (j : ℕ) → j < k + 1 → (b : Bool) → eqb j k ≡ b → getD now j false ≡ either (getD marks j false) (namedOn table shelf name j)
+      by : (j : ℕ) → j < k + 1 → (b : Bool) → eqb j k ≡ b → getD now j false ≡ either (getD marks j false) (namedOn table arena name j)
       by j h true q =
           let same : j ≡ k = eqb-true j k q in
           rw (same, e) (m .behind k (omega arith) ∙ sym (orFalse (getD marks k false)))

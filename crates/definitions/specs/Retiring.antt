@@ -1,34 +1,32 @@
 -- Residents retired, in the table.
-use Prim.Native.Nat.{ℕ, zero, suc, _+_, _*_, _-_, _≤_, _<_}
+use Prim.Native.Nat.{ℕ, zero, suc, _+_, _-_, _≤_, _<_}
 use mathlib.Core.Bool.{Bool, true, false, not}
-use mathlib.Core.Path.{_≡_, refl, sym, ap, ap₂, _∙_}
-use mathlib.Core.List.{List, [], _∷_, _++_}
+use mathlib.Core.Path.{_≡_, refl, sym, ap, _∙_}
+use mathlib.Core.List.{List, [], _∷_}
 use native.Mathlib.Omega.{arith}
-use native.Mathlib.Nat.{add-zero}
-use lib.ListN.{length, take, drop, getD, set, length-take, length-drop, length-append, length-set, List·getD-append}
-use lib.Seq.{getD-take, getD-drop, ext-getD, getD-append-add, length-take-le, getD-set-same, getD-set-other, take-take}
+use lib.ListN.{length, getD, set, length-take, length-drop, length-set, List·getD-append}
+use lib.Seq.{getD-take, getD-drop, ext-getD, getD-append-add, getD-set-same, getD-set-other}
 use lib.Dec.{ltb, eqb}
-use borrow.Author.Tests.{eq-eqb, ne-eqb, eqb-true, eqb-false, ltb-true, ltb-false}
-use Rattle.words.specs.Choice.{pick, both, either}
+use borrow.Author.Tests.{eqb-true, eqb-false, ltb-true, ltb-false}
+use Rattle.words.specs.Choice.{pick, both}
 use Rattle.synthdef.specs.Reader.{among}
-use Rattle.nodes.specs.declared.Node.{Node}
-use Rattle.model.specs.Layout.{slotCount, slotRoom}
+use Rattle.model.specs.Layout.{slotCount}
 use Rattle.model.specs.Engine.{Slot, slotAt, nameIn}
 use Rattle.model.specs.Effects.{retired, retire}
 use Rattle.model.specs.After.{flagsOf, lengthsOf}
-use Rattle.definitions.specs.Slots.{tableWords, lengthsOn, flagsOn, slotsOn, slotOn, bytesOn, residentOn, slots-length, slot-at, Sized, Whole, Formed}
-use Rattle.definitions.specs.Storing.{tableOf, flags-size, lengths-size, table-size, flags-at, lengths-at}
+use Rattle.definitions.specs.Slots.{tableWords, lengthsOn, flagsOn, slotsOn, slotOn, bytesOn, residentOn, slots-length, slot-at, SlotsFit, Whole, Formed}
+use Rattle.definitions.specs.Storing.{tableOf, lengths-size, table-size, flags-at, lengths-at}
 use Rattle.definitions.specs.Names.{nameOn}
-use Rattle.definitions.specs.Naming.{amongOn, NamedBy}
+use Rattle.definitions.specs.Naming.{NamedBy}
 
 -- the slot k of the list
-pub slot-is : (table shelf : List ℕ) (k : ℕ) → k < slotCount → slotAt (slotsOn table shelf) k ≡ slotOn table shelf k
-slot-is table shelf k h =
+pub slot-is : (table arena : List ℕ) (k : ℕ) → k < slotCount → slotAt (slotsOn table arena) k ≡ slotOn table arena k
+slot-is table arena k h =
     let none : Slot = record { bytes = []; resident = false } in
     let here : k + 0 ≡ k = omega arith in
-    ap (λ (j : ℕ). getD (slotsOn table shelf) j none) (sym here)
-    ∙ sym (getD-drop k (slotsOn table shelf) 0 none)
-    ∙ ap (λ (l : List Slot). getD l 0 none) (slot-at table shelf k h)
+    ap (λ (j : ℕ). getD (slotsOn table arena) j none) (sym here)
+    ∙ sym (getD-drop k (slotsOn table arena) 0 none)
+    ∙ ap (λ (l : List Slot). getD l 0 none) (slot-at table arena k h)
 
 -- a table, word by word
 pub table-is : (slots : List Slot) (table now : List ℕ) → length slots ≡ slotCount → length now ≡ tableWords
@@ -58,33 +56,33 @@ table-is slots table now many size first second =
         ∙ flags-at slots (i - slotCount) (rw many less))
 
 -- a resident's length word is its length
-pub whole-size : (table shelf : List ℕ) (k : ℕ) → Sized table shelf → k < slotCount → Whole table shelf k → length (bytesOn table shelf k) ≡ getD table k 0
-whole-size table shelf k z h w =
+pub whole-size : (table arena : List ℕ) (k : ℕ) → SlotsFit table arena → k < slotCount → Whole table arena k → length (bytesOn table arena k) ≡ getD table k 0
+whole-size table arena k z h w =
     let small = w .small in
-    let long = z .shelfSize in
+    let long = z .arenaSize in
     simp (length-take, length-drop) (omega arith)
 
--- a flag that is 0 or 1 is told by its test
-flag-told : (f : ℕ) → f ≤ 1 → f ≡ pick (eqb f 1) 1 0
-flag-told zero h = refl
-flag-told (suc zero) h = refl
-flag-told (suc (suc f)) h = absurd (omega arith)
+-- a flag that is 0 or 1 is fact by its test
+flag-fact : (f : ℕ) → f ≤ 1 → f ≡ pick (eqb f 1) 1 0
+flag-fact zero h = refl
+flag-fact (suc zero) h = refl
+flag-fact (suc (suc f)) h = absurd (omega arith)
 
-module _ (table shelf : List ℕ) (f : Formed table shelf) where
+module _ (table arena : List ℕ) (f : Formed table arena) where
   -- and so is a length word
-  size-told : (k : ℕ) → k < slotCount → getD table k 0 ≡ pick (residentOn table k) (length (bytesOn table shelf k)) (getD table k 0)
-  size-told k h = by (residentOn table k) refl
+  size-fact : (k : ℕ) → k < slotCount → getD table k 0 ≡ pick (residentOn table k) (length (bytesOn table arena k)) (getD table k 0)
+  size-fact k h = by (residentOn table k) refl
     where
-      by : (b : Bool) → residentOn table k ≡ b → getD table k 0 ≡ pick b (length (bytesOn table shelf k)) (getD table k 0)
-      by true e = sym (whole-size table shelf k (f .sized) h (f .resident k h e))
+      by : (b : Bool) → residentOn table k ≡ b → getD table k 0 ≡ pick b (length (bytesOn table arena k)) (getD table k 0)
+      by true e = sym (whole-size table arena k (f .sized) h (f .resident k h e))
       by false e = refl
 
   -- slots that lie there leave the table as it is
-  pub table-same : tableOf (slotsOn table shelf) table ≡ table
+  pub table-same : tableOf (slotsOn table arena) table ≡ table
   table-same =
-      sym (table-is (slotsOn table shelf) table table (slots-length slotCount (lengthsOn table) (flagsOn table) shelf) (f .sized .tableSize)
-      (λ k h. rw (slot-is table shelf k h) (size-told k h))
-      (λ k h. rw (slot-is table shelf k h) (flag-told (getD table (slotCount + k) 0) (f .flag k h))))
+      sym (table-is (slotsOn table arena) table table (slots-length slotCount (lengthsOn table) (flagsOn table) arena) (f .sized .tableSize)
+      (λ k h. rw (slot-is table arena k h) (size-fact k h))
+      (λ k h. rw (slot-is table arena k h) (flag-fact (getD table (slotCount + k) 0) (f .flag k h))))
 
 pub retired-length : (names : List (List ℕ)) (slots : List Slot) → length (retired names slots) ≡ length slots
 unfolding retired
@@ -100,14 +98,14 @@ retired-at names [] k h = absurd (omega arith)
 retired-at names (s ∷ more) zero h = refl
 retired-at names (s ∷ more) (suc k) h = retired-at names more k (omega arith)
 
-module _ (table shelf : List ℕ) (names : List (List ℕ)) where
-  pub retired-many : length (retired names (slotsOn table shelf)) ≡ slotCount
-  retired-many = retired-length names (slotsOn table shelf) ∙ slots-length slotCount (lengthsOn table) (flagsOn table) shelf
+module _ (table arena : List ℕ) (names : List (List ℕ)) where
+  pub retired-many : length (retired names (slotsOn table arena)) ≡ slotCount
+  retired-many = retired-length names (slotsOn table arena) ∙ slots-length slotCount (lengthsOn table) (flagsOn table) arena
 
-  pub retired-is : (k : ℕ) → k < slotCount → slotAt (retired names (slotsOn table shelf)) k ≡ retiredSlot names (slotOn table shelf k)
+  pub retired-is : (k : ℕ) → k < slotCount → slotAt (retired names (slotsOn table arena)) k ≡ retiredSlot names (slotOn table arena k)
   retired-is k h =
-      retired-at names (slotsOn table shelf) k (rw (slots-length slotCount (lengthsOn table) (flagsOn table) shelf) h)
-      ∙ ap (λ (s : Slot). retiredSlot names s) (slot-is table shelf k h)
+      retired-at names (slotsOn table arena) k (rw (slots-length slotCount (lengthsOn table) (flagsOn table) arena) h)
+      ∙ ap (λ (s : Slot). retiredSlot names s) (slot-is table arena k h)
 
 -- the flags of the slots before k are cleared where they are marked
 pub record Retiring (table : List ℕ) (marks : List Bool) (k : ℕ) (now : List ℕ) : Type 0 where
@@ -151,28 +149,28 @@ module _ (table : List ℕ) (marks : List Bool) (k : ℕ) (now : List ℕ) (m : 
           rw (same, e) (m .behind k (omega arith))
       by j h false q = m .before j (omega (arith, eqb-false j k q))
 
-module _ (table shelf : List ℕ) (names : List (List ℕ)) (f : Formed table shelf) where
+module _ (table arena : List ℕ) (names : List (List ℕ)) (f : Formed table arena) where
   -- retired slots keep their lengths
   pub retired-size : (k : ℕ) → k < slotCount
-      → getD table k 0 ≡ pick (slotAt (retired names (slotsOn table shelf)) k .resident) (length (slotAt (retired names (slotsOn table shelf)) k .bytes)) (getD table k 0)
-  retired-size k h = rw (retired-is table shelf names k h) (by (residentOn table k) refl (not (among (nameOn table shelf k) names)))
+      → getD table k 0 ≡ pick (slotAt (retired names (slotsOn table arena)) k .resident) (length (slotAt (retired names (slotsOn table arena)) k .bytes)) (getD table k 0)
+  retired-size k h = rw (retired-is table arena names k h) (by (residentOn table k) refl (not (among (nameOn table arena k) names)))
     where
-      by : (b : Bool) → residentOn table k ≡ b → (a : Bool) → getD table k 0 ≡ pick (both b a) (length (bytesOn table shelf k)) (getD table k 0)
-      by true e true = sym (whole-size table shelf k (f .sized) h (f .resident k h e))
+      by : (b : Bool) → residentOn table k ≡ b → (a : Bool) → getD table k 0 ≡ pick (both b a) (length (bytesOn table arena k)) (getD table k 0)
+      by true e true = sym (whole-size table arena k (f .sized) h (f .resident k h e))
       by true e false = refl
       by false e a = refl
 
   -- all flags cleared where they are marked
-  pub retiring-done : (marks : List Bool) (k : ℕ) (now : List ℕ) → NamedBy table shelf names marks → Retiring table marks k now → slotCount ≤ k
-      → now ≡ tableOf (retired names (slotsOn table shelf)) table
+  pub retiring-done : (marks : List Bool) (k : ℕ) (now : List ℕ) → NamedBy table arena names marks → Retiring table marks k now → slotCount ≤ k
+      → now ≡ tableOf (retired names (slotsOn table arena)) table
   retiring-done marks k now n m h =
-      table-is (retired names (slotsOn table shelf)) table now (retired-many table shelf names) (m .size)
+      table-is (retired names (slotsOn table arena)) table now (retired-many table arena names) (m .size)
       (λ j l. m .lengths j l ∙ retired-size j l)
       (λ j l.
       m .before j (omega arith)
       ∙ ap (λ (b : Bool). pick b 0 (getD table (slotCount + j) 0)) (n .each j l)
-      ∙ flag (getD table (slotCount + j) 0) (f .flag j l) (among (nameOn table shelf j) names)
-      ∙ sym (ap (λ (s : Slot). pick (s .resident) 1 0) (retired-is table shelf names j l)))
+      ∙ flag (getD table (slotCount + j) 0) (f .flag j l) (among (nameOn table arena j) names)
+      ∙ sym (ap (λ (s : Slot). pick (s .resident) 1 0) (retired-is table arena names j l)))
     where
       flag : (w : ℕ) → w ≤ 1 → (a : Bool) → pick (both (eqb w 1) a) 0 w ≡ pick (both (eqb w 1) (not a)) 1 0
       flag zero l a = refl
@@ -181,15 +179,15 @@ module _ (table shelf : List ℕ) (names : List (List ℕ)) (f : Formed table sh
       flag (suc (suc w)) l a = absurd (omega arith)
 
 -- one resident retired
-module _ (table shelf : List ℕ) (k : ℕ) (f : Formed table shelf) (less : k < slotCount) where
-  pub retire-table : set table (slotCount + k) 0 ≡ tableOf (retire k (slotsOn table shelf)) table
+module _ (table arena : List ℕ) (k : ℕ) (f : Formed table arena) (less : k < slotCount) where
+  pub retire-table : set table (slotCount + k) 0 ≡ tableOf (retire k (slotsOn table arena)) table
   retire-table =
       table-is (retire k slots) table (set table (slotCount + k) 0) (length-set slots k x ∙ many) (length-set table (slotCount + k) 0 ∙ f .sized .tableSize)
       (λ j h. getD-set-other table (slotCount + k) j 0 0 (λ q. omega arith) ∙ size j h (eqb j k) refl)
       (λ j h. flag j h (eqb j k) refl)
     where
       slots : List Slot
-      slots = slotsOn table shelf
+      slots = slotsOn table arena
 
       none : Slot
       none = record { bytes = []; resident = false }
@@ -198,20 +196,20 @@ module _ (table shelf : List ℕ) (k : ℕ) (f : Formed table shelf) (less : k <
       x = record { bytes = slotAt slots k .bytes; resident = false }
 
       many : length slots ≡ slotCount
-      many = slots-length slotCount (lengthsOn table) (flagsOn table) shelf
+      many = slots-length slotCount (lengthsOn table) (flagsOn table) arena
 
       here : slotAt (retire k slots) k ≡ x
       here = getD-set-same slots k x none (rw many less)
 
-      there : (j : ℕ) → j < slotCount → (j ≡ k → ⊥) → slotAt (retire k slots) j ≡ slotOn table shelf j
-      there j h other = getD-set-other slots k j x none other ∙ slot-is table shelf j h
+      there : (j : ℕ) → j < slotCount → (j ≡ k → ⊥) → slotAt (retire k slots) j ≡ slotOn table arena j
+      there j h other = getD-set-other slots k j x none other ∙ slot-is table arena j h
 
       size : (j : ℕ) → j < slotCount → (b : Bool) → eqb j k ≡ b
           → getD table j 0 ≡ pick (slotAt (retire k slots) j .resident) (length (slotAt (retire k slots) j .bytes)) (getD table j 0)
       size j h true e =
           let same : j ≡ k = eqb-true j k e in
           rw (same, here)
-      size j h false e = rw (there j h (eqb-false j k e)) (size-told table shelf f j h)
+      size j h false e = rw (there j h (eqb-false j k e)) (size-fact table arena f j h)
 
       flag : (j : ℕ) → j < slotCount → (b : Bool) → eqb j k ≡ b → getD (set table (slotCount + k) 0) (slotCount + j) 0 ≡ pick (slotAt (retire k slots) j .resident) 1 0
       flag j h true e =
@@ -220,4 +218,4 @@ module _ (table shelf : List ℕ) (k : ℕ) (f : Formed table shelf) (less : k <
           rw (same, here) (getD-set-same table (slotCount + k) 0 0 (omega arith))
       flag j h false e =
           let other = eqb-false j k e in
-          rw (there j h other) (getD-set-other table (slotCount + k) (slotCount + j) 0 0 (λ q. other (omega arith)) ∙ flag-told (getD table (slotCount + j) 0) (f .flag j h))
+          rw (there j h other) (getD-set-other table (slotCount + k) (slotCount + j) 0 0 (λ q. other (omega arith)) ∙ flag-fact (getD table (slotCount + j) 0) (f .flag j h))

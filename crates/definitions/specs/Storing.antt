@@ -1,24 +1,21 @@
--- Slots put into the table and onto the shelf.
-use Prim.Native.Nat.{ℕ, zero, suc, _+_, _*_, _-_, _≤_, _<_, min}
-use mathlib.Core.Bool.{Bool, true, false, not}
+-- Slots put into the table and onto the arena.
+use Prim.Native.Nat.{ℕ, zero, suc, _+_, _*_, _≤_, _<_}
+use mathlib.Core.Bool.{Bool, true, false}
 use mathlib.Core.Path.{_≡_, refl, sym, ap, ap₂, _∙_}
 use mathlib.Core.List.{List, [], _∷_, _++_, append-assoc}
 use native.Mathlib.Omega.{arith}
-use native.Mathlib.Nat.{add-zero, zero-add, sub-zero}
-use lib.ListN.{length, take, drop, getD, set, length-take, length-drop, length-append, length-set, take-append-drop}
-use lib.Seq.{getD-take, getD-drop, drop-drop, take-take, ext-getD, take-at, drop-at, drop-append-le, drop-append-add, take-append-add, length-take-le, set-append-left, getD-append-add}
+use lib.ListN.{length, take, drop, getD, set, length-drop, length-append, length-set, take-append-drop}
+use lib.Seq.{getD-drop, drop-append-le, drop-append-add, take-append-add, length-take-le, set-append-left}
 use lib.Dec.{eqb}
-use borrow.Author.Tests.{eq-eqb, ne-eqb, eqb-true, eqb-false}
-use Rattle.words.specs.Choice.{pick, both, either}
-use Rattle.words.specs.Parts.{region, put}
-use Rattle.synthdef.specs.Read.{Read, got, bad}
+use Rattle.words.specs.Choice.{pick}
+use Rattle.words.specs.Parts.{put}
 use Rattle.nodes.specs.declared.Node.{Node}
-use Rattle.model.specs.Layout.{slotCount, slotRoom, shelfLength, lengthsPlace, lengthsIn, residentIn}
-use Rattle.model.specs.Engine.{Slot, slotsFrom, slotAt, held, slotTaken}
+use Rattle.model.specs.Layout.{slotCount, slotRoom}
+use Rattle.model.specs.Engine.{Slot, slotsFrom, slotAt}
 use Rattle.model.specs.Effects.{freeFrom}
-use Rattle.model.specs.After.{flagsOf, lengthsOf, shelfOf}
+use Rattle.model.specs.After.{flagsOf, lengthsOf, arenaOf}
 use Rattle.definitions.specs.Lists.{set-append-add}
-use Rattle.definitions.specs.Slots.{tableWords, lengthsOn, flagsOn, slotsOn, slotOn, bytesOn, residentOn, slots-length, slot-at, Sized, Whole, Formed}
+use Rattle.definitions.specs.Slots.{lengthsOn}
 
 -- the table of slots: a resident's own length, of another what was there; and the flags
 abbrev pub tableOf : List Slot → List ℕ → List ℕ
@@ -103,52 +100,52 @@ chunk-size s room h = by (s .resident) refl
         simp (length-append, length-drop) (omega arith)
     by false e = refl
 
--- a resident put into a slot that is not resident, on the shelf
-pub shelf-set : (slots : List Slot) (shelf : List ℕ) (k : ℕ) (x : Slot) → Short slots → slotRoom * length slots ≤ length shelf → k < length slots
+-- a resident put into a slot that is not resident, in the arena
+pub arena-set : (slots : List Slot) (arena : List ℕ) (k : ℕ) (x : Slot) → Short slots → slotRoom * length slots ≤ length arena → k < length slots
     → slotAt slots k .resident ≡ false → x .resident ≡ true → length (x .bytes) ≤ slotRoom
-    → shelfOf (set slots k x) shelf ≡ put (slotRoom * k) (length (x .bytes)) (x .bytes) (shelfOf slots shelf)
-unfolding shelfOf
-shelf-set [] shelf k x short long h free r fits = absurd (omega arith)
-shelf-set (s ∷ more) shelf zero x short long h free r fits =
-    let room : length (take slotRoom shelf) ≡ slotRoom = length-take-le slotRoom shelf (omega arith) in
-    let rest = shelfOf more (drop slotRoom shelf) in
+    → arenaOf (set slots k x) arena ≡ put (slotRoom * k) (length (x .bytes)) (x .bytes) (arenaOf slots arena)
+unfolding arenaOf
+arena-set [] arena k x short long h free r fits = absurd (omega arith)
+arena-set (s ∷ more) arena zero x short long h free r fits =
+    let room : length (take slotRoom arena) ≡ slotRoom = length-take-le slotRoom arena (omega arith) in
+    let rest = arenaOf more (drop slotRoom arena) in
     rw (r, free)
-    (append-assoc (x .bytes) (drop (length (x .bytes)) (take slotRoom shelf)) rest
-    ∙ ap (λ (l : List ℕ). x .bytes ++ l) (sym (drop-append-le (length (x .bytes)) (take slotRoom shelf) rest (omega arith))))
-shelf-set (s ∷ more) shelf (suc k) x short long h free r fits =
-    let room : length (take slotRoom shelf) ≡ slotRoom = length-take-le slotRoom shelf (omega arith) in
-    let size : length (chunk s (take slotRoom shelf)) ≡ slotRoom = chunk-size s (take slotRoom shelf) (λ e. omega (arith, short 0 e)) ∙ room in
-    let at : slotRoom * suc k ≡ length (chunk s (take slotRoom shelf)) + slotRoom * k = omega arith in
-    let inner : slotRoom * length more ≤ length (drop slotRoom shelf) = simp length-drop (omega arith) in
-    ap (λ (l : List ℕ). chunk s (take slotRoom shelf) ++ l) (shelf-set more (drop slotRoom shelf) k x (λ j e. short (suc j) e) inner (omega arith) free r fits)
-    ∙ sym (put-behind (chunk s (take slotRoom shelf)) (shelfOf more (drop slotRoom shelf)) (slotRoom * k) (length (x .bytes)) (x .bytes))
-    ∙ ap (λ (a : ℕ). put a (length (x .bytes)) (x .bytes) (chunk s (take slotRoom shelf) ++ shelfOf more (drop slotRoom shelf))) (sym at)
+    (append-assoc (x .bytes) (drop (length (x .bytes)) (take slotRoom arena)) rest
+    ∙ ap (λ (l : List ℕ). x .bytes ++ l) (sym (drop-append-le (length (x .bytes)) (take slotRoom arena) rest (omega arith))))
+arena-set (s ∷ more) arena (suc k) x short long h free r fits =
+    let room : length (take slotRoom arena) ≡ slotRoom = length-take-le slotRoom arena (omega arith) in
+    let size : length (chunk s (take slotRoom arena)) ≡ slotRoom = chunk-size s (take slotRoom arena) (λ e. omega (arith, short 0 e)) ∙ room in
+    let at : slotRoom * suc k ≡ length (chunk s (take slotRoom arena)) + slotRoom * k = omega arith in
+    let inner : slotRoom * length more ≤ length (drop slotRoom arena) = simp length-drop (omega arith) in
+    ap (λ (l : List ℕ). chunk s (take slotRoom arena) ++ l) (arena-set more (drop slotRoom arena) k x (λ j e. short (suc j) e) inner (omega arith) free r fits)
+    ∙ sym (put-behind (chunk s (take slotRoom arena)) (arenaOf more (drop slotRoom arena)) (slotRoom * k) (length (x .bytes)) (x .bytes))
+    ∙ ap (λ (a : ℕ). put a (length (x .bytes)) (x .bytes) (chunk s (take slotRoom arena) ++ arenaOf more (drop slotRoom arena))) (sym at)
 
--- slots that lie there leave the shelf as it is
+-- slots that lie there leave the arena as it is
 take-prefix : (n : ℕ) (l : List ℕ) → take n l ++ drop (length (take n l)) l ≡ l
 take-prefix zero l = refl
 take-prefix (suc n) [] = refl
 take-prefix (suc n) (x ∷ l) = ap (λ (m : List ℕ). x ∷ m) (take-prefix n l)
 
-pub shelf-same : (n : ℕ) (lengths flags shelf : List ℕ) → shelfOf (slotsFrom n lengths flags shelf) shelf ≡ shelf
-unfolding slotsFrom shelfOf
-shelf-same zero lengths flags shelf = refl
-shelf-same (suc n) lengths flags shelf =
-    ap₂ (λ (a b : List ℕ). a ++ b) (kept (eqb (getD flags 0 0) 1)) (shelf-same n (drop 1 lengths) (drop 1 flags) (drop slotRoom shelf))
-    ∙ take-append-drop slotRoom shelf
+pub arena-same : (n : ℕ) (lengths flags arena : List ℕ) → arenaOf (slotsFrom n lengths flags arena) arena ≡ arena
+unfolding slotsFrom arenaOf
+arena-same zero lengths flags arena = refl
+arena-same (suc n) lengths flags arena =
+    ap₂ (λ (a b : List ℕ). a ++ b) (kept (eqb (getD flags 0 0) 1)) (arena-same n (drop 1 lengths) (drop 1 flags) (drop slotRoom arena))
+    ∙ take-append-drop slotRoom arena
   where
     bytes : List ℕ
-    bytes = take (getD lengths 0 0) (take slotRoom shelf)
+    bytes = take (getD lengths 0 0) (take slotRoom arena)
 
-    kept : (b : Bool) → pick b (bytes ++ drop (length bytes) (take slotRoom shelf)) (take slotRoom shelf) ≡ take slotRoom shelf
-    kept true = take-prefix (getD lengths 0 0) (take slotRoom shelf)
+    kept : (b : Bool) → pick b (bytes ++ drop (length bytes) (take slotRoom arena)) (take slotRoom arena) ≡ take slotRoom arena
+    kept true = take-prefix (getD lengths 0 0) (take slotRoom arena)
     kept false = refl
 
 -- and so the flags
-pub flags-back : (slots : List Slot) (lengths shelf : List ℕ) → flagsOf (slotsFrom (length slots) lengths (flagsOf slots) shelf) ≡ flagsOf slots
+pub flags-back : (slots : List Slot) (lengths arena : List ℕ) → flagsOf (slotsFrom (length slots) lengths (flagsOf slots) arena) ≡ flagsOf slots
 unfolding slotsFrom flagsOf
-flags-back [] lengths shelf = refl
-flags-back (s ∷ more) lengths shelf = ap₂ (λ (a : ℕ) (b : List ℕ). a ∷ b) (flag (s .resident)) (flags-back more (drop 1 lengths) (drop slotRoom shelf))
+flags-back [] lengths arena = refl
+flags-back (s ∷ more) lengths arena = ap₂ (λ (a : ℕ) (b : List ℕ). a ∷ b) (flag (s .resident)) (flags-back more (drop 1 lengths) (drop slotRoom arena))
   where
     flag : (b : Bool) → _≡_ {A = ℕ} (pick (eqb (pick b 1 0) 1) 1 0) (pick b 1 0)
     flag true = refl

@@ -1,10 +1,10 @@
-// Definition slots in the lent state: 64 words, the slots' lengths and then their resident flags, and the shelf with 2,048 bytes for each slot.
+// Definition slots in the lent state: 64 words, the slots' lengths and then their resident flags, and the arena with 2,048 bytes for each slot.
 use synthdef::Cursor;
 use synthdef::Step;
 use synthdef::read_definition;
 use synthdef::same_name;
 use words::wide;
-ghost use Prim.Native.Nat.{ℕ, _+_, _-_, _*_, _≤_, _<_};
+ghost use Prim.Native.Nat.{ℕ, _+_, _*_, _≤_, _<_};
 ghost use mathlib.Core.Bool.{not};
 ghost use mathlib.Core.Path.{_≡_};
 ghost use mathlib.Core.List.{List, _++_};
@@ -16,7 +16,7 @@ ghost use Rattle.synthdef.specs.Definition.{Definition};
 ghost use Rattle.synthdef.specs.Read.{got};
 ghost use Rattle.synthdef.specs.Reader.{readDefinition, sizeLimit};
 ghost use Rattle.synthdef.specs.Fields.{stringAt};
-ghost use Rattle.model.specs.Layout.{slotCount, slotRoom, shelfLength};
+ghost use Rattle.model.specs.Layout.{slotCount, slotRoom, arenaLength};
 ghost use Rattle.nodes.specs.declared.Node.{Node};
 ghost use Rattle.nodes.specs.Table.{width, rows};
 ghost use Rattle.model.specs.Checks.{namesOf, staying};
@@ -34,7 +34,7 @@ ghost use Rattle.definitions.specs.Loading.{Loaded, loadedOn};
 ghost use Rattle.definitions.specs.Naming.{NamedBy};
 ghost use Rattle.definitions.specs.Storing.{tableOf};
 ghost use Rattle.definitions.specs.Names.{MarkedMore, namedOn};
-ghost use Rattle.definitions.specs.Slots.{Formed, Sized, tableWords, lengthsOn, flagsOn, slotsOn};
+ghost use Rattle.definitions.specs.Slots.{Formed, SlotsFit, tableWords, lengthsOn, flagsOn, slotsOn};
 
 // For each slot, whether a live synth holds it.
 pub fn held_slots(nodes: &[u32], count: usize) -> [bool; 32]
@@ -56,7 +56,7 @@ pub fn held_slots(nodes: &[u32], count: usize) -> [bool; 32]
 // The lowest slot that is neither resident nor held; 32 where there is none.
 fn lowest_free(table: &[u32], held: [bool; 32]) -> usize
     requires { ⌜ length (now table) ≡ tableWords ⌝ }
-    ensures { λ r. ⌜ ((shelf : List ℕ) → r ≡ freeFrom 0 (slotsOn (now (table .entry)) shelf) (holders held)) ⌝ }
+    ensures { λ r. ⌜ ((arena : List ℕ) → r ≡ freeFrom 0 (slotsOn (now (table .entry)) arena) (holders held)) ⌝ }
 {
     let mut k = 0;
     while k < 32 {
@@ -83,11 +83,11 @@ fn copy_in(to: &mut [u8], at: usize, from: &[u8])
 }
 
 // A definition put into a slot, resident.
-fn place(table: &mut [u32], shelf: &mut [u8], k: usize, from: &[u8])
-    requires { ⌜ Sized (now table) (now shelf) × ((k < slotCount) × (length (now from) ≤ slotRoom)) ⌝ }
-    ensures { λ r. ⌜ (now (table .exit) ≡ set (set (now (table .entry)) k (length (now (from .entry)))) (slotCount + k) 1) × (now (shelf .exit) ≡ put (slotRoom * k) (length (now (from .entry))) (now (from .entry)) (now (shelf .entry))) ⌝ }
+fn place(table: &mut [u32], arena: &mut [u8], k: usize, from: &[u8])
+    requires { ⌜ SlotsFit (now table) (now arena) × ((k < slotCount) × (length (now from) ≤ slotRoom)) ⌝ }
+    ensures { λ r. ⌜ (now (table .exit) ≡ set (set (now (table .entry)) k (length (now (from .entry)))) (slotCount + k) 1) × (now (arena .exit) ≡ put (slotRoom * k) (length (now (from .entry))) (now (from .entry)) (now (arena .entry))) ⌝ }
 {
-    copy_in(shelf, 2048 * k, from);
+    copy_in(arena, 2048 * k, from);
     table[k] = from.len() as u32;
     table[32 + k] = 1;
 }
@@ -104,24 +104,24 @@ fn name_at(s: &[u8], at: usize) -> &[u8]
 }
 
 // A slot's definition is resident under a name.
-fn slot_named(table: &[u32], shelf: &[u8], k: usize, name: &[u8]) -> bool
-    requires { ⌜ Formed (now table) (now shelf) × (k < slotCount) ⌝ }
-    ensures { λ r. ⌜ r ≡ namedOn (now (table .entry)) (now (shelf .entry)) (now (name .entry)) k ⌝ }
+fn slot_named(table: &[u32], arena: &[u8], k: usize, name: &[u8]) -> bool
+    requires { ⌜ Formed (now table) (now arena) × (k < slotCount) ⌝ }
+    ensures { λ r. ⌜ r ≡ namedOn (now (table .entry)) (now (arena .entry)) (now (name .entry)) k ⌝ }
 {
     if table[32 + k] != 1 {
         return false;
     }
-    same_name(name_at(shelf, 2048 * k), name)
+    same_name(name_at(arena, 2048 * k), name)
 }
 
 // The resident of a name; 32 where there is none.
-pub fn find_resident(table: &[u32], shelf: &[u8], name: &[u8]) -> u32
-    requires { ⌜ Formed (now table) (now shelf) ⌝ }
-    ensures { λ r. ⌜ r ≡ residentOf (now (name .entry)) (slotsOn (now (table .entry)) (now (shelf .entry))) ⌝ }
+pub fn find_resident(table: &[u32], arena: &[u8], name: &[u8]) -> u32
+    requires { ⌜ Formed (now table) (now arena) ⌝ }
+    ensures { λ r. ⌜ r ≡ residentOf (now (name .entry)) (slotsOn (now (table .entry)) (now (arena .entry))) ⌝ }
 {
     let mut k: u32 = 0;
     while k < 32 {
-        if slot_named(table, shelf, wide(k), name) {
+        if slot_named(table, arena, wide(k), name) {
             return k;
         }
         k += 1;
@@ -130,14 +130,14 @@ pub fn find_resident(table: &[u32], shelf: &[u8], name: &[u8]) -> u32
 }
 
 // The marks with those of residents that have a name.
-fn mark_named(table: &[u32], shelf: &[u8], name: &[u8], marks: [bool; 32]) -> [bool; 32]
-    requires { ⌜ Formed (now table) (now shelf) × (length marks ≡ slotCount) ⌝ }
-    ensures { λ r. ⌜ MarkedMore (now (table .entry)) (now (shelf .entry)) (now (name .entry)) marks r ⌝ }
+fn mark_named(table: &[u32], arena: &[u8], name: &[u8], marks: [bool; 32]) -> [bool; 32]
+    requires { ⌜ Formed (now table) (now arena) × (length marks ≡ slotCount) ⌝ }
+    ensures { λ r. ⌜ MarkedMore (now (table .entry)) (now (arena .entry)) (now (name .entry)) marks r ⌝ }
 {
     let mut named = marks;
     let mut k = 0;
     while k < 32 {
-        if slot_named(table, shelf, k, name) {
+        if slot_named(table, arena, k, name) {
             named[k] = true;
         }
         k += 1;
@@ -156,14 +156,14 @@ fn definition_end(file: &[u8], at: usize) -> usize
 }
 
 // For each slot, whether its definition is resident under a name that is in an accepted file.
-fn named_slots(table: &[u32], shelf: &[u8], file: &[u8]) -> [bool; 32]
-    requires { ⌜ Formed (now table) (now shelf) × Accepted (now file) ⌝ }
-    ensures { λ r. ⌜ NamedBy (now (table .entry)) (now (shelf .entry)) (namesOf (definitionsOn (now (file .entry)))) r ⌝ }
+fn named_slots(table: &[u32], arena: &[u8], file: &[u8]) -> [bool; 32]
+    requires { ⌜ Formed (now table) (now arena) × Accepted (now file) ⌝ }
+    ensures { λ r. ⌜ NamedBy (now (table .entry)) (now (arena .entry)) (namesOf (definitionsOn (now (file .entry)))) r ⌝ }
 {
     let mut marks: [bool; 32] = [false; 32];
     let mut at = 10;
     while at < file.len() {
-        let marked = mark_named(table, shelf, name_at(file, at), marks);
+        let marked = mark_named(table, arena, name_at(file, at), marks);
         marks = marked;
         at = definition_end(file, at);
     }
@@ -186,7 +186,7 @@ fn stays(flag: u32, held: bool, marked: bool) -> bool
 // How many slots stay taken when the marked residents are retired.
 fn count_staying(table: &[u32], held: [bool; 32], marks: [bool; 32]) -> u32
     requires { ⌜ length (now table) ≡ tableWords ⌝ }
-    ensures { λ r. ⌜ ((shelf : List ℕ) (names : List (List ℕ)) → NamedBy (now (table .entry)) shelf names marks → r ≡ staying 0 names (slotsOn (now (table .entry)) shelf) (holders held)) ⌝ }
+    ensures { λ r. ⌜ ((arena : List ℕ) (names : List (List ℕ)) → NamedBy (now (table .entry)) arena names marks → r ≡ staying 0 names (slotsOn (now (table .entry)) arena) (holders held)) ⌝ }
 {
     let mut n: u32 = 0;
     let mut k = 0;
@@ -200,17 +200,17 @@ fn count_staying(table: &[u32], held: [bool; 32], marks: [bool; 32]) -> u32
 }
 
 // How many slots stay taken when an accepted file's names are retired: what refusal 12 asks.
-pub fn staying_count(table: &[u32], shelf: &[u8], held: [bool; 32], file: &[u8]) -> u32
-    requires { ⌜ Formed (now table) (now shelf) × Accepted (now file) ⌝ }
-    ensures { λ r. ⌜ r ≡ staying 0 (namesOf (definitionsOn (now (file .entry)))) (slotsOn (now (table .entry)) (now (shelf .entry))) (holders held) ⌝ }
+pub fn staying_count(table: &[u32], arena: &[u8], held: [bool; 32], file: &[u8]) -> u32
+    requires { ⌜ Formed (now table) (now arena) × Accepted (now file) ⌝ }
+    ensures { λ r. ⌜ r ≡ staying 0 (namesOf (definitionsOn (now (file .entry)))) (slotsOn (now (table .entry)) (now (arena .entry))) (holders held) ⌝ }
 {
-    count_staying(table, held, named_slots(table, shelf, file))
+    count_staying(table, held, named_slots(table, arena, file))
 }
 
 // The marked residents retired.
 fn retire_marked(table: &mut [u32], marks: [bool; 32])
     requires { ⌜ length (now table) ≡ tableWords ⌝ }
-    ensures { λ r. ⌜ ((shelf : List ℕ) (names : List (List ℕ)) → Formed (now (table .entry)) shelf → NamedBy (now (table .entry)) shelf names marks → now (table .exit) ≡ tableOf (retired names (slotsOn (now (table .entry)) shelf)) (now (table .entry))) ⌝ }
+    ensures { λ r. ⌜ ((arena : List ℕ) (names : List (List ℕ)) → Formed (now (table .entry)) arena → NamedBy (now (table .entry)) arena names marks → now (table .exit) ≡ tableOf (retired names (slotsOn (now (table .entry)) arena)) (now (table .entry))) ⌝ }
 {
     let mut k = 0;
     while k < 32 {
@@ -222,46 +222,46 @@ fn retire_marked(table: &mut [u32], marks: [bool; 32])
 }
 
 // The residents whose names are in an accepted file, retired.
-pub fn retire_named(table: &mut [u32], shelf: &[u8], file: &[u8])
-    requires { ⌜ Formed (now table) (now shelf) × Accepted (now file) ⌝ }
-    ensures { λ r. ⌜ now (table .exit) ≡ tableOf (retired (namesOf (definitionsOn (now (file .entry)))) (slotsOn (now (table .entry)) (now (shelf .entry)))) (now (table .entry)) ⌝ }
+pub fn retire_named(table: &mut [u32], arena: &[u8], file: &[u8])
+    requires { ⌜ Formed (now table) (now arena) × Accepted (now file) ⌝ }
+    ensures { λ r. ⌜ now (table .exit) ≡ tableOf (retired (namesOf (definitionsOn (now (file .entry)))) (slotsOn (now (table .entry)) (now (arena .entry)))) (now (table .entry)) ⌝ }
 {
-    let marks = named_slots(table, shelf, file);
+    let marks = named_slots(table, arena, file);
     retire_marked(table, marks);
 }
 
 // One resident retired.
 pub fn retire(table: &mut [u32], k: u32)
     requires { ⌜ (length (now table) ≡ tableWords) × (k < slotCount) ⌝ }
-    ensures { λ r. ⌜ ((shelf : List ℕ) → Formed (now (table .entry)) shelf → now (table .exit) ≡ tableOf (effects.retire k (slotsOn (now (table .entry)) shelf)) (now (table .entry))) ⌝ }
+    ensures { λ r. ⌜ ((arena : List ℕ) → Formed (now (table .entry)) arena → now (table .exit) ≡ tableOf (effects.retire k (slotsOn (now (table .entry)) arena)) (now (table .entry))) ⌝ }
 {
     let at = wide(k);
     table[32 + at] = 0;
 }
 
 // The definitions of an accepted file in the lowest free slots, in file order.
-fn place_all(table: &mut [u32], shelf: &mut [u8], held: [bool; 32], file: &[u8])
-    requires { ⌜ Formed (now table) (now shelf) × Accepted (now file) ⌝ }
-    ensures { λ r. ⌜ Loaded (now (table .entry)) (now (shelf .entry)) (now (table .exit)) (now (shelf .exit)) (loaded (definitionsOn (now (file .entry))) (slotsOn (now (table .entry)) (now (shelf .entry))) (holders held)) ⌝ }
+fn place_all(table: &mut [u32], arena: &mut [u8], held: [bool; 32], file: &[u8])
+    requires { ⌜ Formed (now table) (now arena) × Accepted (now file) ⌝ }
+    ensures { λ r. ⌜ Loaded (now (table .entry)) (now (arena .entry)) (now (table .exit)) (now (arena .exit)) (loaded (definitionsOn (now (file .entry))) (slotsOn (now (table .entry)) (now (arena .entry))) (holders held)) ⌝ }
 {
     let mut at = 10;
     while at < file.len() {
         let next = definition_end(file, at);
         let k = lowest_free(table, held);
         if k < 32 {
-            place(table, shelf, k, &file[at..next]);
+            place(table, arena, k, &file[at..next]);
         }
         at = next;
     }
 }
 
 // An accepted file loaded: residents under its names retired, then its definitions in the lowest free slots.
-pub fn load(table: &mut [u32], shelf: &mut [u8], held: [bool; 32], file: &[u8])
-    requires { ⌜ Formed (now table) (now shelf) × Accepted (now file) ⌝ }
-    ensures { λ r. ⌜ Loaded (now (table .entry)) (now (shelf .entry)) (now (table .exit)) (now (shelf .exit)) (loadedOn (now (table .entry)) (now (shelf .entry)) held (now (file .entry))) ⌝ }
+pub fn load(table: &mut [u32], arena: &mut [u8], held: [bool; 32], file: &[u8])
+    requires { ⌜ Formed (now table) (now arena) × Accepted (now file) ⌝ }
+    ensures { λ r. ⌜ Loaded (now (table .entry)) (now (arena .entry)) (now (table .exit)) (now (arena .exit)) (loadedOn (now (table .entry)) (now (arena .entry)) held (now (file .entry))) ⌝ }
 {
-    retire_named(table, shelf, file);
-    place_all(table, shelf, held, file);
+    retire_named(table, arena, file);
+    place_all(table, arena, held, file);
 }
 
 // Each flag is 0 or 1.
@@ -280,42 +280,42 @@ fn flags_formed(table: &[u32]) -> bool
 }
 
 // A slot's length is at most the limit, and its bytes are one readable definition.
-fn bytes_formed(shelf: &[u8], k: usize, size: usize) -> bool
-    requires { ⌜ (length (now shelf) ≡ shelfLength) × (k < slotCount) ⌝ }
-    ensures { λ r. ⌜ r ≡ both (leb size sizeLimit) (isWhole size (readDefinition (take size (take slotRoom (drop (slotRoom * k) (now (shelf .entry))))) 0)) ⌝ }
+fn bytes_formed(arena: &[u8], k: usize, size: usize) -> bool
+    requires { ⌜ (length (now arena) ≡ arenaLength) × (k < slotCount) ⌝ }
+    ensures { λ r. ⌜ r ≡ both (leb size sizeLimit) (isWhole size (readDefinition (take size (take slotRoom (drop (slotRoom * k) (now (arena .entry))))) 0)) ⌝ }
 {
     if 2048 < size {
         return false;
     }
     let start = 2048 * k;
     let end = start + size;
-    match read_definition(&shelf[start..end], Cursor { at: 0 }) {
+    match read_definition(&arena[start..end], Cursor { at: 0 }) {
         Step::Next(next) => next.at == size,
         Step::Bad(refusal, place) => false,
     }
 }
 
 // Of a taken slot that it holds a definition; of a free slot nothing is asked.
-fn slot_formed(table: &[u32], shelf: &[u8], held: bool, k: usize) -> bool
-    requires { ⌜ Sized (now table) (now shelf) × (k < slotCount) ⌝ }
-    ensures { λ r. ⌜ ((t : List Node) → held ≡ engine.held k t → r ≡ formedOn (now (table .entry)) (now (shelf .entry)) t k) ⌝ }
+fn slot_formed(table: &[u32], arena: &[u8], held: bool, k: usize) -> bool
+    requires { ⌜ SlotsFit (now table) (now arena) × (k < slotCount) ⌝ }
+    ensures { λ r. ⌜ ((t : List Node) → held ≡ engine.held k t → r ≡ formedOn (now (table .entry)) (now (arena .entry)) t k) ⌝ }
 {
     if table[32 + k] != 1 {
         if !held {
             return true;
         }
     }
-    bytes_formed(shelf, k, wide(table[k]))
+    bytes_formed(arena, k, wide(table[k]))
 }
 
 // The same of each slot.
-fn each_formed(table: &[u32], shelf: &[u8], held: [bool; 32]) -> bool
-    requires { ⌜ Sized (now table) (now shelf) ⌝ }
-    ensures { λ r. ⌜ r ≡ slotsFormed 0 (lengthsOn (now (table .entry))) (slotsOn (now (table .entry)) (now (shelf .entry))) (holders held) ⌝ }
+fn each_formed(table: &[u32], arena: &[u8], held: [bool; 32]) -> bool
+    requires { ⌜ SlotsFit (now table) (now arena) ⌝ }
+    ensures { λ r. ⌜ r ≡ slotsFormed 0 (lengthsOn (now (table .entry))) (slotsOn (now (table .entry)) (now (arena .entry))) (holders held) ⌝ }
 {
     let mut k = 0;
     while k < 32 {
-        if !slot_formed(table, shelf, held[k], k) {
+        if !slot_formed(table, arena, held[k], k) {
             return false;
         }
         k += 1;
@@ -324,13 +324,13 @@ fn each_formed(table: &[u32], shelf: &[u8], held: [bool; 32]) -> bool
 }
 
 // No slot from k on is resident under a name.
-fn name_apart(table: &[u32], shelf: &[u8], name: &[u8], from: usize) -> bool
-    requires { ⌜ Formed (now table) (now shelf) × (from ≤ slotCount) ⌝ }
-    ensures { λ r. ⌜ r ≡ not (nameResident (now (name .entry)) (drop from (slotsOn (now (table .entry)) (now (shelf .entry))))) ⌝ }
+fn name_apart(table: &[u32], arena: &[u8], name: &[u8], from: usize) -> bool
+    requires { ⌜ Formed (now table) (now arena) × (from ≤ slotCount) ⌝ }
+    ensures { λ r. ⌜ r ≡ not (nameResident (now (name .entry)) (drop from (slotsOn (now (table .entry)) (now (arena .entry))))) ⌝ }
 {
     let mut k = from;
     while k < 32 {
-        if slot_named(table, shelf, k, name) {
+        if slot_named(table, arena, k, name) {
             return false;
         }
         k += 1;
@@ -339,14 +339,14 @@ fn name_apart(table: &[u32], shelf: &[u8], name: &[u8], from: usize) -> bool
 }
 
 // No two residents share a name.
-fn names_apart(table: &[u32], shelf: &[u8]) -> bool
-    requires { ⌜ Formed (now table) (now shelf) ⌝ }
-    ensures { λ r. ⌜ r ≡ namesApart (slotsOn (now (table .entry)) (now (shelf .entry))) ⌝ }
+fn names_apart(table: &[u32], arena: &[u8]) -> bool
+    requires { ⌜ Formed (now table) (now arena) ⌝ }
+    ensures { λ r. ⌜ r ≡ namesApart (slotsOn (now (table .entry)) (now (arena .entry))) ⌝ }
 {
     let mut k = 0;
     while k < 32 {
         if table[32 + k] == 1 {
-            if !name_apart(table, shelf, name_at(shelf, 2048 * k), k + 1) {
+            if !name_apart(table, arena, name_at(arena, 2048 * k), k + 1) {
                 return false;
             }
         }
@@ -356,23 +356,23 @@ fn names_apart(table: &[u32], shelf: &[u8]) -> bool
 }
 
 // The state check's part on slots.
-pub fn slots_formed(table: &[u32], shelf: &[u8], held: [bool; 32]) -> bool
-    requires { ⌜ Sized (now table) (now shelf) ⌝ }
-    ensures { λ r. ⌜ r ≡ both (flagsFormed (flagsOn (now (table .entry)))) (both (slotsFormed 0 (lengthsOn (now (table .entry))) (slotsOn (now (table .entry)) (now (shelf .entry))) (holders held)) (namesApart (slotsOn (now (table .entry)) (now (shelf .entry))))) ⌝ }
+pub fn slots_formed(table: &[u32], arena: &[u8], held: [bool; 32]) -> bool
+    requires { ⌜ SlotsFit (now table) (now arena) ⌝ }
+    ensures { λ r. ⌜ r ≡ both (flagsFormed (flagsOn (now (table .entry)))) (both (slotsFormed 0 (lengthsOn (now (table .entry))) (slotsOn (now (table .entry)) (now (arena .entry))) (holders held)) (namesApart (slotsOn (now (table .entry)) (now (arena .entry))))) ⌝ }
 {
     if !flags_formed(table) {
         return false;
     }
-    if !each_formed(table, shelf, held) {
+    if !each_formed(table, arena, held) {
         return false;
     }
-    names_apart(table, shelf)
+    names_apart(table, arena)
 }
 
 // How many definitions are resident.
 pub fn resident_count(table: &[u32]) -> u32
     requires { ⌜ length (now table) ≡ tableWords ⌝ }
-    ensures { λ r. ⌜ ((shelf : List ℕ) → r ≡ length (residents (slotsOn (now (table .entry)) shelf))) ⌝ }
+    ensures { λ r. ⌜ ((arena : List ℕ) → r ≡ length (residents (slotsOn (now (table .entry)) arena))) ⌝ }
 {
     let mut n: u32 = 0;
     let mut k = 0;
@@ -386,9 +386,9 @@ pub fn resident_count(table: &[u32]) -> u32
 }
 
 // The length of the export.
-pub fn export_length(table: &[u32], shelf: &[u8]) -> usize
-    requires { ⌜ Formed (now table) (now shelf) ⌝ }
-    ensures { λ r. ⌜ r ≡ length (exportFile (slotsOn (now (table .entry)) (now (shelf .entry)))) ⌝ }
+pub fn export_length(table: &[u32], arena: &[u8]) -> usize
+    requires { ⌜ Formed (now table) (now arena) ⌝ }
+    ensures { λ r. ⌜ r ≡ length (exportFile (slotsOn (now (table .entry)) (now (arena .entry)))) ⌝ }
 {
     let mut n = 10;
     let mut k = 0;
@@ -411,9 +411,9 @@ fn write_head(out: &mut [u8], count: u8)
 }
 
 // A version 2 file of all residents in slot order, from the buffer's first byte; bytes past it stay.
-pub fn export(table: &[u32], shelf: &[u8], out: &mut [u8])
-    requires { ⌜ Formed (now table) (now shelf) × (length (exportFile (slotsOn (now table) (now shelf))) ≤ length (now out)) ⌝ }
-    ensures { λ r. ⌜ now (out .exit) ≡ exportFile (slotsOn (now (table .entry)) (now (shelf .entry))) ++ drop (length (exportFile (slotsOn (now (table .entry)) (now (shelf .entry))))) (now (out .entry)) ⌝ }
+pub fn export(table: &[u32], arena: &[u8], out: &mut [u8])
+    requires { ⌜ Formed (now table) (now arena) × (length (exportFile (slotsOn (now table) (now arena))) ≤ length (now out)) ⌝ }
+    ensures { λ r. ⌜ now (out .exit) ≡ exportFile (slotsOn (now (table .entry)) (now (arena .entry))) ++ drop (length (exportFile (slotsOn (now (table .entry)) (now (arena .entry))))) (now (out .entry)) ⌝ }
 {
     write_head(out, resident_count(table) as u8);
     let mut at = 10;
@@ -424,7 +424,7 @@ pub fn export(table: &[u32], shelf: &[u8], out: &mut [u8])
             let size = wide(table[k]);
             let start = 2048 * k;
             let end = start + size;
-            copy_in(out, at, &shelf[start..end]);
+            copy_in(out, at, &arena[start..end]);
             at += size;
         }
         k += 1;

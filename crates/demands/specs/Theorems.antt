@@ -6,18 +6,17 @@ use Prim.Native.Nat.{ℕ}
 use native.Mathlib.Omega.{arith}
 use lib.ListN.{length}
 use Rattle.words.specs.Choice.{pick}
-use Rattle.words.specs.declared.Refusal.the-variants.{BadState}
+use Rattle.refusals.specs.declared.Refusal.the-variants.{BadState}
 use Rattle.model.specs.declared.Command.{Command}
 use Rattle.model.specs.declared.Answer.{Answer}
 use Rattle.model.specs.declared.Answer.the-variants.{Done, Replied, Refused, RefusedAt}
 use Rattle.model.specs.Formed.{formed}
-use Rattle.model.specs.After.{wordsAfter, shelfAfter}
-use Rattle.model.specs.Door.{answerIn, answer, isAccepted, written, replyOf}
+use Rattle.model.specs.After.{wordsAfter, arenaAfter}
+use Rattle.model.specs.Apply.{answerIn, answer, isAccepted, written, replyOf}
 use Rattle.model.specs.Engine.{decode}
-use Rattle.model.specs.Demands.{isTold, Ends, Demand1, Demand2, Demand3, Call, AllBytes}
-use Rattle.steps.specs.Kept.{Stepped, stepped}
-use Rattle.sequence.specs.Sound.{answer-told}
-use Rattle.exports.specs.Theorem as exports
+use Rattle.model.specs.Demands.{Demand1, Demand2, Demand3, Call, AllBytes}
+use Rattle.refinement.specs.Stepped.{Stepped, stepped}
+use Rattle.reload.specs.Theorem as reload
 use Rattle.sequence.specs.Theorem as sequence
 
 -- a refusal writes nothing
@@ -37,24 +36,15 @@ accepted-formed c bytes ws bs out h = go (formed ws bs) h
     go true q = (refl, q)
     go false q = let z : _≡_ {A = ℕ} 0 1 = cc in absurd (omega arith)
 
-answer-numbered : (c : Command) (bytes ws bs out : List ℕ) → isTold (answer c bytes ws bs out) ≡ true
-unfolding answer
-answer-numbered c bytes ws bs out = go (formed ws bs)
-  where
-    go : (b : Bool) → isTold (pick b (answerIn c bytes (decode ws bs) (length out)) (Refused BadState)) ≡ true
-    go true = answer-told c bytes (decode ws bs) (length out)
-    go false = refl
-
 pub demand1 : Demand1
 demand1 c bytes ws bs out a ws′ bs′ out′ clean d = record {
   table = d .answers;
-  told = ap isTold (d .answers) ∙ answer-numbered c bytes ws bs out;
-  effected = λ h. let g = accepted h in ap₂ decode (words g) (shelf g) ∙ stepped-after h .effected;
+  effected = λ h. let g = accepted h in ap₂ decode (words g) (arena g) ∙ stepped-after h .effected;
   replied = λ h. d .reply ∙ ap (λ (b : Answer). written b (replyOf c bytes (decode ws bs)) out) (sym (d .answers));
-  kept = λ h. let g = accepted h in ap₂ formed (words g) (shelf g) ∙ stepped-after h .kept;
+  kept = λ h. let g = accepted h in ap₂ formed (words g) (arena g) ∙ stepped-after h .kept;
   unchanged = λ h.
       let g = same ∙ h in
-      (d .words ∙ rw g, (d .shelf ∙ rw g, d .reply ∙ unwritten (answer c bytes ws bs out) (replyOf c bytes (decode ws bs)) out g));
+      (d .words ∙ rw g, (d .arena ∙ rw g, d .reply ∙ unwritten (answer c bytes ws bs out) (replyOf c bytes (decode ws bs)) out g));
 }
   where
     same : isAccepted (answer c bytes ws bs out) ≡ isAccepted a
@@ -66,14 +56,14 @@ demand1 c bytes ws bs out a ws′ bs′ out′ clean d = record {
     words : isAccepted (answer c bytes ws bs out) ≡ true → ws′ ≡ wordsAfter c bytes ws bs
     words g = d .words ∙ rw g
 
-    shelf : isAccepted (answer c bytes ws bs out) ≡ true → bs′ ≡ shelfAfter c bytes ws bs
-    shelf g = d .shelf ∙ rw g
+    arena : isAccepted (answer c bytes ws bs out) ≡ true → bs′ ≡ arenaAfter c bytes ws bs
+    arena g = d .arena ∙ rw g
 
     stepped-after : isAccepted a ≡ true → Stepped c bytes ws bs
     stepped-after h = let f = accepted-formed c bytes ws bs out (accepted h) in stepped c bytes ws bs clean (f .0) (length out) (f .1)
 
 pub demand2 : Demand2
-demand2 = exports.demand2
+demand2 = reload.demand2
 
 pub demand3 : (cs : List Call) → AllBytes cs → Demand3 cs
 demand3 = sequence.demand3

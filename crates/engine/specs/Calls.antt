@@ -5,11 +5,11 @@ use mathlib.Core.Path.{_≡_, refl}
 use mathlib.Core.List.{List}
 use native.Mathlib.Omega.{arith}
 use Rattle.words.specs.Choice.{pick}
-use Rattle.words.specs.declared.Refusal.the-variants.{BadState}
+use Rattle.refusals.specs.declared.Refusal.the-variants.{BadState}
 use Rattle.model.specs.declared.Command.{Command}
 use Rattle.model.specs.declared.Answer.{Answer}
 use Rattle.model.specs.declared.Answer.the-variants.{Done, Refused}
-use Rattle.model.specs.Door.{Does, sized, freshAnswer, freshWords, freshShelves, answerNumber}
+use Rattle.model.specs.Apply.{Does, sized, freshAnswer, freshWords, freshArenas, answerNumber}
 use Rattle.ops.specs.declared.Parsed.{Parsed}
 use Rattle.ops.specs.declared.Parsed.the-variants.{Call, Nothing}
 use Rattle.ops.specs.Numbers.{callNumber}
@@ -18,7 +18,7 @@ use Rattle.ops.specs.Numbers.{callNumber}
 pub record Made (ws bs : List ℕ) (r : ℕ) (ws′ bs′ : List ℕ) : Type 0 where
   pub number : r ≡ answerNumber (freshAnswer ws bs)
   pub words : ws′ ≡ freshWords ws bs
-  pub shelf : bs′ ≡ freshShelves ws bs
+  pub arena : bs′ ≡ freshArenas ws bs
 
 -- a command: what it does, and its answer as a number
 pub record Answered (c : Command) (bytes ws bs out : List ℕ) (r : ℕ) (ws′ bs′ out′ : List ℕ) : Type 0 where
@@ -30,7 +30,7 @@ pub record Answered (c : Command) (bytes ws bs out : List ℕ) (r : ℕ) (ws′ 
 pub record Unknown (ws bs out : List ℕ) (r : ℕ) (ws′ bs′ out′ : List ℕ) : Type 0 where
   pub number : r ≡ 255
   pub words : ws′ ≡ ws
-  pub shelf : bs′ ≡ bs
+  pub arena : bs′ ≡ bs
   pub reply : out′ ≡ out
 
 abbrev pub Called : Parsed → (bytes ws bs out : List ℕ) (r : ℕ) (ws′ bs′ out′ : List ℕ) → Type 0

@@ -1,11 +1,11 @@
 // What Rust and C call: slices as a pointer and a length, integers and floats as their 32-bit patterns.
-use crate::door::apply;
+use crate::apply::apply;
 use ops::Parsed;
 use ops::call_number;
 use ops::command_of;
 use start::fresh;
 ghost use mathlib.Core.Path.{_≡_};
-ghost use Rattle.model.specs.Layout.{wordsLength, shelfLength};
+ghost use Rattle.model.specs.Layout.{wordsLength, arenaLength};
 ghost use Rattle.ops.specs.Ops.{commandOf};
 ghost use Rattle.engine.specs.Calls.{Made, Called};
 
@@ -17,20 +17,20 @@ pub extern "C" fn engine_words() -> u64
     22083
 }
 
-// The length of the shelf in bytes.
+// The length of the arena in bytes.
 #[no_mangle]
-pub extern "C" fn engine_shelf() -> u64
-    ensures { λ r. ⌜ r ≡ shelfLength ⌝ }
+pub extern "C" fn engine_arena() -> u64
+    ensures { λ r. ⌜ r ≡ arenaLength ⌝ }
 {
     65536
 }
 
 // A fresh engine: 0, or the refusal's number.
 #[no_mangle]
-pub extern "C" fn engine_fresh(words: &mut [u32], shelf: &mut [u8]) -> u32
-    ensures { λ r. ⌜ Made (now (words .entry)) (now (shelf .entry)) r (now (words .exit)) (now (shelf .exit)) ⌝ }
+pub extern "C" fn engine_fresh(words: &mut [u32], arena: &mut [u8]) -> u32
+    ensures { λ r. ⌜ Made (now (words .entry)) (now (arena .entry)) r (now (words .exit)) (now (arena .exit)) ⌝ }
 {
-    call_number(fresh(words, shelf)) as u32
+    call_number(fresh(words, arena)) as u32
 }
 
 // One call: the command of `op` with its numbers, on what is lent.
@@ -44,13 +44,13 @@ pub extern "C" fn engine_apply(
     e: u32,
     bytes: &[u8],
     words: &mut [u32],
-    shelf: &mut [u8],
+    arena: &mut [u8],
     reply: &mut [u8],
 ) -> u64
-    ensures { λ r. ⌜ Called (commandOf op a b c d e) (now (bytes .entry)) (now (words .entry)) (now (shelf .entry)) (now (reply .entry)) r (now (words .exit)) (now (shelf .exit)) (now (reply .exit)) ⌝ }
+    ensures { λ r. ⌜ Called (commandOf op a b c d e) (now (bytes .entry)) (now (words .entry)) (now (arena .entry)) (now (reply .entry)) r (now (words .exit)) (now (arena .exit)) (now (reply .exit)) ⌝ }
 {
     match command_of(op, a, b, c, d, e) {
-        Parsed::Call(command) => call_number(apply(command, bytes, words, shelf, reply)),
+        Parsed::Call(command) => call_number(apply(command, bytes, words, arena, reply)),
         Parsed::Nothing => 255,
     }
 }

@@ -1,4 +1,4 @@
-// Queries in a well-formed state: each takes the words and the shelf as `&`, so that it can't change them.
+// Queries in a well-formed state: each takes the words and the arena as `&`, so that it can't change them.
 use definitioncommands::export_query;
 use model::Answer;
 use model::Query;
@@ -16,18 +16,18 @@ pub fn query_step(
     query: Query,
     bytes: &[u8],
     words: &[u32],
-    shelf: &[u8],
+    arena: &[u8],
     reply: &mut [u8],
 ) -> Answer
-    requires { ⌜ Known (now words) (now shelf) ⌝ }
-    ensures { λ r. ⌜ Reply query (now (bytes .entry)) (now (words .entry)) (now (shelf .entry)) (now (reply .entry)) r (now (reply .exit)) ⌝ }
+    requires { ⌜ Known (now words) (now arena) ⌝ }
+    ensures { λ r. ⌜ Reply query (now (bytes .entry)) (now (words .entry)) (now (arena .entry)) (now (reply .entry)) r (now (reply .exit)) ⌝ }
 {
     match query {
-        Query::Node { node } => node_query(words, shelf, bytes, reply, node),
-        Query::Control { node, key } => control_query(words, shelf, bytes, reply, node, key),
-        Query::Bus { bus } => bus_query(words, shelf, bytes, reply, bus),
-        Query::Tree { group, flag } => tree_query(words, shelf, bytes, reply, group, flag),
-        Query::Status => status_query(words, shelf, bytes, reply),
-        Query::Export => export_query(words, shelf, reply),
+        Query::Node { node } => node_query(words, arena, bytes, reply, node),
+        Query::Control { node, key } => control_query(words, arena, bytes, reply, node, key),
+        Query::Bus { bus } => bus_query(words, arena, bytes, reply, bus),
+        Query::Tree { group, flag } => tree_query(words, arena, bytes, reply, group, flag),
+        Query::Status => status_query(words, arena, bytes, reply),
+        Query::Export => export_query(words, arena, reply),
     }
 }

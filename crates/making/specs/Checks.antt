@@ -7,24 +7,24 @@ use native.Mathlib.Omega.{arith}
 use lib.Dec.{ltb, leb, eqb}
 use borrow.Author.Tests.{lt-ltb, le-ltb, le-leb, lt-leb}
 use Rattle.words.specs.Choice.{both}
-use Rattle.words.specs.declared.Refusal.{Refusal}
-use Rattle.words.specs.declared.Refusal.the-variants.{BadFlag, BadNumber, NumberLive, NoDefinition, NoNode, WrongKind, NodesFull, NoNumber}
+use Rattle.refusals.specs.declared.Refusal.{Refusal}
+use Rattle.refusals.specs.declared.Refusal.the-variants.{BadFlag, BadNumber, NumberLive, NoDefinition, NoNode, WrongKind, NodesFull, NoNumber}
 use Rattle.nodes.specs.Table.{rows, rows-length}
 use Rattle.nodes.specs.Place.{lives, place, lives-place}
 use Rattle.nodes.specs.Formed.{noneLeft}
 use Rattle.model.specs.declared.TreeCommand.the-variants as tree
 use Rattle.model.specs.declared.Answer.the-variants.{Done, Refused}
-use Rattle.model.specs.Layout.{slotCount, countIn, nextIn, lengthsIn, residentIn, nodesIn}
+use Rattle.model.specs.Layout.{slotCount, countIn, nextIn, lengthsIn, flagsIn, nodesIn}
 use Rattle.model.specs.Engine.{decode, residentOf}
 use Rattle.model.specs.Meaning.{minusOne, isNegative}
 use Rattle.model.specs.Checks.{firstOf, treeChecks, noResident}
-use Rattle.keep.specs.TreeKept.{slots-many}
+use Rattle.preservation.specs.TreeKept.{slots-many}
 use Rattle.tree.specs.Add.{Room}
 use Rattle.treecommands.specs.declared.group.Spot.{Spot}
 use Rattle.treecommands.specs.declared.group.Spot.the-variants as spot
 use Rattle.treecommands.specs.Ready.{Ready, nodeWords}
 use Rattle.names.specs.Named.{Named}
-use Rattle.treecommands.specs.Finding.{Found, found, missing}
+use Rattle.treecommands.specs.Finding.{NodeFound, found, missing}
 use Rattle.treecommands.specs.Adding.{badAt, fullAt, bad-target, is-full, room}
 
 -- "new number below -1", "number live", "no number left for a new -1"
@@ -48,23 +48,23 @@ Meant slot bytes ws bs = slot ≡ residentOf bytes (decode ws bs .slots)
 
 absent : (slot : ℕ) (bytes ws bs : List ℕ) → Meant slot bytes ws bs → noResident bytes (decode ws bs) ≡ leb slotCount slot
 unfolding decode
-absent slot bytes ws bs h = ap₂ leb (slots-many slotCount (lengthsIn ws) (residentIn ws) bs) (sym h)
+absent slot bytes ws bs h = ap₂ leb (slots-many slotCount (lengthsIn ws) (flagsIn ws) bs) (sym h)
 
 -- no check fires, and the target stands at its place, with room
 pub record Clear (number action target slot : ℕ) (ws : List ℕ) (at : ℕ) : Type 0 where
   pub passed : (bytes bs : List ℕ) → Meant slot bytes ws bs → firstOf (treeChecks (tree.NewSynth number action target) bytes (decode ws bs)) Done ≡ Done
   pub low : action ≤ 4
   pub there : slot < slotCount
-  pub spot : Found target ws at
+  pub spot : NodeFound target ws at
   pub room : Room (nodeWords ws) (countIn ws) action at
 
 module _ (number action target slot : ℕ) (ws : List ℕ) where
   abbrev pub Answers : Refusal → Type 0
   Answers r = (bytes bs : List ℕ) → Meant slot bytes ws bs → firstOf (treeChecks (tree.NewSynth number action target) bytes (decode ws bs)) Done ≡ Refused r
 
-  abbrev pub Spotted : Spot → Type 0
-  Spotted (spot.At at) = Clear number action target slot ws at
-  Spotted (spot.Refused r) = Answers r
+  abbrev pub SynthPlaced : Spot → Type 0
+  SynthPlaced (spot.At at) = Clear number action target slot ws at
+  SynthPlaced (spot.Refused r) = Answers r
 
   pub synth-action : 4 < action → Answers BadFlag
   unfolding firstOf
@@ -85,17 +85,17 @@ module _ (number action target slot : ℕ) (ws : List ℕ) where
         unfolding firstOf decode
         synth-absent h bytes bs m = rw (le-ltb 4 action low, good, new, absent slot bytes ws bs m ∙ le-leb slotCount slot h)
 
-        module _ (there : slot < slotCount) (k : Ready ws) (count : ℕ) (same : count ≡ countIn ws) (at : ℕ) (told : Named target ws at) where
+        module _ (there : slot < slotCount) (k : Ready ws) (count : ℕ) (same : count ≡ countIn ws) (at : ℕ) (fact : Named target ws at) where
           resident : (bytes bs : List ℕ) → Meant slot bytes ws bs → noResident bytes (decode ws bs) ≡ false
           resident bytes bs m = absent slot bytes ws bs m ∙ lt-leb slotCount slot there
 
           pub synth-unknown : count ≤ at → Answers NoNode
           unfolding firstOf decode
-          synth-unknown h bytes bs m = rw (le-ltb 4 action low, good, new, resident bytes bs m, missing target ws at told (omega arith))
+          synth-unknown h bytes bs m = rw (le-ltb 4 action low, good, new, resident bytes bs m, missing target ws at fact (omega arith))
 
           module _ (live : at < count) where
-            f : Found target ws at
-            f = found target ws at told (omega arith)
+            f : NodeFound target ws at
+            f = found target ws at fact (omega arith)
 
             pub synth-kind : badAt action ws at ≡ true → Answers WrongKind
             unfolding firstOf decode

@@ -11,10 +11,10 @@ use Rattle.nodes.specs.Table.{width, rows, rows-length, fill-length, rows-fill}
 use Rattle.nodes.specs.Place.{place}
 use Rattle.nodes.specs.Edit.{cut}
 use Rattle.nodes.specs.Formed.{mostRows, rowTaken}
-use Rattle.bridge.specs.Tally.{cut-within}
-use Rattle.bridge.specs.Keep.{within-length}
+use Rattle.treerefinement.specs.Tally.{cut-within}
+use Rattle.treerefinement.specs.Keep.{within-length}
 use Rattle.model.specs.Effects.{freeRowFrom, freeRow}
-use Rattle.tree.specs.Sizes.{Sized, Leaves}
+use Rattle.tree.specs.Sizes.{TableFits, Leaves}
 use Rattle.tree.specs.FreeRow.{freeFrom}
 use Rattle.tree.specs.FreeRow as tree
 
@@ -45,7 +45,7 @@ module _ (us : List ℕ) (count n : ℕ) (after : List ℕ) (many : ℕ) (left :
   left-few : many ≤ count
   left-few = omega (arith, left .size, within-length (cut-within n (rows count us)), rows-length count us)
 
-  pub left-sized : length us ≡ 1280 → count ≤ 256 → Sized after many
+  pub left-sized : length us ≡ 1280 → count ≤ 256 → TableFits after many
   left-sized size few =
       let room : width * length (cut n (rows count us)) ≤ length us = omega (arith, left-few, left .size) in
       let long : length after ≡ 1280 = ap length (left .words) ∙ fill-length us (cut n (rows count us)) room ∙ size in

@@ -9,8 +9,8 @@ use lib.Dec.{leb, eqb}
 use borrow.Author.Tests.{leb-true}
 use Rattle.words.specs.Choice.{both, both-true}
 use Rattle.words.specs.Parts.{region, put, region-length}
-use Rattle.words.specs.declared.Refusal.{Refusal}
-use Rattle.words.specs.declared.Refusal.the-variants.{BadFlag, BadNumber, NumberLive, NoDefinition, NoNode, WrongKind, NodesFull, NoNumber}
+use Rattle.refusals.specs.declared.Refusal.{Refusal}
+use Rattle.refusals.specs.declared.Refusal.the-variants.{BadFlag, BadNumber, NumberLive, NoDefinition, NoNode, WrongKind, NodesFull, NoNumber}
 use Rattle.synthdef.specs.Read.{Read}
 use Rattle.synthdef.specs.Definition.{Front, Definition}
 use Rattle.readable.specs.Readable.{Readable, whole-readable}
@@ -28,16 +28,16 @@ use Rattle.model.specs.Meaning.{minusOne, isNegative, meant, known}
 use Rattle.model.specs.Checks.{firstOf, treeChecks, noResident, badAction, badTarget, full}
 use Rattle.model.specs.Effects.{addBy, stayingNodes, freeRow, newSynth, numberFor, nextAfter, initialWords, synthMade, effect}
 use Rattle.model.specs.After.{putTree, wordsAfter}
-use Rattle.model.specs.Door.{answerIn}
+use Rattle.model.specs.Apply.{answerIn}
 use Rattle.state.specs.Known.{Known}
 use Rattle.state.specs.Does.{WordsStep, step-refused, step-done}
 use Rattle.state.specs.Decoded.{tree-size, tree-controls, order-region-length}
 use Rattle.state.specs.Regions.{put-size}
-use Rattle.keep.specs.Passed.{passed}
-use Rattle.keep.specs.Rows.{free-row}
-use Rattle.keep.specs.Slots.{resident-found}
-use Rattle.keep.specs.TreeSteps.{comes}
-use Rattle.keep.specs.TreeKept.{known-sound}
+use Rattle.preservation.specs.Passed.{passed}
+use Rattle.preservation.specs.Rows.{free-row}
+use Rattle.preservation.specs.Slots.{resident-found}
+use Rattle.preservation.specs.TreeSteps.{comes}
+use Rattle.preservation.specs.TreeKept.{known-sound}
 use Rattle.tree.specs.Sizes.{Leaves}
 use Rattle.tree.specs.Add as table
 use Rattle.definitions.specs.Slots.{slotsOn, slotOn, Whole, Formed, slots-lent}
@@ -74,7 +74,7 @@ module _ (ws bs : List ℕ) (k : Known ws bs) (slot : ℕ) (low : slot < slotCou
   lent = ap (λ l. slotAt l slot) (sym (slots-lent ws bs)) ∙ slot-is (tableIn ws) bs slot low
 
   whole : Whole (tableIn ws) bs slot
-  whole = formed-lent ws bs (k .size) (k .shelfSize) (k .flags) (k .slots) .resident slot low (ap (λ s. s .resident) (sym lent) ∙ live)
+  whole = formed-lent ws bs (k .size) (k .arenaSize) (k .flags) (k .slots) .resident slot low (ap (λ s. s .resident) (sym lent) ∙ live)
 
   lent-bytes : slotOn (tableIn ws) bs slot .bytes ≡ lentBytes slot size bs
   lent-bytes = ap (λ (n : ℕ). lentBytes slot n bs) (part-word lengthsPlace 64 slot ws (omega arith) ∙ sym same)
@@ -183,13 +183,13 @@ module _ (number action target at slot : ℕ) (bytes ws bs : List ℕ) (g : Grou
       latest = numberFor number (nextIn ws);
     }
 
-    module _ (fell : ℕ) (falls : fell ≡ nextAfter number next) (mid : List ℕ) (told : mid ≡ settled many fell given (put nodesPlace nodesWords us ws)) where
+    module _ (fell : ℕ) (falls : fell ≡ nextAfter number next) (mid : List ℕ) (fact : mid ≡ settled many fell given (put nodesPlace nodesWords us ws)) where
       many-controls : length (controlsIn ws) ≡ controlsWords
       many-controls = region-length controlsPlace controlsWords ws (omega (arith, k .size))
 
       mid-is : mid ≡ putTree half ws
       mid-is =
-          told
+          fact
           ∙ ap₂ (λ (j : ℕ) (l : List ℕ). settled j fell given (put nodesPlace nodesWords l ws)) (left .size) (left .words)
           ∙ ap₂ (λ (i j : ℕ). settled (length after) i j (putNodes after ws)) (falls ∙ ap (λ (j : ℕ). nextAfter number j) counter) (named ∙ ap (λ (j : ℕ). numberFor number j) counter)
           ∙ settled-tree ws (k .size) after few (nextAfter number (nextIn ws)) (numberFor number (nextIn ws))
@@ -255,4 +255,4 @@ pub meant-lent : (slot : ℕ) (bytes ws bs : List ℕ) → slot ≡ residentOf b
 meant-lent slot bytes ws bs h = h ∙ ap (λ l. residentOf bytes l) (slots-lent ws bs)
 
 pub table-formed : (ws bs : List ℕ) → Known ws bs → Formed (tableIn ws) bs
-table-formed ws bs k = formed-lent ws bs (k .size) (k .shelfSize) (k .flags) (k .slots)
+table-formed ws bs k = formed-lent ws bs (k .size) (k .arenaSize) (k .flags) (k .slots)

@@ -16,16 +16,16 @@ ghost use Rattle.state.specs.Known.{Known};
 ghost use Rattle.state.specs.Does.{WordsStep};
 
 // A command of the tree kind; the name of a new synth's definition is in the bytes.
-pub fn tree_step(command: TreeCommand, bytes: &[u8], words: &mut [u32], shelf: &[u8]) -> Answer
-    requires { ⌜ Known (now words) (now shelf) ⌝ }
-    ensures { λ r. ⌜ WordsStep (kinds.Tree command) (now (bytes .entry)) (now (words .entry)) (now (shelf .entry)) r (now (words .exit)) ⌝ }
+pub fn tree_step(command: TreeCommand, bytes: &[u8], words: &mut [u32], arena: &[u8]) -> Answer
+    requires { ⌜ Known (now words) (now arena) ⌝ }
+    ensures { λ r. ⌜ WordsStep (kinds.Tree command) (now (bytes .entry)) (now (words .entry)) (now (arena .entry)) r (now (words .exit)) ⌝ }
 {
     match command {
         TreeCommand::NewSynth {
             number,
             action,
             target,
-        } => new_synth(number, action, target, bytes, words, shelf),
+        } => new_synth(number, action, target, bytes, words, arena),
         TreeCommand::NewGroup {
             number,
             action,

@@ -18,9 +18,9 @@ ghost use Rattle.state.specs.Does.{WordsStep};
 ghost use Rattle.making.specs.Synth.{Ground, Fit};
 
 // A new synth, which runs, put in by the add action, with its definition's initial values.
-fn put_synth(number: u32, action: u32, at: usize, slot: u32, words: &mut [u32], shelf: &[u8])
-    requires { ⌜ Fit number action at slot (now words) (now shelf) ⌝ }
-    ensures { λ r. ⌜ ((target : ℕ) (bytes : List ℕ) → Ground number action target at slot bytes (now (words .entry)) (now (shelf .entry)) → WordsStep (command.Tree (tree.NewSynth number action target)) bytes (now (words .entry)) (now (shelf .entry)) Done (now (words .exit))) ⌝ }
+fn put_synth(number: u32, action: u32, at: usize, slot: u32, words: &mut [u32], arena: &[u8])
+    requires { ⌜ Fit number action at slot (now words) (now arena) ⌝ }
+    ensures { λ r. ⌜ ((target : ℕ) (bytes : List ℕ) → Ground number action target at slot bytes (now (words .entry)) (now (arena .entry)) → WordsStep (command.Tree (tree.NewSynth number action target)) bytes (now (words .entry)) (now (arena .entry)) Done (now (words .exit))) ⌝ }
 {
     let count = wide(words[0]);
     let next = words[2];
@@ -37,7 +37,7 @@ fn put_synth(number: u32, action: u32, at: usize, slot: u32, words: &mut [u32], 
     let many = tree::add_node(&mut words[68..1348], count, action, at, node);
     let after = next_after(number, next);
     settle(words, many, after, given);
-    let definition = controls::slot_bytes(shelf, slot, size);
+    let definition = controls::slot_bytes(arena, slot, size);
     controls::initial_row(&mut words[1603..17987], row, definition);
 }
 
@@ -48,16 +48,16 @@ pub fn new_synth(
     target: u32,
     bytes: &[u8],
     words: &mut [u32],
-    shelf: &[u8],
+    arena: &[u8],
 ) -> Answer
-    requires { ⌜ Known (now words) (now shelf) ⌝ }
-    ensures { λ r. ⌜ WordsStep (command.Tree (tree.NewSynth number action target)) (now (bytes .entry)) (now (words .entry)) (now (shelf .entry)) r (now (words .exit)) ⌝ }
+    requires { ⌜ Known (now words) (now arena) ⌝ }
+    ensures { λ r. ⌜ WordsStep (command.Tree (tree.NewSynth number action target)) (now (bytes .entry)) (now (words .entry)) (now (arena .entry)) r (now (words .exit)) ⌝ }
 {
-    let slot = definitions::find_resident(&words[4..68], shelf, bytes);
+    let slot = definitions::find_resident(&words[4..68], arena, bytes);
     let spot = synth_spot(number, action, target, slot, words);
     match spot {
         Spot::At(at) => {
-            put_synth(number, action, at, slot, words, shelf);
+            put_synth(number, action, at, slot, words, arena);
             Answer::Done
         }
         Spot::Refused(why) => Answer::Refused(why),

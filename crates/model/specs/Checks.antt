@@ -5,8 +5,8 @@ use mathlib.Core.List.{List, [], _∷_}
 use lib.ListN.{length}
 use lib.Dec.{ltb, leb, eqb}
 use Rattle.words.specs.Choice.{pick, both, either}
-use Rattle.words.specs.declared.Refusal.{Refusal}
-use Rattle.words.specs.declared.Refusal.the-variants.{NoSlot, BadFlag, BadNumber, NumberLive, NoDefinition, NoNode, WrongKind, InsideItself, NodesFull, NoControl, NoBus, BadValue, NoRoom, NoNumber}
+use Rattle.refusals.specs.declared.Refusal.{Refusal}
+use Rattle.refusals.specs.declared.Refusal.the-variants.{NoSlot, BadFlag, BadNumber, NumberLive, NoDefinition, NoNode, WrongKind, InsideItself, NodesFull, NoControl, NoBus, BadValue, NoRoom, NoNumber}
 use Rattle.synthdef.specs.Read.{Read, got, bad}
 use Rattle.synthdef.specs.Definition.{Definition}
 use Rattle.synthdef.specs.Reader.{readFile, among}
@@ -15,7 +15,6 @@ use Rattle.nodes.specs.Place.{isGroup, lives}
 use Rattle.nodes.specs.Edit.{isBelow}
 use Rattle.nodes.specs.Formed.{mostNodes, noneLeft}
 use Rattle.values.specs.declared.Key.{Key}
-use Rattle.values.specs.declared.Value.{Value}
 use Rattle.values.specs.Values.{inBounds}
 use Rattle.model.specs.declared.DefinitionCommand.{DefinitionCommand}
 use Rattle.model.specs.declared.DefinitionCommand.the-variants as definitions
@@ -27,12 +26,10 @@ use Rattle.model.specs.declared.BusCommand.{BusCommand}
 use Rattle.model.specs.declared.BusCommand.the-variants as buses
 use Rattle.model.specs.declared.Query.{Query}
 use Rattle.model.specs.declared.Query.the-variants as query
-use Rattle.model.specs.declared.Command.{Command}
-use Rattle.model.specs.declared.Command.the-variants as command
 use Rattle.model.specs.declared.Answer.{Answer}
-use Rattle.model.specs.declared.Answer.the-variants.{Done, Replied, Refused, RefusedAt}
+use Rattle.model.specs.declared.Answer.the-variants.{Done, Refused, RefusedAt}
 use Rattle.model.specs.Layout.{slotCount}
-use Rattle.model.specs.Engine.{Slot, Engine, slotTaken, held, nameIn, definitionOf, residentOf}
+use Rattle.model.specs.Engine.{Slot, Engine, held, nameIn, definitionOf, residentOf}
 use Rattle.model.specs.Meaning.{minusOne, isNegative, meant, known, node, startOf, hasControls, negativeKey, isBus, isBusRange}
 
 pub record Check : Type 0 where

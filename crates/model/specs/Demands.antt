@@ -1,14 +1,15 @@
 -- The three demands, each as a statement over the definitions that the contracts cite.
-use Prim.{Unit, tt}
-use Prim.Native.Nat.{ℕ, _<_, _≤_}
+use Prim.{Unit}
+use Prim.Native.Nat.{ℕ}
 use mathlib.Core.Bool.{Bool, true, false, not}
 use mathlib.Core.Path.{_≡_}
-use mathlib.Core.List.{List, [], _∷_, _++_}
+use mathlib.Core.List.{List, [], _∷_}
 use mathlib.Core.Option.{Option, none, some}
 use lib.ListN.{length}
-use lib.Dec.{ltb, leb, eqb}
+use lib.Dec.{ltb, eqb}
 use Rattle.words.specs.Choice.{pick, both, either}
-use Rattle.words.specs.Refusals.{numberOf, hasPlace}
+use Rattle.faults.specs.Faults.{faultNumber}
+use Rattle.refusals.specs.Refusals.{numberOf}
 use Rattle.synthdef.specs.Definition.{Definition}
 use Rattle.synthdef.specs.Bounds.{every}
 use Rattle.nodes.specs.declared.Node.{Node}
@@ -29,44 +30,36 @@ use Rattle.model.specs.declared.Answer.{Answer}
 use Rattle.model.specs.declared.Answer.the-variants.{Done, Replied, Refused, RefusedAt}
 use Rattle.model.specs.Engine.{Slot, Engine, decode, slotAt, definitionIn, residentOf, residents}
 use Rattle.model.specs.Formed.{formed}
-use Rattle.model.specs.View.{Kind, group, synth, PlainNode, Row, shape, view}
+use Rattle.model.specs.View.{Kind, group, synth, PlainNode, Row, view}
 use Rattle.model.specs.Meaning.{meant, nodeNamed}
 use Rattle.model.specs.Effects.{numberFor, effect}
 use Rattle.model.specs.Replies.{replyTo, reply}
-use Rattle.model.specs.After.{wordsAfter, shelfAfter, freshState, freshShelf}
-use Rattle.model.specs.Door.{answerIn, answer, isAccepted, written, replyOf, Does}
+use Rattle.model.specs.After.{wordsAfter, arenaAfter, freshState, freshArena}
+use Rattle.model.specs.Apply.{answerIn, answer, isAccepted, written, replyOf, Does}
 use Rattle.model.specs.Plain.{Plain, atFirst, meaning, meantIn, fed, plainRows, plainOrder}
 
 -- the definition that a name means in the engine: its resident's
-abbrev pub residentIn : List Slot → ℕ → Option Definition
-residentIn slots k = pick (ltb k (length slots)) (some (definitionIn (slotAt slots k))) none
+abbrev pub definitionAtSlot : List Slot → ℕ → Option Definition
+definitionAtSlot slots k = pick (ltb k (length slots)) (some (definitionIn (slotAt slots k))) none
 
 abbrev pub meaningIn : List ℕ → Engine → Option Definition
-meaningIn name e = residentIn (e .slots) (residentOf name (e .slots))
+meaningIn name e = definitionAtSlot (e .slots) (residentOf name (e .slots))
 
 -- a file as a call's bytes: each below 256
 abbrev pub AreBytes : List ℕ → Type 0
 AreBytes s = every (λ b. ltb b 256) s ≡ true
-
--- "All return only the number (2 to 11 also the place)"
-abbrev pub isTold : Answer → Bool
-isTold Done = true
-isTold (Replied n) = true
-isTold (Refused r) = not (hasPlace r)
-isTold (RefusedAt r at) = hasPlace r
 
 -- the number of the refusal that an answer gives, 0 where it gives none
 abbrev pub refusalIn : Answer → ℕ
 refusalIn Done = 0
 refusalIn (Replied n) = 0
 refusalIn (Refused r) = numberOf r
-refusalIn (RefusedAt r at) = numberOf r
+refusalIn (RefusedAt r at) = faultNumber r
 
 -- of what a call does: "Any bytes and any command, in any lent state, end in the effect asked for or in one numbered refusal, by the table's order of checks. A refusal
 -- changes nothing in the state or the reply buffer". A command that is accepted was given in a well-formed state, and leaves one.
 pub record Ends (c : Command) (bytes ws bs out : List ℕ) (a : Answer) (ws′ bs′ out′ : List ℕ) : Type 0 where
   pub table : a ≡ answer c bytes ws bs out
-  pub told : isTold a ≡ true
   pub effected : isAccepted a ≡ true → decode ws′ bs′ ≡ effect c bytes (decode ws bs)
   pub replied : isAccepted a ≡ true → out′ ≡ written a (replyOf c bytes (decode ws bs)) out
   pub kept : isAccepted a ≡ true → formed ws′ bs′ ≡ true
@@ -83,13 +76,13 @@ receive = command.Definitions definitions.Receive
 
 -- Demand 2: "What a fresh engine accepts is exported byte for byte; an export loaded into a fresh one gives the same definitions."
 pub record Demand2 : Type 0 where
-  pub exported : (file : List ℕ) → AreBytes file → answerIn receive file (decode freshState freshShelf) 0 ≡ Done
-      → reply query.Export [] (decode (wordsAfter receive file freshState freshShelf) (shelfAfter receive file freshState freshShelf)) ≡ file
+  pub exported : (file : List ℕ) → AreBytes file → answerIn receive file (decode freshState freshArena) 0 ≡ Done
+      → reply query.Export [] (decode (wordsAfter receive file freshState freshArena) (arenaAfter receive file freshState freshArena)) ≡ file
   pub loaded : (ws bs : List ℕ) → AreBytes bs → formed ws bs ≡ true
-      → (answerIn receive (reply query.Export [] (decode ws bs)) (decode freshState freshShelf) 0 ≡ Done)
+      → (answerIn receive (reply query.Export [] (decode ws bs)) (decode freshState freshArena) 0 ≡ Done)
       × ((name : List ℕ)
       → meaningIn name
-      (decode (wordsAfter receive (reply query.Export [] (decode ws bs)) freshState freshShelf) (shelfAfter receive (reply query.Export [] (decode ws bs)) freshState freshShelf))
+      (decode (wordsAfter receive (reply query.Export [] (decode ws bs)) freshState freshArena) (arenaAfter receive (reply query.Export [] (decode ws bs)) freshState freshArena))
       ≡ meaningIn name (decode ws bs))
 
 -- a call: a command, its bytes, and the reply buffer that is lent
@@ -100,13 +93,13 @@ pub record Call : Type 0 where
 
 pub record State : Type 0 where
   pub words : List ℕ
-  pub shelf : List ℕ
+  pub arena : List ℕ
 
 abbrev pub engineIn : State → Engine
-engineIn s = decode (s .words) (s .shelf)
+engineIn s = decode (s .words) (s .arena)
 
 abbrev pub answerTo : Call → State → Answer
-answerTo c s = answer (c .command) (c .bytes) (s .words) (s .shelf) (c .out)
+answerTo c s = answer (c .command) (c .bytes) (s .words) (s .arena) (c .out)
 
 abbrev pub acceptedIn : Call → State → Bool
 acceptedIn c s = isAccepted (answerTo c s)
@@ -114,13 +107,13 @@ acceptedIn c s = isAccepted (answerTo c s)
 -- the state after a call
 abbrev pub after : Call → State → State
 after c s = record {
-  words = pick (acceptedIn c s) (wordsAfter (c .command) (c .bytes) (s .words) (s .shelf)) (s .words);
-  shelf = pick (acceptedIn c s) (shelfAfter (c .command) (c .bytes) (s .words) (s .shelf)) (s .shelf);
+  words = pick (acceptedIn c s) (wordsAfter (c .command) (c .bytes) (s .words) (s .arena)) (s .words);
+  arena = pick (acceptedIn c s) (arenaAfter (c .command) (c .bytes) (s .words) (s .arena)) (s .arena);
 }
 
 -- "one claim about every sequence of loads and commands from a fresh engine"
 abbrev pub freshEngine : State
-freshEngine = record { words = freshState; shelf = freshShelf }
+freshEngine = record { words = freshState; arena = freshArena }
 
 unfoldable pub run : List Call → State → State
 run [] s = s
@@ -161,9 +154,9 @@ abbrev pub definitionOfKind : Kind → Option Definition
 definitionOfKind group = none
 definitionOfKind (synth d cs) = some d
 
-unfoldable pub voiceOf : ℕ → List Row → Option Definition
-voiceOf n [] = none
-voiceOf n (r ∷ l) = pick (eqb (r .node .number) n) (definitionOfKind (r .node .kind)) (voiceOf n l)
+unfoldable pub definitionOfSynth : ℕ → List Row → Option Definition
+definitionOfSynth n [] = none
+definitionOfSynth n (r ∷ l) = pick (eqb (r .node .number) n) (definitionOfKind (r .node .kind)) (definitionOfSynth n l)
 
 unfoldable pub holds : ℕ → List ℕ → Bool
 holds n [] = false
@@ -288,5 +281,5 @@ pub record Demand3 (cs : List Call) : Type 0 where
   pub each : EachHolds cs freshEngine
   pub same : Same (engineIn (run cs freshEngine)) (replay cs freshEngine atFirst)
   pub tree : TreeHolds (engineIn (run cs freshEngine) .nodes)
-  -- "each voice has the definition its name meant when it was made"
-  pub voices : (n : ℕ) (d : Definition) → voiceOf n (view (engineIn (run cs freshEngine))) ≡ some d → made cs freshEngine n none ≡ some d
+  -- "each synth has the definition its name meant when it was made"
+  pub synths : (n : ℕ) (d : Definition) → definitionOfSynth n (view (engineIn (run cs freshEngine))) ≡ some d → made cs freshEngine n none ≡ some d

@@ -1,18 +1,17 @@
--- The engine's model: paper 01, "What the engine holds", and how it lies in the lent words and on the shelf.
+-- The engine's model: paper 01, "What the engine holds", and how it lies in the lent words and in the arena.
 use Prim.Native.Nat.{ℕ, zero, suc, _+_, _*_}
-use mathlib.Core.Bool.{Bool, true, false, not}
-use mathlib.Core.List.{List, [], _∷_, _++_}
+use mathlib.Core.Bool.{Bool, false}
+use mathlib.Core.List.{List, [], _∷_}
 use mathlib.Core.Option.{Option, none, some}
 use lib.ListN.{length, take, drop, getD}
 use lib.Dec.{eqb}
 use Rattle.words.specs.Choice.{pick, both, either}
 use Rattle.synthdef.specs.Read.{Read, got, bad}
 use Rattle.synthdef.specs.Definition.{ParameterName, Definition}
-use Rattle.synthdef.specs.Reader.{readDefinition, sameName, among}
+use Rattle.synthdef.specs.Reader.{readDefinition, sameName}
 use Rattle.nodes.specs.declared.Node.{Node}
-use Rattle.nodes.specs.Place.{isGroup}
 use Rattle.values.specs.Controls.{ControlValue, controlAt}
-use Rattle.model.specs.Layout.{slotCount, slotRoom, rowWords, lengthsIn, residentIn, nodesIn, orderIn, controlsIn, busesIn, nextIn, latestIn}
+use Rattle.model.specs.Layout.{slotCount, slotRoom, rowWords, lengthsIn, flagsIn, nodesIn, orderIn, controlsIn, busesIn, nextIn, latestIn}
 
 -- a definition's slot: its encoded bytes, and whether it is resident, that is, what its name means today
 pub record Slot : Type 0 where
@@ -30,16 +29,16 @@ pub record Engine : Type 0 where
   pub next : ℕ
   pub latest : ℕ
 
--- so many slots, by their lengths, their resident flags and the shelf
+-- so many slots, by their lengths, their resident flags and the arena
 unfoldable pub slotsFrom : ℕ → List ℕ → List ℕ → List ℕ → List Slot
-slotsFrom zero lengths flags shelf = []
-slotsFrom (suc n) lengths flags shelf =
-    record { bytes = take (getD lengths 0 0) (take slotRoom shelf); resident = eqb (getD flags 0 0) 1 }
-    ∷ slotsFrom n (drop 1 lengths) (drop 1 flags) (drop slotRoom shelf)
+slotsFrom zero lengths flags arena = []
+slotsFrom (suc n) lengths flags arena =
+    record { bytes = take (getD lengths 0 0) (take slotRoom arena); resident = eqb (getD flags 0 0) 1 }
+    ∷ slotsFrom n (drop 1 lengths) (drop 1 flags) (drop slotRoom arena)
 
 unfoldable pub decode : List ℕ → List ℕ → Engine
-decode ws shelf = record {
-  slots = slotsFrom slotCount (lengthsIn ws) (residentIn ws) shelf;
+decode ws arena = record {
+  slots = slotsFrom slotCount (lengthsIn ws) (flagsIn ws) arena;
   nodes = nodesIn ws;
   order = orderIn ws;
   controls = controlsIn ws;

@@ -1,6 +1,6 @@
 -- The examples that paper 01 marks "Proved", as one table with one proved statement.
 use Prim.Native.Nat.{ℕ, _*_}
-use mathlib.Core.Bool.{Bool, true, false}
+use mathlib.Core.Bool.{true}
 use mathlib.Core.Path.{_≡_, refl}
 use mathlib.Core.List.{List, [], _∷_, _++_}
 use lib.ListN.{length, take, drop, replicate}
@@ -13,8 +13,8 @@ use Rattle.nodes.specs.Edit.{lift, sink, takeDeeper, dropDeeper, onlyGroups, ru
 use Rattle.nodes.specs.Order.{orderFrom}
 use Rattle.nodes.specs.Formed.{rowTaken}
 use Rattle.osc.specs.Message.{tags, arguments}
-use Rattle.values.specs.declared.Key.the-variants.{Index, Name}
-use Rattle.values.specs.declared.Value.the-variants.{Float, Integer}
+use Rattle.values.specs.declared.Key.the-variants.{Name}
+use Rattle.values.specs.declared.Value.the-variants.{Float}
 use Rattle.values.specs.Targets.{targetOf}
 use Rattle.values.specs.Values.{inBounds, pattern}
 use Rattle.model.specs.declared.DefinitionCommand.the-variants as definitions
@@ -29,8 +29,8 @@ use Rattle.model.specs.Meaning.{minusOne, nodeNamed}
 use Rattle.model.specs.Checks.{firstOf, namesOf, staying}
 use Rattle.model.specs.Effects.{retired, freeFrom, loaded, freeRowFrom, initialWords, changeWords, changeAll, effect}
 use Rattle.model.specs.Replies.{plainNamed, replyTo}
-use Rattle.model.specs.Door.{queryAnswer, answerIn}
-use Rattle.model.specs.Script.{Line, line, played, told, replied, answersOf, orderAfter, verdict, Example, example, agrees}
+use Rattle.model.specs.Apply.{queryAnswer, answerIn}
+use Rattle.model.specs.Script.{Line, line, played, answersFrom, replied, answersOf, orderAfter, verdict, Example, example, agrees}
 
 -- the header of a file of so many definitions
 abbrev header : ℕ → List ℕ
@@ -121,5 +121,5 @@ table =
     ∷ []
 
 pub proved : agrees table ≡ true
-unfolding repeat nameBytes readFront readUnit readUnits readDefinition readDefinitions readFile sameName among writeAll writeDefinition writeFile lives lift sink takeDeeper dropDeeper onlyGroups runOf editRows orderFrom rowTaken tags arguments targetOf inBounds pattern held residentFrom controlsFrom firstIndex viewRows nodeNamed firstOf namesOf staying retired freeFrom loaded freeRowFrom initialWords changeWords changeAll effect plainNamed replyTo queryAnswer answerIn played told agrees
+unfolding repeat nameBytes readFront readUnit readUnits readDefinition readDefinitions readFile sameName among writeAll writeDefinition writeFile lives lift sink takeDeeper dropDeeper onlyGroups runOf editRows orderFrom rowTaken tags arguments targetOf inBounds pattern held residentFrom controlsFrom firstIndex viewRows nodeNamed firstOf namesOf staying retired freeFrom loaded freeRowFrom initialWords changeWords changeAll effect plainNamed replyTo queryAnswer answerIn played answersFrom agrees
 proved = refl

@@ -2,21 +2,20 @@
 -- slot holds no readable definition, two residents share a name, a live generated number wasn't yet given, or the latest synth isn't a live synth or none."
 use Prim.Native.Nat.{ℕ, zero, suc, _+_, _*_}
 use mathlib.Core.Bool.{Bool, true, false, not}
-use mathlib.Core.List.{List, [], _∷_, _++_}
-use lib.ListN.{length, take, drop, getD}
+use mathlib.Core.List.{List, [], _∷_}
+use lib.ListN.{length, drop, getD}
 use lib.Dec.{leb, eqb}
 use Rattle.words.specs.Choice.{pick, both}
-use Rattle.words.specs.Parts.{region}
 use Rattle.synthdef.specs.Read.{Read, got, bad}
 use Rattle.synthdef.specs.Definition.{Definition}
-use Rattle.synthdef.specs.Reader.{readDefinition, sizeLimit, sameName, among}
+use Rattle.synthdef.specs.Reader.{readDefinition, sizeLimit, sameName}
 use Rattle.nodes.specs.declared.Node.{Node}
 use Rattle.nodes.specs.Place.{isGroup}
 use Rattle.nodes.specs.Order.{order}
 use Rattle.nodes.specs.Formed.{mostNodes}
 use Rattle.nodes.specs.Formed as nodes
-use Rattle.model.specs.Layout.{slotCount, slotRoom, rowWords, busCount, wordsLength, shelfLength, countIn, nextIn, latestIn, orderLengthIn, orderWords, lengthsIn, residentIn, nodesIn, orderIn, controlsIn}
-use Rattle.model.specs.Engine.{Slot, Engine, decode, slotTaken, nameIn, definitionOf}
+use Rattle.model.specs.Layout.{rowWords, busCount, wordsLength, arenaLength, countIn, nextIn, latestIn, orderLengthIn, orderWords, lengthsIn, flagsIn, nodesIn, orderIn, controlsIn}
+use Rattle.model.specs.Engine.{Slot, decode, slotTaken, nameIn, definitionOf}
 
 -- a slot's flag is 0 or 1
 unfoldable pub flagsFormed : List ℕ → Bool
@@ -66,12 +65,12 @@ abbrev pub orderFormed : List ℕ → List Node → Bool
 orderFormed ws t = both (leb (orderLengthIn ws) orderWords) (sameNumbers (orderIn ws) (order t))
 
 unfoldable pub formed : List ℕ → List ℕ → Bool
-formed ws shelf =
+formed ws arena =
     both (eqb (length ws) wordsLength)
-    (both (eqb (length shelf) shelfLength)
+    (both (eqb (length arena) arenaLength)
     (both (leb (countIn ws) mostNodes)
-    (both (nodes.formed (nextIn ws) (latestIn ws) (nodesIn ws))
+    (both (nodes.nodesFormed (nextIn ws) (latestIn ws) (nodesIn ws))
     (both (orderFormed ws (nodesIn ws))
-    (both (flagsFormed (residentIn ws))
-    (both (slotsFormed 0 (lengthsIn ws) (decode ws shelf .slots) (nodesIn ws))
-    (both (namesApart (decode ws shelf .slots)) (controlsFormed (decode ws shelf .slots) (controlsIn ws) (nodesIn ws)))))))))
+    (both (flagsFormed (flagsIn ws))
+    (both (slotsFormed 0 (lengthsIn ws) (decode ws arena .slots) (nodesIn ws))
+    (both (namesApart (decode ws arena .slots)) (controlsFormed (decode ws arena .slots) (controlsIn ws) (nodesIn ws)))))))))

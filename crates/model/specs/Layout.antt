@@ -1,10 +1,10 @@
--- Where each part of the engine lies in the lent words and on the lent shelf. docs/LAYOUT.md says the same in words.
-use Prim.Native.Nat.{ℕ, _+_, _*_}
-use mathlib.Core.List.{List, [], _∷_, _++_}
-use lib.ListN.{length, take, drop, getD, set, replicate}
+-- Where each part of the engine lies in the lent words and in the lent arena. docs/LAYOUT.md says the same in words.
+use Prim.Native.Nat.{ℕ, _*_}
+use mathlib.Core.List.{List, _∷_, _++_}
+use lib.ListN.{take, drop, getD, replicate}
 use Rattle.words.specs.Parts.{region, put}
 use Rattle.nodes.specs.declared.Node.{Node}
-use Rattle.nodes.specs.Table.{width, rows, fill}
+use Rattle.nodes.specs.Table.{rows, fill}
 
 -- "256 nodes with the root; 32 definition slots; 32 parameters and 2,048 encoded bytes to a definition"; "4,096 control buses"
 abbrev pub slotCount : ℕ
@@ -13,7 +13,7 @@ slotCount = 32
 abbrev pub busCount : ℕ
 busCount = 4096
 
--- a slot's room on the shelf
+-- a slot's room in the arena
 abbrev pub slotRoom : ℕ
 slotRoom = 2048
 
@@ -52,8 +52,8 @@ busesPlace = 17987
 abbrev pub wordsLength : ℕ
 wordsLength = 22083
 
-abbrev pub shelfLength : ℕ
-shelfLength = 65536
+abbrev pub arenaLength : ℕ
+arenaLength = 65536
 
 -- the parts in the words
 abbrev pub countIn : List ℕ → ℕ
@@ -71,8 +71,8 @@ latestIn ws = getD ws 3 0
 abbrev pub lengthsIn : List ℕ → List ℕ
 lengthsIn ws = region lengthsPlace slotCount ws
 
-abbrev pub residentIn : List ℕ → List ℕ
-residentIn ws = region residentPlace slotCount ws
+abbrev pub flagsIn : List ℕ → List ℕ
+flagsIn ws = region residentPlace slotCount ws
 
 abbrev pub nodesIn : List ℕ → List Node
 nodesIn ws = rows (countIn ws) (region nodesPlace nodesWords ws)
@@ -86,9 +86,9 @@ controlsIn ws = region controlsPlace controlsWords ws
 abbrev pub busesIn : List ℕ → List ℕ
 busesIn ws = region busesPlace busCount ws
 
--- the bytes of the slot k on the shelf
+-- the bytes of the slot k in the arena
 abbrev pub slotIn : List ℕ → ℕ → ℕ → List ℕ
-slotIn shelf k size = region (slotRoom * k) size shelf
+slotIn arena k size = region (slotRoom * k) size arena
 
 -- the words with a part put in
 abbrev pub putNodes : List Node → List ℕ → List ℕ

@@ -7,7 +7,7 @@ pub mod Checks
 pub mod Effects
 pub mod Replies
 pub mod After
-pub mod Door
+pub mod Apply
 pub mod Plain
 pub mod Demands
 pub mod Script

@@ -1,14 +1,14 @@
 -- What a command's arguments mean in the engine: the node, the control, the bus, the value.
 use Prim.Native.Nat.{ℕ, _+_}
-use mathlib.Core.Bool.{Bool, true, false, not}
+use mathlib.Core.Bool.{Bool, false, not}
 use mathlib.Core.List.{List, [], _∷_}
 use mathlib.Core.Option.{Option, none, some}
 use lib.ListN.{length}
 use lib.Dec.{ltb, leb, eqb}
-use Rattle.words.specs.Choice.{pick, both, either}
+use Rattle.words.specs.Choice.{pick, both}
 use Rattle.synthdef.specs.Definition.{Definition}
 use Rattle.nodes.specs.declared.Node.{Node}
-use Rattle.nodes.specs.Place.{isGroup, lives}
+use Rattle.nodes.specs.Place.{lives}
 use Rattle.values.specs.declared.Target.{Target}
 use Rattle.values.specs.declared.Target.the-variants.{Latest, Number, Reserved}
 use Rattle.values.specs.declared.Key.{Key}
@@ -48,11 +48,11 @@ abbrev pub known : ℕ → Engine → Bool
 known a e = knownBy (targetOf a) (e .latest) (e .nodes)
 
 -- a node of the table by its number
-abbrev pub noNode : Node
-noNode = record { number = 0; depth = 0; run = 0; slot = 0; row = 0 }
+abbrev pub noRecord : Node
+noRecord = record { number = 0; depth = 0; run = 0; slot = 0; row = 0 }
 
 unfoldable pub nodeNamed : ℕ → List Node → Node
-nodeNamed n [] = noNode
+nodeNamed n [] = noRecord
 nodeNamed n (r ∷ l) = pick (eqb (r .number) n) r (nodeNamed n l)
 
 abbrev pub node : ℕ → Engine → Node

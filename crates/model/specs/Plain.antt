@@ -1,10 +1,10 @@
 -- The plain tree of paper 01, section "The plain tree". "It is fed each command with its arguments, a file as its bytes, and whether the command was accepted; nothing
 -- from the engine's state."
 use Prim.Native.Nat.{ℕ, zero, suc, _+_}
-use mathlib.Core.Bool.{Bool, true, false, not}
+use mathlib.Core.Bool.{Bool}
 use mathlib.Core.List.{List, [], _∷_, _++_, map}
 use mathlib.Core.Option.{Option, none, some}
-use lib.ListN.{length, take, drop, replicate}
+use lib.ListN.{take, drop, replicate}
 use lib.Dec.{eqb}
 use Rattle.words.specs.Choice.{pick}
 use Rattle.synthdef.specs.Definition.{Definition}
@@ -83,11 +83,11 @@ growDefinitions definitions.Receive bytes p = withNames (learn (definitionsOf (r
 growDefinitions definitions.Free bytes p = withNames (forget bytes (p .names)) p
 
 -- "A latest freed by these or by 4 becomes none."
-abbrev pub latestIn : Forest PlainNode → ℕ → ℕ
-latestIn f latest = pick (has numberIn latest f) latest 0
+abbrev pub latestAfter : Forest PlainNode → ℕ → ℕ
+latestAfter f latest = pick (has numberIn latest f) latest 0
 
 abbrev pub withTree : Forest PlainNode → Plain → Plain
-withTree f p = record { tree = f; names = p .names; next = p .next; latest = latestIn f (p .latest); buses = p .buses }
+withTree f p = record { tree = f; names = p .names; next = p .next; latest = latestAfter f (p .latest); buses = p .buses }
 
 -- "put in a running node by the add action; 4 frees the target's subtree and takes its place"
 abbrev pub putBy : ℕ → PlainNode → ℕ → Forest PlainNode → Forest PlainNode

@@ -1,10 +1,10 @@
 -- A list of commands played on the engine's model from a fresh engine, for the tables of examples.
 use Prim.Native.Nat.{ℕ}
 use mathlib.Core.Bool.{Bool, true, false}
-use mathlib.Core.List.{List, [], _∷_, _++_}
+use mathlib.Core.List.{List, [], _∷_}
 use lib.ListN.{length, replicate}
 use Rattle.words.specs.Choice.{pick}
-use Rattle.words.specs.Refusals.{numberOf}
+use Rattle.faults.specs.Faults.{faultNumber}
 use Rattle.synthdef.specs.Read.{Read, got, bad}
 use Rattle.synthdef.specs.Definition.{Definition}
 use Rattle.synthdef.specs.Reader.{sameName}
@@ -14,7 +14,7 @@ use Rattle.model.specs.Layout.{slotCount, controlsWords, busCount}
 use Rattle.model.specs.Engine.{Engine}
 use Rattle.model.specs.Effects.{effect}
 use Rattle.model.specs.After.{root}
-use Rattle.model.specs.Door.{answerIn, isAccepted, answerNumber, replyOf}
+use Rattle.model.specs.Apply.{answerIn, isAccepted, answerNumber, replyOf}
 
 -- a fresh engine
 abbrev pub freshModel : Engine
@@ -51,16 +51,16 @@ played [] e = e
 played (l ∷ ls) e = played ls (afterLine l e)
 
 -- the answers of all lines, each as one number
-unfoldable pub told : List Line → Engine → List ℕ
-told [] e = []
-told (l ∷ ls) e = answerNumber (answerIn (l .command) (l .bytes) e room) ∷ told ls (afterLine l e)
+unfoldable pub answersFrom : List Line → Engine → List ℕ
+answersFrom [] e = []
+answersFrom (l ∷ ls) e = answerNumber (answerIn (l .command) (l .bytes) e room) ∷ answersFrom ls (afterLine l e)
 
 -- the reply to a query behind a script
 abbrev pub replied : List Line → Line → List ℕ
 replied ls l = replyOf (l .command) (l .bytes) (played ls freshModel)
 
 abbrev pub answersOf : List Line → List ℕ
-answersOf ls = told ls freshModel
+answersOf ls = answersFrom ls freshModel
 
 abbrev pub orderAfter : List Line → List ℕ
 orderAfter ls = played ls freshModel .order
@@ -68,7 +68,7 @@ orderAfter ls = played ls freshModel .order
 -- what is said of a file: 0 and the number of definitions, or the refusal's number and its place
 abbrev pub verdict : Read (List Definition) → List ℕ
 verdict (got ds end) = 0 ∷ length ds ∷ []
-verdict (bad r at) = numberOf r ∷ at ∷ []
+verdict (bad r at) = faultNumber r ∷ at ∷ []
 
 -- one row of a table: what the definitions say, and what the paper says
 pub record Example : Type 0 where

@@ -20,7 +20,7 @@ use Rattle.values.specs.declared.Value.the-variants.{Float, Integer}
 use Rattle.values.specs.Targets.{targetOf}
 use Rattle.values.specs.Values.{inBounds, pattern}
 use Rattle.model.specs.declared.DefinitionCommand.the-variants as definitions
-use Rattle.model.specs.declared.TreeCommand.the-variants.{NewSynth, NewGroup, Free, FreeAll, DeepFree, Before, After, Head, Tail, Run}
+use Rattle.model.specs.declared.TreeCommand.the-variants.{NewSynth, NewGroup, Free, FreeAll, DeepFree, Before, Tail, Run}
 use Rattle.model.specs.declared.ControlCommand.the-variants.{Set, Fill, Map}
 use Rattle.model.specs.declared.BusCommand.the-variants as buses
 use Rattle.model.specs.declared.Query.the-variants as query
@@ -32,9 +32,9 @@ use Rattle.model.specs.Meaning.{minusOne, nodeNamed}
 use Rattle.model.specs.Checks.{firstOf, namesOf, staying}
 use Rattle.model.specs.Effects.{retired, freeFrom, loaded, freeRowFrom, initialWords, changeWords, changeAll, effect}
 use Rattle.model.specs.Replies.{plainNamed, controlArguments, rowsBelow, rowsAt, treeArguments, subtreeRows, unitCount, groupCount, synthCount, definitionsIn, replyTo}
-use Rattle.model.specs.Door.{queryAnswer, answerIn}
-use Rattle.model.specs.Examples.{ping, pingName, freqName}
-use Rattle.model.specs.Script.{Line, line, played, told, replied, answersOf, orderAfter, verdict, Example, example, agrees}
+use Rattle.model.specs.Apply.{queryAnswer, answerIn}
+use Rattle.model.specs.Examples.{ping, pingName}
+use Rattle.model.specs.Script.{Line, line, played, answersFrom, replied, answersOf, orderAfter, verdict, Example, example, agrees}
 
 abbrev rain : List ℕ
 rain =
@@ -158,7 +158,7 @@ making =
     ∷ example (last (one ++ (group minusOne 1 0 ∷ []))) (14 ∷ [])
     -- "add action not 0 to 4" comes first
     ∷ example (last (one ++ (synth 0 5 99 ∷ []))) (13 ∷ [])
-    -- "For -1 the engine gives -8, then -9": told by `/n_query`
+    -- "For -1 the engine gives -8, then -9": answersFrom by `/n_query`
     ∷ example (drop 16 (take 20 (replied (one ++ (synth minusOne 1 0 ∷ synth minusOne 1 0 ∷ [])) (line (Query (query.Node minusOne)) [])))) (255 ∷ 255 ∷ 255 ∷ 247 ∷ [])
     -- "Below -1 no command can name a node (17)", even a live one
     ∷ example (last (one ++ (synth minusOne 1 0 ∷ line (Tree (Free minusEight)) [] ∷ []))) (17 ∷ [])
@@ -261,23 +261,23 @@ oldShapes =
     ∷ []
 
 filesAndReplies-agrees : agrees filesAndReplies ≡ true
-unfolding toBits ofInt groups residents definitionsIn firstName firstOr lastOr atDepth depthOf lastAbove lastBeside firstBeside nextOf shape subtreeRows rowsBelow rowsAt treeArguments controlArguments unitCount groupCount synthCount repeat nameBytes readFront readUnit readUnits readDefinition readDefinitions readFile sameName among writeAll writeDefinition writeFile lives lift sink takeDeeper dropDeeper onlyGroups runOf editRows orderFrom rowTaken tags arguments targetOf inBounds pattern held residentFrom controlsFrom firstIndex viewRows nodeNamed firstOf namesOf staying retired freeFrom loaded freeRowFrom initialWords changeWords changeAll effect plainNamed replyTo queryAnswer answerIn played told agrees
+unfolding toBits ofInt groups residents definitionsIn firstName firstOr lastOr atDepth depthOf lastAbove lastBeside firstBeside nextOf shape subtreeRows rowsBelow rowsAt treeArguments controlArguments unitCount groupCount synthCount repeat nameBytes readFront readUnit readUnits readDefinition readDefinitions readFile sameName among writeAll writeDefinition writeFile lives lift sink takeDeeper dropDeeper onlyGroups runOf editRows orderFrom rowTaken tags arguments targetOf inBounds pattern held residentFrom controlsFrom firstIndex viewRows nodeNamed firstOf namesOf staying retired freeFrom loaded freeRowFrom initialWords changeWords changeAll effect plainNamed replyTo queryAnswer answerIn played answersFrom agrees
 filesAndReplies-agrees = refl
 
 making-agrees : agrees making ≡ true
-unfolding toBits ofInt groups residents definitionsIn firstName firstOr lastOr atDepth depthOf lastAbove lastBeside firstBeside nextOf shape subtreeRows rowsBelow rowsAt treeArguments controlArguments unitCount groupCount synthCount repeat nameBytes readFront readUnit readUnits readDefinition readDefinitions readFile sameName among writeAll writeDefinition writeFile lives lift sink takeDeeper dropDeeper onlyGroups runOf editRows orderFrom rowTaken tags arguments targetOf inBounds pattern held residentFrom controlsFrom firstIndex viewRows nodeNamed firstOf namesOf staying retired freeFrom loaded freeRowFrom initialWords changeWords changeAll effect plainNamed replyTo queryAnswer answerIn played told agrees
+unfolding toBits ofInt groups residents definitionsIn firstName firstOr lastOr atDepth depthOf lastAbove lastBeside firstBeside nextOf shape subtreeRows rowsBelow rowsAt treeArguments controlArguments unitCount groupCount synthCount repeat nameBytes readFront readUnit readUnits readDefinition readDefinitions readFile sameName among writeAll writeDefinition writeFile lives lift sink takeDeeper dropDeeper onlyGroups runOf editRows orderFrom rowTaken tags arguments targetOf inBounds pattern held residentFrom controlsFrom firstIndex viewRows nodeNamed firstOf namesOf staying retired freeFrom loaded freeRowFrom initialWords changeWords changeAll effect plainNamed replyTo queryAnswer answerIn played answersFrom agrees
 making-agrees = refl
 
 numbersAndMoves-agrees : agrees numbersAndMoves ≡ true
-unfolding toBits ofInt groups residents definitionsIn firstName firstOr lastOr atDepth depthOf lastAbove lastBeside firstBeside nextOf shape subtreeRows rowsBelow rowsAt treeArguments controlArguments unitCount groupCount synthCount repeat nameBytes readFront readUnit readUnits readDefinition readDefinitions readFile sameName among writeAll writeDefinition writeFile lives lift sink takeDeeper dropDeeper onlyGroups runOf editRows orderFrom rowTaken tags arguments targetOf inBounds pattern held residentFrom controlsFrom firstIndex viewRows nodeNamed firstOf namesOf staying retired freeFrom loaded freeRowFrom initialWords changeWords changeAll effect plainNamed replyTo queryAnswer answerIn played told agrees
+unfolding toBits ofInt groups residents definitionsIn firstName firstOr lastOr atDepth depthOf lastAbove lastBeside firstBeside nextOf shape subtreeRows rowsBelow rowsAt treeArguments controlArguments unitCount groupCount synthCount repeat nameBytes readFront readUnit readUnits readDefinition readDefinitions readFile sameName among writeAll writeDefinition writeFile lives lift sink takeDeeper dropDeeper onlyGroups runOf editRows orderFrom rowTaken tags arguments targetOf inBounds pattern held residentFrom controlsFrom firstIndex viewRows nodeNamed firstOf namesOf staying retired freeFrom loaded freeRowFrom initialWords changeWords changeAll effect plainNamed replyTo queryAnswer answerIn played answersFrom agrees
 numbersAndMoves-agrees = refl
 
 controlsAndBuses-agrees : agrees controlsAndBuses ≡ true
-unfolding toBits ofInt groups residents definitionsIn firstName firstOr lastOr atDepth depthOf lastAbove lastBeside firstBeside nextOf shape subtreeRows rowsBelow rowsAt treeArguments controlArguments unitCount groupCount synthCount repeat nameBytes readFront readUnit readUnits readDefinition readDefinitions readFile sameName among writeAll writeDefinition writeFile lives lift sink takeDeeper dropDeeper onlyGroups runOf editRows orderFrom rowTaken tags arguments targetOf inBounds pattern held residentFrom controlsFrom firstIndex viewRows nodeNamed firstOf namesOf staying retired freeFrom loaded freeRowFrom initialWords changeWords changeAll effect plainNamed replyTo queryAnswer answerIn played told agrees
+unfolding toBits ofInt groups residents definitionsIn firstName firstOr lastOr atDepth depthOf lastAbove lastBeside firstBeside nextOf shape subtreeRows rowsBelow rowsAt treeArguments controlArguments unitCount groupCount synthCount repeat nameBytes readFront readUnit readUnits readDefinition readDefinitions readFile sameName among writeAll writeDefinition writeFile lives lift sink takeDeeper dropDeeper onlyGroups runOf editRows orderFrom rowTaken tags arguments targetOf inBounds pattern held residentFrom controlsFrom firstIndex viewRows nodeNamed firstOf namesOf staying retired freeFrom loaded freeRowFrom initialWords changeWords changeAll effect plainNamed replyTo queryAnswer answerIn played answersFrom agrees
 controlsAndBuses-agrees = refl
 
 oldShapes-agrees : agrees oldShapes ≡ true
-unfolding toBits ofInt groups residents definitionsIn firstName firstOr lastOr atDepth depthOf lastAbove lastBeside firstBeside nextOf shape subtreeRows rowsBelow rowsAt treeArguments controlArguments unitCount groupCount synthCount repeat nameBytes readFront readUnit readUnits readDefinition readDefinitions readFile sameName among writeAll writeDefinition writeFile lives lift sink takeDeeper dropDeeper onlyGroups runOf editRows orderFrom rowTaken tags arguments targetOf inBounds pattern held residentFrom controlsFrom firstIndex viewRows nodeNamed firstOf namesOf staying retired freeFrom loaded freeRowFrom initialWords changeWords changeAll effect plainNamed replyTo queryAnswer answerIn played told agrees
+unfolding toBits ofInt groups residents definitionsIn firstName firstOr lastOr atDepth depthOf lastAbove lastBeside firstBeside nextOf shape subtreeRows rowsBelow rowsAt treeArguments controlArguments unitCount groupCount synthCount repeat nameBytes readFront readUnit readUnits readDefinition readDefinitions readFile sameName among writeAll writeDefinition writeFile lives lift sink takeDeeper dropDeeper onlyGroups runOf editRows orderFrom rowTaken tags arguments targetOf inBounds pattern held residentFrom controlsFrom firstIndex viewRows nodeNamed firstOf namesOf staying retired freeFrom loaded freeRowFrom initialWords changeWords changeAll effect plainNamed replyTo queryAnswer answerIn played answersFrom agrees
 oldShapes-agrees = refl
 
 agrees-append : (a b : List Example) → agrees a ≡ true → agrees b ≡ true → agrees (a ++ b) ≡ true

@@ -1,7 +1,8 @@
 // The values that travel: commands and answers. What they mean stands in specs/.
 use values::Key;
 use values::Value;
-use words::Refusal;
+use faults::Fault;
+use refusals::Refusal;
 
 // Of the definitions; the file or the name is in the bytes lent beside the command.
 pub enum DefinitionCommand {
@@ -131,5 +132,5 @@ pub enum Answer {
     Done,
     Replied(usize),
     Refused(Refusal),
-    RefusedAt(Refusal, usize),
+    RefusedAt(Fault, usize),
 }

@@ -1,18 +1,15 @@
 -- The place of the node that an argument names.
 use Prim.Native.Nat.{ℕ, _≤_, _<_}
-use mathlib.Core.Bool.{Bool, true, false, not}
-use mathlib.Core.Path.{_≡_, refl, sym, ap, _∙_}
+use mathlib.Core.Bool.{true, false}
+use mathlib.Core.Path.{_≡_, sym, ap, _∙_}
 use mathlib.Core.List.{List}
 use native.Mathlib.Omega.{arith}
 use borrow.Author.Tests.{lt-ltb, le-ltb, eq-eqb, ne-eqb}
 use lib.ListN.{length}
-use lib.Dec.{ltb, eqb}
-use Rattle.words.specs.Choice.{pick, both}
+use lib.Dec.{ltb}
 use Rattle.words.specs.Parts.{region}
-use Rattle.nodes.specs.declared.Node.{Node}
-use Rattle.nodes.specs.Table.{rows, rows-length}
+use Rattle.nodes.specs.Table.{rows-length}
 use Rattle.nodes.specs.Place.{place, lives, lives-place, place-most}
-use Rattle.values.specs.declared.Target.{Target}
 use Rattle.values.specs.declared.Target.the-variants.{Latest, Number, Reserved}
 use Rattle.values.specs.Targets.{targetOf}
 use Rattle.model.specs.Layout.{wordsLength, countIn, latestIn, nodesIn, nodesPlace, nodesWords}

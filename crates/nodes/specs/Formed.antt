@@ -87,6 +87,6 @@ abbrev pub latestFormed : ℕ → List Node → Bool
 latestFormed latest t = either (eqb latest 0) (synthLives latest t)
 
 -- the rules together, of the next number, the latest synth and the table
-unfoldable pub formed : ℕ → ℕ → List Node → Bool
-formed next latest t =
+unfoldable pub nodesFormed : ℕ → ℕ → List Node → Bool
+nodesFormed next latest t =
     both (countFormed t) (both (rooted t) (both (apart t) (both (allFormed next t) (both (rowsApart t) (both (nextFormed next) (latestFormed latest t))))))

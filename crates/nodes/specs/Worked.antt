@@ -10,7 +10,7 @@ use Rattle.nodes.specs.Edit.{lift, sink, takeDeeper, dropDeeper, onlyGro
 use Rattle.nodes.specs.Structure.{noNode, firstOr, lastOr, atDepth, headOf, tailOf, depthOf, lastAbove, parentOf, lastBeside, previousOf, firstBeside, nextOf}
 use Rattle.nodes.specs.Forest.{Forest, flatten, single, beside, has, edit, putTail, putBefore}
 use Rattle.nodes.specs.Order.{isOn, orderFrom, order, orderTree}
-use Rattle.nodes.specs.Formed.{steps, rooted, apart, allFormed, rowTaken, rowsApart, synthLives, formed}
+use Rattle.nodes.specs.Formed.{steps, rooted, apart, allFormed, rowTaken, rowsApart, synthLives, nodesFormed}
 
 group : ℕ → ℕ → Node
 group n d = record { number = n; depth = d; run = 1; slot = 32; row = 0 }
@@ -47,24 +47,24 @@ tree-order : orderTree (λ r. r .number) isGroup isOn tree ≡ 1001 ∷ 1000 ∷
 unfolding edit has beside orderTree group synth
 tree-order = refl
 
-well : formed 4294967288 1001 built ≡ true
-unfolding editRows lift takeDeeper dropDeeper lives steps rooted apart allFormed rowTaken rowsApart synthLives formed group synth
+well : nodesFormed 4294967288 1001 built ≡ true
+unfolding editRows lift takeDeeper dropDeeper lives steps rooted apart allFormed rowTaken rowsApart synthLives nodesFormed group synth
 well = refl
 
-row-twice : formed 4294967288 0 (group 0 0 ∷ synth 5 1 3 ∷ synth 6 1 3 ∷ []) ≡ false
-unfolding lives steps rooted apart allFormed rowTaken rowsApart synthLives formed group synth
+row-twice : nodesFormed 4294967288 0 (group 0 0 ∷ synth 5 1 3 ∷ synth 6 1 3 ∷ []) ≡ false
+unfolding lives steps rooted apart allFormed rowTaken rowsApart synthLives nodesFormed group synth
 row-twice = refl
 
-below-synth : formed 4294967288 0 (group 0 0 ∷ synth 5 1 3 ∷ synth 6 2 4 ∷ []) ≡ false
-unfolding lives steps rooted apart allFormed rowTaken rowsApart synthLives formed group synth
+below-synth : nodesFormed 4294967288 0 (group 0 0 ∷ synth 5 1 3 ∷ synth 6 2 4 ∷ []) ≡ false
+unfolding lives steps rooted apart allFormed rowTaken rowsApart synthLives nodesFormed group synth
 below-synth = refl
 
-not-given : formed 4294967288 0 (group 0 0 ∷ synth 4294967288 1 3 ∷ []) ≡ false
-unfolding lives steps rooted apart allFormed rowTaken rowsApart synthLives formed group synth
+not-given : nodesFormed 4294967288 0 (group 0 0 ∷ synth 4294967288 1 3 ∷ []) ≡ false
+unfolding lives steps rooted apart allFormed rowTaken rowsApart synthLives nodesFormed group synth
 not-given = refl
 
-given : formed 4294967287 0 (group 0 0 ∷ synth 4294967288 1 3 ∷ []) ≡ true
-unfolding lives steps rooted apart allFormed rowTaken rowsApart synthLives formed group synth
+given : nodesFormed 4294967287 0 (group 0 0 ∷ synth 4294967288 1 3 ∷ []) ≡ true
+unfolding lives steps rooted apart allFormed rowTaken rowsApart synthLives nodesFormed group synth
 given = refl
 
 -- groups 1 and 3, with group 2 and synths in 1

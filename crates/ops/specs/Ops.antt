@@ -1,7 +1,7 @@
 -- The commands of calls from another language: the op's number, and five numbers a to e, of which each command takes the first that it has.
 use Prim.{Unit}
 use Prim.Native.Nat.{ℕ, zero, suc, _<_}
-use mathlib.Core.Path.{_≡_, refl, sym, ap}
+use mathlib.Core.Path.{_≡_, sym, ap}
 use mathlib.Core.List.{List, [], _∷_}
 use native.Mathlib.Omega.{arith}
 use lib.ListN.{getD, List·getD-eq-default}

@@ -1,4 +1,5 @@
 // A call from another language: the command that an op and its five numbers name, and an answer as one number.
+use faults::fault_number;
 use model::Answer;
 use model::BusCommand;
 use model::Command;
@@ -6,13 +7,12 @@ use model::ControlCommand;
 use model::DefinitionCommand;
 use model::Query;
 use model::TreeCommand;
+use refusals::refusal_number;
 use values::Key;
 use values::Value;
-use words::refusal_number;
 ghost use mathlib.Core.Path.{_≡_};
 ghost use Prim.Native.Nat.{_<_, _+_, _*_, _%_};
 ghost use Rattle.values.specs.declared.Key.{Key};
-ghost use Rattle.values.specs.declared.Value.{Value};
 ghost use Rattle.ops.specs.Ops.{commandOf, valued, setting, filling, busSetting, busFilling};
 ghost use Rattle.ops.specs.Numbers.{callNumber, room};
 
@@ -181,6 +181,6 @@ pub fn call_number(answer: Answer) -> u64
         Answer::Done => 0,
         Answer::Replied(n) => placed(0, n),
         Answer::Refused(refusal) => refusal_number(refusal) as u64,
-        Answer::RefusedAt(refusal, place) => placed(refusal_number(refusal), place),
+        Answer::RefusedAt(fault, place) => placed(fault_number(fault), place),
     }
 }

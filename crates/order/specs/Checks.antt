@@ -11,7 +11,7 @@ use Rattle.words.specs.Choice.{pick, both, either, both-true}
 use Rattle.nodes.specs.declared.Node.{Node}
 use Rattle.nodes.specs.Table.{width, nodeFrom, rows, rows-end, row-from}
 use Rattle.nodes.specs.Place.{groupSlot, lives}
-use Rattle.nodes.specs.Formed.{firstGiven, lastGiven, mostRows, mostNodes, reach, steps, rooted, apart, numberFormed, fieldsFormed, rowFormed, allFormed, rowsApart, nextFormed, synthLives, latestFormed, formed}
+use Rattle.nodes.specs.Formed.{firstGiven, lastGiven, mostRows, mostNodes, reach, steps, rooted, apart, numberFormed, fieldsFormed, rowFormed, allFormed, rowsApart, nextFormed, synthLives, latestFormed, nodesFormed}
 use Rattle.order.specs.Marks.{rowsFormed, rowsHold}
 
 -- a record's number, and its other fields, by the words
@@ -75,17 +75,17 @@ fields-rows next (r ∷ l) h =
 
 -- the rules one after the other, where the count is in bounds
 module _ (next latest : ℕ) (t : List Node) where
-  pub formed-none : length t < 1 → formed next latest t ≡ false
-  unfolding formed
+  pub formed-none : length t < 1 → nodesFormed next latest t ≡ false
+  unfolding nodesFormed
   formed-none h = rw (lt-leb 1 (length t) h)
 
-  pub formed-many : mostNodes < length t → formed next latest t ≡ false
-  unfolding formed
+  pub formed-many : mostNodes < length t → nodesFormed next latest t ≡ false
+  unfolding nodesFormed
   formed-many h = rw (le-leb 1 (length t) (omega arith), lt-leb (length t) mostNodes h)
 
   pub formed-some : 1 ≤ length t → length t ≤ mostNodes
-      → formed next latest t ≡ both (rooted t) (both (apart t) (both (allFormed next t) (both (rowsHold t) (both (nextFormed next) (latestFormed latest t)))))
-  unfolding formed
+      → nodesFormed next latest t ≡ both (rooted t) (both (apart t) (both (allFormed next t) (both (rowsHold t) (both (nextFormed next) (latestFormed latest t)))))
+  unfolding nodesFormed
   formed-some h few =
       rw (le-leb 1 (length t) h, le-leb (length t) mostNodes few)
       (ap (λ (b : Bool). both (rooted t) (both (apart t) b)) (go (allFormed next t) (fields-rows next t)))

@@ -11,7 +11,7 @@ use Rattle.words.specs.Choice.{pick, both-true}
 use Rattle.nodes.specs.declared.Node.{Node}
 use Rattle.nodes.specs.Place.{isGroup}
 use Rattle.nodes.specs.Order.{isOn, orderFrom, order}
-use Rattle.nodes.specs.Formed.{countFormed, rooted, mostNodes, formed}
+use Rattle.nodes.specs.Formed.{countFormed, rooted, mostNodes, nodesFormed}
 use Rattle.order.specs.Pad.{pad-few}
 use Rattle.order.specs.Order.{mostOrder, orderWords}
 
@@ -47,9 +47,9 @@ order-rooted (r ∷ l) h =
     go true false true e = omega (arith, order-most (r .depth) l)
     go false o true e = omega (arith, order-most 0 l)
 
-module _ (next latest : ℕ) (t : List Node) (h : formed next latest t ≡ true) where
+module _ (next latest : ℕ) (t : List Node) (h : nodesFormed next latest t ≡ true) where
   pub order-few : length (order t) ≤ mostOrder
-  unfolding formed
+  unfolding nodesFormed
   order-few =
       let a = both-true (countFormed t) _ h in
       let few = both-true (leb 1 (length t)) _ (a .0) in

@@ -5,6 +5,6 @@ use lib.ListN.{length}
 use Rattle.nodes.specs.Table.{width}
 
 -- the words hold the records, at most 256
-pub record Sized (us : List ℕ) (count : ℕ) : Type 0 where
+pub record TableFits (us : List ℕ) (count : ℕ) : Type 0 where
   pub long : width * count ≤ length us
   pub few : count ≤ 256

@@ -1,12 +1,12 @@
 // The running order and the rules of the state on nodes, over the node region in lent words.
 ghost use mathlib.Core.Bool.{false};
 ghost use mathlib.Core.Path.{_≡_};
-ghost use Prim.Native.Nat.{ℕ, _+_, _-_, _*_, _≤_, _<_};
-ghost use lib.ListN.{length, take, drop, getD};
+ghost use Prim.Native.Nat.{_+_, _*_, _≤_, _<_};
+ghost use lib.ListN.{length, drop};
 ghost use Rattle.nodes.specs.Table.{rows};
 ghost use Rattle.nodes.specs.Place.{lives};
-ghost use Rattle.nodes.specs.Formed.{steps, rooted, apart, allFormed, synthLives, formed};
-ghost use Rattle.order.specs.Sizes.{Sized};
+ghost use Rattle.nodes.specs.Formed.{steps, rooted, apart, allFormed, synthLives, nodesFormed};
+ghost use Rattle.order.specs.Sizes.{TableFits};
 ghost use Rattle.order.specs.Checks.{numberHolds, fieldsHold};
 ghost use Rattle.order.specs.Same.{sameOrder};
 ghost use Rattle.order.specs.Kept.{Kept};
@@ -21,7 +21,7 @@ pub struct Order {
 
 // The running order worked out afresh, in one pass: `limit` is how deep a record may be with every ancestor on.
 pub fn running_order(nodes: &[u32], count: usize) -> Order
-    requires { ⌜ Sized (now nodes) count ⌝ }
+    requires { ⌜ TableFits (now nodes) count ⌝ }
     ensures { λ r. ⌜ Kept (rows count (now (nodes .entry))) r ⌝ }
 {
     let mut numbers: [u32; 255] = [0; 255];
@@ -82,7 +82,7 @@ pub fn write_order(order: &mut [u32], from: Order)
 
 // The order kept, of this length, is the one worked out afresh.
 pub fn same_order(kept: &[u32], many: usize, nodes: &[u32], count: usize) -> bool
-    requires { ⌜ (length (now kept) ≡ 255) × Sized (now nodes) count ⌝ }
+    requires { ⌜ (length (now kept) ≡ 255) × TableFits (now nodes) count ⌝ }
     ensures { λ r. ⌜ r ≡ sameOrder (now (kept .entry)) many (rows count (now (nodes .entry))) ⌝ }
 {
     if 255 < many {
@@ -105,7 +105,7 @@ pub fn same_order(kept: &[u32], many: usize, nodes: &[u32], count: usize) -> boo
 
 // Every record past the first is below the root, and none deeper than the one before it lets it be.
 fn steps_hold(nodes: &[u32], count: usize) -> bool
-    requires { ⌜ Sized (now nodes) count × (1 ≤ count) ⌝ }
+    requires { ⌜ TableFits (now nodes) count × (1 ≤ count) ⌝ }
     ensures { λ r. ⌜ r ≡ steps 1 (drop 1 (rows count (now (nodes .entry)))) ⌝ }
 {
     let mut most: u32 = 1;
@@ -130,7 +130,7 @@ fn steps_hold(nodes: &[u32], count: usize) -> bool
 
 // The number stands in a record from the place `from` on.
 fn number_lives(nodes: &[u32], count: usize, from: usize, number: u32) -> bool
-    requires { ⌜ Sized (now nodes) count × (from ≤ count) ⌝ }
+    requires { ⌜ TableFits (now nodes) count × (from ≤ count) ⌝ }
     ensures { λ r. ⌜ r ≡ lives number (drop from (rows count (now (nodes .entry)))) ⌝ }
 {
     let mut i = from;
@@ -145,7 +145,7 @@ fn number_lives(nodes: &[u32], count: usize, from: usize, number: u32) -> bool
 
 // The same, of a number that can stand there only if it is `met`.
 fn stands_again(nodes: &[u32], count: usize, from: usize, number: u32, met: bool) -> bool
-    requires { ⌜ Sized (now nodes) count × ((from ≤ count) × (met ≡ false → lives number (drop from (rows count (now nodes))) ≡ false)) ⌝ }
+    requires { ⌜ TableFits (now nodes) count × ((from ≤ count) × (met ≡ false → lives number (drop from (rows count (now nodes))) ≡ false)) ⌝ }
     ensures { λ r. ⌜ r ≡ lives number (drop from (rows count (now (nodes .entry)))) ⌝ }
 {
     if !met {
@@ -157,7 +157,7 @@ fn stands_again(nodes: &[u32], count: usize, from: usize, number: u32, met: bool
 // No number stands twice. From the last record on, a mark is set for each number met, by its remainder: a number whose mark
 // is not set stands in no later record, so that only two numbers of one remainder cost a search.
 fn numbers_apart(nodes: &[u32], count: usize) -> bool
-    requires { ⌜ Sized (now nodes) count ⌝ }
+    requires { ⌜ TableFits (now nodes) count ⌝ }
     ensures { λ r. ⌜ r ≡ apart (rows count (now (nodes .entry))) ⌝ }
 {
     let mut met: [bool; 1024] = [false; 1024];
@@ -177,7 +177,7 @@ fn numbers_apart(nodes: &[u32], count: usize) -> bool
 
 // A synth has the number.
 fn synth_lives(nodes: &[u32], count: usize, number: u32) -> bool
-    requires { ⌜ Sized (now nodes) count ⌝ }
+    requires { ⌜ TableFits (now nodes) count ⌝ }
     ensures { λ r. ⌜ r ≡ synthLives number (rows count (now (nodes .entry))) ⌝ }
 {
     let mut i = 0;
@@ -227,7 +227,7 @@ fn fields_hold(run: u32, slot: u32, row: u32) -> bool
 
 // Every record's fields are in bounds.
 fn records_hold(nodes: &[u32], count: usize, next: u32) -> bool
-    requires { ⌜ Sized (now nodes) count ⌝ }
+    requires { ⌜ TableFits (now nodes) count ⌝ }
     ensures { λ r. ⌜ r ≡ allFormed next (rows count (now (nodes .entry))) ⌝ }
 {
     let mut i = 0;
@@ -247,7 +247,7 @@ fn records_hold(nodes: &[u32], count: usize, next: u32) -> bool
 
 // The first record is the root, with all others below it.
 fn root_holds(nodes: &[u32], count: usize) -> bool
-    requires { ⌜ Sized (now nodes) count × (1 ≤ count) ⌝ }
+    requires { ⌜ TableFits (now nodes) count × (1 ≤ count) ⌝ }
     ensures { λ r. ⌜ r ≡ rooted (rows count (now (nodes .entry))) ⌝ }
 {
     if nodes[0] != 0 {
@@ -265,7 +265,7 @@ fn root_holds(nodes: &[u32], count: usize) -> bool
 // The state check's part on nodes: the table of `count` records, the next number to give and the latest synth.
 pub fn nodes_formed(nodes: &[u32], count: usize, next: u32, latest: u32) -> bool
     requires { ⌜ length (now nodes) ≡ 1280 ⌝ }
-    ensures { λ r. ⌜ r ≡ formed next latest (rows count (now (nodes .entry))) ⌝ }
+    ensures { λ r. ⌜ r ≡ nodesFormed next latest (rows count (now (nodes .entry))) ⌝ }
 {
     if count < 1 {
         return false;

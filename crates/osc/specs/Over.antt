@@ -1,11 +1,9 @@
 -- Bytes over a run from a place on, and pieces written one behind the other.
-use Prim.Native.Nat.{ℕ, suc, _+_, _-_, _≤_, _<_}
-use mathlib.Core.Bool.{true, false}
+use Prim.Native.Nat.{ℕ, suc, _+_, _≤_, _<_}
 use mathlib.Core.Path.{_≡_, refl, sym, ap, ap₂, _∙_}
 use mathlib.Core.List.{List, [], _∷_, _++_, append-assoc}
 use native.Mathlib.Omega.{arith}
 use lib.ListN.{length, take, drop, set, length-append, length-take, length-drop}
-use lib.Dec.{ltb}
 use lib.Seq.{take-at, drop-at, drop-drop, length-take-le, sets-eq}
 use borrow.Author.Tests.{lt-ltb, le-ltb}
 use Rattle.osc.specs.Message.{decimal}

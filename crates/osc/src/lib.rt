@@ -1,8 +1,8 @@
 // Reply messages, written piece by piece into a lent buffer.
 ghost use mathlib.Core.Path.{_≡_};
-ghost use Prim.Native.Nat.{ℕ, _+_, _-_, _%_, _≤_, _<_};
-ghost use mathlib.Core.List.{[], _∷_, _++_};
-ghost use lib.ListN.{length, take, drop, replicate};
+ghost use Prim.Native.Nat.{_+_, _-_, _%_, _≤_, _<_};
+ghost use mathlib.Core.List.{[], _∷_};
+ghost use lib.ListN.{length, replicate};
 ghost use Rattle.words.specs.Bytes.{bytes32};
 ghost use Rattle.osc.specs.Message.{padded, decimal};
 ghost use Rattle.osc.specs.Over.{over, Decimal};

@@ -1,24 +1,19 @@
 -- A query answered: by one of its checks, or by its reply where that has room.
-use Prim.Native.Nat.{ℕ, _≤_, _<_}
-use mathlib.Core.Bool.{Bool, true, false}
+use Prim.Native.Nat.{ℕ}
 use mathlib.Core.Path.{_≡_, refl, sym, ap, _∙_}
-use mathlib.Core.List.{List, [], _∷_}
-use lib.ListN.{length, getD}
-use borrow.Author.Tests.{lt-ltb, le-ltb}
-use Rattle.words.specs.Choice.{pick}
-use Rattle.words.specs.declared.Refusal.{Refusal}
-use Rattle.words.specs.declared.Refusal.the-variants.{NoBus}
+use mathlib.Core.List.{List}
+use lib.ListN.{length}
+
+use Rattle.refusals.specs.declared.Refusal.{Refusal}
 use Rattle.model.specs.declared.Query.{Query}
-use Rattle.model.specs.declared.Query.the-variants as query
 use Rattle.model.specs.declared.Answer.{Answer}
 use Rattle.model.specs.declared.Answer.the-variants.{Refused}
-use Rattle.model.specs.Layout.{busCount, busesPlace, busesIn}
 use Rattle.model.specs.Engine.{Engine, decode}
-use Rattle.model.specs.Checks.{Check, firstOf, queryChecks}
-use Rattle.model.specs.Replies.{reply, replyTo, busReply, busAddress}
-use Rattle.model.specs.Door.{queryAnswer, written}
+use Rattle.model.specs.Checks.{firstOf, queryChecks}
+use Rattle.model.specs.Replies.{reply}
+use Rattle.model.specs.Apply.{queryAnswer, written}
 use Rattle.state.specs.Does.{Reply}
-use Rattle.replies.specs.Sent.{sent, Sends, wordMessage}
+use Rattle.replies.specs.Sent.{sent, Sends}
 
 -- the checks and then the room
 pub answer-by : (q : Query) (bytes : List ℕ) (e : Engine) (room : ℕ) → queryAnswer q bytes e room ≡ firstOf (queryChecks q bytes e) (sent (reply q bytes e) room)

@@ -10,7 +10,7 @@ use Rattle.words.specs.Choice.{pick}
 use Rattle.nodes.specs.declared.Node.{Node}
 use Rattle.nodes.specs.Place.{place}
 use Rattle.model.specs.Engine.{Slot}
-use Rattle.model.specs.View.{Row, PlainNode, viewOf, viewRows}
+use Rattle.model.specs.View.{viewOf, viewRows}
 use Rattle.model.specs.Meaning.{nodeNamed}
 use Rattle.model.specs.Replies.{plainNamed, rowsBelow, subtreeRows}
 

@@ -33,7 +33,7 @@ pub record At (ws bs : List ℕ) (i : ℕ) : Type 0 where
   pub live : i < countIn ws
 
 pub ready : (ws bs : List ℕ) → Known ws bs → Ready ws bs
-ready ws bs k = record { size = k .size; shelfSize = k .shelfSize; few = k .few; fields = k .tree .fields; slots = k .slots }
+ready ws bs k = record { size = k .size; arenaSize = k .arenaSize; few = k .few; fields = k .tree .fields; slots = k .slots }
 
 pub bounds : (ws bs : List ℕ) (i : ℕ) → At ws bs i → Bounds ws bs i
 bounds ws bs i a = bounds-ready ws bs (ready ws bs (a .state)) i (a .live)
@@ -85,9 +85,9 @@ module _ (ws bs : List ℕ) (i : ℕ) (a : At ws bs i) (single : isGroup (nodeIn
   held-front = synth-ready ws bs (ready ws bs (a .state)) i (a .live) single .front
 
 -- a slot's bytes as a function reads them
-pub bytes-told : (ws bs : List ℕ) (i w : ℕ) → At ws bs i → w ≡ getD ws (nodesPlace + 5 * i + 3) 0
+pub bytes-fact : (ws bs : List ℕ) (i w : ℕ) → At ws bs i → w ≡ getD ws (nodesPlace + 5 * i + 3) 0
     → take (getD ws (lengthsPlace + w) 0) (take slotRoom (drop (slotRoom * getD ws (nodesPlace + 5 * i + 3) 0) bs)) ≡ slotBytes ws bs (nodeIn ws i .slot)
-bytes-told ws bs i w a e =
+bytes-fact ws bs i w a e =
     let word = slot-word ws i (bounds ws bs i a .place) in
     ap₂ (λ (j k : ℕ). take (getD ws (lengthsPlace + j) 0) (take slotRoom (drop (slotRoom * k) bs))) (e ∙ sym word) (sym word)
 

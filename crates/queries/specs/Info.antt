@@ -1,23 +1,21 @@
 -- /n_query's reply.
-use Prim.Native.Nat.{ℕ, _+_, _*_, _≤_, _<_}
-use mathlib.Core.Bool.{Bool, true, false, not}
-use mathlib.Core.Path.{_≡_, refl, sym, ap, _∙_}
+use Prim.Native.Nat.{ℕ, _+_, _≤_, _<_}
+use mathlib.Core.Bool.{Bool, true, false}
+use mathlib.Core.Path.{_≡_, sym, ap, _∙_}
 use mathlib.Core.List.{List, [], _∷_}
-use native.Mathlib.Omega.{arith}
-use lib.ListN.{length, drop, getD}
-use Rattle.words.specs.Choice.{pick}
-use Rattle.words.specs.declared.Refusal.the-variants.{NoNode}
+use lib.ListN.{drop}
+use Rattle.refusals.specs.declared.Refusal.the-variants.{NoNode}
 use Rattle.nodes.specs.declared.Node.{Node}
 use Rattle.nodes.specs.Place.{place, isGroup}
 use Rattle.nodes.specs.Structure.{headOf, tailOf, parentOf, previousOf, nextOf}
-use Rattle.osc.specs.Message.{Argument, int, message, tags, arguments}
+use Rattle.osc.specs.Message.{int, message, tags, arguments}
 use Rattle.model.specs.declared.Query.the-variants as query
 use Rattle.model.specs.declared.Answer.{Answer}
 use Rattle.model.specs.declared.Answer.the-variants.{Refused}
-use Rattle.model.specs.Layout.{countIn, nodesIn, nodesPlace, nodesWords, controlsIn}
-use Rattle.model.specs.Engine.{Engine, decode}
-use Rattle.model.specs.View.{Row, PlainNode, isGroupKind, view, viewRows}
-use Rattle.model.specs.Meaning.{meant, known, node}
+use Rattle.model.specs.Layout.{countIn, nodesIn, controlsIn}
+use Rattle.model.specs.Engine.{decode}
+use Rattle.model.specs.View.{PlainNode, isGroupKind, view}
+use Rattle.model.specs.Meaning.{meant, node}
 use Rattle.model.specs.Checks.{firstOf, queryChecks}
 use Rattle.model.specs.Replies.{reply, replyTo, infoAddress, infoKind, infoReply, plainNamed}
 use Rattle.replies.specs.Words.{wordBytes}

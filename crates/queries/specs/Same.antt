@@ -1,23 +1,19 @@
 -- The replies of integers and floats, as the functions send them.
 use Prim.Native.Nat.{ℕ, _+_, _≤_, _<_}
-use mathlib.Core.Bool.{Bool, true, false}
 use mathlib.Core.Path.{_≡_, refl, sym, ap, _∙_}
 use mathlib.Core.List.{List, [], _∷_}
-use native.Mathlib.Omega.{arith}
-use lib.ListN.{length, drop, getD}
-use lib.Dec.{ltb}
+use lib.ListN.{drop, getD}
 use lib.Seq.{getD-take, getD-drop}
 use borrow.Author.Tests.{lt-ltb, le-ltb}
-use Rattle.words.specs.Choice.{pick}
-use Rattle.words.specs.declared.Refusal.the-variants.{NoBus}
-use Rattle.osc.specs.Message.{Argument, int, float, text, message, tags, arguments}
+use Rattle.refusals.specs.declared.Refusal.the-variants.{NoBus}
+use Rattle.osc.specs.Message.{int, float, message, tags, arguments}
 use Rattle.model.specs.declared.Query.the-variants as query
 use Rattle.model.specs.declared.Answer.{Answer}
 use Rattle.model.specs.declared.Answer.the-variants.{Refused}
-use Rattle.model.specs.Layout.{busCount, busesPlace, busesIn}
+use Rattle.model.specs.Layout.{busCount, busesPlace}
 use Rattle.model.specs.Engine.{Engine, decode}
 use Rattle.model.specs.Checks.{firstOf, queryChecks}
-use Rattle.model.specs.Replies.{reply, replyTo, busAddress, busReply}
+use Rattle.model.specs.Replies.{reply, replyTo, busAddress}
 use Rattle.replies.specs.Words.{wordBytes}
 use Rattle.replies.specs.Sent.{wordMessage}
 

@@ -18,7 +18,7 @@ use Rattle.nodes.specs.Place.{groupSlot, isGroup}
 use Rattle.nodes.specs.Formed.{mostNodes}
 use Rattle.model.specs.declared.Query.the-variants as query
 use Rattle.model.specs.declared.Answer.{Answer}
-use Rattle.model.specs.Layout.{slotCount, slotRoom, residentPlace, nodesPlace, nodesWords, countIn, lengthsIn, residentIn, nodesIn, controlsIn}
+use Rattle.model.specs.Layout.{slotCount, slotRoom, residentPlace, nodesPlace, nodesWords, countIn, lengthsIn, flagsIn, nodesIn, controlsIn}
 use Rattle.model.specs.Engine.{Slot, Engine, decode, slotsFrom, residents}
 use Rattle.model.specs.View.{Kind, group, Row, kindIn, viewRows, view, isGroupKind}
 use Rattle.model.specs.Checks.{firstOf, queryChecks}
@@ -62,8 +62,8 @@ abbrev pub unknown : ℕ
 unknown = 4294967295
 
 -- the units of the slots that were looked up
-abbrev pub Told : List ℕ → List ℕ → List ℕ → Type 0
-Told ws bs told = Noted (λ (n : ℕ). n ≡ unknown) (λ (k n : ℕ). n ≡ numberOr (unitsIn (slotBytes ws bs k))) told
+abbrev pub UnitsKnown : List ℕ → List ℕ → List ℕ → Type 0
+UnitsKnown ws bs fact = Noted (λ (n : ℕ). n ≡ unknown) (λ (k n : ℕ). n ≡ numberOr (unitsIn (slotBytes ws bs k))) fact
 
 -- of the node at a place, by its slot's word
 module _ (ws bs : List ℕ) (i : ℕ) (a : At ws bs i) (k : ℕ) (same : k ≡ getD ws (nodesPlace + 5 * i + 3) 0) where
@@ -82,11 +82,11 @@ module _ (ws bs : List ℕ) (i : ℕ) (a : At ws bs i) (k : ℕ) (same : k ≡ g
         units-synth ws bs i a (is-synth ws i few (λ e. other (same ∙ e)))
         ∙ ap (λ (j : ℕ). numberOr (unitsIn (slotBytes ws bs j))) (slot-word ws i few ∙ sym same)
 
-    pub units-told : (told : List ℕ) → Told ws bs told → (getD told k 0 ≡ unknown → ⊥) → getD told k 0 ≡ unitsOf (kindAt ws bs i)
-    units-told told t known = t .same 0 k slot-there known ∙ sym units-slot
+    pub units-fact : (fact : List ℕ) → UnitsKnown ws bs fact → (getD fact k 0 ≡ unknown → ⊥) → getD fact k 0 ≡ unitsOf (kindAt ws bs i)
+    units-fact fact t known = t .same 0 k slot-there known ∙ sym units-slot
 
-    pub told-more : (told : List ℕ) → Told ws bs told → (units : ℕ) → units ≡ unitsOf (kindAt ws bs i) → Told ws bs (set told k units)
-    told-more told t units here = noted-more _ _ told t k units slot-there (here ∙ units-slot)
+    pub fact-more : (fact : List ℕ) → UnitsKnown ws bs fact → (units : ℕ) → units ≡ unitsOf (kindAt ws bs i) → UnitsKnown ws bs (set fact k units)
+    fact-more fact t units here = noted-more _ _ fact t k units slot-there (here ∙ units-slot)
 
 module _ (ws bs : List ℕ) (i : ℕ) (a : At ws bs i) where
   pub units-turn : unitCount (viewFrom ws bs i) ≡ unitsOf (kindAt ws bs i) + unitCount (viewFrom ws bs (i + 1))
@@ -148,15 +148,15 @@ one-more : (b : Bool) (s : Slot) (l : List Slot) → length (pick b (s ∷ l) l)
 one-more true s l = omega arith
 one-more false s l = omega arith
 
-residents-count : (n : ℕ) (lengths flags shelf : List ℕ) → length (residents (slotsFrom n lengths flags shelf)) ≡ flagCount n flags
+residents-count : (n : ℕ) (lengths flags arena : List ℕ) → length (residents (slotsFrom n lengths flags arena)) ≡ flagCount n flags
 unfolding residents slotsFrom flagCount
-residents-count zero lengths flags shelf = refl
-residents-count (suc n) lengths flags shelf =
-    one-more (eqb (getD flags 0 0) 1) _ _ ∙ ap (λ (k : ℕ). pick (eqb (getD flags 0 0) 1) 1 0 + k) (residents-count n (drop 1 lengths) (drop 1 flags) (drop slotRoom shelf))
+residents-count zero lengths flags arena = refl
+residents-count (suc n) lengths flags arena =
+    one-more (eqb (getD flags 0 0) 1) _ _ ∙ ap (λ (k : ℕ). pick (eqb (getD flags 0 0) 1) 1 0 + k) (residents-count n (drop 1 lengths) (drop 1 flags) (drop slotRoom arena))
 
-pub residents-told : (ws bs : List ℕ) → length (residents (decode ws bs .slots)) ≡ flagCount slotCount (residentIn ws)
+pub residents-fact : (ws bs : List ℕ) → length (residents (decode ws bs .slots)) ≡ flagCount slotCount (flagsIn ws)
 unfolding decode
-residents-told ws bs = residents-count slotCount (lengthsIn ws) (residentIn ws) bs
+residents-fact ws bs = residents-count slotCount (lengthsIn ws) (flagsIn ws) bs
 
 -- an integer's bytes are those of its lowest 32 bits
 pub low-bytes : (n : ℕ) → bytes32 (n % 4294967296) ≡ bytes32 n
@@ -177,12 +177,12 @@ status-message units synths groups names =
     ap (λ (l : List ℕ). padded statusAddress ++ (padded statusTags ++ (l ++ (bytes32 synths ++ (bytes32 groups ++ (bytes32 names ++ [])))))) (low-bytes units)
 
 pub status-reply : (units synths groups names : ℕ) (bytes ws bs : List ℕ)
-    → units ≡ unitCount (viewFrom ws bs 0) → synths ≡ synthCount (viewFrom ws bs 0) → groups ≡ groupCount (viewFrom ws bs 0) → names ≡ flagCount slotCount (residentIn ws)
+    → units ≡ unitCount (viewFrom ws bs 0) → synths ≡ synthCount (viewFrom ws bs 0) → groups ≡ groupCount (viewFrom ws bs 0) → names ≡ flagCount slotCount (flagsIn ws)
     → wordMessage statusAddress statusTags (units % 4294967296 ∷ (synths ∷ (groups ∷ (names ∷ [])))) ≡ reply query.Status bytes (decode ws bs)
 unfolding replyTo
 status-reply units synths groups names bytes ws bs u s g n =
     status-message units synths groups names
-    ∙ rw (u, s, g, n, sym (view-from ws bs), sym (residents-told ws bs))
+    ∙ rw (u, s, g, n, sym (view-from ws bs), sym (residents-fact ws bs))
 
 pub status-passes : (bytes : List ℕ) (e : Engine) (a : Answer) → firstOf (queryChecks query.Status bytes e) a ≡ a
 unfolding firstOf
@@ -190,10 +190,10 @@ status-passes bytes e a = refl
 
 -- by the words themselves
 pub flag-word-turn : (ws : List ℕ) (i : ℕ) → i < slotCount
-    → flagCount (slotCount - i) (drop i (residentIn ws)) ≡ pick (eqb (getD ws (residentPlace + i) 0) 1) 1 0 + flagCount (slotCount - (i + 1)) (drop (i + 1) (residentIn ws))
+    → flagCount (slotCount - i) (drop i (flagsIn ws)) ≡ pick (eqb (getD ws (residentPlace + i) 0) 1) 1 0 + flagCount (slotCount - (i + 1)) (drop (i + 1) (flagsIn ws))
 flag-word-turn ws i h =
-    flags-turn slotCount i (residentIn ws) h
-    ∙ ap (λ (f : ℕ). pick (eqb f 1) 1 0 + flagCount (slotCount - (i + 1)) (drop (i + 1) (residentIn ws))) (part-word residentPlace slotCount i ws h)
+    flags-turn slotCount i (flagsIn ws) h
+    ∙ ap (λ (f : ℕ). pick (eqb f 1) 1 0 + flagCount (slotCount - (i + 1)) (drop (i + 1) (flagsIn ws))) (part-word residentPlace slotCount i ws h)
 
 pub group-word-turn : (ws bs : List ℕ) (i : ℕ) → At ws bs i
     → groupCount (viewFrom ws bs i) ≡ pick (eqb (getD ws (nodesPlace + 5 * i + 3) 0) groupSlot) 1 0 + groupCount (viewFrom ws bs (i + 1))

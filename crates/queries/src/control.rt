@@ -4,12 +4,11 @@ use controls::node_is_group;
 use controls::read_key;
 use model::Answer;
 use names::node_place;
+use refusals::Refusal;
 use replies::send_named;
 use replies::send_words;
 use values::Key;
-use words::Refusal;
 use words::wide;
-ghost use Prim.Native.Nat.{ℕ};
 ghost use mathlib.Core.List.{[], _∷_};
 ghost use Rattle.osc.specs.Message.{int, float, message};
 ghost use Rattle.model.specs.declared.Query.the-variants as query;
@@ -22,8 +21,8 @@ ghost use Rattle.state.specs.Does.{Reply};
 fn send_index(out: &mut [u8], number: u32, index: u32, value: u32) -> Answer
     ensures { λ r. ⌜ Sends (message setAddress (int number ∷ (int index ∷ (float value ∷ [])))) (now (out .entry)) r (now (out .exit)) ⌝ }
 {
-    let told = [number, index, value];
-    send_words(out, b"/n_set", b",iif", &told)
+    let arguments = [number, index, value];
+    send_words(out, b"/n_set", b",iif", &arguments)
 }
 
 // The same with the key as it was asked.
@@ -39,14 +38,14 @@ fn send_control(out: &mut [u8], number: u32, key: Key, name: &[u8], value: u32) 
 // A control's value, through its bus where it is mapped.
 pub fn control_query(
     words: &[u32],
-    shelf: &[u8],
+    arena: &[u8],
     bytes: &[u8],
     out: &mut [u8],
     node: u32,
     key: Key,
 ) -> Answer
-    requires { ⌜ Known (now words) (now shelf) ⌝ }
-    ensures { λ r. ⌜ Reply (query.Control node key) (now (bytes .entry)) (now (words .entry)) (now (shelf .entry)) (now (out .entry)) r (now (out .exit)) ⌝ }
+    requires { ⌜ Known (now words) (now arena) ⌝ }
+    ensures { λ r. ⌜ Reply (query.Control node key) (now (bytes .entry)) (now (words .entry)) (now (arena .entry)) (now (out .entry)) r (now (out .exit)) ⌝ }
 {
     let at = node_place(words, node);
     let count = wide(words[0]);
@@ -56,10 +55,10 @@ pub fn control_query(
     if node_is_group(words, at) {
         return Answer::Refused(Refusal::WrongKind);
     }
-    if controls_missing(words, shelf, at, key, bytes, 1) {
+    if controls_missing(words, arena, at, key, bytes, 1) {
         return Answer::Refused(Refusal::NoControl);
     }
-    let value = read_key(words, shelf, at, key, bytes);
+    let value = read_key(words, arena, at, key, bytes);
     let number = words[68 + 5 * at];
     send_control(out, number, key, bytes, value)
 }

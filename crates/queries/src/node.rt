@@ -1,22 +1,22 @@
 // /n_query
 use model::Answer;
 use names::node_place;
+use refusals::Refusal;
 use replies::send_words;
 use tree::head_of;
 use tree::next_of;
 use tree::parent_of;
 use tree::previous_of;
 use tree::tail_of;
-use words::Refusal;
 use words::wide;
 ghost use Rattle.model.specs.declared.Query.the-variants as query;
 ghost use Rattle.state.specs.Known.{Known};
 ghost use Rattle.state.specs.Does.{Reply};
 
 // Where a node stands, as /n_info.
-pub fn node_query(words: &[u32], shelf: &[u8], bytes: &[u8], out: &mut [u8], node: u32) -> Answer
-    requires { ⌜ Known (now words) (now shelf) ⌝ }
-    ensures { λ r. ⌜ Reply (query.Node node) (now (bytes .entry)) (now (words .entry)) (now (shelf .entry)) (now (out .entry)) r (now (out .exit)) ⌝ }
+pub fn node_query(words: &[u32], arena: &[u8], bytes: &[u8], out: &mut [u8], node: u32) -> Answer
+    requires { ⌜ Known (now words) (now arena) ⌝ }
+    ensures { λ r. ⌜ Reply (query.Node node) (now (bytes .entry)) (now (words .entry)) (now (arena .entry)) (now (out .entry)) r (now (out .exit)) ⌝ }
 {
     let at = node_place(words, node);
     let count = wide(words[0]);
@@ -31,9 +31,9 @@ pub fn node_query(words: &[u32], shelf: &[u8], bytes: &[u8], out: &mut [u8], nod
     if nodes[5 * at + 3] == 32 {
         let head = head_of(nodes, count, at);
         let tail = tail_of(nodes, count, at);
-        let told = [number, parent, previous, next, 1, head, tail];
-        return send_words(out, b"/n_info", b",iiiiiii", &told);
+        let arguments = [number, parent, previous, next, 1, head, tail];
+        return send_words(out, b"/n_info", b",iiiiiii", &arguments);
     }
-    let told = [number, parent, previous, next, 0];
-    send_words(out, b"/n_info", b",iiiii", &told)
+    let arguments = [number, parent, previous, next, 0];
+    send_words(out, b"/n_info", b",iiiii", &arguments)
 }

@@ -4,10 +4,9 @@ use model::Answer;
 use replies::send_words;
 use words::wide;
 ghost use mathlib.Core.Path.{_≡_};
-ghost use Prim.Native.Nat.{ℕ};
 ghost use lib.ListN.{length};
 ghost use Rattle.model.specs.declared.Query.the-variants as query;
-ghost use Rattle.model.specs.Layout.{wordsLength, slotCount, residentIn};
+ghost use Rattle.model.specs.Layout.{wordsLength, slotCount, flagsIn};
 ghost use Rattle.model.specs.Replies.{unitsOf, unitCount, groupCount};
 ghost use Rattle.state.specs.Known.{Known};
 ghost use Rattle.state.specs.Does.{Reply};
@@ -18,44 +17,44 @@ ghost use Rattle.queries.specs.Status.{kindAt, viewFrom, flagCount, unkn
 const UNKNOWN: u32 = 0xFFFF_FFFF;
 
 // The units of the definition that a synth holds; none at a group.
-fn units_at(words: &[u32], shelf: &[u8], place: usize) -> u32
-    requires { ⌜ At (now words) (now shelf) place ⌝ }
-    ensures { λ r. ⌜ r ≡ unitsOf (kindAt (now (words .entry)) (now (shelf .entry)) place) ⌝ }
+fn units_at(words: &[u32], arena: &[u8], place: usize) -> u32
+    requires { ⌜ At (now words) (now arena) place ⌝ }
+    ensures { λ r. ⌜ r ≡ unitsOf (kindAt (now (words .entry)) (now (arena .entry)) place) ⌝ }
 {
     let slot = words[68 + 5 * place + 3];
     if slot == 32 {
         return 0;
     }
     let size = words[4 + wide(slot)];
-    readable::units(slot_bytes(shelf, slot, size))
+    readable::units(slot_bytes(arena, slot, size))
 }
 
 // The same, where it may be known already.
-fn units_known(words: &[u32], shelf: &[u8], place: usize, known: u32) -> u32
-    requires { ⌜ (At (now words) (now shelf) place) × ((known ≡ unknown → ⊥) → known ≡ unitsOf (kindAt (now words) (now shelf) place)) ⌝ }
-    ensures { λ r. ⌜ r ≡ unitsOf (kindAt (now (words .entry)) (now (shelf .entry)) place) ⌝ }
+fn units_known(words: &[u32], arena: &[u8], place: usize, known: u32) -> u32
+    requires { ⌜ (At (now words) (now arena) place) × ((known ≡ unknown → ⊥) → known ≡ unitsOf (kindAt (now words) (now arena) place)) ⌝ }
+    ensures { λ r. ⌜ r ≡ unitsOf (kindAt (now (words .entry)) (now (arena .entry)) place) ⌝ }
 {
     if known != UNKNOWN {
         return known;
     }
-    units_at(words, shelf, place)
+    units_at(words, arena, place)
 }
 
 // Units over live synths. Each slot is looked up once.
-fn unit_count(words: &[u32], shelf: &[u8]) -> usize
-    requires { ⌜ Known (now words) (now shelf) ⌝ }
-    ensures { λ r. ⌜ r ≡ unitCount (viewFrom (now (words .entry)) (now (shelf .entry)) 0) ⌝ }
+fn unit_count(words: &[u32], arena: &[u8]) -> usize
+    requires { ⌜ Known (now words) (now arena) ⌝ }
+    ensures { λ r. ⌜ r ≡ unitCount (viewFrom (now (words .entry)) (now (arena .entry)) 0) ⌝ }
 {
     let count = wide(words[0]);
-    let mut told = [UNKNOWN; 32];
+    let mut known = [UNKNOWN; 32];
     let mut units: usize = 0;
     let mut i = 0;
     while i < count {
         let slot = words[68 + 5 * i + 3];
         if slot != 32 {
             let k = wide(slot);
-            let more = units_known(words, shelf, i, told[k]);
-            told[k] = more;
+            let more = units_known(words, arena, i, known[k]);
+            known[k] = more;
             units += wide(more);
         }
         i += 1;
@@ -64,9 +63,9 @@ fn unit_count(words: &[u32], shelf: &[u8]) -> usize
 }
 
 // Groups with the root.
-fn group_count(words: &[u32], shelf: &[u8]) -> u32
-    requires { ⌜ Known (now words) (now shelf) ⌝ }
-    ensures { λ r. ⌜ r ≡ groupCount (viewFrom (now (words .entry)) (now (shelf .entry)) 0) ⌝ }
+fn group_count(words: &[u32], arena: &[u8]) -> u32
+    requires { ⌜ Known (now words) (now arena) ⌝ }
+    ensures { λ r. ⌜ r ≡ groupCount (viewFrom (now (words .entry)) (now (arena .entry)) 0) ⌝ }
 {
     let count = wide(words[0]);
     let mut groups: u32 = 0;
@@ -83,7 +82,7 @@ fn group_count(words: &[u32], shelf: &[u8]) -> u32
 // Residents.
 fn resident_count(words: &[u32]) -> u32
     requires { ⌜ length (now words) ≡ wordsLength ⌝ }
-    ensures { λ r. ⌜ r ≡ flagCount slotCount (residentIn (now (words .entry))) ⌝ }
+    ensures { λ r. ⌜ r ≡ flagCount slotCount (flagsIn (now (words .entry))) ⌝ }
 {
     let mut names: u32 = 0;
     let mut i = 0;
@@ -97,14 +96,14 @@ fn resident_count(words: &[u32]) -> u32
 }
 
 // Units over live synths, synths, groups with the root, residents, as /status.reply.
-pub fn status_query(words: &[u32], shelf: &[u8], bytes: &[u8], out: &mut [u8]) -> Answer
-    requires { ⌜ Known (now words) (now shelf) ⌝ }
-    ensures { λ r. ⌜ Reply query.Status (now (bytes .entry)) (now (words .entry)) (now (shelf .entry)) (now (out .entry)) r (now (out .exit)) ⌝ }
+pub fn status_query(words: &[u32], arena: &[u8], bytes: &[u8], out: &mut [u8]) -> Answer
+    requires { ⌜ Known (now words) (now arena) ⌝ }
+    ensures { λ r. ⌜ Reply query.Status (now (bytes .entry)) (now (words .entry)) (now (arena .entry)) (now (out .entry)) r (now (out .exit)) ⌝ }
 {
-    let units = unit_count(words, shelf);
-    let groups = group_count(words, shelf);
+    let units = unit_count(words, arena);
+    let groups = group_count(words, arena);
     let synths = words[0] - groups;
     let names = resident_count(words);
-    let told = [(units % 4294967296) as u32, synths, groups, names];
-    send_words(out, b"/status.reply", b",iiii", &told)
+    let known = [(units % 4294967296) as u32, synths, groups, names];
+    send_words(out, b"/status.reply", b",iiii", &known)
 }

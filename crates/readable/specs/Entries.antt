@@ -9,7 +9,7 @@ use lib.ListN.{length, getD}
 use lib.Dec.{ltb}
 use Rattle.words.specs.Choice.{pick}
 use Rattle.words.specs.Parts.{region}
-use Rattle.words.specs.declared.Refusal.the-variants.{BadIndex}
+use Rattle.faults.specs.declared.Fault.the-variants.{BadIndex}
 use Rattle.synthdef.specs.Read.{got, repeat}
 use Rattle.synthdef.specs.Fields.{stringAt, name, integer, indexBelow}
 use Rattle.synthdef.specs.FieldLaws.{word, checked-got}

@@ -6,7 +6,7 @@ use native.Mathlib.Omega.{arith}
 use borrow.Author.Tests.{leb-true}
 use lib.ListN.{length, getD}
 use lib.Dec.{leb}
-use Rattle.words.specs.declared.Refusal.the-variants.{BadName, BadCount}
+use Rattle.faults.specs.declared.Fault.the-variants.{BadName, BadCount}
 use Rattle.synthdef.specs.Read.{got, repeat}
 use Rattle.synthdef.specs.Fields.{float32, stringAt, pstring, definitionName, integer, count, countTo, highest32}
 use Rattle.synthdef.specs.FieldLaws.{word, checked-got, name-length}
@@ -16,7 +16,7 @@ use Rattle.synthdef.specs.Endings.{field-got}
 use Rattle.synthdef.specs.Units.{string-got}
 use Rattle.synthdef.specs.Definition.{Front, Definition}
 use Rattle.synthdef.specs.Reader.{mostParameters, sizeLimit, parameterName, readFront, readDefinition}
-use Rattle.synthdef.specs.Front.{nameEnd, valuesAt, namesAt, told}
+use Rattle.synthdef.specs.Front.{nameEnd, valuesAt, namesAt, countsOf}
 use Rattle.synthdef.specs.Lookup.{atNumber, nameIn, unitsIn}
 use Rattle.synthdef.specs.FrontLaws.{front-got}
 use Rattle.readable.specs.Entries.{entriesFrom, entriesEnd, Entries, entries-got, entries-below}
@@ -100,28 +100,28 @@ parts s {f} {end} h =
 
 -- the counts, each by those before it
 module _ {s : List ℕ} {f : Front} {end : ℕ} (w : Parts s f end) where
-  pub constants-told : word s (1 + getD s 0 0) ≡ length (f .constants)
-  constants-told =
+  pub constants-fact : word s (1 + getD s 0 0) ≡ length (f .constants)
+  constants-fact =
       let named = w .named in
       let place : 1 + getD s 0 0 ≡ nameEnd 0 f = omega arith in
       ap (word s) place ∙ w .constants
 
-  pub parameters-told : (k : ℕ) → k ≡ length (f .constants) → word s (1 + getD s 0 0 + 4 + 4 * k) ≡ length (f .values)
-  parameters-told k e =
+  pub parameters-fact : (k : ℕ) → k ≡ length (f .constants) → word s (1 + getD s 0 0 + 4 + 4 * k) ≡ length (f .values)
+  parameters-fact k e =
       let named = w .named in
       let place : 1 + getD s 0 0 + 4 + 4 * k ≡ nameEnd 0 f + 4 + 4 * length (f .constants) = omega arith in
       ap (word s) place ∙ w .parameters
 
-  pub names-told : (k p : ℕ) → k ≡ length (f .constants) → p ≡ length (f .values) → word s (1 + getD s 0 0 + 4 + 4 * k + 4 + 4 * p) ≡ length (f .names)
-  names-told k p e g =
+  pub names-fact : (k p : ℕ) → k ≡ length (f .constants) → p ≡ length (f .values) → word s (1 + getD s 0 0 + 4 + 4 * k + 4 + 4 * p) ≡ length (f .names)
+  names-fact k p e g =
       let named = w .named in
       let place : 1 + getD s 0 0 + 4 + 4 * k + 4 + 4 * p ≡ valuesAt 0 f + 4 * length (f .values) = omega arith in
       ap (word s) place ∙ w .many
 
   -- all of them
-  pub counts-told : (k l p q n : ℕ) → k ≡ length (f .constants) → l ≡ k → p ≡ length (f .values) → q ≡ p → n ≡ length (f .names)
-      → record { past = 1 + getD s 0 0; constants = k; values = 1 + getD s 0 0 + 4 + 4 * l + 4; parameters = p; first = 1 + getD s 0 0 + 4 + 4 * l + 4 + 4 * q + 4; names = n } ≡ told 0 f
-  counts-told k l p q n e e₂ g g₂ h =
+  pub counts-fact : (k l p q n : ℕ) → k ≡ length (f .constants) → l ≡ k → p ≡ length (f .values) → q ≡ p → n ≡ length (f .names)
+      → record { past = 1 + getD s 0 0; constants = k; values = 1 + getD s 0 0 + 4 + 4 * l + 4; parameters = p; first = 1 + getD s 0 0 + 4 + 4 * l + 4 + 4 * q + 4; names = n } ≡ countsOf 0 f
+  counts-fact k l p q n e e₂ g g₂ h =
       let named = w .named in
       let past : 1 + getD s 0 0 ≡ nameEnd 0 f = omega arith in
       let first : 1 + getD s 0 0 + 4 + 4 * l + 4 ≡ valuesAt 0 f = omega arith in
@@ -153,5 +153,5 @@ units-at s w =
     }))
 
 -- the name stands at the first byte
-pub name-told : (s : List ℕ) → Readable s → stringAt s 0 ≡ nameIn s
-name-told s k = rw (k .reads) (string-got s 0 (checked-got BadName full 0 (pstring s 0) (front-got s 0 (k .reads) .name) .0) .0)
+pub name-fact : (s : List ℕ) → Readable s → stringAt s 0 ≡ nameIn s
+name-fact s k = rw (k .reads) (string-got s 0 (checked-got BadName full 0 (pstring s 0) (front-got s 0 (k .reads) .name) .0) .0)

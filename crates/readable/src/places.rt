@@ -6,7 +6,7 @@ ghost use mathlib.Core.Path.{_≡_};
 ghost use lib.ListN.{length};
 ghost use Rattle.synthdef.specs.Definition.{Front};
 ghost use Rattle.synthdef.specs.FieldLaws.{word};
-ghost use Rattle.synthdef.specs.Front.{told};
+ghost use Rattle.synthdef.specs.Front.{countsOf};
 ghost use Rattle.synthdef.specs.Read.{got};
 ghost use Rattle.synthdef.specs.Reader.{readFront};
 ghost use Rattle.readable.specs.Readable.{Readable};
@@ -33,7 +33,7 @@ pub(crate) fn word_at(s: &[u8], at: usize) -> u32
 // The counts and places of a front.
 pub(crate) fn counts(s: &[u8]) -> Counts
     requires { ⌜ Readable (now s) ⌝ }
-    ensures { λ r. ⌜ ((f : Front) (end : ℕ) → readFront (now (s .entry)) 0 ≡ got f end → r ≡ told 0 f) ⌝ }
+    ensures { λ r. ⌜ ((f : Front) (end : ℕ) → readFront (now (s .entry)) 0 ≡ got f end → r ≡ countsOf 0 f) ⌝ }
 {
     let size = s[0] as usize;
     let past = 1 + size;

@@ -11,8 +11,8 @@ use borrow.Author.Tests.{le-leb, lt-leb, leb-false}
 use denote.Ref.{RefT, now}
 use Rattle.words.specs.Choice.{pick}
 use Rattle.words.specs.Parts.{region, region-length}
-use Rattle.words.specs.declared.Refusal.{Refusal}
-use Rattle.words.specs.declared.Refusal.the-variants.{BytesLeft}
+use Rattle.faults.specs.declared.Fault.{Fault}
+use Rattle.faults.specs.declared.Fault.the-variants.{BytesLeft}
 use Rattle.synthdef.specs.Read.{Read, got, bad, andThen}
 use Rattle.synthdef.specs.Definition.{Definition}
 use Rattle.synthdef.specs.Reader.{fits, readDefinition, readDefinitions, readHeader, readFile}
@@ -128,7 +128,7 @@ module _ (f : RefT (List ℕ)) where
       record { each = rw h (w .each); whole = rw h (ap (λ (l : List ℕ). take firstPlace s ++ l) (w .rest) ∙ take-append-drop firstPlace s) }
 
   -- and none of a file that is refused
-  pub walks-none : {q : Refusal} {place : ℕ} → readFile s ≡ bad q place → (n : ℕ) → walk n (opened f .reader) ≡ []
+  pub walks-none : {q : Fault} {place : ℕ} → readFile s ≡ bad q place → (n : ℕ) → walk n (opened f .reader) ≡ []
   walks-none h n = rw h (ended-walk n (at-place (length s)) (le-leb (length s) (length s) (omega arith)))
 
 -- every step goes forward, so that every walk comes to an end

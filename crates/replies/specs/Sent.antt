@@ -1,21 +1,18 @@
 -- A reply's bytes sent: into a buffer with room for them, from its first byte on.
 use Prim.Native.Nat.{ℕ, _+_, _*_, _-_, _%_, _≤_, _<_}
-use mathlib.Core.Bool.{Bool, true, false}
 use mathlib.Core.Path.{_≡_, refl, sym, ap, _∙_}
 use mathlib.Core.List.{List, [], _∷_, _++_}
 use native.Mathlib.Omega.{arith}
 use lib.ListN.{length, length-append}
-use lib.Dec.{ltb}
 use borrow.Author.Tests.{lt-ltb, le-ltb}
-use Rattle.words.specs.Choice.{pick}
-use Rattle.words.specs.declared.Refusal.the-variants.{NoRoom}
+use Rattle.refusals.specs.declared.Refusal.the-variants.{NoRoom}
 use Rattle.words.specs.Bytes.{bytes32}
 use Rattle.osc.specs.Message.{padded}
 use Rattle.osc.specs.Over.{over, over-first}
 use Rattle.model.specs.declared.Answer.{Answer}
 use Rattle.model.specs.declared.Answer.the-variants.{Replied, Refused}
 use Rattle.model.specs.Checks.{firstOf, roomCheck}
-use Rattle.model.specs.Door.{written}
+use Rattle.model.specs.Apply.{written}
 use Rattle.osc.specs.Lengths.{padded-size}
 use Rattle.replies.specs.Words.{wordBytes, word-bytes-size}
 

@@ -8,7 +8,7 @@ use lib.ListN.{length}
 use lib.Dec.{leb, eqb}
 use borrow.Author.Tests.{leb-true, le-ltb, not-true}
 use Rattle.words.specs.Choice.{both-true}
-use Rattle.words.specs.declared.Refusal.the-variants.{NotSynthDef, BadVersion}
+use Rattle.faults.specs.declared.Fault.the-variants.{NotSynthDef, BadVersion}
 use Rattle.synthdef.specs.Read.{Read, got, andThen, checked}
 use Rattle.synthdef.specs.Definition.{Definition}
 use Rattle.synthdef.specs.Fields.{int32, shortCountTo}

@@ -7,7 +7,7 @@ use native.Mathlib.Nat.{add-zero}
 use native.Mathlib.Omega.{arith}
 use lib.ListN.{length, length-append}
 use Rattle.words.specs.Choice.{both-true}
-use Rattle.words.specs.declared.Refusal.{Refusal}
+use Rattle.faults.specs.declared.Fault.{Fault}
 use Rattle.synthdef.specs.Read.{Read, got, andThen, checked, repeat}
 use Rattle.synthdef.specs.Writer.{writeAll}
 use Rattle.synthdef.specs.Bounds.{every}
@@ -46,7 +46,7 @@ pub none-reads : {A : Type 0} (x : A) → Reads (λ s at. got x at) x []
 none-reads x = record { found = λ s at h. rw add-zero }
 
 module _ {A : Type 0} where
-  pub checked-reads : {read : List ℕ → ℕ → Read A} {x : A} {w : List ℕ} (r : Refusal) (test : A → Bool) → Reads read x w → test x ≡ true
+  pub checked-reads : {read : List ℕ → ℕ → Read A} {x : A} {w : List ℕ} (r : Fault) (test : A → Bool) → Reads read x w → test x ≡ true
       → Reads (λ s at. checked r test at (read s at)) x w
   checked-reads r test f t = record { found = λ s at h. rw (f .found s at h, t) }
 

@@ -8,7 +8,7 @@ use lib.ListN.{length, getD}
 use lib.Dec.{ltb, leb}
 use borrow.Author.Tests.{lt-ltb, le-leb, leb-true, ltb-true}
 use Rattle.words.specs.Choice.{both, both-true}
-use Rattle.words.specs.declared.Refusal.the-variants.{BadCount, BadName, BadRate, BadIndex}
+use Rattle.faults.specs.declared.Fault.the-variants.{BadCount, BadName, BadRate, BadIndex}
 use Rattle.synthdef.specs.Read.{got}
 use Rattle.synthdef.specs.Fields.{whole, int8, int16, int32, float32, nameBytes, pstring, name, definitionName, highestRate, countTo, shortCountTo, rate, indexBelow}
 use Rattle.words.specs.Bytes.{bytes8, bytes16, bytes32}

@@ -11,7 +11,7 @@ use lib.Dec.{ltb, leb}
 use borrow.Author.Tests.{lt-ltb, le-leb, leb-true, ltb-true}
 use Rattle.words.specs.Choice.{pick, both, both-true}
 use Rattle.words.specs.Parts.{region, region-length}
-use Rattle.words.specs.declared.Refusal.the-variants.{Truncated, BadCount, BadName, BadRate, BadIndex}
+use Rattle.faults.specs.declared.Fault.the-variants.{Truncated, BadCount, BadName, BadRate, BadIndex}
 use Rattle.synthdef.specs.Read.{got, bad}
 use Rattle.synthdef.specs.Fields.{whole, int8, int16, int32, float32, nameBytes, stringAt, pstring, name, definitionName, highestRate, countTo, shortCountTo, rate, indexBelow}
 use Rattle.words.specs.Bytes.{bytes8, bytes16, bytes32}
@@ -35,8 +35,8 @@ module _ {A : Type 0} where
       by true e =
           let fits : at + size ≤ length s = leb-true (at + size) (length s) e in
           let same : at + size - at ≡ size = omega arith in
-          taken value (at + size) (record { forward = omega arith; inside = fits; told = λ b. rw same (f fits b) })
-      by false e = refused Truncated at h refl
+          taken value (at + size) (record { forward = omega arith; inside = fits; fact = λ b. rw same (f fits b) })
+      by false e = refused Truncated at h
 
 pub int8-sound : Forth int8 bytes8 (λ n. n < 256)
 int8-sound s at h =
@@ -77,26 +77,26 @@ pstring-sound s at h = by (ltb at (length s)) refl
         let size : length (stringAt s at) ≡ getD s at 0 = region-length (at + 1) (getD s at 0) s (omega arith) in
         let one : 1 + getD s at 0 ≡ suc (getD s at 0) = omega arith in
         (rw (one, region-cons s at (at + 1) (getD s at 0) refl (ltb-true at (length s) e), size), omega (arith, b at)))
-    by false e = refused Truncated at h refl
+    by false e = refused Truncated at h
 
 pub name-sound : Forth name writeName (λ n. isName n ≡ true)
 name-sound s at h =
-    weaken (checked-sound BadName nameBytes refl h (pstring-sound s at h)) (λ n q. rw (le-leb (length n) 255 (q .0)) (q .1))
+    weaken (checked-sound BadName nameBytes h (pstring-sound s at h)) (λ n q. rw (le-leb (length n) 255 (q .0)) (q .1))
 
 pub definition-name-sound : Forth definitionName writeName (λ n. both (ltb 0 (length n)) (isName n) ≡ true)
 definition-name-sound s at h =
-    weaken (checked-sound BadName (λ n. both (ltb 0 (length n)) (nameBytes n)) refl h (pstring-sound s at h)) (λ n q.
+    weaken (checked-sound BadName (λ n. both (ltb 0 (length n)) (nameBytes n)) h (pstring-sound s at h)) (λ n q.
     let t = both-true (ltb 0 (length n)) (nameBytes n) (q .1) in
     rw (t .0, le-leb (length n) 255 (q .0)) (t .1))
 
 pub count-sound : (most : ℕ) → Forth (countTo most) writeInteger (λ n. leb n most ≡ true)
-count-sound most s at h = weaken (checked-sound BadCount (λ n. leb n most) refl h (int32-sound s at h)) (λ n q. q .1)
+count-sound most s at h = weaken (checked-sound BadCount (λ n. leb n most) h (int32-sound s at h)) (λ n q. q .1)
 
 pub short-count-sound : (most : ℕ) → Forth (shortCountTo most) bytes16 (λ n. leb n most ≡ true)
-short-count-sound most s at h = weaken (checked-sound BadCount (λ n. leb n most) refl h (int16-sound s at h)) (λ n q. q .1)
+short-count-sound most s at h = weaken (checked-sound BadCount (λ n. leb n most) h (int16-sound s at h)) (λ n q. q .1)
 
 pub index-sound : (bound : ℕ) → Forth (indexBelow bound) writeInteger (λ i. ltb i bound ≡ true)
-index-sound bound s at h = weaken (checked-sound BadIndex (λ i. ltb i bound) refl h (int32-sound s at h)) (λ i q. q .1)
+index-sound bound s at h = weaken (checked-sound BadIndex (λ i. ltb i bound) h (int32-sound s at h)) (λ i q. q .1)
 
 pub rate-sound : Forth rate bytes8 (λ r. isRate r ≡ true)
-rate-sound s at h = weaken (checked-sound BadRate (λ r. leb r highestRate) refl h (int8-sound s at h)) (λ r q. q .1)
+rate-sound s at h = weaken (checked-sound BadRate (λ r. leb r highestRate) h (int8-sound s at h)) (λ r q. q .1)

@@ -10,7 +10,7 @@ use lib.Seq.{take-length}
 use lib.Dec.{ltb, leb, eqb}
 use borrow.Author.Tests.{ltb-true, ltb-false, le-leb, eqb-true}
 use Rattle.words.specs.Choice.{pick}
-use Rattle.words.specs.declared.Refusal.the-variants.{NotSynthDef, BadVersion, TooLong, NameTwice, BytesLeft}
+use Rattle.faults.specs.declared.Fault.the-variants.{NotSynthDef, BadVersion, TooLong, NameTwice, BytesLeft}
 use Rattle.synthdef.specs.Read.{got, bad, andThen}
 use Rattle.synthdef.specs.Definition.{Definition}
 use Rattle.synthdef.specs.Reader.{mostDefinitions, sizeLimit, fileType, fileVersion, among, fits, readFront, readDefinition, readDefinitions, readHeader, readFile}
@@ -44,7 +44,7 @@ pub record Written (s : List ℕ) (at next : ℕ) (d : Definition) : Type 0 wher
 pub definition-forth : (s : List ℕ) → Bytes s → (at : ℕ) (d : Definition) (next : ℕ) → readDefinition s at ≡ got d next → Written s at next d
 definition-forth s b at d next e =
     let c = part-of (definition-sound s at (starts-inside s at d next e)) e in
-    record { bytes = c .told b .0; bounded = c .told b .1; forward = c .forward; inside = c .inside }
+    record { bytes = c .fact b .0; bounded = c .fact b .1; forward = c .forward; inside = c .inside }
 
 -- the tests at a definition's end
 abbrev Fitting : List (List ℕ) → Definition → Type 0
@@ -55,14 +55,14 @@ fitting-sound names s at h = then-sound _ (definition-sound s at h) (λ d next c
   where
     by : (d : Definition) (next : ℕ) → Part s at next (writeDefinition d) (isDefinition d ≡ true) → (l : Bool) → ltb sizeLimit (next - at) ≡ l → (m : Bool) → among (d .front .name) names ≡ m
         → Sound s at writeDefinition (Fitting names) (pick l (bad TooLong at) (pick m (bad NameTwice at) (got d next)))
-    by d next c true e m f = refused TooLong at h refl
-    by d next c false e true f = refused NameTwice at h refl
+    by d next c true e m f = refused TooLong at h
+    by d next c false e true f = refused NameTwice at h
     by d next c false e false f =
         taken d next (record {
           forward = c .forward;
           inside = c .inside;
-          told = λ b.
-              let w = c .told b in
+          fact = λ b.
+              let w = c .fact b in
               let size : length (writeDefinition d) ≡ next - at = part-length c b in
               (w .0, (w .1, le-leb (length (writeDefinition d)) sizeLimit (omega (arith, ltb-false sizeLimit (next - at) e)), f));
         })
@@ -77,8 +77,8 @@ definitions-sound (suc n) names s at h =
 
 header-sound : (s : List ℕ) → Sound s 0 writeHeader (λ n. leb n mostDefinitions ≡ true) (readHeader s)
 header-sound s =
-    then-sound _ (checked-sound NotSynthDef (λ t. eqb t fileType) refl (omega arith) (int32-sound s 0 (omega arith))) (λ t p1 c1.
-    then-sound _ (checked-sound BadVersion (λ v. eqb v fileVersion) refl (c1 .inside) (int32-sound s p1 (c1 .inside))) (λ v p2 c2.
+    then-sound _ (checked-sound NotSynthDef (λ t. eqb t fileType) (omega arith) (int32-sound s 0 (omega arith))) (λ t p1 c1.
+    then-sound _ (checked-sound BadVersion (λ v. eqb v fileVersion) (c1 .inside) (int32-sound s p1 (c1 .inside))) (λ v p2 c2.
     extend (short-count-sound mostDefinitions s p2 (c2 .inside)) (λ n p3 c3.
     restate (join c1 (join c2 c3)) (λ ((_, e1), ((_, e2), t3)). (rw (eqb-true t fileType e1, eqb-true v fileVersion e2), t3)))))
 
@@ -92,13 +92,13 @@ file-sound s =
         → Part s 0 end (writeHeader n ++ writeAll writeDefinition ds) ((leb n mostDefinitions ≡ true) × ((length ds ≡ n) × (areDefinitions [] ds ≡ true)))
         → (b : Bool) → ltb end (length s) ≡ b
         → Sound s 0 writeFile (λ ds. (isFile ds ≡ true) × (length s ≤ length (writeFile ds))) (pick b (bad BytesLeft end) (got ds end))
-    by n ds end c true e = refused BytesLeft end (c .inside) refl
+    by n ds end c true e = refused BytesLeft end (c .inside)
     by n ds end c false e =
         taken ds end (record {
           forward = c .forward;
           inside = c .inside;
-          told = λ b.
-              let (w, (few, (many, fine))) = c .told b in
+          fact = λ b.
+              let (w, (few, (many, fine))) = c .fact b in
               let size : length (writeHeader n ++ writeAll writeDefinition ds) ≡ end - 0 = part-length c b in
               (rw many w, (rw (many, few) fine, omega (arith, ltb-false end (length s) e)));
         })
@@ -112,7 +112,7 @@ pub record WrittenFile (s : List ℕ) (end : ℕ) (ds : List Definition) : Type 
 pub file-forth : (s : List ℕ) → Bytes s → (ds : List Definition) (end : ℕ) → readFile s ≡ got ds end → WrittenFile s end ds
 file-forth s b ds end e =
     let c = part-of (file-sound s) e in
-    let w = c .told b in
+    let w = c .fact b in
     let size : length (writeFile ds) ≡ end - 0 = part-length c b in
     let whole : end ≡ length s = omega arith in
     record {

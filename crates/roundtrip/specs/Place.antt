@@ -1,22 +1,17 @@
--- A file's refusal is one of those that have a place (2 to 11), and its place is never past the file's end.
+-- The place of a file's fault is never past the file's end.
 use Prim.Native.Nat.{ℕ, _≤_}
 use mathlib.Core.Path.{_≡_}
 use mathlib.Core.List.{List}
 use lib.ListN.{length}
-use Rattle.words.specs.declared.Refusal.{Refusal}
-use Rattle.words.specs.Refusals.{hasPlace}
-use mathlib.Core.Bool.{true}
+use Rattle.faults.specs.declared.Fault.{Fault}
 use Rattle.synthdef.specs.Read.{bad}
 use Rattle.synthdef.specs.Reader.{readDefinition, readFile}
-use Rattle.roundtrip.specs.Sound.{place-of, refusal-of}
+use Rattle.roundtrip.specs.Sound.{place-of}
 use Rattle.roundtrip.specs.RecordsForth.{definition-sound}
 use Rattle.roundtrip.specs.Forth.{file-sound}
 
-pub file-place : (s : List ℕ) (r : Refusal) (p : ℕ) → readFile s ≡ bad r p → p ≤ length s
+pub file-place : (s : List ℕ) (r : Fault) (p : ℕ) → readFile s ≡ bad r p → p ≤ length s
 file-place s r p e = place-of (file-sound s) e
 
-pub definition-place : (s : List ℕ) (at : ℕ) → at ≤ length s → (r : Refusal) (p : ℕ) → readDefinition s at ≡ bad r p → p ≤ length s
+pub definition-place : (s : List ℕ) (at : ℕ) → at ≤ length s → (r : Fault) (p : ℕ) → readDefinition s at ≡ bad r p → p ≤ length s
 definition-place s at h r p e = place-of (definition-sound s at h) e
-
-pub file-refusal : (s : List ℕ) (r : Refusal) (p : ℕ) → readFile s ≡ bad r p → hasPlace r ≡ true
-file-refusal s r p e = refusal-of (file-sound s) e

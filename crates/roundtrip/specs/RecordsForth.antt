@@ -7,7 +7,7 @@ use lib.ListN.{length, getD}
 use lib.Dec.{ltb, eqb}
 use borrow.Author.Tests.{eqb-true, eq-eqb, lt-ltb}
 use Rattle.words.specs.Choice.{pick}
-use Rattle.words.specs.declared.Refusal.the-variants.{BadIndex}
+use Rattle.faults.specs.declared.Fault.the-variants.{BadIndex}
 use Rattle.synthdef.specs.Read.{got, bad, andThen, repeat}
 use Rattle.synthdef.specs.Definition.{constant, output}
 use Rattle.synthdef.specs.Fields.{float32, rate, highest16, highest32, indexBelow}
@@ -54,7 +54,7 @@ input-sound k outs s at h = then-sound _ (int32-sound s at h) (λ u next c. by u
     by u next c false e true f =
         then-sound _ (index-sound (getD outs u 0) s next (c .inside)) (λ o end d.
         taken _ end (restate (join c d) (λ (q, t). (refl, rw f t))))
-    by u next c false e false f = refused BadIndex at h refl
+    by u next c false e false f = refused BadIndex at h
 
 pub unit-sound : (k : ℕ) (outs : List ℕ) → Forth (readUnit k outs) writeUnit (λ u. isUnit k outs u ≡ true)
 unfolding readUnit

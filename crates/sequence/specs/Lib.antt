@@ -1,4 +1,4 @@
 pub mod Sound
-pub mod Spoken
+pub mod Made
 pub mod Fresh
 pub mod Theorem

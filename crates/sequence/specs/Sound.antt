@@ -1,19 +1,17 @@
--- The refusal table never answers 1, and tells a place with 2 to 11 alone.
-use Prim.Native.Nat.{ℕ, _≤_}
+-- The refusal table never answers 1.
+use Prim.Native.Nat.{ℕ}
 use mathlib.Core.Bool.{Bool, true, false, not}
 use mathlib.Core.Path.{_≡_, refl, sym, ap, _∙_}
 use mathlib.Core.List.{List, [], _∷_}
 use native.Mathlib.Omega.{arith}
 use lib.ListN.{length}
-use lib.Dec.{leb, eqb}
-use borrow.Author.Tests.{leb-true, ne-eqb, eq-eqb}
+use lib.Dec.{eqb}
+use borrow.Author.Tests.{ne-eqb, eq-eqb}
 use Rattle.words.specs.Choice.{pick, both, both-true}
-use Rattle.words.specs.declared.Refusal.{Refusal}
-use Rattle.words.specs.Refusals.{numberOf, hasPlace}
+use Rattle.faults.specs.Faults.{faultNumber, fault-low}
 use Rattle.synthdef.specs.Read.{Read, got, bad}
 use Rattle.synthdef.specs.Definition.{Definition}
 use Rattle.synthdef.specs.Reader.{readFile}
-use Rattle.model.specs.declared.DefinitionCommand.{DefinitionCommand}
 use Rattle.model.specs.declared.DefinitionCommand.the-variants as definitions
 use Rattle.model.specs.declared.TreeCommand.{TreeCommand}
 use Rattle.model.specs.declared.TreeCommand.the-variants as tree
@@ -26,17 +24,16 @@ use Rattle.model.specs.declared.Query.the-variants as query
 use Rattle.model.specs.declared.Command.{Command}
 use Rattle.model.specs.declared.Command.the-variants as command
 use Rattle.model.specs.declared.Answer.{Answer}
-use Rattle.model.specs.declared.Answer.the-variants.{Done, Replied, Refused, RefusedAt}
+use Rattle.model.specs.declared.Answer.the-variants.{Done, Replied}
 use Rattle.model.specs.Engine.{Engine}
 use Rattle.model.specs.Checks.{Check, firstOf, faultOf, definitionChecks, treeChecks, controlChecks, busChecks, queryChecks, roomCheck}
 use Rattle.model.specs.Replies.{reply}
-use Rattle.model.specs.Door.{queryAnswer, answerIn}
-use Rattle.model.specs.Demands.{isTold, refusalIn}
-use Rattle.roundtrip.specs.Place.{file-refusal}
+use Rattle.model.specs.Apply.{queryAnswer, answerIn}
+use Rattle.model.specs.Demands.{refusalIn}
 
--- an answer that is not 1, and is told as it should be
+-- an answer that is not 1
 abbrev isFair : Answer → Bool
-isFair a = both (isTold a) (not (eqb (refusalIn a) 1))
+isFair a = not (eqb (refusalIn a) 1)
 
 unfoldable areFair : List Check → Bool
 areFair [] = true
@@ -51,23 +48,14 @@ fair-first (c ∷ cs) a f n = let g = both-true (isFair (c .answer)) (areFair cs
     go true this ih = this
     go false this ih = ih
 
--- a refusal with a place is none of the others
-placed : (r : Refusal) (at : ℕ) → hasPlace r ≡ true → isFair (RefusedAt r at) ≡ true
-placed r at h =
-    let low : 2 ≤ numberOf r = leb-true 2 (numberOf r) (both-true (leb 2 (numberOf r)) _ h .0) in
-    let other : eqb (numberOf r) 1 ≡ false = ne-eqb (numberOf r) 1 (λ e. omega arith) in
-    rw (h, other)
-
-file-fair : (bytes : List ℕ) → isFair (faultOf (readFile bytes) .answer) ≡ true
-file-fair bytes = go (readFile bytes) refl
-  where
-    go : (r : Read (List Definition)) → readFile bytes ≡ r → isFair (faultOf r .answer) ≡ true
-    go (got ds end) e = refl
-    go (bad r at) e = placed r at (file-refusal bytes r at e)
+-- a file's fault is another
+file-fair : (r : Read (List Definition)) → isFair (faultOf r .answer) ≡ true
+file-fair (got ds end) = refl
+file-fair (bad r at) = let low = fault-low r in let other : eqb (faultNumber r) 1 ≡ false = ne-eqb (faultNumber r) 1 (λ e. omega arith) in rw other
 
 answers-fair : (c : Command) (bytes : List ℕ) (e : Engine) (room : ℕ) → isFair (answerIn c bytes e room) ≡ true
 unfolding answerIn queryAnswer areFair
-answers-fair (command.Definitions definitions.Receive) bytes e room = fair-first (definitionChecks definitions.Receive bytes e) Done (rw (file-fair bytes)) refl
+answers-fair (command.Definitions definitions.Receive) bytes e room = fair-first (definitionChecks definitions.Receive bytes e) Done (rw (file-fair (readFile bytes))) refl
 answers-fair (command.Definitions definitions.Free) bytes e room = fair-first (definitionChecks definitions.Free bytes e) Done refl refl
 answers-fair (command.Tree c) bytes e room = fair-first (treeChecks c bytes e) Done (tree-fair c) refl
   where
@@ -103,13 +91,9 @@ answers-fair (command.Query q) bytes e room = fair-first (queryChecks q bytes e)
     query-fair query.Status = refl
     query-fair query.Export = refl
 
--- "All return only the number (2 to 11 also the place)"
-pub answer-told : (c : Command) (bytes : List ℕ) (e : Engine) (room : ℕ) → isTold (answerIn c bytes e room) ≡ true
-answer-told c bytes e room = both-true (isTold (answerIn c bytes e room)) _ (answers-fair c bytes e room) .0
-
 -- "never refusal 1"
 pub never-one : (c : Command) (bytes : List ℕ) (e : Engine) (room : ℕ) → refusalIn (answerIn c bytes e room) ≡ 1 → ⊥
-never-one c bytes e room = differs (refusalIn (answerIn c bytes e room)) (both-true (isTold (answerIn c bytes e room)) _ (answers-fair c bytes e room) .1)
+never-one c bytes e room = differs (refusalIn (answerIn c bytes e room)) (answers-fair c bytes e room)
   where
     differs : (n : ℕ) → not (eqb n 1) ≡ true → n ≡ 1 → ⊥
     differs n h e = let same : eqb n 1 ≡ true = eq-eqb n 1 e in let z : false ≡ true = sym (ap not same) ∙ h in go z

@@ -1,42 +1,42 @@
 -- A fresh engine: what the call answers and leaves.
 use Prim.Native.Nat.{ℕ}
-use mathlib.Core.Path.{_≡_, refl, ap, _∙_}
+use mathlib.Core.Path.{_≡_, ap, _∙_}
 use mathlib.Core.List.{List}
 use lib.ListN.{length, replicate}
 use borrow.Author.Tests.{eq-eqb, ne-eqb}
-use Rattle.words.specs.declared.Refusal.the-variants.{BadState}
+use Rattle.refusals.specs.declared.Refusal.the-variants.{BadState}
 use Rattle.model.specs.declared.Answer.{Answer}
 use Rattle.model.specs.declared.Answer.the-variants.{Done, Refused}
-use Rattle.model.specs.Layout.{wordsLength, shelfLength}
-use Rattle.model.specs.After.{freshState, freshShelf}
-use Rattle.model.specs.Door.{freshAnswer, freshWords, freshShelves}
+use Rattle.model.specs.Layout.{wordsLength, arenaLength}
+use Rattle.model.specs.After.{freshState}
+use Rattle.model.specs.Apply.{freshAnswer, freshWords, freshArenas}
 
 pub record Freshly (ws bs : List ℕ) (a : Answer) (ws′ bs′ : List ℕ) : Type 0 where
   pub answers : a ≡ freshAnswer ws bs
   pub words : ws′ ≡ freshWords ws bs
-  pub shelf : bs′ ≡ freshShelves ws bs
+  pub arena : bs′ ≡ freshArenas ws bs
 
 module _ (ws bs : List ℕ) where
   pub refused-size : (length ws ≡ wordsLength → ⊥) → Freshly ws bs (Refused BadState) ws bs
-  unfolding freshAnswer freshWords freshShelves
+  unfolding freshAnswer freshWords freshArenas
   refused-size h =
       let size = ne-eqb (length ws) wordsLength h in
-      record { answers = rw size; words = rw size; shelf = rw size }
+      record { answers = rw size; words = rw size; arena = rw size }
 
-  pub refused-room : length ws ≡ wordsLength → (length bs ≡ shelfLength → ⊥) → Freshly ws bs (Refused BadState) ws bs
-  unfolding freshAnswer freshWords freshShelves
+  pub refused-room : length ws ≡ wordsLength → (length bs ≡ arenaLength → ⊥) → Freshly ws bs (Refused BadState) ws bs
+  unfolding freshAnswer freshWords freshArenas
   refused-room size h =
       let right = eq-eqb (length ws) wordsLength size in
-      let wrong = ne-eqb (length bs) shelfLength h in
-      record { answers = rw (right, wrong); words = rw (right, wrong); shelf = rw (right, wrong) }
+      let wrong = ne-eqb (length bs) arenaLength h in
+      record { answers = rw (right, wrong); words = rw (right, wrong); arena = rw (right, wrong) }
 
-  pub made : (ws′ bs′ : List ℕ) → length ws ≡ wordsLength → length bs ≡ shelfLength → ws′ ≡ freshState → bs′ ≡ replicate (length bs) 0 → Freshly ws bs Done ws′ bs′
-  unfolding freshAnswer freshWords freshShelves
+  pub made : (ws′ bs′ : List ℕ) → length ws ≡ wordsLength → length bs ≡ arenaLength → ws′ ≡ freshState → bs′ ≡ replicate (length bs) 0 → Freshly ws bs Done ws′ bs′
+  unfolding freshAnswer freshWords freshArenas
   made ws′ bs′ size room w b =
       let right = eq-eqb (length ws) wordsLength size in
-      let long = eq-eqb (length bs) shelfLength room in
+      let long = eq-eqb (length bs) arenaLength room in
       record {
         answers = rw (right, long);
         words = rw (right, long) w;
-        shelf = rw (right, long) (b ∙ ap (λ (n : ℕ). replicate n 0) room);
+        arena = rw (right, long) (b ∙ ap (λ (n : ℕ). replicate n 0) room);
       }

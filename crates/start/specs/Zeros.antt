@@ -1,7 +1,7 @@
 -- Zeros written one by one, and the few words that are none.
 use Prim.Native.Nat.{ℕ, zero, suc, _+_, _<_}
-use mathlib.Core.Path.{_≡_, refl, sym, ap, ap₂, _∙_}
-use mathlib.Core.List.{List, [], _∷_, _++_, append-assoc, append-nil}
+use mathlib.Core.Path.{_≡_, refl, sym, ap, _∙_}
+use mathlib.Core.List.{List, [], _∷_, _++_, append-nil}
 use native.Mathlib.Numerals.{add-one}
 use lib.ListN.{length, drop, getD, set, replicate, length-replicate, replicate-append-replicate}
 use lib.Seq.{drop-cons, drop-length, set-at}

@@ -1,6 +1,6 @@
 // A fresh engine: "tests the sizes only", and writes every word and byte.
 use model::Answer;
-use words::Refusal;
+use refusals::Refusal;
 ghost use mathlib.Core.Path.{_≡_};
 ghost use lib.ListN.{length, replicate};
 ghost use Rattle.model.specs.Layout.{wordsLength};
@@ -19,12 +19,12 @@ fn zero_words(words: &mut [u32])
 }
 
 // Every byte zero.
-fn zero_bytes(shelf: &mut [u8])
-    ensures { λ r. ⌜ now (shelf .exit) ≡ replicate (length (now (shelf .entry))) 0 ⌝ }
+fn zero_bytes(arena: &mut [u8])
+    ensures { λ r. ⌜ now (arena .exit) ≡ replicate (length (now (arena .entry))) 0 ⌝ }
 {
     let mut i = 0;
-    while i < shelf.len() {
-        shelf[i] = 0;
+    while i < arena.len() {
+        arena[i] = 0;
         i += 1;
     }
 }
@@ -41,17 +41,17 @@ fn fresh_words(words: &mut [u32])
     words[71] = 32;
 }
 
-// A fresh engine in the lent words and on the lent shelf; refused where a size is wrong.
-pub fn fresh(words: &mut [u32], shelf: &mut [u8]) -> Answer
-    ensures { λ r. ⌜ Freshly (now (words .entry)) (now (shelf .entry)) r (now (words .exit)) (now (shelf .exit)) ⌝ }
+// A fresh engine in the lent words and in the lent arena; refused where a size is wrong.
+pub fn fresh(words: &mut [u32], arena: &mut [u8]) -> Answer
+    ensures { λ r. ⌜ Freshly (now (words .entry)) (now (arena .entry)) r (now (words .exit)) (now (arena .exit)) ⌝ }
 {
     if words.len() != 22083 {
         return Answer::Refused(Refusal::BadState);
     }
-    if shelf.len() != 65536 {
+    if arena.len() != 65536 {
         return Answer::Refused(Refusal::BadState);
     }
     fresh_words(words);
-    zero_bytes(shelf);
+    zero_bytes(arena);
     Answer::Done
 }

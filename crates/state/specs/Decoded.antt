@@ -1,21 +1,20 @@
--- Decoding the words and the shelf after a command gives the model's effect.
-use Prim.{Unit, tt}
+-- Decoding the words and the arena after a command gives the model's effect.
+use Prim.{Unit}
 use Prim.Native.Nat.{ℕ, zero, suc, _+_, _-_, _*_, _≤_, _<_}
 use mathlib.Core.Bool.{Bool, true, false}
 use mathlib.Core.Path.{_≡_, refl, sym, ap, ap₂, _∙_}
 use mathlib.Core.List.{List, [], _∷_, _++_}
 use native.Mathlib.Omega.{arith}
-use lib.ListN.{length, take, drop, getD, replicate, length-append, length-take, length-drop, length-replicate}
+use lib.ListN.{length, take, drop, getD, replicate, length-append, length-drop}
 use lib.Dec.{eqb}
 use lib.Seq.{take-at, drop-at, take-take, length-take-le}
 use Rattle.words.specs.Choice.{pick}
-use Rattle.words.specs.Parts.{region, put, region-length, region-put}
-use Rattle.nodes.specs.declared.Node.{Node}
-use Rattle.nodes.specs.Table.{width, rows, fill, fill-length, rows-fill}
-use Rattle.model.specs.Layout.{wordsLength, nodesPlace, nodesWords, orderPlace, orderWords, controlsPlace, controlsWords, busesPlace, busCount, lengthsPlace, residentPlace, slotCount, slotRoom, shelfLength, putLengths, putResident, putNodes, orderRegion, putOrder, putControls, putBuses, putHeader, lengthsIn, residentIn, nodesIn, orderIn, controlsIn, busesIn}
+use Rattle.words.specs.Parts.{region, region-length, region-put}
+use Rattle.nodes.specs.Table.{rows, fill, fill-length, rows-fill}
+use Rattle.model.specs.Layout.{wordsLength, nodesPlace, nodesWords, orderPlace, orderWords, controlsPlace, controlsWords, busesPlace, busCount, lengthsPlace, residentPlace, slotCount, slotRoom, arenaLength, putResident, putNodes, orderRegion, putOrder, putControls, putBuses, lengthsIn, flagsIn, nodesIn, orderIn, controlsIn, busesIn}
 use Rattle.model.specs.Engine.{Slot, Engine, slotsFrom, decode}
 use Rattle.model.specs.Effects.{withControls, withBuses, withSlots}
-use Rattle.model.specs.After.{putTree, flagsOf, lengthsOf, putSlots, shelfOf}
+use Rattle.model.specs.After.{putTree, flagsOf, lengthsOf, putSlots, arenaOf}
 use Rattle.state.specs.Regions.{region-before, region-past, word-before, put-size, header-length, header-region}
 
 -- an order padded to its region, and read back from it
@@ -69,7 +68,7 @@ module _ (e : Engine) (ws : List ℕ) (size : length ws ≡ wordsLength) (few : 
   pub tree-lengths : lengthsIn (putTree e ws) ≡ lengthsIn ws
   tree-lengths = low lengthsPlace slotCount (omega arith) (omega arith)
 
-  pub tree-flags : residentIn (putTree e ws) ≡ residentIn ws
+  pub tree-flags : flagsIn (putTree e ws) ≡ flagsIn ws
   tree-flags = low residentPlace slotCount (omega arith) (omega arith)
 
   pub tree-nodes : nodesIn (putTree e ws) ≡ e .nodes
@@ -116,9 +115,9 @@ module _ (e : Engine) (ws : List ℕ) (size : length ws ≡ wordsLength) (few : 
       )
 
 -- the engine of the parts of the words
-abbrev engineOf : (count orderLength next latest : ℕ) (lengths flags nodes order controls buses shelf : List ℕ) → Engine
-engineOf count orderLength next latest lengths flags nodes order controls buses shelf = record {
-  slots = slotsFrom slotCount lengths flags shelf;
+abbrev engineOf : (count orderLength next latest : ℕ) (lengths flags nodes order controls buses arena : List ℕ) → Engine
+engineOf count orderLength next latest lengths flags nodes order controls buses arena = record {
+  slots = slotsFrom slotCount lengths flags arena;
   nodes = rows count nodes;
   order = take orderLength order;
   controls = controls;
@@ -128,9 +127,9 @@ engineOf count orderLength next latest lengths flags nodes order controls buses 
 }
 
 -- words with the same first four words, and the same parts but for the buses and the controls
-same-engine : {a a′ b b′ c c′ d d′ : ℕ} {l l′ f f′ n n′ o o′ cs cs′ bs bs′ : List ℕ} (shelf : List ℕ) → a ≡ a′ → b ≡ b′ → c ≡ c′ → d ≡ d′ → l ≡ l′ → f ≡ f′ → n ≡ n′ → o ≡ o′ → cs ≡ cs′ → bs ≡ bs′
-    → engineOf a b c d l f n o cs bs shelf ≡ engineOf a′ b′ c′ d′ l′ f′ n′ o′ cs′ bs′ shelf
-same-engine shelf p0 p1 p2 p3 p4 p5 p6 p7 p8 p9 = cc
+same-engine : {a a′ b b′ c c′ d d′ : ℕ} {l l′ f f′ n n′ o o′ cs cs′ bs bs′ : List ℕ} (arena : List ℕ) → a ≡ a′ → b ≡ b′ → c ≡ c′ → d ≡ d′ → l ≡ l′ → f ≡ f′ → n ≡ n′ → o ≡ o′ → cs ≡ cs′ → bs ≡ bs′
+    → engineOf a b c d l f n o cs bs arena ≡ engineOf a′ b′ c′ d′ l′ f′ n′ o′ cs′ bs′ arena
+same-engine arena p0 p1 p2 p3 p4 p5 p6 p7 p8 p9 = cc
 
 -- the controls put in, and nothing else
 module _ (cs ws bs : List ℕ) (size : length ws ≡ wordsLength) (many : length cs ≡ controlsWords) where
@@ -176,49 +175,49 @@ Backed (s ∷ more) [] = ⊥
 Backed (s ∷ more) (o ∷ old) = ((s .resident ≡ true → length (s .bytes) ≤ slotRoom) × (s .resident ≡ false → s .bytes ≡ o .bytes)) × Backed more old
 
 -- one slot written and read back
-slot-back : (s : Slot) (size : ℕ) (shelf rest : List ℕ) → slotRoom ≤ length shelf
-    → (s .resident ≡ true → length (s .bytes) ≤ slotRoom) → (s .resident ≡ false → s .bytes ≡ take size (take slotRoom shelf))
+slot-back : (s : Slot) (size : ℕ) (arena rest : List ℕ) → slotRoom ≤ length arena
+    → (s .resident ≡ true → length (s .bytes) ≤ slotRoom) → (s .resident ≡ false → s .bytes ≡ take size (take slotRoom arena))
     → (b : Bool) → s .resident ≡ b
-    → take (pick b (length (s .bytes)) size) (take slotRoom (pick b (s .bytes ++ drop (length (s .bytes)) (take slotRoom shelf)) (take slotRoom shelf) ++ rest)) ≡ s .bytes
-slot-back s size shelf rest long fits kept true e =
-    let front : length (take slotRoom shelf) ≡ slotRoom = length-take-le slotRoom shelf long in
+    → take (pick b (length (s .bytes)) size) (take slotRoom (pick b (s .bytes ++ drop (length (s .bytes)) (take slotRoom arena)) (take slotRoom arena) ++ rest)) ≡ s .bytes
+slot-back s size arena rest long fits kept true e =
+    let front : length (take slotRoom arena) ≡ slotRoom = length-take-le slotRoom arena long in
     let n : length (s .bytes) ≤ slotRoom = fits e in
-    let back : length (drop (length (s .bytes)) (take slotRoom shelf)) ≡ slotRoom - length (s .bytes) = length-drop (length (s .bytes)) (take slotRoom shelf) ∙ ap (λ (k : ℕ). k - length (s .bytes)) front in
-    let whole : length (s .bytes ++ drop (length (s .bytes)) (take slotRoom shelf)) ≡ slotRoom = length-append (s .bytes) (drop (length (s .bytes)) (take slotRoom shelf)) ∙ omega arith in
-    ap (λ (l : List ℕ). take (length (s .bytes)) l) (take-at (s .bytes ++ drop (length (s .bytes)) (take slotRoom shelf)) rest slotRoom whole)
-    ∙ take-at (s .bytes) (drop (length (s .bytes)) (take slotRoom shelf)) (length (s .bytes)) refl
-slot-back s size shelf rest long fits kept false e =
-    ap (λ (l : List ℕ). take size l) (take-at (take slotRoom shelf) rest slotRoom (length-take-le slotRoom shelf long)) ∙ sym (kept e)
+    let back : length (drop (length (s .bytes)) (take slotRoom arena)) ≡ slotRoom - length (s .bytes) = length-drop (length (s .bytes)) (take slotRoom arena) ∙ ap (λ (k : ℕ). k - length (s .bytes)) front in
+    let whole : length (s .bytes ++ drop (length (s .bytes)) (take slotRoom arena)) ≡ slotRoom = length-append (s .bytes) (drop (length (s .bytes)) (take slotRoom arena)) ∙ omega arith in
+    ap (λ (l : List ℕ). take (length (s .bytes)) l) (take-at (s .bytes ++ drop (length (s .bytes)) (take slotRoom arena)) rest slotRoom whole)
+    ∙ take-at (s .bytes) (drop (length (s .bytes)) (take slotRoom arena)) (length (s .bytes)) refl
+slot-back s size arena rest long fits kept false e =
+    ap (λ (l : List ℕ). take size l) (take-at (take slotRoom arena) rest slotRoom (length-take-le slotRoom arena long)) ∙ sym (kept e)
 
--- the shelf behind one slot
-behind : (s : Slot) (shelf rest : List ℕ) → slotRoom ≤ length shelf → (s .resident ≡ true → length (s .bytes) ≤ slotRoom) → (b : Bool) → s .resident ≡ b
-    → drop slotRoom (pick b (s .bytes ++ drop (length (s .bytes)) (take slotRoom shelf)) (take slotRoom shelf) ++ rest) ≡ rest
-behind s shelf rest long fits true e =
-    let front : length (take slotRoom shelf) ≡ slotRoom = length-take-le slotRoom shelf long in
+-- the arena behind one slot
+behind : (s : Slot) (arena rest : List ℕ) → slotRoom ≤ length arena → (s .resident ≡ true → length (s .bytes) ≤ slotRoom) → (b : Bool) → s .resident ≡ b
+    → drop slotRoom (pick b (s .bytes ++ drop (length (s .bytes)) (take slotRoom arena)) (take slotRoom arena) ++ rest) ≡ rest
+behind s arena rest long fits true e =
+    let front : length (take slotRoom arena) ≡ slotRoom = length-take-le slotRoom arena long in
     let n : length (s .bytes) ≤ slotRoom = fits e in
-    let back : length (drop (length (s .bytes)) (take slotRoom shelf)) ≡ slotRoom - length (s .bytes) = length-drop (length (s .bytes)) (take slotRoom shelf) ∙ ap (λ (k : ℕ). k - length (s .bytes)) front in
-    drop-at (s .bytes ++ drop (length (s .bytes)) (take slotRoom shelf)) rest slotRoom (length-append (s .bytes) (drop (length (s .bytes)) (take slotRoom shelf)) ∙ omega arith)
-behind s shelf rest long fits false e = drop-at (take slotRoom shelf) rest slotRoom (length-take-le slotRoom shelf long)
+    let back : length (drop (length (s .bytes)) (take slotRoom arena)) ≡ slotRoom - length (s .bytes) = length-drop (length (s .bytes)) (take slotRoom arena) ∙ ap (λ (k : ℕ). k - length (s .bytes)) front in
+    drop-at (s .bytes ++ drop (length (s .bytes)) (take slotRoom arena)) rest slotRoom (length-append (s .bytes) (drop (length (s .bytes)) (take slotRoom arena)) ∙ omega arith)
+behind s arena rest long fits false e = drop-at (take slotRoom arena) rest slotRoom (length-take-le slotRoom arena long)
 
 flag-back : (b : Bool) → eqb (pick b 1 0) 1 ≡ b
 flag-back true = refl
 flag-back false = refl
 
 -- slots put in are read back
-pub slots-back : (n : ℕ) (slots : List Slot) (lengths flags shelf : List ℕ) → length slots ≡ n → slotRoom * n ≤ length shelf → Backed slots (slotsFrom n lengths flags shelf)
-    → slotsFrom n (lengthsOf slots lengths) (flagsOf slots) (shelfOf slots shelf) ≡ slots
-unfolding slotsFrom lengthsOf flagsOf shelfOf Backed
-slots-back zero [] lengths flags shelf h long k = refl
-slots-back zero (s ∷ slots) lengths flags shelf h long k = absurd (omega arith)
-slots-back (suc n) [] lengths flags shelf h long k = absurd (omega arith)
-slots-back (suc n) (s ∷ slots) lengths flags shelf h long k =
-    let room : slotRoom ≤ length shelf = omega arith in
-    let rest : slotRoom * n ≤ length (drop slotRoom shelf) = rw (length-drop slotRoom shelf) (omega arith) in
-    let ih : slotsFrom n (lengthsOf slots (drop 1 lengths)) (flagsOf slots) (shelfOf slots (drop slotRoom shelf)) ≡ slots =
-    slots-back n slots (drop 1 lengths) (drop 1 flags) (drop slotRoom shelf) (omega arith) rest (k .1) in
+pub slots-back : (n : ℕ) (slots : List Slot) (lengths flags arena : List ℕ) → length slots ≡ n → slotRoom * n ≤ length arena → Backed slots (slotsFrom n lengths flags arena)
+    → slotsFrom n (lengthsOf slots lengths) (flagsOf slots) (arenaOf slots arena) ≡ slots
+unfolding slotsFrom lengthsOf flagsOf arenaOf Backed
+slots-back zero [] lengths flags arena h long k = refl
+slots-back zero (s ∷ slots) lengths flags arena h long k = absurd (omega arith)
+slots-back (suc n) [] lengths flags arena h long k = absurd (omega arith)
+slots-back (suc n) (s ∷ slots) lengths flags arena h long k =
+    let room : slotRoom ≤ length arena = omega arith in
+    let rest : slotRoom * n ≤ length (drop slotRoom arena) = rw (length-drop slotRoom arena) (omega arith) in
+    let ih : slotsFrom n (lengthsOf slots (drop 1 lengths)) (flagsOf slots) (arenaOf slots (drop slotRoom arena)) ≡ slots =
+    slots-back n slots (drop 1 lengths) (drop 1 flags) (drop slotRoom arena) (omega arith) rest (k .1) in
     ap₂ (λ (l : List ℕ) (more : List Slot). record { bytes = l; resident = eqb (pick (s .resident) 1 0) 1 } ∷ more)
-    (slot-back s (getD lengths 0 0) shelf (shelfOf slots (drop slotRoom shelf)) room (k .0 .0) (k .0 .1) (s .resident) refl)
-    (ap (λ (l : List ℕ). slotsFrom n (lengthsOf slots (drop 1 lengths)) (flagsOf slots) l) (behind s shelf (shelfOf slots (drop slotRoom shelf)) room (k .0 .0) (s .resident) refl) ∙ ih)
+    (slot-back s (getD lengths 0 0) arena (arenaOf slots (drop slotRoom arena)) room (k .0 .0) (k .0 .1) (s .resident) refl)
+    (ap (λ (l : List ℕ). slotsFrom n (lengthsOf slots (drop 1 lengths)) (flagsOf slots) l) (behind s arena (arenaOf slots (drop slotRoom arena)) room (k .0 .0) (s .resident) refl) ∙ ih)
     ∙ ap (λ (b : Bool). record { bytes = s .bytes; resident = b } ∷ slots) (flag-back (s .resident))
 
 -- the lists of a slot's words are as many as the slots
@@ -233,7 +232,7 @@ lengths-length [] sizes = refl
 lengths-length (s ∷ slots) sizes = ap suc (lengths-length slots (drop 1 sizes))
 
 -- slots put in, and nothing else
-module _ (slots : List Slot) (ws bs : List ℕ) (size : length ws ≡ wordsLength) (room : length bs ≡ shelfLength) (many : length slots ≡ slotCount) (backed : Backed slots (decode ws bs .slots)) where
+module _ (slots : List Slot) (ws bs : List ℕ) (size : length ws ≡ wordsLength) (room : length bs ≡ arenaLength) (many : length slots ≡ slotCount) (backed : Backed slots (decode ws bs .slots)) where
   abbrev flagged : List ℕ
   flagged = putResident (flagsOf slots) ws
 
@@ -262,14 +261,14 @@ module _ (slots : List Slot) (ws bs : List ℕ) (size : length ws ≡ wordsLengt
   pub slots-lengths : lengthsIn (putSlots slots ws) ≡ lengthsOf slots (lengthsIn ws)
   slots-lengths = region-put lengthsPlace slotCount (lengthsOf slots (lengthsIn ws)) flagged (omega (arith, flaggedSize)) lengthsMany
 
-  pub slots-flags : residentIn (putSlots slots ws) ≡ flagsOf slots
+  pub slots-flags : flagsIn (putSlots slots ws) ≡ flagsOf slots
   slots-flags =
       region-past lengthsPlace slotCount (lengthsOf slots (lengthsIn ws)) flagged (omega (arith, flaggedSize)) lengthsMany residentPlace slotCount (omega arith)
       ∙ region-put residentPlace slotCount (flagsOf slots) ws (omega arith) flagsMany
 
-  pub slots-decoded : decode (putSlots slots ws) (shelfOf slots bs) ≡ withSlots slots (decode ws bs)
+  pub slots-decoded : decode (putSlots slots ws) (arenaOf slots bs) ≡ withSlots slots (decode ws bs)
   unfolding decode
   slots-decoded =
-      same-engine (shelfOf slots bs) (slots-word 0 (omega arith)) (slots-word 1 (omega arith)) (slots-word 2 (omega arith)) (slots-word 3 (omega arith)) slots-lengths slots-flags
+      same-engine (arenaOf slots bs) (slots-word 0 (omega arith)) (slots-word 1 (omega arith)) (slots-word 2 (omega arith)) (slots-word 3 (omega arith)) slots-lengths slots-flags
       (high nodesPlace nodesWords (omega arith)) (high orderPlace orderWords (omega arith)) (high controlsPlace controlsWords (omega arith)) (high busesPlace busCount (omega arith))
-      ∙ ap (λ (l : List Slot). withSlots l (decode ws bs)) (slots-back slotCount slots (lengthsIn ws) (residentIn ws) bs many (omega arith) backed)
+      ∙ ap (λ (l : List Slot). withSlots l (decode ws bs)) (slots-back slotCount slots (lengthsIn ws) (flagsIn ws) bs many (omega arith) backed)

@@ -6,8 +6,8 @@ use mathlib.Core.Path.{_≡_, refl, sym, ap, _∙_}
 use mathlib.Core.List.{List, [], _∷_}
 use lib.ListN.{length}
 use Rattle.words.specs.Choice.{pick}
-use Rattle.words.specs.declared.Refusal.{Refusal}
-use Rattle.words.specs.declared.Refusal.the-variants.{BadState}
+use Rattle.refusals.specs.declared.Refusal.{Refusal}
+use Rattle.refusals.specs.declared.Refusal.the-variants.{BadState}
 use Rattle.synthdef.specs.Read.{Read, got, bad}
 use Rattle.synthdef.specs.Definition.{Definition}
 use Rattle.synthdef.specs.Reader.{readFile}
@@ -23,21 +23,21 @@ use Rattle.model.specs.declared.Query.{Query}
 use Rattle.model.specs.declared.Command.{Command}
 use Rattle.model.specs.declared.Command.the-variants as command
 use Rattle.model.specs.declared.Answer.{Answer}
-use Rattle.model.specs.declared.Answer.the-variants.{Done, Replied, Refused, RefusedAt}
+use Rattle.model.specs.declared.Answer.the-variants.{Done, Refused}
 use Rattle.model.specs.Engine.{Engine, decode}
 use Rattle.model.specs.Formed.{formed}
 use Rattle.model.specs.Checks.{Check, firstOf, faultOf, definitionChecks, treeChecks, controlChecks, busChecks}
 use Rattle.model.specs.Replies.{reply}
-use Rattle.model.specs.After.{wordsAfter, shelfAfter}
-use Rattle.model.specs.Door.{queryAnswer, answerIn, answer, isAccepted, written, replyOf, Does}
+use Rattle.model.specs.After.{wordsAfter, arenaAfter}
+use Rattle.model.specs.Apply.{queryAnswer, answerIn, answer, isAccepted, written, replyOf, Does}
 
--- a command that is no query: its answer by the table, and the words and the shelf after it, as they were where it is refused
+-- a command that is no query: its answer by the table, and the words and the arena after it, as they were where it is refused
 pub record Step (c : Command) (bytes ws bs : List ℕ) (a : Answer) (ws′ bs′ : List ℕ) : Type 0 where
   pub answers : a ≡ answerIn c bytes (decode ws bs) 0
   pub words : ws′ ≡ pick (isAccepted a) (wordsAfter c bytes ws bs) ws
-  pub shelf : bs′ ≡ pick (isAccepted a) (shelfAfter c bytes ws bs) bs
+  pub arena : bs′ ≡ pick (isAccepted a) (arenaAfter c bytes ws bs) bs
 
--- the same of a command that leaves the shelf alone
+-- the same of a command that leaves the arena alone
 pub record WordsStep (c : Command) (bytes ws bs : List ℕ) (a : Answer) (ws′ : List ℕ) : Type 0 where
   pub answers : a ≡ answerIn c bytes (decode ws bs) 0
   pub words : ws′ ≡ pick (isAccepted a) (wordsAfter c bytes ws bs) ws
@@ -58,7 +58,7 @@ module _ (c : Command) (bytes ws bs : List ℕ) where
 -- the state check failed
 pub does-bad : (c : Command) (bytes ws bs out : List ℕ) → formed ws bs ≡ false → Does c bytes ws bs out (Refused BadState) ws bs out
 unfolding answer
-does-bad c bytes ws bs out h = record { answers = rw h; words = rw h; shelf = rw h; reply = rw h }
+does-bad c bytes ws bs out h = record { answers = rw h; words = rw h; arena = rw h; reply = rw h }
 
 answered : (c : Command) (bytes ws bs out : List ℕ) → formed ws bs ≡ true → answer c bytes ws bs out ≡ answerIn c bytes (decode ws bs) (length out)
 unfolding answer
@@ -68,16 +68,16 @@ answered c bytes ws bs out h = rw h
 does-by : (c : Command) (bytes ws bs out : List ℕ) (a : Answer) (ws′ bs′ out′ : List ℕ) → formed ws bs ≡ true
     → a ≡ answerIn c bytes (decode ws bs) (length out)
     → ws′ ≡ pick (isAccepted a) (wordsAfter c bytes ws bs) ws
-    → bs′ ≡ pick (isAccepted a) (shelfAfter c bytes ws bs) bs
+    → bs′ ≡ pick (isAccepted a) (arenaAfter c bytes ws bs) bs
     → out′ ≡ written a (replyOf c bytes (decode ws bs)) out
     → Does c bytes ws bs out a ws′ bs′ out′
 does-by c bytes ws bs out a ws′ bs′ out′ h e w b o =
-    let told : a ≡ answer c bytes ws bs out = e ∙ sym (answered c bytes ws bs out h) in
+    let fact : a ≡ answer c bytes ws bs out = e ∙ sym (answered c bytes ws bs out h) in
     record {
-      answers = told;
-      words = w ∙ ap (λ (x : Answer). pick (isAccepted x) (wordsAfter c bytes ws bs) ws) told;
-      shelf = b ∙ ap (λ (x : Answer). pick (isAccepted x) (shelfAfter c bytes ws bs) bs) told;
-      reply = o ∙ ap (λ (x : Answer). written x (replyOf c bytes (decode ws bs)) out) told;
+      answers = fact;
+      words = w ∙ ap (λ (x : Answer). pick (isAccepted x) (wordsAfter c bytes ws bs) ws) fact;
+      arena = b ∙ ap (λ (x : Answer). pick (isAccepted x) (arenaAfter c bytes ws bs) bs) fact;
+      reply = o ∙ ap (λ (x : Answer). written x (replyOf c bytes (decode ws bs)) out) fact;
     }
 
 -- a choice between the same
@@ -138,29 +138,29 @@ module _ (bytes ws bs out : List ℕ) (a : Answer) where
       → Does (command.Definitions c) bytes ws bs out a ws′ bs′ out
   unfolding answerIn
   definitions-do c ws′ bs′ h s =
-      does-by (command.Definitions c) bytes ws bs out a ws′ bs′ out h (s .answers) (s .words) (s .shelf)
+      does-by (command.Definitions c) bytes ws bs out a ws′ bs′ out h (s .answers) (s .words) (s .arena)
       (rw (s .answers) (sym (silent (definitionChecks c bytes (decode ws bs)) out (silent-definitions c bytes (decode ws bs) out))))
 
   pub tree-does : (c : TreeCommand) (ws′ : List ℕ) → formed ws bs ≡ true → WordsStep (command.Tree c) bytes ws bs a ws′ → Does (command.Tree c) bytes ws bs out a ws′ bs out
-  unfolding answerIn shelfAfter
+  unfolding answerIn arenaAfter
   tree-does c ws′ h s =
       does-by (command.Tree c) bytes ws bs out a ws′ bs out h (s .answers) (s .words) (either-way (isAccepted a) bs)
       (rw (s .answers) (sym (silent (treeChecks c bytes (decode ws bs)) out (silent-tree c bytes (decode ws bs) out))))
 
   pub controls-do : (c : ControlCommand) (ws′ : List ℕ) → formed ws bs ≡ true → WordsStep (command.Controls c) bytes ws bs a ws′
       → Does (command.Controls c) bytes ws bs out a ws′ bs out
-  unfolding answerIn shelfAfter
+  unfolding answerIn arenaAfter
   controls-do c ws′ h s =
       does-by (command.Controls c) bytes ws bs out a ws′ bs out h (s .answers) (s .words) (either-way (isAccepted a) bs)
       (rw (s .answers) (sym (silent (controlChecks c bytes (decode ws bs)) out (silent-controls c bytes (decode ws bs) out))))
 
   pub buses-do : (c : BusCommand) (ws′ : List ℕ) → formed ws bs ≡ true → WordsStep (command.Buses c) bytes ws bs a ws′ → Does (command.Buses c) bytes ws bs out a ws′ bs out
-  unfolding answerIn shelfAfter
+  unfolding answerIn arenaAfter
   buses-do c ws′ h s =
       does-by (command.Buses c) bytes ws bs out a ws′ bs out h (s .answers) (s .words) (either-way (isAccepted a) bs)
       (rw (s .answers) (sym (silent (busChecks c (decode ws bs)) out (silent-buses c (decode ws bs) out))))
 
   pub query-does : (q : Query) (out′ : List ℕ) → formed ws bs ≡ true → Reply q bytes ws bs out a out′ → Does (command.Query q) bytes ws bs out a ws bs out′
-  unfolding answerIn wordsAfter shelfAfter
+  unfolding answerIn wordsAfter arenaAfter
   query-does q out′ h s =
       does-by (command.Query q) bytes ws bs out a ws bs out′ h (s .answers) (either-way (isAccepted a) ws) (either-way (isAccepted a) bs) (s .reply)

@@ -1,13 +1,13 @@
--- A fresh engine's words and shelf: their lengths, and the one node.
+-- A fresh engine's words and arena: their lengths, and the one node.
 use Prim.Native.Nat.{ℕ}
 use mathlib.Core.Path.{_≡_, refl}
 use mathlib.Core.List.{[], _∷_}
 use native.Mathlib.Omega.{arith}
 use lib.ListN.{length, replicate, length-replicate}
 use Rattle.nodes.specs.Table.{rows, encode}
-use Rattle.model.specs.Layout.{wordsLength, shelfLength}
+use Rattle.model.specs.Layout.{wordsLength, arenaLength}
 use Rattle.model.specs.Engine.{decode}
-use Rattle.model.specs.After.{root, freshState, freshShelf}
+use Rattle.model.specs.After.{root, freshState, freshArena}
 
 pub fresh-length : length freshState ≡ wordsLength
 unfolding encode
@@ -15,9 +15,9 @@ fresh-length =
     let a : length (replicate {A = ℕ} 22010 0) ≡ 22010 = length-replicate {A = ℕ} 22010 0 in
     omega (arith, a)
 
-pub shelf-length : length freshShelf ≡ shelfLength
-shelf-length = length-replicate {A = ℕ} shelfLength 0
+pub arena-length : length freshArena ≡ arenaLength
+arena-length = length-replicate {A = ℕ} arenaLength 0
 
-pub fresh-nodes : decode freshState freshShelf .nodes ≡ root ∷ []
+pub fresh-nodes : decode freshState freshArena .nodes ≡ root ∷ []
 unfolding decode rows encode
 fresh-nodes = refl

@@ -1,20 +1,18 @@
 -- What a state that passed the check is known to be, by parts.
 use Prim.Native.Nat.{ℕ, _≤_}
-use mathlib.Core.Bool.{Bool, true}
-use mathlib.Core.Path.{_≡_, sym, ap, _∙_}
+use mathlib.Core.Bool.{true}
+use mathlib.Core.Path.{_≡_}
 use mathlib.Core.List.{List}
-use native.Mathlib.Omega.{arith}
 use lib.ListN.{length}
 use lib.Dec.{leb, eqb}
 use borrow.Author.Tests.{leb-true, eqb-true}
-use Rattle.words.specs.Choice.{both, both-true}
+use Rattle.words.specs.Choice.{both-true}
 use Rattle.nodes.specs.declared.Node.{Node}
-use Rattle.nodes.specs.Table.{rows, rows-length}
+use Rattle.nodes.specs.Table.{rows-length}
 use Rattle.nodes.specs.Order.{order}
 use Rattle.nodes.specs.Formed.{mostNodes, countFormed, rooted, apart, allFormed, rowsApart, nextFormed, latestFormed}
 use Rattle.nodes.specs.Formed as nodes
-use Rattle.words.specs.Parts.{region}
-use Rattle.model.specs.Layout.{wordsLength, shelfLength, nodesPlace, nodesWords, countIn, nextIn, latestIn, orderLengthIn, orderWords, lengthsIn, residentIn, nodesIn, orderIn, controlsIn}
+use Rattle.model.specs.Layout.{wordsLength, arenaLength, countIn, nextIn, latestIn, orderLengthIn, orderWords, lengthsIn, flagsIn, nodesIn, orderIn, controlsIn}
 use Rattle.model.specs.Engine.{decode}
 use Rattle.model.specs.Formed.{formed, orderFormed, sameNumbers, flagsFormed, slotsFormed, namesApart, controlsFormed}
 
@@ -29,8 +27,8 @@ pub record Tree (next latest : ℕ) (t : List Node) : Type 0 where
   pub nextRight : nextFormed next ≡ true
   pub latestRight : latestFormed latest t ≡ true
 
-pub tree-known : (next latest : ℕ) (t : List Node) → nodes.formed next latest t ≡ true → Tree next latest t
-unfolding nodes.formed
+pub tree-known : (next latest : ℕ) (t : List Node) → nodes.nodesFormed next latest t ≡ true → Tree next latest t
+unfolding nodes.nodesFormed
 tree-known next latest t h =
     let a = both-true (countFormed t) _ h in
     let count = both-true (leb 1 (length t)) _ (a .0) in
@@ -53,14 +51,14 @@ tree-known next latest t h =
 pub record Known (ws bs : List ℕ) : Type 0 where
   pub whole : formed ws bs ≡ true
   pub size : length ws ≡ wordsLength
-  pub shelfSize : length bs ≡ shelfLength
+  pub arenaSize : length bs ≡ arenaLength
   pub some : 1 ≤ countIn ws
   pub few : countIn ws ≤ mostNodes
   pub tree : Tree (nextIn ws) (latestIn ws) (nodesIn ws)
-  pub treeFormed : nodes.formed (nextIn ws) (latestIn ws) (nodesIn ws) ≡ true
+  pub treeFormed : nodes.nodesFormed (nextIn ws) (latestIn ws) (nodesIn ws) ≡ true
   pub orderShort : orderLengthIn ws ≤ orderWords
   pub orderSame : sameNumbers (orderIn ws) (order (nodesIn ws)) ≡ true
-  pub flags : flagsFormed (residentIn ws) ≡ true
+  pub flags : flagsFormed (flagsIn ws) ≡ true
   pub slots : slotsFormed 0 (lengthsIn ws) (decode ws bs .slots) (nodesIn ws) ≡ true
   pub names : namesApart (decode ws bs .slots) ≡ true
   pub controls : controlsFormed (decode ws bs .slots) (controlsIn ws) (nodesIn ws) ≡ true
@@ -69,19 +67,19 @@ pub known : (ws bs : List ℕ) → formed ws bs ≡ true → Known ws bs
 unfolding formed
 known ws bs h =
     let a = both-true (eqb (length ws) wordsLength) _ h in
-    let b = both-true (eqb (length bs) shelfLength) _ (a .1) in
+    let b = both-true (eqb (length bs) arenaLength) _ (a .1) in
     let d = both-true (leb (countIn ws) mostNodes) _ (b .1) in
-    let f = both-true (nodes.formed (nextIn ws) (latestIn ws) (nodesIn ws)) _ (d .1) in
+    let f = both-true (nodes.nodesFormed (nextIn ws) (latestIn ws) (nodesIn ws)) _ (d .1) in
     let g = both-true (orderFormed ws (nodesIn ws)) _ (f .1) in
     let o = both-true (leb (orderLengthIn ws) orderWords) _ (g .0) in
-    let k = both-true (flagsFormed (residentIn ws)) _ (g .1) in
+    let k = both-true (flagsFormed (flagsIn ws)) _ (g .1) in
     let l = both-true (slotsFormed 0 (lengthsIn ws) (decode ws bs .slots) (nodesIn ws)) _ (k .1) in
     let m = both-true (namesApart (decode ws bs .slots)) _ (l .1) in
     let t = tree-known (nextIn ws) (latestIn ws) (nodesIn ws) (f .0) in
     record {
       whole = h;
       size = eqb-true (length ws) wordsLength (a .0);
-      shelfSize = eqb-true (length bs) shelfLength (b .0);
+      arenaSize = eqb-true (length bs) arenaLength (b .0);
       some = rw rows-length at (t .some);
       few = leb-true (countIn ws) mostNodes (d .0);
       tree = t;

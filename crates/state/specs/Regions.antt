@@ -1,11 +1,11 @@
 -- Parts of the words beside one that was put in.
 use Prim.Native.Nat.{ℕ, zero, suc, _+_, _-_, _≤_, _<_}
 use mathlib.Core.Path.{_≡_, refl, sym, ap, _∙_}
-use mathlib.Core.List.{List, [], _∷_, _++_}
+use mathlib.Core.List.{List, [], _∷_}
 use native.Mathlib.Omega.{arith}
-use lib.ListN.{length, take, drop, getD, length-take, length-drop}
-use lib.Seq.{drop-drop, take-take, getD-take, getD-drop}
-use Rattle.words.specs.Parts.{region, put, put-length, region-put, past-put, before-put}
+use lib.ListN.{length, take, drop, getD, length-drop}
+use lib.Seq.{drop-drop, take-take, getD-take}
+use Rattle.words.specs.Parts.{region, put, put-length, past-put, before-put}
 use Rattle.model.specs.Layout.{putHeader}
 
 -- a part lies in the front that holds it

@@ -3,8 +3,8 @@ use Prim.Native.Nat.{ℕ, _≤_, _<_}
 use mathlib.Core.Bool.{Bool, true, false}
 use mathlib.Core.Path.{_≡_, refl, sym, ap, ap₂, subst, _∙_}
 use mathlib.Core.List.{List}
-use lib.ListN.{length, take}
-use lib.Dec.{leb, eqb}
+use lib.ListN.{length}
+use lib.Dec.{leb}
 use borrow.Author.Tests.{leb-true, eq-eqb, ne-eqb, le-leb, lt-leb}
 use Rattle.words.specs.Choice.{both, both-true}
 use Rattle.words.specs.Parts.{region}
@@ -12,7 +12,7 @@ use Rattle.nodes.specs.declared.Node.{Node}
 use Rattle.nodes.specs.Table.{rows}
 use Rattle.nodes.specs.Formed.{mostNodes}
 use Rattle.nodes.specs.Formed as nodes
-use Rattle.model.specs.Layout.{wordsLength, shelfLength, nodesPlace, nodesWords, orderPlace, orderWords, countIn, nextIn, latestIn, orderLengthIn, lengthsIn, residentIn, nodesIn, controlsIn}
+use Rattle.model.specs.Layout.{wordsLength, arenaLength, nodesPlace, nodesWords, orderPlace, orderWords, countIn, nextIn, latestIn, orderLengthIn, lengthsIn, flagsIn, nodesIn, controlsIn}
 use Rattle.model.specs.Engine.{decode}
 use Rattle.model.specs.Formed.{formed, orderFormed, flagsFormed, slotsFormed, namesApart, controlsFormed}
 use Rattle.state.specs.Known.{tree-known}
@@ -28,7 +28,7 @@ keptIn ws = region orderPlace orderWords ws
 
 -- the rules on nodes with a count, and on the kept order with its length
 abbrev pub nodesPart : ℕ → List ℕ → Bool
-nodesPart count ws = nodes.formed (nextIn ws) (latestIn ws) (nodesOf count ws)
+nodesPart count ws = nodes.nodesFormed (nextIn ws) (latestIn ws) (nodesOf count ws)
 
 abbrev pub orderPart : ℕ → ℕ → List ℕ → Bool
 orderPart many count ws = sameOrder (keptIn ws) many (nodesOf count ws)
@@ -38,7 +38,7 @@ treePart ws = both (leb (countIn ws) mostNodes) (both (nodesPart (countIn ws) ws
 
 -- the rules on slots, and on controls
 abbrev pub slotsPart : List ℕ → List ℕ → Bool
-slotsPart ws bs = both (flagsFormed (residentIn ws)) (both (slotsFormed 0 (lengthsIn ws) (decode ws bs .slots) (nodesIn ws)) (namesApart (decode ws bs .slots)))
+slotsPart ws bs = both (flagsFormed (flagsIn ws)) (both (slotsFormed 0 (lengthsIn ws) (decode ws bs .slots) (nodesIn ws)) (namesApart (decode ws bs .slots)))
 
 abbrev pub controlsPart : List ℕ → List ℕ → Bool
 controlsPart ws bs = controlsFormed (decode ws bs .slots) (controlsIn ws) (nodesIn ws)
@@ -75,16 +75,16 @@ module _ (ws bs : List ℕ) where
   unfolding formed
   bad-size h = rw (ne-eqb (length ws) wordsLength h)
 
-  pub bad-room : length ws ≡ wordsLength → (length bs ≡ shelfLength → ⊥) → formed ws bs ≡ false
+  pub bad-room : length ws ≡ wordsLength → (length bs ≡ arenaLength → ⊥) → formed ws bs ≡ false
   unfolding formed
-  bad-room size h = rw (eq-eqb (length ws) wordsLength size, ne-eqb (length bs) shelfLength h)
+  bad-room size h = rw (eq-eqb (length ws) wordsLength size, ne-eqb (length bs) arenaLength h)
 
-module _ (ws bs : List ℕ) (size : length ws ≡ wordsLength) (room : length bs ≡ shelfLength) where
+module _ (ws bs : List ℕ) (size : length ws ≡ wordsLength) (room : length bs ≡ arenaLength) where
   pub parts : formed ws bs ≡ both (treePart ws) (both (slotsPart ws bs) (controlsPart ws bs))
   unfolding formed
   parts =
-      rw (eq-eqb (length ws) wordsLength size, eq-eqb (length bs) shelfLength room)
-      (regrouped (leb (countIn ws) mostNodes) (nodesPart (countIn ws) ws) (orderFormed ws (nodesIn ws)) (flagsFormed (residentIn ws))
+      rw (eq-eqb (length ws) wordsLength size, eq-eqb (length bs) arenaLength room)
+      (regrouped (leb (countIn ws) mostNodes) (nodesPart (countIn ws) ws) (orderFormed ws (nodesIn ws)) (flagsFormed (flagsIn ws))
       (slotsFormed 0 (lengthsIn ws) (decode ws bs .slots) (nodesIn ws)) (namesApart (decode ws bs .slots)) (controlsPart ws bs))
 
   pub bad-tree : treePart ws ≡ false → formed ws bs ≡ false
@@ -101,10 +101,10 @@ module _ (ws bs : List ℕ) (size : length ws ≡ wordsLength) (room : length bs
   ready tree slots =
       let t = both-true (leb (countIn ws) mostNodes) _ tree in
       let n = both-true (nodesPart (countIn ws) ws) _ (t .1) in
-      let s = both-true (flagsFormed (residentIn ws)) _ slots in
+      let s = both-true (flagsFormed (flagsIn ws)) _ slots in
       record {
         size = size;
-        shelfSize = room;
+        arenaSize = room;
         few = few tree;
         fields = tree-known (nextIn ws) (latestIn ws) (nodesIn ws) (n .0) .fields;
         slots = both-true (slotsFormed 0 (lengthsIn ws) (decode ws bs .slots) (nodesIn ws)) (namesApart (decode ws bs .slots)) (s .1) .0;

@@ -1,4 +1,4 @@
-// The state check: refusal 1's test of any words and any shelf at all.
+// The state check: refusal 1's test of any words and any arena at all.
 use controls::controls_formed;
 use definitions::held_slots;
 use definitions::slots_formed;
@@ -9,7 +9,7 @@ ghost use Prim.Native.Nat.{_≤_};
 ghost use mathlib.Core.Path.{_≡_};
 ghost use lib.ListN.{length};
 ghost use Rattle.nodes.specs.Formed.{mostNodes};
-ghost use Rattle.model.specs.Layout.{wordsLength, shelfLength, countIn};
+ghost use Rattle.model.specs.Layout.{wordsLength, arenaLength, countIn};
 ghost use Rattle.model.specs.Formed.{formed};
 ghost use Rattle.statecheck.specs.Parts.{treePart, slotsPart};
 
@@ -32,30 +32,30 @@ fn tree_formed(words: &[u32]) -> bool
 }
 
 // The rules on slots.
-fn slots_hold(words: &[u32], shelf: &[u8]) -> bool
-    requires { ⌜ (length (now words) ≡ wordsLength) × ((length (now shelf) ≡ shelfLength) × (countIn (now words) ≤ mostNodes)) ⌝ }
-    ensures { λ r. ⌜ r ≡ slotsPart (now (words .entry)) (now (shelf .entry)) ⌝ }
+fn slots_hold(words: &[u32], arena: &[u8]) -> bool
+    requires { ⌜ (length (now words) ≡ wordsLength) × ((length (now arena) ≡ arenaLength) × (countIn (now words) ≤ mostNodes)) ⌝ }
+    ensures { λ r. ⌜ r ≡ slotsPart (now (words .entry)) (now (arena .entry)) ⌝ }
 {
     let count = wide(words[0]);
     let held = held_slots(&words[68..1348], count);
-    slots_formed(&words[4..68], shelf, held)
+    slots_formed(&words[4..68], arena, held)
 }
 
-// The words and the shelf are a well-formed state.
-pub fn well_formed(words: &[u32], shelf: &[u8]) -> bool
-    ensures { λ r. ⌜ r ≡ formed (now (words .entry)) (now (shelf .entry)) ⌝ }
+// The words and the arena are a well-formed state.
+pub fn well_formed(words: &[u32], arena: &[u8]) -> bool
+    ensures { λ r. ⌜ r ≡ formed (now (words .entry)) (now (arena .entry)) ⌝ }
 {
     if words.len() != 22083 {
         return false;
     }
-    if shelf.len() != 65536 {
+    if arena.len() != 65536 {
         return false;
     }
     if !tree_formed(words) {
         return false;
     }
-    if !slots_hold(words, shelf) {
+    if !slots_hold(words, arena) {
         return false;
     }
-    controls_formed(words, shelf)
+    controls_formed(words, arena)
 }

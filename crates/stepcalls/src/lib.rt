@@ -22,14 +22,14 @@ pub extern "C" fn engine_step(
     e: u32,
     bytes: &[u8],
     words: &mut [u32],
-    shelf: &mut [u8],
+    arena: &mut [u8],
     reply: &mut [u8],
 ) -> u64
-    requires { ⌜ formed (now words) (now shelf) ≡ true ⌝ }
-    ensures { λ r. ⌜ Called (commandOf op a b c d e) (now (bytes .entry)) (now (words .entry)) (now (shelf .entry)) (now (reply .entry)) r (now (words .exit)) (now (shelf .exit)) (now (reply .exit)) ⌝ }
+    requires { ⌜ formed (now words) (now arena) ≡ true ⌝ }
+    ensures { λ r. ⌜ Called (commandOf op a b c d e) (now (bytes .entry)) (now (words .entry)) (now (arena .entry)) (now (reply .entry)) r (now (words .exit)) (now (arena .exit)) (now (reply .exit)) ⌝ }
 {
     match command_of(op, a, b, c, d, e) {
-        Parsed::Call(command) => call_number(step(command, bytes, words, shelf, reply)),
+        Parsed::Call(command) => call_number(step(command, bytes, words, arena, reply)),
         Parsed::Nothing => 255,
     }
 }

@@ -21,7 +21,7 @@ abbrev pub textOf : List ℕ → Text → Read (List ℕ)
 textOf s (text.Value start next) = got (region start (next .at - start) s) (next .at)
 textOf s (text.Bad r at) = bad r at
 
--- a part of the file that was read, of which only the end is told
+-- a part of the file that was read, of which only the end is fact
 abbrev pub stepOf : Step → Read (Unit {0})
 stepOf (step.Next next) = got tt (next .at)
 stepOf (step.Bad r at) = bad r at

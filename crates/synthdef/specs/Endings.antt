@@ -1,4 +1,4 @@
--- Laws of readings of which only a part of the value is told.
+-- Laws of readings of which only a part of the value is fact.
 use Prim.{Unit, tt}
 use Prim.Native.Nat.{ℕ, zero, suc, _+_, _*_, _-_, _≤_, _<_}
 use mathlib.Core.Path.{_≡_, refl, sym, ap, _∙_}
@@ -6,7 +6,7 @@ use mathlib.Core.List.{List}
 use native.Mathlib.Omega.{arith}
 use native.Mathlib.Nat.{mul-suc}
 use lib.ListN.{length}
-use Rattle.words.specs.declared.Refusal.{Refusal}
+use Rattle.faults.specs.declared.Fault.{Fault}
 use Rattle.synthdef.specs.Read.{Read, got, bad, andThen, repeat, ending}
 use Rattle.synthdef.specs.Fields.{whole}
 use Rattle.synthdef.specs.Front.{mapRead}
@@ -14,22 +14,22 @@ use Rattle.synthdef.specs.FieldLaws.{whole-got}
 use Rattle.synthdef.specs.RepeatLaws.{went-on, ending-turn, repeat-length}
 
 module _ {A B : Type 0} where
-  -- what was told was read
-  pub record Told (f : A → B) (r : Read A) (y : B) (end : ℕ) : Type 0 where
+  -- what was fact was read
+  pub record Mapped (f : A → B) (r : Read A) (y : B) (end : ℕ) : Type 0 where
     pub value : A
     pub read : r ≡ got value end
     pub same : f value ≡ y
 
-  pub told-got : (f : A → B) (r : Read A) {y : B} {end : ℕ} → mapRead f r ≡ got y end → Told f r y end
-  told-got f (got x n) h = record { value = x; read = cc; same = cc }
-  told-got f (bad q at) h = absurd (let z : _≡_ {A = ℕ} 0 1 = cc in omega arith)
+  pub mapped-got : (f : A → B) (r : Read A) {y : B} {end : ℕ} → mapRead f r ≡ got y end → Mapped f r y end
+  mapped-got f (got x n) h = record { value = x; read = cc; same = cc }
+  mapped-got f (bad q at) h = absurd (let z : _≡_ {A = ℕ} 0 1 = cc in omega arith)
 
 module _ {A B : Type 0} where
   -- a first part that was read, and one that was not
   pub then-got : {r : Read A} {x : A} {next : ℕ} (more : A → ℕ → Read B) → r ≡ got x next → andThen r more ≡ more x next
   then-got more e = ap (λ (q : Read A). andThen q more) e
 
-  pub then-bad : {r : Read A} {q : Refusal} {at : ℕ} (more : A → ℕ → Read B) → r ≡ bad q at → andThen r more ≡ bad q at
+  pub then-bad : {r : Read A} {q : Fault} {at : ℕ} (more : A → ℕ → Read B) → r ≡ bad q at → andThen r more ≡ bad q at
   then-bad more e = ap (λ (q : Read A). andThen q more) e
 
   -- the rest takes only the place
@@ -37,34 +37,34 @@ module _ {A B : Type 0} where
   then-ending (got x n) f g h = h x n
   then-ending (bad q at) f g h = refl
 
-  -- what is told of the whole is told of the rest
+  -- what is fact of the whole is fact of the rest
   pub ending-then : (r : Read A) (f : A → ℕ → Read B) (g : A → ℕ → Read (Unit {0})) → ((x : A) (n : ℕ) → ending (f x n) ≡ g x n) → ending (andThen r f) ≡ andThen r g
   ending-then (got x n) f g h = h x n
   ending-then (bad q at) f g h = refl
 
-  pub told-then : {C : Type 0} (t : B → C) (r : Read A) (f : A → ℕ → Read B) (g : A → ℕ → Read C)
+  pub fact-then : {C : Type 0} (t : B → C) (r : Read A) (f : A → ℕ → Read B) (g : A → ℕ → Read C)
       → ((x : A) (n : ℕ) → mapRead t (f x n) ≡ g x n) → mapRead t (andThen r f) ≡ andThen r g
-  told-then t (got x n) f g h = h x n
-  told-then t (bad q at) f g h = refl
+  fact-then t (got x n) f g h = h x n
+  fact-then t (bad q at) f g h = refl
 
   -- the rest takes only the place, and something about the value that is known of all that is read
-  pub told-ending : {C : Type 0} (t : B → C) (r : Read A) (f : A → ℕ → Read B) (g : ℕ → Read C)
+  pub fact-ending : {C : Type 0} (t : B → C) (r : Read A) (f : A → ℕ → Read B) (g : ℕ → Read C)
       → ((x : A) (n : ℕ) → r ≡ got x n → mapRead t (f x n) ≡ g n) → mapRead t (andThen r f) ≡ andThen (ending r) (λ u n. g n)
-  told-ending t (got x n) f g h = h x n refl
-  told-ending t (bad q at) f g h = refl
+  fact-ending t (got x n) f g h = h x n refl
+  fact-ending t (bad q at) f g h = refl
 
-  -- the rest takes only what is told of the first
-  pub ending-told : {C : Type 0} (t : A → C) (r : Read A) (f : A → ℕ → Read B) (g : C → ℕ → Read (Unit {0}))
+  -- the rest takes only what is fact of the first
+  pub ending-fact : {C : Type 0} (t : A → C) (r : Read A) (f : A → ℕ → Read B) (g : C → ℕ → Read (Unit {0}))
       → ((x : A) (n : ℕ) → ending (f x n) ≡ g (t x) n) → ending (andThen r f) ≡ andThen (mapRead t r) g
-  ending-told t (got x n) f g h = h x n
-  ending-told t (bad q at) f g h = refl
+  ending-fact t (got x n) f g h = h x n
+  ending-fact t (bad q at) f g h = refl
 
   pub ending-keeps : (r : Read A) (f : A → B) → ending (andThen r (λ x n. got (f x) n)) ≡ ending r
   ending-keeps (got x n) f = refl
   ending-keeps (bad q at) f = refl
 
 module _ {A : Type 0} where
-  pub ending-got : (r : Read A) {u : Unit {0}} {end : ℕ} → ending r ≡ got u end → Told (λ (x : A). tt {0}) r tt end
+  pub ending-got : (r : Read A) {u : Unit {0}} {end : ℕ} → ending r ≡ got u end → Mapped (λ (x : A). tt {0}) r tt end
   ending-got (got x n) h = record { value = x; read = cc; same = refl }
   ending-got (bad q at) h = absurd (let z : _≡_ {A = ℕ} 0 1 = cc in omega arith)
 
@@ -73,15 +73,15 @@ module _ {A : Type 0} where
   field-got size s at v h = let w = whole-got size s at v h in (w .1 .0, sym (w .1 .1), omega arith)
 
   -- readings of one size each, all of which end within a bound
-  abbrev pub Sized : (ℕ → Read A) → ℕ → ℕ → Type 0
-  Sized read size most = (at : ℕ) (x : A) (next : ℕ) → read at ≡ got x next → (next ≡ at + size) × (next ≤ most)
+  abbrev pub FixedSize : (ℕ → Read A) → ℕ → ℕ → Type 0
+  FixedSize read size most = (at : ℕ) (x : A) (next : ℕ) → read at ≡ got x next → (next ≡ at + size) × (next ≤ most)
 
   pub record Repeated (size most n at : ℕ) (xs : List A) (end : ℕ) : Type 0 where
     pub many : length xs ≡ n
     pub past : end ≡ at + size * n
     pub within : at ≤ most → end ≤ most
 
-  pub repeat-got : (read : ℕ → Read A) (size most : ℕ) → Sized read size most → (n at : ℕ) {xs : List A} {end : ℕ} → repeat read n at ≡ got xs end → Repeated size most n at xs end
+  pub repeat-got : (read : ℕ → Read A) (size most : ℕ) → FixedSize read size most → (n at : ℕ) {xs : List A} {end : ℕ} → repeat read n at ≡ got xs end → Repeated size most n at xs end
   unfolding repeat
   repeat-got read size most z zero at {xs} {end} h =
       let f : end ≡ at = cc in
@@ -106,6 +106,6 @@ module _ {A : Type 0} where
       → ending (repeat read (n - i) at) ≡ ending (repeat read (n - (i + 1)) next)
   repeat-next read n i at h e = turn read n i at h ∙ then-got (λ u next. ending (repeat read (n - (i + 1)) next)) e
 
-  pub repeat-bad : (read : ℕ → Read A) (n i at : ℕ) {q : Refusal} {place : ℕ} → i < n → ending (read at) ≡ bad q place
+  pub repeat-bad : (read : ℕ → Read A) (n i at : ℕ) {q : Fault} {place : ℕ} → i < n → ending (read at) ≡ bad q place
       → ending (repeat read (n - i) at) ≡ bad q place
   repeat-bad read n i at h e = turn read n i at h ∙ then-bad (λ u next. ending (repeat read (n - (i + 1)) next)) e

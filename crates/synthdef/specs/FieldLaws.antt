@@ -9,8 +9,8 @@ use lib.ListN.{length, getD}
 use lib.Dec.{leb, ltb}
 use Rattle.words.specs.Choice.{pick}
 use Rattle.words.specs.Parts.{region, region-length}
-use Rattle.words.specs.declared.Refusal.{Refusal}
-use Rattle.words.specs.declared.Refusal.the-variants.{Truncated, BadName, BadCount}
+use Rattle.faults.specs.declared.Fault.{Fault}
+use Rattle.faults.specs.declared.Fault.the-variants.{Truncated, BadName, BadCount}
 use Rattle.synthdef.specs.NameLaws.{full}
 use Rattle.synthdef.specs.Read.{Read, got, bad, checked}
 use Rattle.synthdef.specs.Fields.{whole, pstring, stringAt, definitionName, integer, countTo}
@@ -21,7 +21,7 @@ word s at = 16777216 * getD s at 0 + 65536 * getD s (at + 1) 0 + 256 * getD s (a
 
 module _ {A : Type 0} where
   -- a choice that was read is its first way
-  pub picked : (b : Bool) (way : Read A) (r : Refusal) (at : ℕ) {x : A} {next : ℕ}
+  pub picked : (b : Bool) (way : Read A) (r : Fault) (at : ℕ) {x : A} {next : ℕ}
       → pick b way (bad r at) ≡ got x next → (b ≡ true) × (way ≡ got x next)
   picked true way r at e = (refl, e)
   picked false way r at e = ((cc), (cc))
@@ -36,7 +36,7 @@ module _ {A : Type 0} where
       (leb-true (at + size) (length s) (p .0), (v, n))
 
   -- a checked value passed its test
-  pub checked-got : (r : Refusal) (test : A → Bool) (at : ℕ) (read : Read A) {x : A} {next : ℕ}
+  pub checked-got : (r : Fault) (test : A → Bool) (at : ℕ) (read : Read A) {x : A} {next : ℕ}
       → checked r test at read ≡ got x next → (read ≡ got x next) × (test x ≡ true)
   checked-got r test at (got y p) {x} {next} e =
       let t = picked (test y) (got y p) r at e in

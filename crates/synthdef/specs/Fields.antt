@@ -6,8 +6,8 @@ use lib.ListN.{length, getD}
 use lib.Dec.{ltb, leb}
 use Rattle.words.specs.Choice.{pick, both}
 use Rattle.words.specs.Parts.{region}
-use Rattle.words.specs.declared.Refusal.the-variants.{Truncated, BadCount, BadName, BadRate, BadIndex}
-use Rattle.synthdef.specs.Read.{Read, got, bad, andThen, checked}
+use Rattle.faults.specs.declared.Fault.the-variants.{Truncated, BadCount, BadName, BadRate, BadIndex}
+use Rattle.synthdef.specs.Read.{Read, got, bad, checked}
 
 -- "Truncation comes before a field's own fault": a field of so many bytes that is not whole
 abbrev pub whole : {A : Type 0} → ℕ → List ℕ → ℕ → A → Read A

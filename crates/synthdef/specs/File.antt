@@ -6,7 +6,7 @@ use mathlib.Core.List.{List, map}
 use lib.ListN.{length, getD}
 use lib.Dec.{ltb}
 use Rattle.words.specs.Choice.{pick}
-use Rattle.words.specs.Refusals as refusals
+use Rattle.faults.specs.Faults as faults
 use Rattle.synthdef.specs.declared.file.Checked.{Checked}
 use Rattle.synthdef.specs.declared.file.Checked.the-variants.{Accepted, Refused}
 use Rattle.synthdef.specs.declared.file.Span.{Span}
@@ -25,7 +25,7 @@ verdict (bad r at) = Refused r at
 abbrev pub namesFrom : List ℕ → List ℕ → List (List ℕ)
 namesFrom s starts = map (stringAt s) starts
 
--- a definition behind those of some names, of which only the end is told
+-- a definition behind those of some names, of which only the end is fact
 abbrev pub skipFitting : List ℕ → List (List ℕ) → ℕ → Read (Unit {0})
 skipFitting s names at = ending (andThen (readDefinition s at) (λ d next. fits names at d next))
 
@@ -54,7 +54,7 @@ definitionSpan s i = spanIn s i (readFile s)
 -- 0, or the refusal's number
 abbrev pub refusalNumber : Checked → ℕ
 refusalNumber (Accepted n) = 0
-refusalNumber (Refused r at) = refusals.numberOf r
+refusalNumber (Refused r at) = faults.faultNumber r
 
 -- the refusal's place, or 0
 abbrev pub refusalPlace : Checked → ℕ

@@ -12,8 +12,8 @@ use lib.ListN.{length, getD, take, drop, set, length-set, drop-of-length-le}
 use lib.Dec.{ltb, leb, eqb}
 use borrow.Author.Tests.{lt-ltb, le-ltb, leb-true}
 use Rattle.words.specs.Choice.{pick, either}
-use Rattle.words.specs.declared.Refusal.{Refusal}
-use Rattle.words.specs.declared.Refusal.the-variants.{NotSynthDef, BadVersion, BadCount, TooLong, NameTwice, BytesLeft}
+use Rattle.faults.specs.declared.Fault.{Fault}
+use Rattle.faults.specs.declared.Fault.the-variants.{NotSynthDef, BadVersion, BadCount, TooLong, NameTwice, BytesLeft}
 use Rattle.synthdef.specs.Read.{Read, got, bad, andThen, checked, ending}
 use Rattle.synthdef.specs.Fields.{int16, int32, stringAt}
 use Rattle.synthdef.specs.Definition.{Definition}
@@ -106,7 +106,7 @@ module _ (s : List ℕ) (first count : ℕ) {starts : List ℕ} {at i : ℕ} (w 
         ∙ sym (walked-turn l ∙ then-got _ e);
   }
 
-  pub walked-bad : {q : Refusal} {place : ℕ} → i < count → skipFitting s (namesFrom s (take i starts)) at ≡ bad q place → ending (readDefinitions s count [] first) ≡ bad q place
+  pub walked-bad : {q : Fault} {place : ℕ} → i < count → skipFitting s (namesFrom s (take i starts)) at ≡ bad q place → ending (readDefinitions s count [] first) ≡ bad q place
   walked-bad l e = walked-turn l ∙ then-bad _ e
 
   pub walked-done : count ≤ i → ending (readDefinitions s count [] first) ≡ got tt at
@@ -145,7 +145,7 @@ definitions-length s (suc n) names at {ds} {end} h =
 
 -- the ways through a file
 module _ (s : List ℕ) where
-  pub file-head : {q : Refusal} {place : ℕ} → readHeader s ≡ bad q place → verdict (readFile s) ≡ Refused q place
+  pub file-head : {q : Fault} {place : ℕ} → readHeader s ≡ bad q place → verdict (readFile s) ≡ Refused q place
   unfolding readFile
   file-head e = rw e
 
@@ -160,7 +160,7 @@ module _ (s : List ℕ) where
         let d = field-got 2 s p2 _ (c .0) in
         let few = leb-true n mostDefinitions (c .1) in (omega arith, omega arith)))
 
-    pub file-bad : {q : Refusal} {place : ℕ} → ending (readDefinitions s n [] first) ≡ bad q place → verdict (readFile s) ≡ Refused q place
+    pub file-bad : {q : Fault} {place : ℕ} → ending (readDefinitions s n [] first) ≡ bad q place → verdict (readFile s) ≡ Refused q place
     unfolding readFile
     file-bad {q} {place} d = rw e (cases (readDefinitions s n [] first) d) where
       cases : (r : Read (List Definition)) → ending r ≡ bad q place

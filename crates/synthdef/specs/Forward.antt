@@ -7,7 +7,7 @@ use lib.ListN.{length, getD, length-take}
 use lib.Dec.{ltb, leb}
 use borrow.Author.Tests.{ltb-true}
 use Rattle.words.specs.Choice.{both, both-true}
-use Rattle.words.specs.declared.Refusal.the-variants.{BadName, BadCount}
+use Rattle.faults.specs.declared.Fault.the-variants.{BadName, BadCount}
 use Rattle.synthdef.specs.Read.{Read, got, repeat}
 use Rattle.synthdef.specs.Fields.{int16, float32, name, definitionName, pstring, stringAt, nameBytes, count, countTo, shortCountTo, integer, indexBelow, highest16, highest32}
 use Rattle.synthdef.specs.Definition.{UnitSpec, Front, Definition}

@@ -17,7 +17,7 @@ use Rattle.synthdef.specs.Definition.{ParameterName, Front}
 use Rattle.synthdef.specs.Reader.{mostParameters, parameterName}
 
 module _ {A B : Type 0} where
-  -- a reading of which something is told
+  -- a reading of which something is countsOf
   abbrev pub mapRead : (A → B) → Read A → Read B
   mapRead tell (got x next) = got (tell x) next
   mapRead tell (bad r at) = bad r at
@@ -51,7 +51,7 @@ readCounts s at =
     andThen (count s p3) (λ many p4.
     got (record { past = p1; constants = k .count; values = v .at; parameters = v .count; first = p4; names = many }) p4))))
 
--- and its parameter names, of which only the end is told
+-- and its parameter names, of which only the end is countsOf
 abbrev pub readNames : List ℕ → Counts → ℕ → Read Counts
 readNames s c at = andThen (ending (repeat (parameterName (c .parameters) s) (c .names) at)) (λ t end. got c end)
 
@@ -65,9 +65,9 @@ valuesAt at f = nameEnd at f + 4 + 4 * length (f .constants) + 4
 abbrev pub namesAt : ℕ → Front → ℕ
 namesAt at f = valuesAt at f + 4 * length (f .values) + 4
 
--- what is told of a front: its counts and places
-abbrev pub told : ℕ → Front → Counts
-told at f = record {
+-- what is countsOf of a front: its counts and places
+abbrev pub countsOf : ℕ → Front → Counts
+countsOf at f = record {
   past = nameEnd at f;
   constants = length (f .constants);
   values = valuesAt at f;

@@ -1,4 +1,4 @@
--- Laws of a definition's front: what is told of it, and where its parts stand.
+-- Laws of a definition's front: what is countsOf of it, and where its parts stand.
 use Prim.Native.Nat.{ℕ, _+_, _*_, _<_}
 use mathlib.Core.Path.{_≡_, refl, sym, ap}
 use mathlib.Core.List.{List}
@@ -9,12 +9,12 @@ use Rattle.synthdef.specs.Read.{Read, got, bad, andThen, repeat, ending}
 use Rattle.synthdef.specs.Fields.{float32, definitionName, count, countTo, highest32}
 use Rattle.synthdef.specs.Definition.{ParameterName, Front}
 use Rattle.synthdef.specs.Reader.{mostParameters, parameterName, readFront}
-use Rattle.synthdef.specs.Front.{mapRead, readCounts, readNames, nameEnd, valuesAt, namesAt, told}
+use Rattle.synthdef.specs.Front.{mapRead, readCounts, readNames, nameEnd, valuesAt, namesAt, countsOf}
 use Rattle.synthdef.specs.FieldLaws.{name-length, count-end}
 use Rattle.synthdef.specs.RepeatLaws.{got-value, got-place, went-on, repeat-length, floats-end, floats-at}
 
 module _ {A B E D : Type 0} (tell : E → D) (g : B → ℕ → Read D) where
-  -- two readings that begin alike, of the second of which something is told
+  -- two readings that begin alike, of the second of which something is countsOf
   same-first : (r : Read A) (f : A → ℕ → Read B) (h : A → ℕ → Read E)
       → ((x : A) (p : ℕ) → r ≡ got x p → andThen (f x p) g ≡ mapRead tell (h x p)) → andThen (andThen r f) g ≡ mapRead tell (andThen r h)
   same-first (got x p) f h e = e x p refl
@@ -70,14 +70,14 @@ places s at {p1} {q2} {p2} {q3} {p3} {p4} {k} {p} {many} {end} {n} {constants} {
     record { k-is = k1; p-is = k2; many-is = k3; name-end = a1; values-at = omega arith; values-end = omega arith; names-at = omega arith }
 
 -- what the reading of the counts and then of the names tells of a front
-pub front-told : (s : List ℕ) (at : ℕ) → andThen (readCounts s at) (λ c p. readNames s c p) ≡ mapRead (told at) (readFront s at)
+pub front-fact : (s : List ℕ) (at : ℕ) → andThen (readCounts s at) (λ c p. readNames s c p) ≡ mapRead (countsOf at) (readFront s at)
 unfolding readFront
-front-told s at =
-    same-first (told at) (λ c p. readNames s c p) (definitionName s at) _ _ (λ n p1 e1.
-    same-counted (told at) (λ c p. readNames s c p) _ s (count s p1) _ (λ k q2 constants p2 e2 f2.
-    same-counted (told at) (λ c p. readNames s c p) _ s (countTo mostParameters s p2) _ (λ p q3 values p3 e3 f3.
-    same-first (told at) (λ c p. readNames s c p) (count s p3) _ _ (λ many p4 e4.
-    same-last (told at) _ (repeat (parameterName p s) many p4) _ (λ names end e5.
+front-fact s at =
+    same-first (countsOf at) (λ c p. readNames s c p) (definitionName s at) _ _ (λ n p1 e1.
+    same-counted (countsOf at) (λ c p. readNames s c p) _ s (count s p1) _ (λ k q2 constants p2 e2 f2.
+    same-counted (countsOf at) (λ c p. readNames s c p) _ s (countTo mostParameters s p2) _ (λ p q3 values p3 e3 f3.
+    same-first (countsOf at) (λ c p. readNames s c p) (count s p3) _ _ (λ many p4 e4.
+    same-last (countsOf at) _ (repeat (parameterName p s) many p4) _ (λ names end e5.
     let w = places s at e1 e2 f2 e3 f3 e4 e5 in
     cc)))))
 

@@ -9,7 +9,7 @@ use borrow.Author.Tests.{lt-ltb, le-ltb}
 use lib.ListN.{length}
 use Rattle.words.specs.Choice.{pick}
 use Rattle.words.specs.Parts.{region}
-use Rattle.words.specs.declared.Refusal.{Refusal}
+use Rattle.faults.specs.declared.Fault.{Fault}
 use Rattle.synthdef.specs.declared.lookup.Found.{Found}
 use Rattle.synthdef.specs.declared.lookup.Found.the-variants as found
 use Rattle.synthdef.specs.declared.lookup.NameFound.{NameFound}
@@ -20,7 +20,7 @@ use Rattle.synthdef.specs.Read.{Read, got, bad, andThen, repeat, ending}
 use Rattle.synthdef.specs.Fields.{float32, definitionName, count, countTo}
 use Rattle.synthdef.specs.Definition.{ParameterName, Front}
 use Rattle.synthdef.specs.Reader.{mostParameters, parameterName, readFront}
-use Rattle.synthdef.specs.Front.{mapRead, readCounts, told, valuesAt}
+use Rattle.synthdef.specs.Front.{mapRead, readCounts, countsOf, valuesAt}
 use Rattle.synthdef.specs.Lookup.{onRead, firstOf, nothing, orNumber, orPart, orElse, partOf, nameIn, valueIn}
 use Rattle.synthdef.specs.FieldLaws.{word, whole-got, name-part}
 use Rattle.synthdef.specs.RepeatLaws.{got-value, got-place}
@@ -31,7 +31,7 @@ module _ {A B : Type 0} where
   pub on-got : (r : Read A) (lack : B) (ask : A → ℕ → B) {x : A} {p : ℕ} → got x p ≡ r → ask x p ≡ onRead r lack ask
   on-got r lack ask e = rw (sym e)
 
-  pub on-bad : (r : Read A) (lack : B) (ask : A → ℕ → B) {q : Refusal} {place : ℕ} → bad q place ≡ r → lack ≡ onRead r lack ask
+  pub on-bad : (r : Read A) (lack : B) (ask : A → ℕ → B) {q : Fault} {place : ℕ} → bad q place ≡ r → lack ≡ onRead r lack ask
   on-bad r lack ask e = rw (sym e)
 
   -- two questions that have the same answer
@@ -143,43 +143,43 @@ module _ {B : Type 0} (s : List ℕ) (lack : B) (ask : List ParameterName → B)
   pub names-got : (at : ℕ) {answer : B} {c : Counts} {p : ℕ} → answer ≡ onNames c p → got c p ≡ readCounts s at → answer ≡ onRead (readFront s at) lack (λ f q. ask (f .names))
   names-got at h e = h ∙ on-got (readCounts s at) lack onNames e ∙ on-names at
 
-  pub names-bad : (at : ℕ) {q : Refusal} {place : ℕ} → bad q place ≡ readCounts s at → lack ≡ onRead (readFront s at) lack (λ f p. ask (f .names))
+  pub names-bad : (at : ℕ) {q : Fault} {place : ℕ} → bad q place ≡ readCounts s at → lack ≡ onRead (readFront s at) lack (λ f p. ask (f .names))
   names-bad at e = on-bad (readCounts s at) lack onNames e ∙ on-names at
 
--- a front that was told
+-- a front that was countsOf
 module _ {A D : Type 0} (tell : A → D) where
-  pub told-on : {E : Type 0} (r : Read A) {c : D} {p : ℕ} → got c p ≡ mapRead tell r → ((x : A) → r ≡ got x p → tell x ≡ c → E) → E
-  told-on (got x q) e k = k x (ap (λ n. got x n) (sym (got-place e))) (sym (got-value e))
-  told-on (bad q place) e k = let z : _≡_ {A = ℕ} 0 1 = cc in absurd (omega arith)
+  pub fact-on : {E : Type 0} (r : Read A) {c : D} {p : ℕ} → got c p ≡ mapRead tell r → ((x : A) → r ≡ got x p → tell x ≡ c → E) → E
+  fact-on (got x q) e k = k x (ap (λ n. got x n) (sym (got-place e))) (sym (got-value e))
+  fact-on (bad q place) e k = let z : _≡_ {A = ℕ} 0 1 = cc in absurd (omega arith)
 
-  -- the answer by what was told, and where nothing was
-  pub told-got : {B : Type 0} (r : Read A) (lack : B) (ask : D → ℕ → B) {c : D} {p : ℕ} → got c p ≡ mapRead tell r → ask c p ≡ onRead r lack (λ x q. ask (tell x) q)
-  told-got (got x q) lack ask e = cc
-  told-got (bad q place) lack ask e = let z : _≡_ {A = ℕ} 0 1 = cc in absurd (omega arith)
+  -- the answer by what was countsOf, and where nothing was
+  pub fact-got : {B : Type 0} (r : Read A) (lack : B) (ask : D → ℕ → B) {c : D} {p : ℕ} → got c p ≡ mapRead tell r → ask c p ≡ onRead r lack (λ x q. ask (tell x) q)
+  fact-got (got x q) lack ask e = cc
+  fact-got (bad q place) lack ask e = let z : _≡_ {A = ℕ} 0 1 = cc in absurd (omega arith)
 
-  pub told-bad : {B : Type 0} (r : Read A) (lack : B) (ask : A → ℕ → B) {q : Refusal} {place : ℕ} → bad q place ≡ mapRead tell r → lack ≡ onRead r lack ask
-  told-bad (got x p) lack ask e = cc
-  told-bad (bad q place) lack ask e = refl
+  pub fact-bad : {B : Type 0} (r : Read A) (lack : B) (ask : A → ℕ → B) {q : Fault} {place : ℕ} → bad q place ≡ mapRead tell r → lack ≡ onRead r lack ask
+  fact-bad (got x p) lack ask e = cc
+  fact-bad (bad q place) lack ask e = refl
 
 -- the name, by where it ends
-pub name-told : (s : List ℕ) {c : Counts} {p : ℕ} → got c p ≡ mapRead (told 0) (readFront s 0) → nameIn s ≡ region 1 (c .past - 1) s
-name-told s e = told-on (told 0) (readFront s 0) e (λ f r t. rw (r, sym t) (name-part s 0 (front-got s 0 r .name)))
+pub name-fact : (s : List ℕ) {c : Counts} {p : ℕ} → got c p ≡ mapRead (countsOf 0) (readFront s 0) → nameIn s ≡ region 1 (c .past - 1) s
+name-fact s e = fact-on (countsOf 0) (readFront s 0) e (λ f r t. rw (r, sym t) (name-part s 0 (front-got s 0 r .name)))
 
 -- an initial value, by where they start
-module _ (s : List ℕ) (i : ℕ) {c : Counts} {p : ℕ} (e : got c p ≡ mapRead (told 0) (readFront s 0)) where
+module _ (s : List ℕ) (i : ℕ) {c : Counts} {p : ℕ} (e : got c p ≡ mapRead (countsOf 0) (readFront s 0)) where
   pub value-place : i < c .parameters → c .values + 4 * i + 4 ≤ length s
   value-place h =
-      told-on (told 0) (readFront s 0) e (λ f r t.
+      fact-on (countsOf 0) (readFront s 0) e (λ f r t.
       rw (sym t) (whole-got 4 s (valuesAt 0 f + 4 * i) (word s (valuesAt 0 f + 4 * i)) (front-value s 0 i r (rw (sym t) at h)) .0))
 
-  pub value-told : i < c .parameters → valueIn i s ≡ onRead (float32 s (c .values + 4 * i)) nothing (λ n end. found.At n)
-  value-told h =
-      told-on (told 0) (readFront s 0) e (λ f r t.
+  pub value-fact : i < c .parameters → valueIn i s ≡ onRead (float32 s (c .values + 4 * i)) nothing (λ n end. found.At n)
+  value-fact h =
+      fact-on (countsOf 0) (readFront s 0) e (λ f r t.
       let l : i < length (f .values) = rw (sym t) at h in
       rw (r, lt-ltb i (length (f .values)) l, sym t, front-value s 0 i r l))
 
   pub value-past : c .parameters ≤ i → valueIn i s ≡ nothing
   value-past h =
-      told-on (told 0) (readFront s 0) e (λ f r t.
+      fact-on (countsOf 0) (readFront s 0) e (λ f r t.
       let l : length (f .values) ≤ i = rw (sym t) at h in
       rw (r, le-ltb i (length (f .values)) l))

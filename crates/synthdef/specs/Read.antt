@@ -4,11 +4,11 @@ use Prim.Native.Nat.{ℕ, zero, suc}
 use mathlib.Core.Bool.{Bool}
 use mathlib.Core.List.{List, [], _∷_}
 use Rattle.words.specs.Choice.{pick}
-use Rattle.words.specs.declared.Refusal.{Refusal}
+use Rattle.faults.specs.declared.Fault.{Fault}
 
 pub data Read (A : Type 0) : Type 0 where
   got : A → ℕ → Read A
-  bad : Refusal → ℕ → Read A
+  bad : Fault → ℕ → Read A
 
 module _ {A B : Type 0} where
   -- a reading that goes on where the first one ends
@@ -18,7 +18,7 @@ module _ {A B : Type 0} where
 
 module _ {A : Type 0} where
   -- the value read from a place on, if it passes a test; else a refusal at that place
-  abbrev pub checked : Refusal → (A → Bool) → ℕ → Read A → Read A
+  abbrev pub checked : Fault → (A → Bool) → ℕ → Read A → Read A
   checked r test at read = andThen read (λ x next. pick (test x) (got x next) (bad r at))
 
   -- so many values, one after the other

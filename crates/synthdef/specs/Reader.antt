@@ -1,12 +1,11 @@
 -- A file as read: paper 01, "The file". "Fields are checked from the front; the first fault decides, its place being the first byte of the field."
-use Prim.{Unit, tt}
-use Prim.Native.Nat.{ℕ, zero, suc, _+_, _-_}
+use Prim.Native.Nat.{ℕ, zero, suc, _-_}
 use mathlib.Core.Bool.{Bool, true, false}
 use mathlib.Core.List.{List, [], _∷_, _++_}
 use lib.ListN.{length, getD}
 use lib.Dec.{ltb, eqb}
 use Rattle.words.specs.Choice.{pick, both, either}
-use Rattle.words.specs.declared.Refusal.the-variants.{NotSynthDef, BadVersion, BadIndex, TooLong, NameTwice, BytesLeft}
+use Rattle.faults.specs.declared.Fault.the-variants.{NotSynthDef, BadVersion, BadIndex, TooLong, NameTwice, BytesLeft}
 use Rattle.synthdef.specs.Read.{Read, got, bad, andThen, checked, repeat}
 use Rattle.synthdef.specs.Fields.{int16, int32, float32, name, definitionName, integer, highest16, countTo, count, shortCountTo, rate, indexBelow}
 use Rattle.synthdef.specs.Definition.{Input, constant, output, UnitSpec, ParameterName, Variant, Front, Definition}

@@ -7,7 +7,7 @@ use native.Mathlib.Omega.{arith}
 use native.Mathlib.Nat.{add-zero}
 use borrow.Author.Tests.{le-leb, lt-leb}
 use lib.ListN.{length, getD}
-use Rattle.words.specs.declared.Refusal.the-variants.{Truncated}
+use Rattle.faults.specs.declared.Fault.the-variants.{Truncated}
 use Rattle.synthdef.specs.Read.{Read, got, bad, andThen, repeat, ending}
 use Rattle.synthdef.specs.Fields.{float32}
 use Rattle.synthdef.specs.FieldLaws.{word, whole-got}

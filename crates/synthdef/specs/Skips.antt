@@ -1,4 +1,4 @@
--- Parts of a definition of which only the end is told, field by field.
+-- Parts of a definition of which only the end is countsOf, field by field.
 use Prim.{Unit}
 use Prim.Native.Nat.{ℕ}
 use mathlib.Core.Path.{_≡_, refl, _∙_}
@@ -8,8 +8,8 @@ use Rattle.synthdef.specs.declared.front.Counts.{Counts}
 use Rattle.synthdef.specs.Read.{Read, andThen, repeat, ending}
 use Rattle.synthdef.specs.Fields.{float32, name, count, shortCountTo, highest16}
 use Rattle.synthdef.specs.Reader.{readFront, readUnits, variant, readDefinition}
-use Rattle.synthdef.specs.Front.{mapRead, told}
-use Rattle.synthdef.specs.Endings.{ending-told, ending-then, then-ending, ending-keeps}
+use Rattle.synthdef.specs.Front.{mapRead, countsOf}
+use Rattle.synthdef.specs.Endings.{ending-fact, ending-then, then-ending, ending-keeps}
 
 -- a variant
 abbrev pub skipVariant : ℕ → List ℕ → ℕ → Read (Unit {0})
@@ -26,10 +26,10 @@ skipRest s c at =
     andThen (shortCountTo highest16 s p3) (λ v p4.
     ending (repeat (variant (c .parameters) s) v p4))))
 
-pub skip-definition : (s : List ℕ) (at : ℕ) → ending (readDefinition s at) ≡ andThen (mapRead (told at) (readFront s at)) (skipRest s)
+pub skip-definition : (s : List ℕ) (at : ℕ) → ending (readDefinition s at) ≡ andThen (mapRead (countsOf at) (readFront s at)) (skipRest s)
 unfolding readDefinition
 skip-definition s at =
-    ending-told (told at) (readFront s at) _ (skipRest s) (λ f p1.
+    ending-fact (countsOf at) (readFront s at) _ (skipRest s) (λ f p1.
     ending-then (count s p1) _ _ (λ many p2.
     ending-then (readUnits (length (f .constants)) s many [] p2) _ _ (λ units p3.
     ending-then (shortCountTo highest16 s p3) _ _ (λ v p4.

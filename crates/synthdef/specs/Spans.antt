@@ -9,8 +9,8 @@ use lib.ListN.{length, getD}
 use lib.Dec.{ltb}
 use borrow.Author.Tests.{lt-ltb, le-ltb, ltb-true}
 use Rattle.words.specs.Choice.{pick}
-use Rattle.words.specs.declared.Refusal.{Refusal}
-use Rattle.words.specs.declared.Refusal.the-variants.{BytesLeft}
+use Rattle.faults.specs.declared.Fault.{Fault}
+use Rattle.faults.specs.declared.Fault.the-variants.{BytesLeft}
 use Rattle.synthdef.specs.declared.file.Checked.the-variants.{Accepted, Refused}
 use Rattle.synthdef.specs.declared.file.Span.the-variants.{Between, Nowhere}
 use Rattle.synthdef.specs.Read.{Read, got, bad, andThen, repeat, ending}
@@ -114,7 +114,7 @@ span-past s i {n} h l = cases (readFile s) h where
       rw (le-ltb i (length ds) (omega arith))
   cases (bad q at) v = refl
 
-pub span-refused : (s : List ℕ) (i : ℕ) {q : Refusal} {place : ℕ} → verdict (readFile s) ≡ Refused q place → definitionSpan s i ≡ Nowhere
+pub span-refused : (s : List ℕ) (i : ℕ) {q : Fault} {place : ℕ} → verdict (readFile s) ≡ Refused q place → definitionSpan s i ≡ Nowhere
 unfolding definitionSpan
 span-refused s i {q} {place} h = cases (readFile s) h where
   cases : (r : Read (List Definition)) → verdict r ≡ Refused q place → spanIn s i r ≡ Nowhere
@@ -154,12 +154,12 @@ module _ (s : List ℕ) (i : ℕ) (w : Spanned s i) where
         same : {a b : Unit {0}} {m n : ℕ} → got a m ≡ got b n → m ≡ n
         same h = cc
 
-  pub never-stops : {r : Refusal} {place : ℕ} → ending (repeat (readDefinition s) i firstPlace) ≡ bad r place → ⊥
+  pub never-stops : {r : Fault} {place : ℕ} → ending (repeat (readDefinition s) i firstPlace) ≡ bad r place → ⊥
   never-stops e = never (sym e ∙ ap ending (w .walked)) where
-    never : {r : Refusal} {place : ℕ} {b : Unit {0}} {n : ℕ} → bad r place ≡ got b n → ⊥
+    never : {r : Fault} {place : ℕ} {b : Unit {0}} {n : ℕ} → bad r place ≡ got b n → ⊥
     never h = let z : _≡_ {A = ℕ} 0 1 = cc in omega arith
 
-  pub never-bad : {u : Unit {0}} {p : ℕ} {r : Refusal} {place : ℕ} → ending (repeat (readDefinition s) i firstPlace) ≡ got u p → ending (readDefinition s p) ≡ bad r place → ⊥
+  pub never-bad : {u : Unit {0}} {p : ℕ} {r : Fault} {place : ℕ} → ending (repeat (readDefinition s) i firstPlace) ≡ got u p → ending (readDefinition s p) ≡ bad r place → ⊥
   never-bad e f = never (sym f ∙ ap (λ (m : ℕ). ending (readDefinition s m)) (at-start e) ∙ ap ending (w .read)) where
-    never : {r : Refusal} {place : ℕ} {b : Unit {0}} {n : ℕ} → bad r place ≡ got b n → ⊥
+    never : {r : Fault} {place : ℕ} {b : Unit {0}} {n : ℕ} → bad r place ≡ got b n → ⊥
     never h = let z : _≡_ {A = ℕ} 0 1 = cc in omega arith

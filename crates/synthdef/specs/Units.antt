@@ -13,14 +13,14 @@ use lib.Seq.{getD-at, getD-set-same, getD-set-other}
 use lib.Dec.{ltb, leb, eqb}
 use borrow.Author.Tests.{eq-eqb, ne-eqb, lt-ltb, le-ltb}
 use Rattle.words.specs.Choice.{pick}
-use Rattle.words.specs.declared.Refusal.{Refusal}
-use Rattle.words.specs.declared.Refusal.the-variants.{BadIndex, BadRate, BadCount, BadName, Truncated}
+use Rattle.faults.specs.declared.Fault.{Fault}
+use Rattle.faults.specs.declared.Fault.the-variants.{BadIndex, BadRate, BadCount, BadName, Truncated}
 use Rattle.synthdef.specs.Read.{Read, got, bad, andThen, repeat, ending}
 use Rattle.synthdef.specs.Fields.{int8, int16, name, count, rate, integer, indexBelow, pstring, stringAt, nameBytes, highest32, highestRate}
 use Rattle.synthdef.specs.Definition.{constant, output, UnitSpec}
 use Rattle.synthdef.specs.Reader.{input, readUnit, readUnits, minusOne, sizeLimit}
 use Rattle.synthdef.specs.Front.{mapRead}
-use Rattle.synthdef.specs.Endings.{then-got, then-bad, told-got, told-then, told-ending, ending-told, ending-keeps, Sized, repeat-got, field-got}
+use Rattle.synthdef.specs.Endings.{then-got, then-bad, mapped-got, fact-then, fact-ending, ending-fact, ending-keeps, FixedSize, repeat-got, field-got}
 use Rattle.synthdef.specs.RepeatLaws.{went-on}
 use Rattle.synthdef.specs.FieldLaws.{word, checked-got, picked}
 
@@ -71,12 +71,12 @@ place-up s start u (suc n) h =
     (eq-or-lt-of-le h)
 
 -- an index takes four bytes, an input eight, a rate one
-pub index-sized : (bound : ℕ) (s : List ℕ) → Sized (indexBelow bound s) 4 (length s)
+pub index-sized : (bound : ℕ) (s : List ℕ) → FixedSize (indexBelow bound s) 4 (length s)
 index-sized bound s at x next h =
     let p = checked-got BadIndex (λ i. ltb i bound) at (integer s at) h in
     let w = field-got 4 s at _ (p .0) in (w .1, w .2)
 
-pub input-sized : (k : ℕ) (outs s : List ℕ) → Sized (input k outs s) 8 (length s)
+pub input-sized : (k : ℕ) (outs s : List ℕ) → FixedSize (input k outs s) 8 (length s)
 input-sized k outs s at x next h =
     went-on (integer s at) _ h (λ u n e rest.
     let w = field-got 4 s at _ e in
@@ -94,7 +94,7 @@ input-sized k outs s at x next h =
           let g : m ≡ next = cc in (omega arith, omega arith))
       behind false false u b e r = absurd (let z : _≡_ {A = ℕ} 0 1 = cc in omega arith)
 
-pub rate-sized : (s : List ℕ) → Sized (rate s) 1 (length s)
+pub rate-sized : (s : List ℕ) → FixedSize (rate s) 1 (length s)
 rate-sized s at x next h =
     let p = checked-got BadRate (λ r. leb r highestRate) at (int8 s at) h in
     let w = field-got 1 s at _ (p .0) in (w .1, w .2)
@@ -119,7 +119,7 @@ pub record Shaped (s : List ℕ) (at out end : ℕ) : Type 0 where
 pub unit-shape : (k : ℕ) (outs s : List ℕ) (at : ℕ) {out end : ℕ} → mapRead (λ (u : UnitSpec). length (u .outputs)) (readUnit k outs s at) ≡ got out end → Shaped s at out end
 unfolding readUnit unitCounts unitOutputs unitEnd
 unit-shape k outs s at {out} {end} h =
-    let t = told-got _ (readUnit k outs s at) h in
+    let t = mapped-got _ (readUnit k outs s at) h in
     went-on (name s at) _ (t .read) (λ class p1 e1 r1.
     went-on (rate s p1) _ r1 (λ r p2 e2 r2.
     went-on (count s p2) _ r2 (λ many p3 e3 r3.
@@ -144,7 +144,7 @@ unit-shape k outs s at {out} {end} h =
     let out1 : o ≡ word s (at + 2 + getD s at 0 + 4) = d .0 ∙ ap (λ (p : ℕ). word s p) q3 in
     record { outputs = o1 ∙ out1; past = omega (arith, f .past, g .past); within = omega (arith, g .within (f .within (e .2))) })))))))
 
--- a unit of which the outputs are told, field by field
+-- a unit of which the outputs are fact, field by field
 unfoldable pub skipUnit : ℕ → List ℕ → List ℕ → ℕ → Read ℕ
 skipUnit k outs s at =
     andThen (name s at) (λ class p1.
@@ -159,13 +159,13 @@ skipUnit k outs s at =
 pub skip-unit : (k : ℕ) (outs s : List ℕ) (at : ℕ) → mapRead (λ (u : UnitSpec). length (u .outputs)) (readUnit k outs s at) ≡ skipUnit k outs s at
 unfolding readUnit skipUnit
 skip-unit k outs s at =
-    told-then _ (name s at) _ _ (λ class p1.
-    told-then _ (rate s p1) _ _ (λ r p2.
-    told-then _ (count s p2) _ _ (λ many p3.
-    told-then _ (count s p3) _ _ (λ out p4.
-    told-then _ (int16 s p4) _ _ (λ special p5.
-    told-ending _ (repeat (input k outs s) many p5) _ _ (λ inputs p6 e6.
-    told-ending _ (repeat (rate s) out p6) _ (λ end. got out end) (λ outputs end e7.
+    fact-then _ (name s at) _ _ (λ class p1.
+    fact-then _ (rate s p1) _ _ (λ r p2.
+    fact-then _ (count s p2) _ _ (λ many p3.
+    fact-then _ (count s p3) _ _ (λ out p4.
+    fact-then _ (int16 s p4) _ _ (λ special p5.
+    fact-ending _ (repeat (input k outs s) many p5) _ _ (λ inputs p6 e6.
+    fact-ending _ (repeat (rate s) out p6) _ (λ end. got out end) (λ outputs end e7.
     let many = repeat-got (rate s) 1 (length s) (rate-sized s) out p6 e7 .many in
     ap (λ (n : ℕ). got n end) many)))))))
 
@@ -174,7 +174,7 @@ pub skip-units : (k : ℕ) (s : List ℕ) (n : ℕ) (outs : List ℕ) (at : ℕ)
     → ending (readUnits k s (suc n) outs at) ≡ andThen (mapRead (λ (u : UnitSpec). length (u .outputs)) (readUnit k outs s at)) (λ o next. ending (readUnits k s n (outs ++ (o ∷ [])) next))
 unfolding readUnits
 skip-units k s n outs at =
-    ending-told _ (readUnit k outs s at) _ _ (λ u next. ending-keeps (readUnits k s n (outs ++ (length (u .outputs) ∷ [])) next) (λ us. u ∷ us))
+    ending-fact _ (readUnit k outs s at) _ _ (λ u next. ending-keeps (readUnits k s n (outs ++ (length (u .outputs) ∷ [])) next) (λ us. u ∷ us))
 
 -- How many units' outputs are remembered while a definition is read. A unit takes at least 12 bytes, and a definition 20 besides: a name of one byte, four
 -- counts of four bytes and one of two. So a definition within the size limit has fewer units than this (`units-remembered` of Forward).
@@ -187,7 +187,7 @@ pub record Remembered (s : List ℕ) (start units : ℕ) (outs : List ℕ) : Typ
   pub known : (u : ℕ) → u < units → u < remembered → getD outs u 0 ≡ unitOutputs s (unitPlace s start u)
 
 -- the ways through an input
-pub input-cut : (k : ℕ) (outs s : List ℕ) (at : ℕ) {q : Refusal} {place : ℕ} → integer s at ≡ bad q place → ending (input k outs s at) ≡ bad q place
+pub input-cut : (k : ℕ) (outs s : List ℕ) (at : ℕ) {q : Fault} {place : ℕ} → integer s at ≡ bad q place → ending (input k outs s at) ≡ bad q place
 input-cut k outs s at e = ap ending (then-bad _ e)
 
 pub input-constant : (k : ℕ) (outs s : List ℕ) (at : ℕ) {u next : ℕ} → integer s at ≡ got u next → u ≡ minusOne
@@ -265,7 +265,7 @@ module _ (k : ℕ) (s : List ℕ) (start count : ℕ) {outs : List ℕ} {at i : 
   pub stands-past : {o next : ℕ} → i < count → remembered ≤ i → skipUnit k (outsFrom s start i) s at ≡ got o next → Standing k s start count outs next (i + 1)
   stands-past l m e = stands-next outs l e (st .sized) (λ u h. refl) (λ h. absurd (omega arith))
 
-  pub stands-bad : {q : Refusal} {place : ℕ} → i < count → skipUnit k (outsFrom s start i) s at ≡ bad q place → ending (readUnits k s count [] start) ≡ bad q place
+  pub stands-bad : {q : Fault} {place : ℕ} → i < count → skipUnit k (outsFrom s start i) s at ≡ bad q place → ending (readUnits k s count [] start) ≡ bad q place
   stands-bad l e =
       sym (st .left) ∙ stands-turn l ∙ then-bad (λ o next. ending (readUnits k s (count - suc i) (outsFrom s start i ++ (o ∷ [])) next)) e
 

@@ -1,13 +1,11 @@
 -- The paper's examples on files, by computation.
-use Prim.Native.Nat.{ℕ}
 use mathlib.Core.Path.{_≡_, refl}
-use mathlib.Core.List.{List, [], _∷_, _++_}
-use lib.ListN.{length, replicate}
-use Rattle.words.specs.declared.Refusal.the-variants.{Truncated}
-use Rattle.synthdef.specs.Read.{Read, got, bad, repeat}
+use mathlib.Core.List.{[], _∷_}
+use lib.ListN.{length}
+use Rattle.synthdef.specs.Read.{got, repeat}
 use Rattle.synthdef.specs.Fields.{nameBytes}
 use Rattle.synthdef.specs.Definition.{Definition}
-use Rattle.synthdef.specs.Reader.{readFront, readUnit, readUnits, readDefinition, readDefinitions, readFile, sameName, among}
+use Rattle.synthdef.specs.Reader.{readFront, readUnits, readDefinition, readDefinitions, readFile, among}
 use Rattle.synthdef.specs.Writer.{writeAll, writeDefinition, writeFile}
 
 abbrev ping : Definition

@@ -1,6 +1,6 @@
 // The place in a file: it goes in and comes back by value. Each method reads one field.
 use crate::limits::HIGHEST_RATE;
-use words::Refusal;
+use faults::Fault;
 ghost use Prim.Native.Nat.{_+_, _*_, _-_};
 ghost use mathlib.Core.Path.{_≡_};
 ghost use Rattle.words.specs.Parts.{region};
@@ -14,19 +14,19 @@ pub struct Cursor {
 // A number and the next cursor, or the refusal and its place.
 pub enum Number {
     Value(u32, Cursor),
-    Bad(Refusal, usize),
+    Bad(Fault, usize),
 }
 
 // Where a name's bytes start and the cursor past them, or the refusal and its place.
 pub enum Text {
     Value(usize, Cursor),
-    Bad(Refusal, usize),
+    Bad(Fault, usize),
 }
 
 // The next cursor, or the refusal and its place.
 pub enum Step {
     Next(Cursor),
-    Bad(Refusal, usize),
+    Bad(Fault, usize),
 }
 
 // Two bytes as a number, the first one the highest.
@@ -75,7 +75,7 @@ impl Cursor {
     {
         let at = self.at;
         if s.len() <= at {
-            return Number::Bad(Refusal::Truncated, at);
+            return Number::Bad(Fault::Truncated, at);
         }
         Number::Value(s[at] as u32, Cursor { at: at + 1 })
     }
@@ -85,10 +85,10 @@ impl Cursor {
     {
         let at = self.at;
         if s.len() <= at {
-            return Number::Bad(Refusal::Truncated, at);
+            return Number::Bad(Fault::Truncated, at);
         }
         if s.len() - at < 2 {
-            return Number::Bad(Refusal::Truncated, at);
+            return Number::Bad(Fault::Truncated, at);
         }
         Number::Value(number16(s[at], s[at + 1]), Cursor { at: at + 2 })
     }
@@ -98,10 +98,10 @@ impl Cursor {
     {
         let at = self.at;
         if s.len() <= at {
-            return Number::Bad(Refusal::Truncated, at);
+            return Number::Bad(Fault::Truncated, at);
         }
         if s.len() - at < 4 {
-            return Number::Bad(Refusal::Truncated, at);
+            return Number::Bad(Fault::Truncated, at);
         }
         Number::Value(
             number32(s[at], s[at + 1], s[at + 2], s[at + 3]),
@@ -126,7 +126,7 @@ impl Cursor {
                 if n <= most {
                     return Number::Value(n, next);
                 }
-                Number::Bad(Refusal::BadCount, at)
+                Number::Bad(Fault::BadCount, at)
             }
             Number::Bad(refusal, place) => Number::Bad(refusal, place),
         }
@@ -142,7 +142,7 @@ impl Cursor {
                 if n <= most {
                     return Number::Value(n, next);
                 }
-                Number::Bad(Refusal::BadCount, at)
+                Number::Bad(Fault::BadCount, at)
             }
             Number::Bad(refusal, place) => Number::Bad(refusal, place),
         }
@@ -157,7 +157,7 @@ impl Cursor {
                 if n <= HIGHEST_RATE {
                     return Number::Value(n, next);
                 }
-                Number::Bad(Refusal::BadRate, at)
+                Number::Bad(Fault::BadRate, at)
             }
             Number::Bad(refusal, place) => Number::Bad(refusal, place),
         }
@@ -173,7 +173,7 @@ impl Cursor {
                 if n < bound {
                     return Number::Value(n, next);
                 }
-                Number::Bad(Refusal::BadIndex, at)
+                Number::Bad(Fault::BadIndex, at)
             }
             Number::Bad(refusal, place) => Number::Bad(refusal, place),
         }
@@ -185,14 +185,14 @@ impl Cursor {
     {
         let at = self.at;
         if s.len() <= at {
-            return Text::Bad(Refusal::Truncated, at);
+            return Text::Bad(Fault::Truncated, at);
         }
         let size = s[at] as usize;
         let start = at + 1;
         if size <= s.len() - start {
             return Text::Value(start, Cursor { at: start + size });
         }
-        Text::Bad(Refusal::Truncated, at)
+        Text::Bad(Fault::Truncated, at)
     }
 
     pub fn name(self, s: &[u8]) -> Text
@@ -205,7 +205,7 @@ impl Cursor {
                 if name_bytes(s, start, end) {
                     return Text::Value(start, next);
                 }
-                Text::Bad(Refusal::BadName, at)
+                Text::Bad(Fault::BadName, at)
             }
             Text::Bad(refusal, place) => Text::Bad(refusal, place),
         }
@@ -220,12 +220,12 @@ impl Cursor {
             Text::Value(start, next) => {
                 let end = next.at;
                 if end <= start {
-                    return Text::Bad(Refusal::BadName, at);
+                    return Text::Bad(Fault::BadName, at);
                 }
                 if name_bytes(s, start, end) {
                     return Text::Value(start, next);
                 }
-                Text::Bad(Refusal::BadName, at)
+                Text::Bad(Fault::BadName, at)
             }
             Text::Bad(refusal, place) => Text::Bad(refusal, place),
         }

@@ -9,7 +9,6 @@ use crate::front::skip_floats;
 use crate::limits::HIGHEST;
 use crate::limits::HIGHEST_SHORT;
 use crate::units::read_units;
-use words::Refusal;
 ghost use mathlib.Core.Path.{_≡_};
 ghost use Rattle.synthdef.specs.Answers.{stepOf};
 ghost use Rattle.synthdef.specs.Read.{ending, repeat};

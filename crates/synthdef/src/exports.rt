@@ -3,7 +3,7 @@ use crate::file::Checked;
 use crate::file::Span;
 use crate::file::check_file;
 use crate::file::definition_at;
-use words::refusal_number;
+use faults::fault_number;
 ghost use mathlib.Core.Path.{_≡_};
 ghost use Rattle.synthdef.specs.Reader.{readFile};
 ghost use Rattle.synthdef.specs.File.{verdict, definitionSpan, refusalNumber, refusalPlace, definitionCount, nameStart, nameEnd};
@@ -15,7 +15,7 @@ pub extern "C" fn synthdef_refusal(file: &[u8]) -> u32
 {
     match check_file(file) {
         Checked::Accepted(count) => 0,
-        Checked::Refused(refusal, place) => refusal_number(refusal),
+        Checked::Refused(refusal, place) => fault_number(refusal),
     }
 }
 

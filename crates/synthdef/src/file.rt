@@ -9,7 +9,7 @@ use crate::limits::FIRST_PLACE;
 use crate::limits::MOST_DEFINITIONS;
 use crate::limits::SIZE_LIMIT;
 use crate::lookup::same_name;
-use words::Refusal;
+use faults::Fault;
 use words::wide;
 ghost use mathlib.Core.Path.{_≡_};
 ghost use Prim.Native.Nat.{_≤_};
@@ -24,7 +24,7 @@ ghost use Rattle.synthdef.specs.File.{Begun, verdict, namesFrom, skipFit
 // A file is accepted, and has so many definitions; or it is refused, at a place.
 pub enum Checked {
     Accepted(u32),
-    Refused(Refusal, usize),
+    Refused(Fault, usize),
 }
 
 // Where a definition starts, and the place past it; or none.
@@ -41,13 +41,13 @@ fn read_header(s: &[u8]) -> Number
     match start.int32(s) {
         Number::Value(kind, p1) => {
             if kind != FILE_TYPE {
-                return Number::Bad(Refusal::NotSynthDef, 0);
+                return Number::Bad(Fault::NotSynthDef, 0);
             }
             let at = p1.at;
             match p1.int32(s) {
                 Number::Value(version, p2) => {
                     if version != FILE_VERSION {
-                        return Number::Bad(Refusal::BadVersion, at);
+                        return Number::Bad(Fault::BadVersion, at);
                     }
                     p2.short_count_to(s, MOST_DEFINITIONS as u32)
                 }
@@ -99,10 +99,10 @@ fn read_fitting(s: &[u8], cursor: Cursor, starts: &[usize; MOST_DEFINITIONS], co
         Step::Next(next) => {
             let end = next.at;
             if SIZE_LIMIT < end - at {
-                return Step::Bad(Refusal::TooLong, at);
+                return Step::Bad(Fault::TooLong, at);
             }
             if name_among(s, at, starts, count) {
-                return Step::Bad(Refusal::NameTwice, at);
+                return Step::Bad(Fault::NameTwice, at);
             }
             Step::Next(next)
         }
@@ -143,7 +143,7 @@ pub fn check_file(s: &[u8]) -> Checked
             Step::Next(next) => {
                 let end = next.at;
                 if end < s.len() {
-                    return Checked::Refused(Refusal::BytesLeft, end);
+                    return Checked::Refused(Fault::BytesLeft, end);
                 }
                 Checked::Accepted(count)
             }

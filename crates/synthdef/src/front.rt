@@ -5,11 +5,11 @@ use crate::cursor::Step;
 use crate::cursor::Text;
 use crate::limits::HIGHEST;
 use crate::limits::MOST_PARAMETERS;
-use words::Refusal;
+use faults::Fault;
 use words::wide;
 ghost use mathlib.Core.Path.{_≡_};
 ghost use Rattle.synthdef.specs.Answers.{stepOf};
-ghost use Rattle.synthdef.specs.Front.{entryOf, floatsOf, countedFloats, frontOf, readCounts, told, mapRead};
+ghost use Rattle.synthdef.specs.Front.{entryOf, floatsOf, countedFloats, frontOf, readCounts, countsOf, mapRead};
 ghost use Rattle.synthdef.specs.Fields.{float32};
 ghost use Rattle.synthdef.specs.Read.{repeat, ending};
 ghost use Rattle.synthdef.specs.Reader.{parameterName, readFront};
@@ -17,7 +17,7 @@ ghost use Rattle.synthdef.specs.Reader.{parameterName, readFront};
 // A parameter name: where its bytes start and end, its index and the next cursor, or the refusal and its place.
 pub enum Entry {
     Value(usize, usize, u32, Cursor),
-    Bad(Refusal, usize),
+    Bad(Fault, usize),
 }
 
 // A count of floats and where the first one starts.
@@ -29,7 +29,7 @@ pub struct Floats {
 // The floats and the next cursor, or the refusal and its place.
 pub enum FloatsRead {
     Value(Floats, Cursor),
-    Bad(Refusal, usize),
+    Bad(Fault, usize),
 }
 
 // What a definition's front tells: the place past its name, K, where the initial values start, P, where the first name starts, N.
@@ -45,7 +45,7 @@ pub struct Counts {
 // What the front tells and the next cursor, or the refusal and its place.
 pub enum FrontRead {
     Value(Counts, Cursor),
-    Bad(Refusal, usize),
+    Bad(Fault, usize),
 }
 
 // So many floats. Any pattern is one, so where they end is a sum.
@@ -57,14 +57,14 @@ pub fn skip_floats(s: &[u8], cursor: Cursor, count: u32) -> Step
         return Step::Next(cursor);
     }
     if s.len() < at {
-        return Step::Bad(Refusal::Truncated, at);
+        return Step::Bad(Fault::Truncated, at);
     }
     let many = wide(count);
     let room = (s.len() - at) / 4;
     if many <= room {
         return Step::Next(Cursor { at: at + 4 * many });
     }
-    Step::Bad(Refusal::Truncated, at + 4 * room)
+    Step::Bad(Fault::Truncated, at + 4 * room)
 }
 
 // One parameter name, in a definition of so many parameters.
@@ -165,7 +165,7 @@ pub fn read_counts(s: &[u8], cursor: Cursor) -> FrontRead
 
 // The whole front.
 pub fn read_front(s: &[u8], cursor: Cursor) -> FrontRead
-    ensures { λ r. ⌜ frontOf r ≡ mapRead (told (cursor .at)) (readFront (now (s .entry)) (cursor .at)) ⌝ }
+    ensures { λ r. ⌜ frontOf r ≡ mapRead (countsOf (cursor .at)) (readFront (now (s .entry)) (cursor .at)) ⌝ }
 {
     match read_counts(s, cursor) {
         FrontRead::Value(counts, first) => {

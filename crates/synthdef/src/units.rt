@@ -1,13 +1,13 @@
 // Units: each is read against the outputs of the units before it.
+use crate::limits::HIGHEST;
+use crate::limits::MINUS_ONE;
+use crate::limits::REMEMBERED;
+use faults::Fault;
 use super::cursor::Cursor;
 use super::cursor::Number;
 use super::cursor::Step;
 use super::cursor::Text;
 use super::cursor::number32;
-use crate::limits::HIGHEST;
-use crate::limits::MINUS_ONE;
-use crate::limits::REMEMBERED;
-use words::Refusal;
 ghost use Prim.Native.Nat.{suc, _+_, _≤_};
 ghost use mathlib.Core.Path.{_≡_};
 ghost use mathlib.Core.List.{[]};
@@ -109,7 +109,7 @@ fn read_input(
                 return read_index(s, next, constants);
             }
             if units <= unit {
-                return Step::Bad(Refusal::BadIndex, at);
+                return Step::Bad(Fault::BadIndex, at);
             }
             let index = unit as usize;
             if index < REMEMBERED {

@@ -15,7 +15,7 @@ abbrev pub endAt : ℕ → List ℕ → ℕ → ℕ
 endAt count us at = at + 1 + deeper (depthAt us at) (drop (at + 1) (rows count us))
 
 -- a region that holds so many records
-pub record Sized (us : List ℕ) (count : ℕ) : Type 0 where
+pub record TableFits (us : List ℕ) (count : ℕ) : Type 0 where
   pub room : width * count ≤ length us
   pub few : count ≤ 256
 

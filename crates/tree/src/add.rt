@@ -3,7 +3,7 @@ use crate::change::insert;
 use crate::change::remove;
 use crate::search::subtree_end;
 use nodes::Node;
-use words::Refusal;
+use refusals::Refusal;
 ghost use mathlib.Core.Path.{_≡_};
 ghost use mathlib.Core.List.{_∷_, []};
 ghost use Prim.Native.Nat.{ℕ};

@@ -5,7 +5,7 @@ use crate::runs::open_gap;
 use crate::search::subtree_end;
 ghost use mathlib.Core.Path.{_≡_};
 ghost use Prim.Native.Nat.{ℕ, _+_, _-_, _*_, _≤_, _<_};
-ghost use lib.ListN.{length, take, drop, getD};
+ghost use lib.ListN.{length, take, drop};
 ghost use Rattle.nodes.specs.Place.{place};
 ghost use Rattle.nodes.specs.Edit.{moveBefore, moveAfter, moveHead, moveTail};
 ghost use Rattle.tree.specs.Sizes.{depthAt, endAt};

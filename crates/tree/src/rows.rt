@@ -7,7 +7,7 @@ ghost use lib.ListN.{length, getD};
 ghost use lib.Dec.{eqb};
 ghost use Rattle.nodes.specs.Table.{width, nodeFrom, rows};
 ghost use Rattle.nodes.specs.Formed.{rowTaken};
-ghost use Rattle.tree.specs.Sizes.{Sized};
+ghost use Rattle.tree.specs.Sizes.{TableFits};
 ghost use Rattle.tree.specs.FreeRow.{rowIs, freeRow};
 
 // The row of the synth at a place; no row below 256 for a group.
@@ -23,7 +23,7 @@ fn row_at(nodes: &[u32], at: usize) -> usize
 
 // A mark at each row that a synth has.
 fn taken_rows(nodes: &[u32], count: usize) -> [bool; 256]
-    requires { ⌜ Sized (now nodes) count ⌝ }
+    requires { ⌜ TableFits (now nodes) count ⌝ }
     ensures { λ r. ⌜ ((k : ℕ) → k < 256 → getD r k false ≡ rowTaken k (rows count (now (nodes .entry)))) ⌝ }
 {
     let mut marks = [false; 256];
@@ -40,7 +40,7 @@ fn taken_rows(nodes: &[u32], count: usize) -> [bool; 256]
 
 // The lowest row that no synth has, or 256.
 pub fn free_row(nodes: &[u32], count: usize) -> u32
-    requires { ⌜ Sized (now nodes) count ⌝ }
+    requires { ⌜ TableFits (now nodes) count ⌝ }
     ensures { λ r. ⌜ r ≡ freeRow (rows count (now (nodes .entry))) ⌝ }
 {
     let marks = taken_rows(nodes, count);

@@ -2,11 +2,11 @@
 ghost use mathlib.Core.Path.{_≡_};
 ghost use Rattle.nodes.specs.Table.{rows};
 ghost use Rattle.nodes.specs.Place.{place};
-ghost use Rattle.tree.specs.Sizes.{Sized, Placed, endAt};
+ghost use Rattle.tree.specs.Sizes.{TableFits, Placed, endAt};
 
 // The place of the node with this number, or the count.
 pub fn find(nodes: &[u32], count: usize, number: u32) -> usize
-    requires { ⌜ Sized (now nodes) count ⌝ }
+    requires { ⌜ TableFits (now nodes) count ⌝ }
     ensures { λ r. ⌜ r ≡ place number (rows count (now (nodes .entry))) ⌝ }
 {
     let mut i = 0;

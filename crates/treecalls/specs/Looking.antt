@@ -27,7 +27,7 @@ module _ (us : List ℕ) (count a b : ℕ) where
   below-second s h = record { places = rw (s, h); numbers = λ p q once. cc }
 
   pub below-done : (i j : ℕ) → Stands us count a i → Stands us count b j → (r : Bool) → LiesBelow us count i j r → (n : ℕ) → n ≡ bit r → Below us count a b n
-  below-done i j s t r told n e = record {
-    places = rw (s .there, t .there, sym (s .here), sym (t .here)) (e ∙ ap bit (told .places));
-    numbers = λ p q once. e ∙ ap bit (told .numbers a b (s .here) (t .here) once);
+  below-done i j s t r fact n e = record {
+    places = rw (s .there, t .there, sym (s .here), sym (t .here)) (e ∙ ap bit (fact .places));
+    numbers = λ p q once. e ∙ ap bit (fact .numbers a b (s .here) (t .here) once);
   }

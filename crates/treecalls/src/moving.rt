@@ -5,14 +5,14 @@ ghost use mathlib.Core.Path.{_≡_};
 ghost use Prim.Native.Nat.{ℕ, _≤_};
 ghost use Rattle.nodes.specs.Table.{rows, fill};
 ghost use Rattle.nodes.specs.Place.{place};
-ghost use Rattle.tree.specs.Sizes.{Sized};
+ghost use Rattle.tree.specs.Sizes.{TableFits};
 ghost use Rattle.tree.specs.Ends.{Moving};
 ghost use Rattle.treecalls.specs.Calls.{shallow, moveBy, Moves};
 ghost use Rattle.treecalls.specs.Moving.{Cleared};
 
 // Whether every depth is at most 256. It does not stop early: so a turn is a few instructions.
 fn all_shallow(nodes: &[u32], count: usize) -> bool
-    requires { ⌜ Sized (now nodes) count ⌝ }
+    requires { ⌜ TableFits (now nodes) count ⌝ }
     ensures { λ r. ⌜ r ≡ shallow (rows count (now (nodes .entry))) ⌝ }
 {
     let mut flat = true;

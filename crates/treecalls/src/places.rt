@@ -2,7 +2,7 @@
 use tree::find;
 ghost use mathlib.Core.Path.{_≡_};
 ghost use Rattle.treecalls.specs.Calls.{tabled, bit};
-ghost use Rattle.treecalls.specs.Found.{Found};
+ghost use Rattle.treecalls.specs.PlaceFound.{PlaceFound};
 
 // The answer of a call that is refused.
 pub const REFUSED: u64 = 4294967296;
@@ -19,7 +19,7 @@ pub fn has_table(nodes: &[u32], count: usize) -> bool
 
 // The place of the node with this number; the count where the words hold no such node.
 pub fn place_of(nodes: &[u32], count: usize, number: u32) -> usize
-    ensures { λ r. ⌜ Found (now (nodes .entry)) count number r ⌝ }
+    ensures { λ r. ⌜ PlaceFound (now (nodes .entry)) count number r ⌝ }
 {
     if !has_table(nodes, count) {
         return count;

@@ -20,14 +20,14 @@ use Rattle.model.specs.Engine.{decode}
 use Rattle.model.specs.Checks.{badTarget, full}
 use Rattle.model.specs.Effects.{addBy, treeEffect, effect}
 use Rattle.model.specs.After.{wordsAfter}
-use Rattle.model.specs.Door.{answerIn}
+use Rattle.model.specs.Apply.{answerIn}
 use Rattle.state.specs.Known.{Known, known}
-use Rattle.keep.specs.TreeKept.{tree-kept}
+use Rattle.preservation.specs.TreeKept.{tree-kept}
 use Rattle.tree.specs.Add.{Room}
 use Rattle.tree.specs.Add as tree
 use Rattle.tree.specs.Shallow.{addable}
 use Rattle.treecommands.specs.Ready.{Ready, nodeWords, nodeIn, words-long}
-use Rattle.treecommands.specs.Finding.{meantIn, Found, root-first, named-here}
+use Rattle.treecommands.specs.Finding.{meantIn, NodeFound, root-first, named-here}
 
 -- the target, by its place
 abbrev pub badAt : ℕ → List ℕ → ℕ → Bool
@@ -36,7 +36,7 @@ badAt action ws at = pick (ltb action 2) (not (isGroup (nodeIn ws at))) (eqb at 
 abbrev pub fullAt : ℕ → ℕ → Bool
 fullAt action count = both (not (eqb action 4)) (leb mostNodes count)
 
-module _ (action target : ℕ) (ws : List ℕ) (k : Ready ws) (at : ℕ) (f : Found target ws at) where
+module _ (action target : ℕ) (ws : List ℕ) (k : Ready ws) (at : ℕ) (f : NodeFound target ws at) where
   pub bad-target : (bs : List ℕ) → badTarget action target (decode ws bs) ≡ badAt action ws at
   unfolding decode
   bad-target bs =

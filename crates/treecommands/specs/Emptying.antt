@@ -6,12 +6,12 @@ use mathlib.Core.List.{List, [], _∷_}
 use native.Mathlib.Omega.{arith}
 use lib.ListN.{length}
 use Rattle.words.specs.Parts.{put}
-use Rattle.words.specs.declared.Refusal.the-variants.{NoNode, WrongKind}
+use Rattle.refusals.specs.declared.Refusal.the-variants.{NoNode, WrongKind}
 use Rattle.nodes.specs.Table.{rows}
 use Rattle.nodes.specs.Place.{isGroup, place}
 use Rattle.nodes.specs.Edit.{cutBelow, deepFree}
 use Rattle.nodes.specs.Formed.{mostNodes}
-use Rattle.bridge.specs.Tally.{cutBelow-within, deepFree-within}
+use Rattle.treerefinement.specs.Tally.{cutBelow-within, deepFree-within}
 use Rattle.model.specs.declared.TreeCommand.the-variants as tree
 use Rattle.model.specs.declared.Command.the-variants as command
 use Rattle.model.specs.declared.Answer.{Answer}
@@ -22,23 +22,23 @@ use Rattle.model.specs.Meaning.{known}
 use Rattle.model.specs.Checks.{check, firstOf, notGroup}
 use Rattle.model.specs.Effects.{effect}
 use Rattle.model.specs.After.{wordsAfter}
-use Rattle.model.specs.Door.{answerIn}
+use Rattle.model.specs.Apply.{answerIn}
 use Rattle.state.specs.Does.{step-refused, step-done}
 use Rattle.tree.specs.Sizes.{Leaves}
 use Rattle.names.specs.Named.{Named}
 use Rattle.treecommands.specs.Ready.{Ready, nodeWords, nodeIn}
-use Rattle.treecommands.specs.Finding.{meantIn, Found, found, missing, named-here}
+use Rattle.treecommands.specs.Finding.{meantIn, NodeFound, found, missing, named-here}
 use Rattle.treecommands.specs.Settle.{renewed}
 use Rattle.treecommands.specs.Steps.{Steps, left-few, edited-ready, edited-left}
 
-module _ (g : ℕ) (ws : List ℕ) (k : Ready ws) (count : ℕ) (same : count ≡ countIn ws) (at : ℕ) (told : Named g ws at) where
+module _ (g : ℕ) (ws : List ℕ) (k : Ready ws) (count : ℕ) (same : count ≡ countIn ws) (at : ℕ) (fact : Named g ws at) where
   -- the answer by their checks, which are the same
   abbrev groupAnswer : List ℕ → Answer
   groupAnswer bs = firstOf (check NoNode (not (known g (decode ws bs))) ∷ (check WrongKind (notGroup g (decode ws bs)) ∷ [])) Done
 
   group-unknown : count ≤ at → (bs : List ℕ) → groupAnswer bs ≡ Refused NoNode
   unfolding firstOf decode
-  group-unknown h bs = rw (missing g ws at told (omega arith))
+  group-unknown h bs = rw (missing g ws at fact (omega arith))
 
   pub all-unknown : count ≤ at → Steps (tree.FreeAll g) ws (Refused NoNode) ws
   unfolding answerIn
@@ -49,8 +49,8 @@ module _ (g : ℕ) (ws : List ℕ) (k : Ready ws) (count : ℕ) (same : count �
   deep-unknown h bytes bs = step-refused (command.Tree (tree.DeepFree g)) bytes ws bs NoNode (group-unknown h bs)
 
   module _ (live : at < count) where
-    group-at : Found g ws at
-    group-at = found g ws at told (omega arith)
+    group-at : NodeFound g ws at
+    group-at = found g ws at fact (omega arith)
 
     group-wrong : not (isGroup (nodeIn ws at)) ≡ true → (bs : List ℕ) → groupAnswer bs ≡ Refused WrongKind
     unfolding firstOf decode

@@ -27,17 +27,17 @@ abbrev pub knownIn : ℕ → List ℕ → Bool
 knownIn a ws = knownBy (targetOf a) (latestIn ws) (nodesIn ws)
 
 -- the node that an argument names stands at a place of the table
-pub record Found (a : ℕ) (ws : List ℕ) (at : ℕ) : Type 0 where
+pub record NodeFound (a : ℕ) (ws : List ℕ) (at : ℕ) : Type 0 where
   pub known : knownIn a ws ≡ true
   pub here : at ≡ place (meantIn a ws) (nodesIn ws)
   pub live : at < countIn ws
 
-module _ (a : ℕ) (ws : List ℕ) (at : ℕ) (told : Named a ws at) where
-  pub found : at < countIn ws → Found a ws at
-  found h = record { known = told .live ∙ lt-ltb at (countIn ws) h; here = told .here h; live = h }
+module _ (a : ℕ) (ws : List ℕ) (at : ℕ) (fact : Named a ws at) where
+  pub found : at < countIn ws → NodeFound a ws at
+  found h = record { known = fact .live ∙ lt-ltb at (countIn ws) h; here = fact .here h; live = h }
 
   pub missing : countIn ws ≤ at → knownIn a ws ≡ false
-  missing h = told .live ∙ le-ltb at (countIn ws) h
+  missing h = fact .live ∙ le-ltb at (countIn ws) h
 
 -- the root stands first, and no other node does
 pub root-first : (n : ℕ) (t : List Node) → rooted t ≡ true → eqb n 0 ≡ eqb (place n t) 0
@@ -52,7 +52,7 @@ root-first n (r ∷ l) h = go (eqb (r .number) n) refl
     go true e = eq-eqb n 0 (sym (eqb-true (r .number) n e) ∙ zero)
     go false e = ne-eqb n 0 (λ q. eqb-false (r .number) n e (zero ∙ sym q)) ∙ sym (ne-eqb (suc (place n l)) 0 (λ q. omega arith))
 
-module _ (a : ℕ) (ws : List ℕ) (at : ℕ) (f : Found a ws at) where
+module _ (a : ℕ) (ws : List ℕ) (at : ℕ) (f : NodeFound a ws at) where
   pub is-root : Ready ws → at ≡ 0 → eqb (meantIn a ws) 0 ≡ true
   is-root k h = root-first (meantIn a ws) (nodesIn ws) (k .tree .root) ∙ eq-eqb (place (meantIn a ws) (nodesIn ws)) 0 (omega (arith, f .here))
 

@@ -6,13 +6,13 @@ use native.Mathlib.Omega.{arith}
 use lib.ListN.{length}
 use borrow.Author.Tests.{lt-ltb, le-ltb}
 use Rattle.words.specs.Parts.{put}
-use Rattle.words.specs.declared.Refusal.the-variants.{BadFlag, NoNode, WrongKind}
+use Rattle.refusals.specs.declared.Refusal.the-variants.{BadFlag, NoNode, WrongKind}
 use Rattle.nodes.specs.Table.{rows, rows-length, fill}
 use Rattle.nodes.specs.Place.{place}
 use Rattle.nodes.specs.Edit.{cut, setRun}
 use Rattle.nodes.specs.Formed.{mostNodes}
-use Rattle.bridge.specs.Tally.{cut-within}
-use Rattle.bridge.specs.Keep.{setRun-length}
+use Rattle.treerefinement.specs.Tally.{cut-within}
+use Rattle.treerefinement.specs.Keep.{setRun-length}
 use Rattle.model.specs.declared.TreeCommand.the-variants as tree
 use Rattle.model.specs.declared.Command.the-variants as command
 use Rattle.model.specs.declared.Answer.the-variants.{Done, Refused}
@@ -22,12 +22,12 @@ use Rattle.model.specs.Meaning.{known}
 use Rattle.model.specs.Checks.{firstOf}
 use Rattle.model.specs.Effects.{effect}
 use Rattle.model.specs.After.{wordsAfter}
-use Rattle.model.specs.Door.{answerIn}
+use Rattle.model.specs.Apply.{answerIn}
 use Rattle.state.specs.Does.{step-refused, step-done}
 use Rattle.tree.specs.Sizes.{Leaves}
 use Rattle.names.specs.Named.{Named}
 use Rattle.treecommands.specs.Ready.{Ready, nodeWords}
-use Rattle.treecommands.specs.Finding.{meantIn, Found, found, missing, is-root, not-root}
+use Rattle.treecommands.specs.Finding.{meantIn, NodeFound, found, missing, is-root, not-root}
 use Rattle.treecommands.specs.Settle.{renewed}
 use Rattle.treecommands.specs.Steps.{Steps, left-few, edited-ready, edited-left}
 
@@ -37,14 +37,14 @@ module _ (n flag : ℕ) (ws : List ℕ) where
   unfolding answerIn firstOf
   run-flag h bytes bs = step-refused (command.Tree (tree.Run n flag)) bytes ws bs BadFlag (rw (lt-ltb 1 flag h))
 
-  module _ (k : Ready ws) (count : ℕ) (same : count ≡ countIn ws) (at : ℕ) (told : Named n ws at) (low : flag ≤ 1) where
+  module _ (k : Ready ws) (count : ℕ) (same : count ≡ countIn ws) (at : ℕ) (fact : Named n ws at) (low : flag ≤ 1) where
     pub run-unknown : count ≤ at → Steps (tree.Run n flag) ws (Refused NoNode) ws
     unfolding answerIn firstOf decode
-    run-unknown h bytes bs = step-refused (command.Tree (tree.Run n flag)) bytes ws bs NoNode (rw (le-ltb 1 flag low, missing n ws at told (omega arith)))
+    run-unknown h bytes bs = step-refused (command.Tree (tree.Run n flag)) bytes ws bs NoNode (rw (le-ltb 1 flag low, missing n ws at fact (omega arith)))
 
     module _ (us : List ℕ) (live : at < count) (does : (m : ℕ) → at ≡ place m (rows count (nodeWords ws)) → us ≡ fill (nodeWords ws) (setRun m flag (rows count (nodeWords ws)))) where
-      run-at : Found n ws at
-      run-at = found n ws at told (omega arith)
+      run-at : NodeFound n ws at
+      run-at = found n ws at fact (omega arith)
 
       size : (m : ℕ) → length (setRun m flag (rows count (nodeWords ws))) ≡ count
       size m = setRun-length m flag (rows count (nodeWords ws)) ∙ rows-length count (nodeWords ws)
@@ -61,14 +61,14 @@ module _ (n flag : ℕ) (ws : List ℕ) where
           step-done (command.Tree (tree.Run n flag)) bytes ws bs out (rw (le-ltb 1 flag low, run-at .known)) (edited-left n ws k count same at run-at (λ m t. setRun m flag t) run-few us count left out o bs)
 
 -- /n_free
-module _ (n : ℕ) (ws : List ℕ) (k : Ready ws) (count : ℕ) (same : count ≡ countIn ws) (at : ℕ) (told : Named n ws at) where
+module _ (n : ℕ) (ws : List ℕ) (k : Ready ws) (count : ℕ) (same : count ≡ countIn ws) (at : ℕ) (fact : Named n ws at) where
   pub free-unknown : count ≤ at → Steps (tree.Free n) ws (Refused NoNode) ws
   unfolding answerIn firstOf decode
-  free-unknown h bytes bs = step-refused (command.Tree (tree.Free n)) bytes ws bs NoNode (rw (missing n ws at told (omega arith)))
+  free-unknown h bytes bs = step-refused (command.Tree (tree.Free n)) bytes ws bs NoNode (rw (missing n ws at fact (omega arith)))
 
   module _ (live : at < count) where
-    free-at : Found n ws at
-    free-at = found n ws at told (omega arith)
+    free-at : NodeFound n ws at
+    free-at = found n ws at fact (omega arith)
 
     pub free-root : at ≡ 0 → Steps (tree.Free n) ws (Refused WrongKind) ws
     unfolding answerIn firstOf decode

@@ -7,8 +7,8 @@ use native.Mathlib.Omega.{arith}
 use lib.ListN.{length}
 use borrow.Author.Tests.{lt-ltb, le-ltb, le-leb, lt-leb}
 use Rattle.words.specs.Parts.{put}
-use Rattle.words.specs.declared.Refusal.{Refusal}
-use Rattle.words.specs.declared.Refusal.the-variants.{BadFlag, BadNumber, NumberLive, NoNode, WrongKind, NodesFull}
+use Rattle.refusals.specs.declared.Refusal.{Refusal}
+use Rattle.refusals.specs.declared.Refusal.the-variants.{BadFlag, BadNumber, NumberLive, NoNode, WrongKind, NodesFull}
 use Rattle.nodes.specs.declared.Node.{Node}
 use Rattle.nodes.specs.Table.{rows}
 use Rattle.nodes.specs.Place.{lives, place}
@@ -23,7 +23,7 @@ use Rattle.model.specs.Meaning.{firstNegative}
 use Rattle.model.specs.Checks.{firstOf, treeChecks}
 use Rattle.model.specs.Effects.{withNodes, addBy, newGroup, effect}
 use Rattle.model.specs.After.{putTree, wordsAfter}
-use Rattle.model.specs.Door.{answerIn}
+use Rattle.model.specs.Apply.{answerIn}
 use Rattle.state.specs.Does.{step-refused, step-done}
 use Rattle.tree.specs.Sizes.{Leaves}
 use Rattle.tree.specs.Add.{Room}
@@ -32,7 +32,7 @@ use Rattle.treecommands.specs.declared.group.Spot.{Spot}
 use Rattle.treecommands.specs.declared.group.Spot.the-variants as spot
 use Rattle.names.specs.Named.{Named}
 use Rattle.treecommands.specs.Ready.{Ready, nodeWords}
-use Rattle.treecommands.specs.Finding.{meantIn, Found, found, missing}
+use Rattle.treecommands.specs.Finding.{meantIn, NodeFound, found, missing}
 use Rattle.treecommands.specs.Settle.{renewed}
 use Rattle.treecommands.specs.Steps.{Steps, edited-ready, edited-left}
 use Rattle.treecommands.specs.Adding.{badAt, fullAt, bad-target, is-full, room, same-add, after-few}
@@ -41,12 +41,12 @@ use Rattle.treecommands.specs.Adding.{badAt, fullAt, bad-target, is-full
 pub record GroupGround (number action target : ℕ) (ws : List ℕ) (at : ℕ) : Type 0 where
   pub passed : (bytes bs : List ℕ) → firstOf (treeChecks (tree.NewGroup number action target) bytes (decode ws bs)) Done ≡ Done
   pub low : action ≤ 4
-  pub spot : Found target ws at
+  pub spot : NodeFound target ws at
   pub room : Room (nodeWords ws) (countIn ws) action at
 
-abbrev pub GroupSpotted : ℕ → ℕ → ℕ → List ℕ → Spot → Type 0
-GroupSpotted number action target ws (spot.At at) = GroupGround number action target ws at
-GroupSpotted number action target ws (spot.Refused r) = (bytes bs : List ℕ) → firstOf (treeChecks (tree.NewGroup number action target) bytes (decode ws bs)) Done ≡ Refused r
+abbrev pub GroupPlaced : ℕ → ℕ → ℕ → List ℕ → Spot → Type 0
+GroupPlaced number action target ws (spot.At at) = GroupGround number action target ws at
+GroupPlaced number action target ws (spot.Refused r) = (bytes bs : List ℕ) → firstOf (treeChecks (tree.NewGroup number action target) bytes (decode ws bs)) Done ≡ Refused r
 
 -- its checks, one after the other
 module _ (number action target : ℕ) (ws : List ℕ) where
@@ -62,7 +62,7 @@ module _ (number action target : ℕ) (ws : List ℕ) where
     unfolding firstOf
     group-negative h bytes bs = rw (le-ltb 4 action low, le-leb firstNegative number h)
 
-    module _ (k : Ready ws) (count : ℕ) (same : count ≡ countIn ws) (positive : number < firstNegative) (seen : ℕ) (told : seen ≡ place number (rows count (nodeWords ws))) where
+    module _ (k : Ready ws) (count : ℕ) (same : count ≡ countIn ws) (positive : number < firstNegative) (seen : ℕ) (fact : seen ≡ place number (rows count (nodeWords ws))) where
       pub group-live : seen < count → Answers NumberLive
       unfolding firstOf decode
       group-live h bytes bs =
@@ -78,7 +78,7 @@ module _ (number action target : ℕ) (ws : List ℕ) where
         group-unknown h bytes bs = rw (le-ltb 4 action low, lt-leb firstNegative number positive, fresh, missing target ws at at-target (omega arith))
 
         module _ (live : at < count) where
-          f : Found target ws at
+          f : NodeFound target ws at
           f = found target ws at at-target (omega arith)
 
           pub group-kind : badAt action ws at ≡ true → Answers WrongKind
@@ -113,7 +113,7 @@ module _ (number action target : ℕ) (ws : List ℕ) where
 
     few : length (table.addBy action (newGroup number ∷ []) (meantIn target ws) (nodesIn ws)) ≤ mostNodes
     unfolding answerIn decode
-    few = rw (added (meantIn target ws) (nodesIn ws)) (after-few (tree.NewGroup number action target) [] ws (k .shelf) (k .known) (g .passed [] (k .shelf)))
+    few = rw (added (meantIn target ws) (nodesIn ws)) (after-few (tree.NewGroup number action target) [] ws (k .arena) (k .known) (g .passed [] (k .arena)))
 
     pub group-ready : (length (put nodesPlace nodesWords us ws) ≡ wordsLength) × (many ≤ mostNodes)
     group-ready = edited-ready target ws k count same at (g .spot) (λ m t. table.addBy action (newGroup number ∷ []) m t) few us many does

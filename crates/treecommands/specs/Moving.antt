@@ -6,13 +6,13 @@ use mathlib.Core.List.{List}
 use native.Mathlib.Omega.{arith}
 use lib.ListN.{length}
 use Rattle.words.specs.Parts.{put}
-use Rattle.words.specs.declared.Refusal.{Refusal}
+use Rattle.refusals.specs.declared.Refusal.{Refusal}
 use Rattle.nodes.specs.declared.Node.{Node}
 use Rattle.nodes.specs.Table.{rows, rows-length, fill}
 use Rattle.nodes.specs.Place.{lives, place, found}
 use Rattle.nodes.specs.Edit.{cut, moveBefore, moveAfter, moveHead, moveTail}
 use Rattle.nodes.specs.Formed.{mostNodes}
-use Rattle.bridge.specs.Tally.{Same, tally-length, moveHead-same, moveTail-same, moveBefore-same, moveAfter-same}
+use Rattle.treerefinement.specs.Tally.{Same, tally-length, moveHead-same, moveTail-same, moveBefore-same, moveAfter-same}
 use Rattle.model.specs.declared.TreeCommand.the-variants as tree
 use Rattle.model.specs.declared.Command.the-variants as command
 use Rattle.model.specs.declared.Answer.the-variants.{Done, Refused}
@@ -21,9 +21,9 @@ use Rattle.model.specs.Engine.{Engine, decode}
 use Rattle.model.specs.Effects.{withNodes, effect}
 use Rattle.model.specs.After.{putTree, wordsAfter}
 use Rattle.model.specs.Checks.{Check}
-use Rattle.model.specs.Door.{answerIn}
+use Rattle.model.specs.Apply.{answerIn}
 use Rattle.state.specs.Does.{step-refused, step-done}
-use Rattle.keep.specs.TreeSteps.{still-lives}
+use Rattle.preservation.specs.TreeSteps.{still-lives}
 use Rattle.tree.specs.Sizes.{Leaves}
 use Rattle.treecommands.specs.Ready.{Ready, nodeWords}
 use Rattle.treecommands.specs.Finding.{meantIn}

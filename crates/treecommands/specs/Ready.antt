@@ -1,4 +1,4 @@
--- What the commands here ask of the words: that they passed the state check, with some shelf.
+-- What the commands here ask of the words: that they passed the state check, with some arena.
 use Prim.Native.Nat.{ℕ, _+_, _*_, _≤_, _<_}
 use mathlib.Core.Bool.{not}
 use mathlib.Core.Path.{_≡_, sym, ap, _∙_}
@@ -20,11 +20,11 @@ pub record Ready (ws : List ℕ) : Type 0 where
   pub some : 1 ≤ countIn ws
   pub few : countIn ws ≤ mostNodes
   pub tree : Tree (nextIn ws) (latestIn ws) (nodesIn ws)
-  pub shelf : List ℕ
-  pub known : Known ws shelf
+  pub arena : List ℕ
+  pub known : Known ws arena
 
 pub ready : (ws bs : List ℕ) → Known ws bs → Ready ws
-ready ws bs k = record { size = k .size; some = k .some; few = k .few; tree = k .tree; shelf = bs; known = k }
+ready ws bs k = record { size = k .size; some = k .some; few = k .few; tree = k .tree; arena = bs; known = k }
 
 -- the node region, and the record at a place of it
 abbrev pub nodeWords : List ℕ → List ℕ

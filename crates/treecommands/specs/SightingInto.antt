@@ -4,7 +4,7 @@ use mathlib.Core.Bool.{Bool, true, false, not}
 use mathlib.Core.Path.{_≡_, sym, _∙_}
 use mathlib.Core.List.{List}
 use native.Mathlib.Omega.{arith}
-use Rattle.words.specs.declared.Refusal.the-variants.{NoNode, WrongKind, InsideItself}
+use Rattle.refusals.specs.declared.Refusal.the-variants.{NoNode, WrongKind, InsideItself}
 use Rattle.nodes.specs.Place.{isGroup}
 use Rattle.model.specs.declared.Answer.the-variants.{Done}
 use Rattle.model.specs.Layout.{countIn}
@@ -13,8 +13,8 @@ use Rattle.model.specs.Checks.{firstOf}
 use Rattle.tree.specs.Below.{LiesBelow}
 use Rattle.names.specs.Named.{Named}
 use Rattle.treecommands.specs.Ready.{Ready, nodeWords, nodeIn}
-use Rattle.treecommands.specs.Finding.{Found, found, missing, is-root, not-root, named-here}
-use Rattle.treecommands.specs.Sighting.{intoChecks, Answers, Clear, told-inside, clear}
+use Rattle.treecommands.specs.Finding.{NodeFound, found, missing, is-root, not-root, named-here}
+use Rattle.treecommands.specs.Sighting.{intoChecks, Answers, Clear, fact-inside, clear}
 
 module _ (b a : ℕ) (ws : List ℕ) (k : Ready ws) (count : ℕ) (same : count ≡ countIn ws) (j : ℕ) (at-b : Named b ws j) where
   pub into-first : count ≤ j → Answers (intoChecks b a) ws NoNode
@@ -22,7 +22,7 @@ module _ (b a : ℕ) (ws : List ℕ) (k : Ready ws) (count : ℕ) (same : count 
   into-first h bs = rw (missing b ws j at-b (omega arith))
 
   module _ (live-b : j < count) (i : ℕ) (at-a : Named a ws i) where
-    g : Found b ws j
+    g : NodeFound b ws j
     g = found b ws j at-b (omega arith)
 
     pub into-second : count ≤ i → Answers (intoChecks b a) ws NoNode
@@ -30,7 +30,7 @@ module _ (b a : ℕ) (ws : List ℕ) (k : Ready ws) (count : ℕ) (same : count 
     into-second h bs = rw (g .known, missing a ws i at-a (omega arith))
 
     module _ (live-a : i < count) where
-      f : Found a ws i
+      f : NodeFound a ws i
       f = found a ws i at-a (omega arith)
 
       pub into-synth : not (isGroup (nodeIn ws j)) ≡ true → Answers (intoChecks b a) ws WrongKind
@@ -42,16 +42,16 @@ module _ (b a : ℕ) (ws : List ℕ) (k : Ready ws) (count : ℕ) (same : count 
         unfolding firstOf decode
         into-root z bs = rw (g .known, f .known, named-here b ws j g, group, is-root a ws i f k z)
 
-        module _ (deep-a : i ≡ 0 → ⊥) (r : Bool) (told : LiesBelow (nodeWords ws) count j i r) where
+        module _ (deep-a : i ≡ 0 → ⊥) (r : Bool) (fact : LiesBelow (nodeWords ws) count j i r) where
           pub into-inside : r ≡ true → Answers (intoChecks b a) ws InsideItself
           unfolding firstOf decode
           into-inside q bs =
-              rw (g .known, f .known, named-here b ws j g, group, not-root a ws i f k deep-a, sym (told-inside a b ws k count same i j f g r told) ∙ q)
+              rw (g .known, f .known, named-here b ws j g, group, not-root a ws i f k deep-a, sym (fact-inside a b ws k count same i j f g r fact) ∙ q)
 
           into-passes : r ≡ false → (bs : List ℕ) → firstOf (intoChecks b a (decode ws bs)) Done ≡ Done
           unfolding firstOf decode
           into-passes q bs =
-              rw (g .known, f .known, named-here b ws j g, group, not-root a ws i f k deep-a, sym (told-inside a b ws k count same i j f g r told) ∙ q)
+              rw (g .known, f .known, named-here b ws j g, group, not-root a ws i f k deep-a, sym (fact-inside a b ws k count same i j f g r fact) ∙ q)
 
           pub into-clear : r ≡ false → Clear (intoChecks b a) a b ws i j
-          into-clear q = clear a b ws k count same i j f g r told (intoChecks b a) q (into-passes q)
+          into-clear q = clear a b ws k count same i j f g r fact (intoChecks b a) q (into-passes q)

@@ -1,4 +1,4 @@
--- What each command does: its answer by the table, and the words after it. Most look neither at the shelf nor at the bytes beside the command.
+-- What each command does: its answer by the table, and the words after it. Most look neither at the arena nor at the bytes beside the command.
 use Prim.Native.Nat.{ℕ, _≤_}
 use mathlib.Core.Path.{_≡_, _∙_}
 use mathlib.Core.List.{List}
@@ -9,8 +9,8 @@ use Rattle.nodes.specs.declared.Node.{Node}
 use Rattle.nodes.specs.Table.{rows, rows-length}
 use Rattle.nodes.specs.Place.{place}
 use Rattle.nodes.specs.Formed.{mostNodes}
-use Rattle.bridge.specs.Tally.{Within}
-use Rattle.bridge.specs.Keep.{within-length}
+use Rattle.treerefinement.specs.Tally.{Within}
+use Rattle.treerefinement.specs.Keep.{within-length}
 use Rattle.model.specs.declared.TreeCommand.{TreeCommand}
 use Rattle.model.specs.declared.Command.the-variants as command
 use Rattle.model.specs.declared.Answer.{Answer}
@@ -21,7 +21,7 @@ use Rattle.model.specs.After.{putTree}
 use Rattle.state.specs.Does.{WordsStep}
 use Rattle.tree.specs.Sizes.{Leaves}
 use Rattle.treecommands.specs.Ready.{Ready, nodeWords}
-use Rattle.treecommands.specs.Finding.{meantIn, Found}
+use Rattle.treecommands.specs.Finding.{meantIn, NodeFound}
 use Rattle.treecommands.specs.Settle.{renewed, ready-left, renewed-left}
 
 abbrev pub Steps : TreeCommand → List ℕ → Answer → List ℕ → Type 0
@@ -32,7 +32,7 @@ pub left-few : (ws : List ℕ) (t : List Node) → Ready ws → Within t (nodesI
 left-few ws t k w = omega (arith, within-length w, k .few, rows-length (countIn ws) (nodeWords ws))
 
 -- the node that an argument names, found at a place, and the node region edited there: what the rest asks, and what it leaves
-module _ (a : ℕ) (ws : List ℕ) (k : Ready ws) (count : ℕ) (same : count ≡ countIn ws) (at : ℕ) (f : Found a ws at)
+module _ (a : ℕ) (ws : List ℕ) (k : Ready ws) (count : ℕ) (same : count ≡ countIn ws) (at : ℕ) (f : NodeFound a ws at)
     (e : ℕ → List Node → List Node) (few : length (e (meantIn a ws) (nodesIn ws)) ≤ mostNodes) (us : List ℕ) (many : ℕ)
     (does : (m : ℕ) → at ≡ place m (rows count (nodeWords ws)) → Leaves (nodeWords ws) (e m (rows count (nodeWords ws))) us many) where
   left : Leaves (nodeWords ws) (e (meantIn a ws) (nodesIn ws)) us many

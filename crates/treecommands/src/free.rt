@@ -3,7 +3,7 @@ use crate::finish::renew;
 use crate::place::is_synth;
 use model::Answer;
 use names::node_place;
-use words::Refusal;
+use refusals::Refusal;
 use words::wide;
 ghost use Rattle.model.specs.declared.TreeCommand.{TreeCommand};
 ghost use Rattle.treecommands.specs.Ready.{Ready};

@@ -5,12 +5,12 @@ use crate::finish::renew;
 use model::Answer;
 use names::node_place;
 use nodes::Node;
-use words::Refusal;
+use refusals::Refusal;
 use words::wide;
 ghost use Rattle.model.specs.declared.TreeCommand.{TreeCommand};
 ghost use Rattle.treecommands.specs.Ready.{Ready};
 ghost use Rattle.treecommands.specs.Steps.{Steps};
-ghost use Rattle.treecommands.specs.Grouping.{GroupSpotted};
+ghost use Rattle.treecommands.specs.Grouping.{GroupPlaced};
 
 // The place of a new node's target, or the first refusal.
 pub enum Spot {
@@ -21,7 +21,7 @@ pub enum Spot {
 // The checks of /g_new.
 fn group_spot(number: u32, action: u32, target: u32, words: &[u32]) -> Spot
     requires { ⌜ Ready (now words) ⌝ }
-    ensures { λ r. ⌜ GroupSpotted number action target (now (words .entry)) r ⌝ }
+    ensures { λ r. ⌜ GroupPlaced number action target (now (words .entry)) r ⌝ }
 {
     if 4 < action {
         return Spot::Refused(Refusal::BadFlag);

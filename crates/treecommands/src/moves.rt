@@ -3,12 +3,12 @@ use crate::finish::renew;
 use crate::place::is_synth;
 use model::Answer;
 use names::node_place;
-use words::Refusal;
+use refusals::Refusal;
 use words::wide;
 ghost use Rattle.model.specs.declared.TreeCommand.{TreeCommand};
 ghost use Rattle.treecommands.specs.Ready.{Ready};
 ghost use Rattle.treecommands.specs.Steps.{Steps};
-ghost use Rattle.treecommands.specs.Sighting.{Sighted, besideChecks, intoChecks};
+ghost use Rattle.treecommands.specs.Sighting.{PairFound, besideChecks, intoChecks};
 
 // The places of the node that is moved and of the node that it goes to, or the first refusal.
 pub enum Pair {
@@ -19,7 +19,7 @@ pub enum Pair {
 // The checks of /n_before and /n_after.
 fn beside(node: u32, place: u32, words: &[u32]) -> Pair
     requires { ⌜ Ready (now words) ⌝ }
-    ensures { λ r. ⌜ Sighted (besideChecks node place) node place (now (words .entry)) r ⌝ }
+    ensures { λ r. ⌜ PairFound (besideChecks node place) node place (now (words .entry)) r ⌝ }
 {
     let count = wide(words[0]);
     let a = node_place(words, node);
@@ -45,7 +45,7 @@ fn beside(node: u32, place: u32, words: &[u32]) -> Pair
 // The checks of /g_head and /g_tail.
 fn into(group: u32, node: u32, words: &[u32]) -> Pair
     requires { ⌜ Ready (now words) ⌝ }
-    ensures { λ r. ⌜ Sighted (intoChecks group node) node group (now (words .entry)) r ⌝ }
+    ensures { λ r. ⌜ PairFound (intoChecks group node) node group (now (words .entry)) r ⌝ }
 {
     let count = wide(words[0]);
     let b = node_place(words, group);

@@ -10,7 +10,7 @@ use lib.Dec.{ltb}
 use lib.ListN.{getD, replicate, length-replicate, getD-replicate}
 use Rattle.nodes.specs.Place.{isGroup}
 use Rattle.controls.specs.Ready.{nodeIn, slotBytes}
-use Rattle.treequery.specs.Shapes.{shapeWords, shapesLength, labelIn, Shape, Shapes, Filled, Told, LookedUp}
+use Rattle.treequery.specs.Shapes.{shapeWords, shapesLength, labelIn, Shape, Shapes, Filled, ShapesKnown, LookedUp}
 
 -- three ways for two numbers to lie
 three : {E : Type 0} (k n : ℕ) → (k < n → E) → (k ≡ n → E) → (n < k → E) → E
@@ -33,12 +33,12 @@ shape-kept s k table table′ same h =
       within = λ j l. rw (on j l) (h .within j l);
     }
 
-module _ (ws bs : List ℕ) (i : ℕ) (table : List ℕ) (t : Told ws bs table) where
+module _ (ws bs : List ℕ) (i : ℕ) (table : List ℕ) (t : ShapesKnown ws bs table) where
   pub looked-group : isGroup (nodeIn ws i) ≡ true → LookedUp ws bs i table table
-  looked-group e = record { told = t; kept = λ k l h. h; there = λ f. absurd (true≢false (sym e ∙ f)) }
+  looked-group e = record { fact = t; kept = λ k l h. h; there = λ f. absurd (true≢false (sym e ∙ f)) }
 
   pub looked-before : 0 < getD table (shapeWords * nodeIn ws i .slot) 0 → LookedUp ws bs i table table
-  looked-before h = record { told = t; kept = λ k l p. p; there = λ f. h }
+  looked-before h = record { fact = t; kept = λ k l p. p; there = λ f. h }
 
   pub looked-now : (table′ : List ℕ) → nodeIn ws i .slot < 32 → Filled (slotBytes ws bs (nodeIn ws i .slot)) (nodeIn ws i .slot) table table′ → LookedUp ws bs i table table′
   looked-now table′ low f =
@@ -47,7 +47,7 @@ module _ (ws bs : List ℕ) (i : ℕ) (table : List ℕ) (t : Told ws bs table) 
       let before : (k m : ℕ) → k < slot → m < shapeWords → getD table′ (shapeWords * k + m) 0 ≡ getD table (shapeWords * k + m) 0 = λ k m less h. f .below (shapeWords * k + m) (omega arith) in
       let behind : (k m : ℕ) → slot < k → getD table′ (shapeWords * k + m) 0 ≡ getD table (shapeWords * k + m) 0 = λ k m more. f .above (shapeWords * k + m) (omega arith) in
       record {
-        told = record {
+        fact = record {
           size = f .size;
           right = λ k l h.
               three k slot
@@ -74,13 +74,13 @@ looked-more ws bs from i table table′ low h there = λ j l k single.
     j k l single
 
 -- all rows looked up
-pub looked-all : (ws bs : List ℕ) (from end : ℕ) (table : List ℕ) → Told ws bs table → ((i : ℕ) → i < end → isGroup (nodeIn ws i) ≡ false → nodeIn ws i .slot < 32)
+pub looked-all : (ws bs : List ℕ) (from end : ℕ) (table : List ℕ) → ShapesKnown ws bs table → ((i : ℕ) → i < end → isGroup (nodeIn ws i) ≡ false → nodeIn ws i .slot < 32)
     → ((i : ℕ) → from ≤ i → i < end → isGroup (nodeIn ws i) ≡ false → 0 < getD table (shapeWords * nodeIn ws i .slot) 0) → Shapes ws bs from end table
 looked-all ws bs from end table t low there = λ i l h single. t .right (nodeIn ws i .slot) (low i h single) (there i l h single)
 
 -- none so far
-pub told-none : (ws bs : List ℕ) → Told ws bs (replicate shapesLength 0)
-told-none ws bs = record {
+pub fact-none : (ws bs : List ℕ) → ShapesKnown ws bs (replicate shapesLength 0)
+fact-none ws bs = record {
   size = length-replicate {A = ℕ} shapesLength 0;
   right = λ k l h. absurd (let none : getD (replicate shapesLength 0) (shapeWords * k) 0 ≡ 0 = getD-replicate {A = ℕ} shapesLength (shapeWords * k) 0 0 (omega arith) in omega arith);
 }

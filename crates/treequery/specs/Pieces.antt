@@ -38,7 +38,7 @@ isSmall (Mapped bus) = ltb bus 10000
 abbrev pub mostBytes : ℕ
 mostBytes = 65536
 
-pub record Sized (s : List ℕ) (p : Piece) (size : ℕ) : Type 0 where
+pub record PieceSize (s : List ℕ) (p : Piece) (size : ℕ) : Type 0 where
   pub is : size ≡ length (pieceBytes s p)
   pub most : size ≤ 65540
 
@@ -69,7 +69,7 @@ digits-few n = go (ltb n 10) (ltb n 100) (ltb n 1000)
     go false false false = omega arith
 
 -- a string's size and bytes, by what the piece is
-pub sized-text : (s : List ℕ) (p : Piece) (t : List ℕ) (n size : ℕ) → pieceArgument s p ≡ text t → n ≡ length t → length t ≤ mostBytes → size ≡ n + (4 - n % 4) → Sized s p size
+pub sized-text : (s : List ℕ) (p : Piece) (t : List ℕ) (n size : ℕ) → pieceArgument s p ≡ text t → n ≡ length t → length t ≤ mostBytes → size ≡ n + (4 - n % 4) → PieceSize s p size
 sized-text s p t n size e l few h =
     let bytes : pieceBytes s p ≡ padded t = ap argumentBytes e in
     let long : length (pieceBytes s p) ≡ length t + (4 - length t % 4) = ap (length {A = ℕ}) bytes ∙ padded-size t in

@@ -7,7 +7,6 @@ use native.Mathlib.Omega.{arith}
 use lib.ListN.{length, getD, length-append}
 use lib.Dec.{ltb}
 use borrow.Author.Tests.{ltb-true, ltb-false}
-use Rattle.nodes.specs.Table.{rows}
 use Rattle.nodes.specs.Place.{isGroup}
 use Rattle.osc.specs.Message.{Argument, int}
 use Rattle.model.specs.Layout.{countIn, nodesPlace, nodesWords}
@@ -40,8 +39,8 @@ pub group-turn : (shown : Bool) (ws bs : List ℕ) (end i n children : ℕ) → 
 group-turn shown ws bs end i n children e a b = row-group shown ws bs end i e ∙ ap₂ (λ (x y : ℕ). int x ∷ (int y ∷ [])) (sym a) (sym b)
 
 -- a node's number, by the words
-pub number-told : (ws bs : List ℕ) (i : ℕ) → At ws bs i → getD ws (nodesPlace + 5 * i) 0 ≡ nodeIn ws i .number
-number-told ws bs i a = sym (part-word nodesPlace nodesWords (5 * i) ws (omega (arith, bounds ws bs i a .place)))
+pub number-fact : (ws bs : List ℕ) (i : ℕ) → At ws bs i → getD ws (nodesPlace + 5 * i) 0 ≡ nodeIn ws i .number
+number-fact ws bs i a = sym (part-word nodesPlace nodesWords (5 * i) ws (omega (arith, bounds ws bs i a .place)))
 
 -- all rows from a place on
 abbrev pub leftRows : Bool → List ℕ → List ℕ → ℕ → ℕ → List Argument
@@ -84,12 +83,12 @@ pub record RowOf (shown : Bool) (ws bs shapes : List ℕ) (end i : ℕ) : Type 0
 -- the whole part
 pub record RowsOf (shown : Bool) (ws bs shapes : List ℕ) (from end : ℕ) : Type 0 where
   pub run : Run ws bs from end
-  pub told : shown ≡ true → Shapes ws bs from end shapes
+  pub fact : shown ≡ true → Shapes ws bs from end shapes
 
 pub row-of : (shown : Bool) (ws bs shapes : List ℕ) (from end i : ℕ) → RowsOf shown ws bs shapes from end → from ≤ i → i < end → RowOf shown ws bs shapes end i
 row-of shown ws bs shapes from end i r low h = record {
   at = run-at ws bs from end i (r .run) h;
   inside = h;
   ends = r .run .ends;
-  shape = λ on single. r .told on i low h single;
+  shape = λ on single. r .fact on i low h single;
 }

@@ -39,12 +39,12 @@ pub record Filled (s : List ℕ) (k : ℕ) (table table′ : List ℕ) : Type 0 
   pub above : (m : ℕ) → shapeWords * k + shapeWords ≤ m → getD table′ m 0 ≡ getD table m 0
 
 -- what was looked up before is right
-pub record Told (ws bs table : List ℕ) : Type 0 where
+pub record ShapesKnown (ws bs table : List ℕ) : Type 0 where
   pub size : length table ≡ shapesLength
   pub right : (k : ℕ) → k < 32 → 0 < getD table (shapeWords * k) 0 → Shape (slotBytes ws bs k) k table
 
 -- a row's slot looked up
 pub record LookedUp (ws bs : List ℕ) (i : ℕ) (table table′ : List ℕ) : Type 0 where
-  pub told : Told ws bs table′
+  pub fact : ShapesKnown ws bs table′
   pub kept : (k : ℕ) → k < 32 → 0 < getD table (shapeWords * k) 0 → 0 < getD table′ (shapeWords * k) 0
   pub there : isGroup (nodeIn ws i) ≡ false → 0 < getD table′ (shapeWords * nodeIn ws i .slot) 0

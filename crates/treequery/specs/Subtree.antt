@@ -9,7 +9,7 @@ use lib.Seq.{take-add, drop-at, length-take-le}
 use lib.Dec.{ltb, eqb}
 use Rattle.words.specs.Choice.{pick}
 use Rattle.words.specs.Parts.{region}
-use Rattle.words.specs.declared.Refusal.the-variants.{NoNode, WrongKind}
+use Rattle.refusals.specs.declared.Refusal.the-variants.{NoNode, WrongKind}
 use Rattle.nodes.specs.declared.Node.{Node}
 use Rattle.nodes.specs.Table.{width, rows, rows-length, rows-take}
 use Rattle.nodes.specs.Place.{deeper, deeper-most, isGroup}

@@ -9,7 +9,7 @@ use lib.ListN.{length, drop, getD, drop-of-length-le}
 use lib.Seq.{drop-cons}
 use Rattle.synthdef.specs.Fields.{stringAt}
 use Rattle.synthdef.specs.Definition.{ParameterName, Front, Definition}
-use Rattle.readable.specs.Readable.{Readable, whole-readable, parts, name-told}
+use Rattle.readable.specs.Readable.{Readable, whole-readable, parts, name-fact}
 use Rattle.readable.specs.Labels.{labelAt}
 use Rattle.nodes.specs.Place.{isGroup}
 use Rattle.nodes.specs.Structure.{noNode}
@@ -72,11 +72,11 @@ module _ (ws bs : List ℕ) (i : ℕ) (a : At ws bs i) (single : isGroup (nodeIn
   many = controls-many (length (d ws bs i .front .values)) (drop (rowWords * nodeIn ws i .row) (controlsIn ws)) ∙ ap (λ (f : Front). length (f .values)) front
 
   -- its slot, by the words
-  pub slot-told : getD ws (nodesPlace + 5 * i + 3) 0 ≡ nodeIn ws i .slot
-  slot-told = sym (slot-word ws i (bounds ws bs i a .place))
+  pub slot-fact : getD ws (nodesPlace + 5 * i + 3) 0 ≡ nodeIn ws i .slot
+  slot-fact = sym (slot-word ws i (bounds ws bs i a .place))
 
   pub synth-slot : getD ws (nodesPlace + 5 * i + 3) 0 < 32
-  synth-slot = rw slot-told (bounds ws bs i a .slot single)
+  synth-slot = rw slot-fact (bounds ws bs i a .slot single)
 
   pub synth-short : length s ≤ mostBytes
   synth-short = omega (arith, bytes-short ws bs (nodeIn ws i .slot))
@@ -89,7 +89,7 @@ module _ (ws bs : List ℕ) (i : ℕ) (a : At ws bs i) (single : isGroup (nodeIn
 
   -- its name is the string at the first byte
   title : d ws bs i .front .name ≡ stringAt s 0
-  title = sym (held-name ws bs i a single) ∙ sym (name-told s synth-readable)
+  title = sym (held-name ws bs i a single) ∙ sym (name-fact s synth-readable)
 
   pub title-within : 0 + 1 + getD s 0 0 ≤ length s
   title-within = let w = parts s (synth-readable .reads) in omega (arith, w .named, w .within)

@@ -20,15 +20,15 @@ ghost use Rattle.treequery.specs.SynthRow.{controlsShown};
 fn count_controls(
     places: Places,
     words: &[u32],
-    shelf: &[u8],
+    arena: &[u8],
     shapes: &[u32; 1056],
     place: usize,
 ) -> Places
-    requires { ⌜ (Shaped (now words) (now shelf) (now shapes) place) × (Counts (controlsShown (now words) (now shelf) place true) places) ⌝ }
-    ensures { λ r. ⌜ Counted (controlsShown (now (words .entry)) (now (shelf .entry)) place true) places r ⌝ }
+    requires { ⌜ (Shaped (now words) (now arena) (now shapes) place) × (Counts (controlsShown (now words) (now arena) place true) places) ⌝ }
+    ensures { λ r. ⌜ Counted (controlsShown (now (words .entry)) (now (arena .entry)) place true) places r ⌝ }
 {
-    let definition = node_definition(words, shelf, place);
-    let synth = synth_at(words, shelf, shapes, place);
+    let definition = node_definition(words, arena, place);
+    let synth = synth_at(words, arena, shapes, place);
     let row = synth.row;
     let first = synth.first;
     let many = synth.many;
@@ -46,23 +46,23 @@ fn count_controls(
 fn count_row(
     places: Places,
     words: &[u32],
-    shelf: &[u8],
+    arena: &[u8],
     shapes: &[u32; 1056],
     shown: bool,
     end: usize,
     place: usize,
 ) -> Places
-    requires { ⌜ (RowOf shown (now words) (now shelf) (now shapes) end place) × (Counts (rowArguments shown (now words) (now shelf) end place) places) ⌝ }
-    ensures { λ r. ⌜ Counted (rowArguments shown (now (words .entry)) (now (shelf .entry)) end place) places r ⌝ }
+    requires { ⌜ (RowOf shown (now words) (now arena) (now shapes) end place) × (Counts (rowArguments shown (now words) (now arena) end place) places) ⌝ }
+    ensures { λ r. ⌜ Counted (rowArguments shown (now (words .entry)) (now (arena .entry)) end place) places r ⌝ }
 {
     let next = count_pair(places);
     if node_is_group(words, place) {
         return next;
     }
-    let definition = node_definition(words, shelf, place);
+    let definition = node_definition(words, arena, place);
     let titled = count_piece(next, definition, string_at(definition, 0));
     if shown {
-        return count_controls(titled, words, shelf, shapes, place);
+        return count_controls(titled, words, arena, shapes, place);
     }
     titled
 }
@@ -70,19 +70,19 @@ fn count_row(
 // The rows from one place of the table to another.
 pub fn count_tree(
     words: &[u32],
-    shelf: &[u8],
+    arena: &[u8],
     shapes: &[u32; 1056],
     shown: bool,
     from: usize,
     end: usize,
 ) -> Places
-    requires { ⌜ RowsOf shown (now words) (now shelf) (now shapes) from end ⌝ }
-    ensures { λ r. ⌜ Size (leftRows shown (now (words .entry)) (now (shelf .entry)) end from) r ⌝ }
+    requires { ⌜ RowsOf shown (now words) (now arena) (now shapes) from end ⌝ }
+    ensures { λ r. ⌜ Size (leftRows shown (now (words .entry)) (now (arena .entry)) end from) r ⌝ }
 {
     let mut next = Places { tag: 0, byte: 0 };
     let mut i = from;
     while i < end {
-        next = count_row(next, words, shelf, shapes, shown, end, i);
+        next = count_row(next, words, arena, shapes, shown, end, i);
         i += 1;
     }
     next

@@ -7,13 +7,13 @@ use osc::put_int;
 use osc::put_padded;
 use osc::put_zeros;
 use synthdef::part;
-ghost use Prim.Native.Nat.{ℕ, _+_, _≤_, _<_};
+ghost use Prim.Native.Nat.{ℕ, _+_, _≤_};
 ghost use mathlib.Core.List.{List};
 ghost use mathlib.Core.Path.{_≡_};
 ghost use lib.ListN.{length};
 ghost use Rattle.osc.specs.Message.{tagOf, padded};
 ghost use Rattle.osc.specs.Over.{over};
-ghost use Rattle.treequery.specs.Pieces.{pieceArgument, pieceBytes, mappedText, mostBytes, Sized, Puts, MappedRoom};
+ghost use Rattle.treequery.specs.Pieces.{pieceArgument, pieceBytes, mappedText, mostBytes, PieceSize, Puts, MappedRoom};
 
 // An integer; a float; a name, a part of a definition's bytes; 'c' and the decimal bus.
 pub enum Piece {
@@ -38,7 +38,7 @@ pub fn piece_tag(piece: Piece) -> u8
 // How many bytes it has.
 pub fn piece_size(definition: &[u8], piece: Piece) -> usize
     requires { ⌜ length (now definition) ≤ mostBytes ⌝ }
-    ensures { λ r. ⌜ Sized (now (definition .entry)) piece r ⌝ }
+    ensures { λ r. ⌜ PieceSize (now (definition .entry)) piece r ⌝ }
 {
     match piece {
         Piece::Whole(_n) => 4,

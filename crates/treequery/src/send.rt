@@ -1,19 +1,19 @@
 // The whole reply.
+use controls::node_is_group;
 use crate::count::count_tree;
 use crate::places::Places;
 use crate::shapes::tree_shapes;
 use crate::write::put_tree;
-use controls::node_is_group;
 use model::Answer;
 use names::node_place;
 use osc::padded_length;
 use osc::put_bytes;
 use osc::put_padded;
 use osc::put_zeros;
+use refusals::Refusal;
 use replies::put_words;
 use tree::child_count;
 use tree::subtree_end;
-use words::Refusal;
 use words::wide;
 ghost use mathlib.Core.Bool.{not};
 ghost use mathlib.Core.List.{_∷_};
@@ -52,26 +52,26 @@ fn put_front(out: &mut [u8], many: usize, front: usize, shown: bool, number: u32
     put_padded(out, 0, b"/g_queryTree.reply");
     put_bytes(out, 20, b",iii");
     put_zeros(out, 24 + many, 4 - (many + 4) % 4);
-    let told = [flag_number(shown), number, children];
-    put_words(out, front, &told);
+    let arguments = [flag_number(shown), number, children];
+    put_words(out, front, &arguments);
 }
 
 // The reply of the rows from one place to another.
 fn send_tree(
     out: &mut [u8],
     words: &[u32],
-    shelf: &[u8],
+    arena: &[u8],
     shown: bool,
     from: usize,
     end: usize,
     number: u32,
     children: u32,
 ) -> Answer
-    requires { ⌜ Run (now words) (now shelf) from end ⌝ }
-    ensures { λ r. ⌜ Sends (message treeAddress (int (flagNumber shown) ∷ (int number ∷ (int children ∷ leftRows shown (now (words .entry)) (now (shelf .entry)) end from)))) (now (out .entry)) r (now (out .exit)) ⌝ }
+    requires { ⌜ Run (now words) (now arena) from end ⌝ }
+    ensures { λ r. ⌜ Sends (message treeAddress (int (flagNumber shown) ∷ (int number ∷ (int children ∷ leftRows shown (now (words .entry)) (now (arena .entry)) end from)))) (now (out .entry)) r (now (out .exit)) ⌝ }
 {
-    let shapes = tree_shapes(words, shelf, shown, from, end);
-    let size = count_tree(words, shelf, &shapes, shown, from, end);
+    let shapes = tree_shapes(words, arena, shown, from, end);
+    let size = count_tree(words, arena, &shapes, shown, from, end);
     let many = size.tag;
     let front = 20 + padded_length(many + 4);
     let whole = front + 12 + size.byte;
@@ -83,21 +83,21 @@ fn send_tree(
         tag: 24,
         byte: front + 12,
     };
-    put_tree(out, places, words, shelf, &shapes, shown, from, end);
+    put_tree(out, places, words, arena, &shapes, shown, from, end);
     Answer::Replied(whole)
 }
 
 // The tree below a group.
 pub fn tree_query(
     words: &[u32],
-    shelf: &[u8],
+    arena: &[u8],
     bytes: &[u8],
     out: &mut [u8],
     group: u32,
     flag: u32,
 ) -> Answer
-    requires { ⌜ Known (now words) (now shelf) ⌝ }
-    ensures { λ r. ⌜ Reply (query.Tree group flag) (now (bytes .entry)) (now (words .entry)) (now (shelf .entry)) (now (out .entry)) r (now (out .exit)) ⌝ }
+    requires { ⌜ Known (now words) (now arena) ⌝ }
+    ensures { λ r. ⌜ Reply (query.Tree group flag) (now (bytes .entry)) (now (words .entry)) (now (arena .entry)) (now (out .entry)) r (now (out .exit)) ⌝ }
 {
     let at = node_place(words, group);
     let count = wide(words[0]);
@@ -112,5 +112,5 @@ pub fn tree_query(
     let children = child_count(nodes, count, at);
     let end = subtree_end(nodes, count, at);
     let shown = is_shown(flag);
-    send_tree(out, words, shelf, shown, at + 1, end, number, children)
+    send_tree(out, words, arena, shown, at + 1, end, number, children)
 }

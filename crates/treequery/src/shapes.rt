@@ -12,7 +12,7 @@ ghost use mathlib.Core.Path.{_≡_};
 ghost use lib.ListN.{length};
 ghost use Rattle.readable.specs.Readable.{Readable};
 ghost use Rattle.queries.specs.Held.{At};
-ghost use Rattle.treequery.specs.Shapes.{shapesLength, Shapes, Filled, Told, LookedUp};
+ghost use Rattle.treequery.specs.Shapes.{shapesLength, Shapes, Filled, ShapesKnown, LookedUp};
 ghost use Rattle.treequery.specs.Rows.{Run};
 ghost use Rattle.treequery.specs.Controls.{Shaped, SynthAt};
 
@@ -24,9 +24,9 @@ pub struct Synth {
 }
 
 // The synth at a place of the table.
-pub fn synth_at(words: &[u32], shelf: &[u8], shapes: &[u32; 1056], place: usize) -> Synth
-    requires { ⌜ Shaped (now words) (now shelf) (now shapes) place ⌝ }
-    ensures { λ r. ⌜ SynthAt (now (words .entry)) (now (shelf .entry)) place r ⌝ }
+pub fn synth_at(words: &[u32], arena: &[u8], shapes: &[u32; 1056], place: usize) -> Synth
+    requires { ⌜ Shaped (now words) (now arena) (now shapes) place ⌝ }
+    ensures { λ r. ⌜ SynthAt (now (words .entry)) (now (arena .entry)) place r ⌝ }
 {
     let row = node_row(words, place);
     let first = 33 * wide(words[68 + 5 * place + 3]);
@@ -53,9 +53,9 @@ fn look_up(shapes: &mut [u32; 1056], slot: usize, definition: &[u8])
 }
 
 // The shape of the definition of a row's synth, unless its slot was looked up before.
-fn look_up_row(shapes: &mut [u32; 1056], words: &[u32], shelf: &[u8], place: usize)
-    requires { ⌜ (At (now words) (now shelf) place) × (Told (now words) (now shelf) (now shapes)) ⌝ }
-    ensures { λ r. ⌜ LookedUp (now (words .entry)) (now (shelf .entry)) place (now (shapes .entry)) (now (shapes .exit)) ⌝ }
+fn look_up_row(shapes: &mut [u32; 1056], words: &[u32], arena: &[u8], place: usize)
+    requires { ⌜ (At (now words) (now arena) place) × (ShapesKnown (now words) (now arena) (now shapes)) ⌝ }
+    ensures { λ r. ⌜ LookedUp (now (words .entry)) (now (arena .entry)) place (now (shapes .entry)) (now (shapes .exit)) ⌝ }
 {
     if node_is_group(words, place) {
         return;
@@ -64,13 +64,13 @@ fn look_up_row(shapes: &mut [u32; 1056], words: &[u32], shelf: &[u8], place: usi
     if shapes[33 * slot] != 0 {
         return;
     }
-    look_up(shapes, slot, node_definition(words, shelf, place));
+    look_up(shapes, slot, node_definition(words, arena, place));
 }
 
 // The shapes of the synths' definitions, from one place of the table to another, where controls are shown.
-pub fn tree_shapes(words: &[u32], shelf: &[u8], shown: bool, from: usize, end: usize) -> [u32; 1056]
-    requires { ⌜ Run (now words) (now shelf) from end ⌝ }
-    ensures { λ r. ⌜ (shown ≡ true → Shapes (now (words .entry)) (now (shelf .entry)) from end r) ⌝ }
+pub fn tree_shapes(words: &[u32], arena: &[u8], shown: bool, from: usize, end: usize) -> [u32; 1056]
+    requires { ⌜ Run (now words) (now arena) from end ⌝ }
+    ensures { λ r. ⌜ (shown ≡ true → Shapes (now (words .entry)) (now (arena .entry)) from end r) ⌝ }
 {
     let mut shapes = [0u32; 1056];
     if !shown {
@@ -78,7 +78,7 @@ pub fn tree_shapes(words: &[u32], shelf: &[u8], shown: bool, from: usize, end: u
     }
     let mut i = from;
     while i < end {
-        look_up_row(&mut shapes, words, shelf, i);
+        look_up_row(&mut shapes, words, arena, i);
         i += 1;
     }
     shapes

@@ -22,15 +22,15 @@ fn put_controls(
     out: &mut [u8],
     places: Places,
     words: &[u32],
-    shelf: &[u8],
+    arena: &[u8],
     shapes: &[u32; 1056],
     place: usize,
 ) -> Places
-    requires { ⌜ (Shaped (now words) (now shelf) (now shapes) place) × (Room places (controlsShown (now words) (now shelf) place true) (now out)) ⌝ }
-    ensures { λ r. ⌜ Wrote places (controlsShown (now (words .entry)) (now (shelf .entry)) place true) (now (out .entry)) r (now (out .exit)) ⌝ }
+    requires { ⌜ (Shaped (now words) (now arena) (now shapes) place) × (Room places (controlsShown (now words) (now arena) place true) (now out)) ⌝ }
+    ensures { λ r. ⌜ Wrote places (controlsShown (now (words .entry)) (now (arena .entry)) place true) (now (out .entry)) r (now (out .exit)) ⌝ }
 {
-    let definition = node_definition(words, shelf, place);
-    let synth = synth_at(words, shelf, shapes, place);
+    let definition = node_definition(words, arena, place);
+    let synth = synth_at(words, arena, shapes, place);
     let row = synth.row;
     let first = synth.first;
     let many = synth.many;
@@ -54,24 +54,24 @@ fn put_row(
     out: &mut [u8],
     places: Places,
     words: &[u32],
-    shelf: &[u8],
+    arena: &[u8],
     shapes: &[u32; 1056],
     shown: bool,
     end: usize,
     place: usize,
 ) -> Places
-    requires { ⌜ (RowOf shown (now words) (now shelf) (now shapes) end place) × (Room places (rowArguments shown (now words) (now shelf) end place) (now out)) ⌝ }
-    ensures { λ r. ⌜ Wrote places (rowArguments shown (now (words .entry)) (now (shelf .entry)) end place) (now (out .entry)) r (now (out .exit)) ⌝ }
+    requires { ⌜ (RowOf shown (now words) (now arena) (now shapes) end place) × (Room places (rowArguments shown (now words) (now arena) end place) (now out)) ⌝ }
+    ensures { λ r. ⌜ Wrote places (rowArguments shown (now (words .entry)) (now (arena .entry)) end place) (now (out .entry)) r (now (out .exit)) ⌝ }
 {
     let number = words[68 + 5 * place];
     if node_is_group(words, place) {
         return put_pair(out, places, number, children_at(words, end, place));
     }
     let next = put_pair(out, places, number, 4294967295);
-    let definition = node_definition(words, shelf, place);
+    let definition = node_definition(words, arena, place);
     let titled = put_argument(out, next, definition, string_at(definition, 0));
     if shown {
-        return put_controls(out, titled, words, shelf, shapes, place);
+        return put_controls(out, titled, words, arena, shapes, place);
     }
     titled
 }
@@ -81,19 +81,19 @@ pub fn put_tree(
     out: &mut [u8],
     places: Places,
     words: &[u32],
-    shelf: &[u8],
+    arena: &[u8],
     shapes: &[u32; 1056],
     shown: bool,
     from: usize,
     end: usize,
 ) -> Places
-    requires { ⌜ (RowsOf shown (now words) (now shelf) (now shapes) from end) × (Room places (leftRows shown (now words) (now shelf) end from) (now out)) ⌝ }
-    ensures { λ r. ⌜ Wrote places (leftRows shown (now (words .entry)) (now (shelf .entry)) end from) (now (out .entry)) r (now (out .exit)) ⌝ }
+    requires { ⌜ (RowsOf shown (now words) (now arena) (now shapes) from end) × (Room places (leftRows shown (now words) (now arena) end from) (now out)) ⌝ }
+    ensures { λ r. ⌜ Wrote places (leftRows shown (now (words .entry)) (now (arena .entry)) end from) (now (out .entry)) r (now (out .exit)) ⌝ }
 {
     let mut next = places;
     let mut i = from;
     while i < end {
-        next = put_row(out, next, words, shelf, shapes, shown, end, i);
+        next = put_row(out, next, words, arena, shapes, shown, end, i);
         i += 1;
     }
     next

@@ -106,14 +106,14 @@ picked : (b : Bool) (x : ℕ) (p : ℕ) → pick b (Pattern x) OutOfBounds ≡ P
 picked true x p h = (refl, (cc))
 picked false x p h = ((cc), (cc))
 
-pub pattern-told : (v : Value) (p : ℕ) → patternOf v ≡ Pattern p → (inBounds v ≡ true) × (pattern v ≡ p)
+pub pattern-fact : (v : Value) (p : ℕ) → patternOf v ≡ Pattern p → (inBounds v ≡ true) × (pattern v ≡ p)
 unfolding patternOf
-pattern-told v p h = picked (inBounds v) (pattern v) p h
+pattern-fact v p h = picked (inBounds v) (pattern v) p h
 
 refused : (b : Bool) (x : ℕ) → pick b (Pattern x) OutOfBounds ≡ OutOfBounds → b ≡ false
 refused true x h = (cc)
 refused false x h = refl
 
-pub bounds-told : (v : Value) → patternOf v ≡ OutOfBounds → inBounds v ≡ false
+pub bounds-fact : (v : Value) → patternOf v ≡ OutOfBounds → inBounds v ≡ false
 unfolding patternOf
-bounds-told v h = refused (inBounds v) (pattern v) h
+bounds-fact v h = refused (inBounds v) (pattern v) h

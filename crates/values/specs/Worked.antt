@@ -7,11 +7,8 @@ use Rattle.values.specs.Controls.{ControlValue, setTo, mapTo, shownBy}
 use Rattle.values.specs.Targets.{targetOf}
 use Rattle.values.specs.Values.{inBounds, pattern, patternOf}
 use Rattle.values.specs.declared.Mapping.the-variants.{Unmapped, Bus}
-use Rattle.values.specs.declared.Target.{Target}
 use Rattle.values.specs.declared.Target.the-variants.{Latest, Number, Reserved}
-use Rattle.values.specs.declared.Value.{Value}
 use Rattle.values.specs.declared.Value.the-variants.{Float, Integer}
-use Rattle.values.specs.declared.ValuePattern.{ValuePattern}
 use Rattle.values.specs.declared.ValuePattern.the-variants.{Pattern, OutOfBounds}
 
 -- bus 7 at 2.0

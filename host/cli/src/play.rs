@@ -23,7 +23,7 @@ const LINES_UNREADABLE: u8 = 1;
 const UNREADABLE: u8 = 2;
 
 /// An engine to send commands to.
-pub trait Door {
+pub trait Applies {
     /// Does a command, given as the exported function `engine_apply` takes it, and answers alike.
     fn apply(&mut self, op: u32, numbers: [u32; 5], bytes: &[u8], reply: &mut [u8]) -> u64;
 
@@ -31,7 +31,7 @@ pub trait Door {
     fn words(&self) -> &[u32];
 }
 
-impl Door for engine::Engine {
+impl Applies for engine::Engine {
     fn apply(&mut self, op: u32, numbers: [u32; 5], bytes: &[u8], reply: &mut [u8]) -> u64 {
         match self.apply(op, numbers, bytes, reply) {
             Ok(length) => 256 * length as u64,
@@ -45,7 +45,7 @@ impl Door for engine::Engine {
 }
 
 /// Plays a file to standard output.
-pub fn file(name: &OsStr, door: &mut impl Door) -> ExitCode {
+pub fn file(name: &OsStr, engine: &mut impl Applies) -> ExitCode {
     let script = match fs::read(name) {
         Ok(script) => script,
         Err(error) => {
@@ -55,7 +55,7 @@ pub fn file(name: &OsStr, door: &mut impl Door) -> ExitCode {
     };
     let folder = Path::new(name).parent().unwrap_or(Path::new(""));
     let mut out = BufWriter::new(io::stdout().lock());
-    let played = play(&script, folder, door, &mut out).and_then(|read| {
+    let played = play(&script, folder, engine, &mut out).and_then(|read| {
         out.flush()?;
         Ok(read)
     });
@@ -74,11 +74,11 @@ pub fn file(name: &OsStr, door: &mut impl Door) -> ExitCode {
 pub fn play(
     script: &[u8],
     folder: &Path,
-    door: &mut impl Door,
+    engine: &mut impl Applies,
     out: &mut impl Write,
 ) -> io::Result<bool> {
     let mut player = Player {
-        door,
+        engine,
         reply: vec![0; REPLY],
     };
     let mut all_read = true;
@@ -97,11 +97,11 @@ pub fn play(
 }
 
 struct Player<'a, D> {
-    door: &'a mut D,
+    engine: &'a mut D,
     reply: Vec<u8>,
 }
 
-impl<D: Door> Player<'_, D> {
+impl<D: Applies> Player<'_, D> {
     /// Does what a line says and prints it. Answers why it can't be read, if so.
     fn line(
         &mut self,
@@ -131,7 +131,7 @@ impl<D: Door> Player<'_, D> {
     /// Sends a command. Answers the refusal's number, or 0, and the place or the reply's length.
     fn send(&mut self, call: &Call) -> (u32, usize) {
         let answer = self
-            .door
+            .engine
             .apply(call.op, call.numbers, &call.bytes, &mut self.reply);
         ((answer % 256) as u32, (answer / 256) as usize)
     }
@@ -185,7 +185,7 @@ impl<D: Door> Player<'_, D> {
             bytes: Vec::new(),
         });
         match Message::read(&self.reply[..length]) {
-            Some(message) => tree::state(&message, self.door.words(), out),
+            Some(message) => tree::state(&message, self.engine.words(), out),
             None => writeln!(out, "  the engine does not answer"),
         }
     }

@@ -1,6 +1,6 @@
 //! `play` on the independent engine and, as the built program, on the proved one.
 
-use cli::play::{play, Door};
+use cli::play::{play, Applies};
 use independent::engine::packed;
 use independent::{layout, Call, Engine};
 use std::fs;
@@ -23,7 +23,7 @@ impl Independent {
     }
 }
 
-impl Door for Independent {
+impl Applies for Independent {
     fn apply(&mut self, op: u32, numbers: [u32; 5], bytes: &[u8], reply: &mut [u8]) -> u64 {
         let call = Call {
             op,
@@ -69,13 +69,13 @@ fn unread(line: &str, why: &str) {
 }
 
 #[test]
-fn the_evening_goes_as_it_is_kept() {
-    let script = fs::read(examples().join("evening.txt")).expect("the script");
+fn the_show_goes_as_it_is_kept() {
+    let script = fs::read(examples().join("show.txt")).expect("the script");
     let (text, read) = played(&script);
     if std::env::var_os("LIMUDVEK_WRITE_EXAMPLES").is_some() {
-        fs::write(examples().join("evening.out"), &text).expect("it can be written");
+        fs::write(examples().join("show.out"), &text).expect("it can be written");
     }
-    let kept = fs::read_to_string(examples().join("evening.out")).expect("its output");
+    let kept = fs::read_to_string(examples().join("show.out")).expect("its output");
     assert_eq!(text, kept);
     assert!(read);
 }
@@ -169,8 +169,8 @@ fn lines_that_cannot_be_read() {
 fn a_refused_file_has_its_place() {
     // The script itself is no synth definition file.
     prints(
-        "/d_recv evening.txt",
-        "/d_recv evening.txt: refused 3: it does not begin with SCgf, so it is no synth definition \
+        "/d_recv show.txt",
+        "/d_recv show.txt: refused 3: it does not begin with SCgf, so it is no synth definition \
          file, at byte 0\n",
     );
 }
@@ -220,9 +220,9 @@ fn program(words: &[&std::ffi::OsStr]) -> (i32, String, String) {
 }
 
 #[test]
-fn the_program_plays_the_evening() {
-    let script = examples().join("evening.txt");
-    let kept = fs::read_to_string(examples().join("evening.out")).expect("its output");
+fn the_program_plays_the_show() {
+    let script = examples().join("show.txt");
+    let kept = fs::read_to_string(examples().join("show.out")).expect("its output");
     let played = program(&[script.as_os_str()]);
     assert_eq!(played, (0, kept, String::new()));
 }

@@ -1,16 +1,16 @@
 //! Safe functions over the proved engine. An engine lives in two lent runs, which docs/LAYOUT.md
-//! describes: words, and bytes called the shelf.
+//! describes: words, and bytes called the arena.
 
 /// The exported functions of the Rattle crate `engine`. A slice passes as pointer and length.
 mod proved {
     extern "C" {
         pub fn engine_words() -> u64;
-        pub fn engine_shelf() -> u64;
+        pub fn engine_arena() -> u64;
         pub fn engine_fresh(
             words: *mut u32,
             words_length: usize,
-            shelf: *mut u8,
-            shelf_length: usize,
+            arena: *mut u8,
+            arena_length: usize,
         ) -> u32;
         pub fn engine_apply(
             op: u32,
@@ -23,8 +23,8 @@ mod proved {
             bytes_length: usize,
             words: *mut u32,
             words_length: usize,
-            shelf: *mut u8,
-            shelf_length: usize,
+            arena: *mut u8,
+            arena_length: usize,
             reply: *mut u8,
             reply_length: usize,
         ) -> u64;
@@ -41,21 +41,21 @@ pub fn words() -> usize {
     unsafe { proved::engine_words() as usize }
 }
 
-/// How many bytes its shelf takes.
-pub fn shelf() -> usize {
+/// How many bytes its arena takes.
+pub fn arena() -> usize {
     // SAFETY: as above.
-    unsafe { proved::engine_shelf() as usize }
+    unsafe { proved::engine_arena() as usize }
 }
 
 /// Makes a fresh engine of the two runs, or refuses their sizes. Answers 0 or the refusal.
-pub fn fresh(words: &mut [u32], shelf: &mut [u8]) -> u32 {
+pub fn fresh(words: &mut [u32], arena: &mut [u8]) -> u32 {
     // SAFETY: each pointer and length are those of one slice, lent until the call returns.
     unsafe {
         proved::engine_fresh(
             words.as_mut_ptr(),
             words.len(),
-            shelf.as_mut_ptr(),
-            shelf.len(),
+            arena.as_mut_ptr(),
+            arena.len(),
         )
     }
 }
@@ -67,7 +67,7 @@ pub fn apply(
     numbers: [u32; 5],
     bytes: &[u8],
     words: &mut [u32],
-    shelf: &mut [u8],
+    arena: &mut [u8],
     reply: &mut [u8],
 ) -> u64 {
     let [a, b, c, d, e] = numbers;
@@ -84,8 +84,8 @@ pub fn apply(
             bytes.len(),
             words.as_mut_ptr(),
             words.len(),
-            shelf.as_mut_ptr(),
-            shelf.len(),
+            arena.as_mut_ptr(),
+            arena.len(),
             reply.as_mut_ptr(),
             reply.len(),
         )
@@ -103,7 +103,7 @@ pub struct Refused {
 #[derive(Clone, Debug)]
 pub struct Engine {
     words: Vec<u32>,
-    shelf: Vec<u8>,
+    arena: Vec<u8>,
 }
 
 impl Default for Engine {
@@ -117,9 +117,9 @@ impl Engine {
     pub fn new() -> Engine {
         let mut engine = Engine {
             words: vec![0; words()],
-            shelf: vec![0; shelf()],
+            arena: vec![0; arena()],
         };
-        let refusal = fresh(&mut engine.words, &mut engine.shelf);
+        let refusal = fresh(&mut engine.words, &mut engine.arena);
         assert_eq!(refusal, 0, "the runs have the sizes that were asked for");
         engine
     }
@@ -133,7 +133,7 @@ impl Engine {
         bytes: &[u8],
         reply: &mut [u8],
     ) -> Result<usize, Refused> {
-        let answer = apply(op, numbers, bytes, &mut self.words, &mut self.shelf, reply);
+        let answer = apply(op, numbers, bytes, &mut self.words, &mut self.arena, reply);
         match answer % 256 {
             0 => Ok((answer / 256) as usize),
             number => Err(Refused {
@@ -147,7 +147,7 @@ impl Engine {
         &self.words
     }
 
-    pub fn shelf(&self) -> &[u8] {
-        &self.shelf
+    pub fn arena(&self) -> &[u8] {
+        &self.arena
     }
 }

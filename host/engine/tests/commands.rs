@@ -22,17 +22,17 @@ struct Tally {
     /// New nodes by action 4 where 256 live.
     replaced_when_full: usize,
     /// Controls set by name in a synth whose definition's name means another one by now.
-    old_voices_set: usize,
+    old_synths_set: usize,
 }
 
 impl Tally {
-    fn count(&mut self, call: &Call, nodes: usize, old_voice: bool, answer: u32) {
+    fn count(&mut self, call: &Call, nodes: usize, old_synth: bool, answer: u32) {
         self.answers[(answer as usize).min(26)] += 1;
         if answer == 0 {
             let replaces = matches!(call.op, 3 | 4) && call.numbers[1] == 4;
             self.replaced_when_full += usize::from(replaces && nodes == MOST_NODES);
             let by_name = matches!(call.op, 14 | 16 | 18);
-            self.old_voices_set += usize::from(by_name && old_voice);
+            self.old_synths_set += usize::from(by_name && old_synth);
         }
     }
 
@@ -41,7 +41,7 @@ impl Tally {
             *total += count;
         }
         self.replaced_when_full += other.replaced_when_full;
-        self.old_voices_set += other.old_voices_set;
+        self.old_synths_set += other.old_synths_set;
     }
 }
 
@@ -61,9 +61,9 @@ fn both_engines_agree() {
             _ => say(&format!("refusal {number}: {count} commands")),
         }
     }
-    let (full, old) = (tally.replaced_when_full, tally.old_voices_set);
+    let (full, old) = (tally.replaced_when_full, tally.old_synths_set);
     say(&format!("action 4 with 256 nodes: {full} commands"));
-    say(&format!("old voices set by name: {old} commands"));
+    say(&format!("old synths set by name: {old} commands"));
     assert!(total >= 300_000, "only {total} commands");
     assert!(full >= 100 && old >= 300, "{full} and {old} only");
     assert!(answers[0] >= total * 2 / 5, "only {} accepted", answers[0]);
@@ -100,8 +100,8 @@ fn sequence(seed: u64, place: usize) -> Tally {
                     let _ = model.apply(&command, &mut []);
                 }
             }
-            let (words, shelf) = layout::state(&model.view());
-            pair = Pair::new(model, words, shelf);
+            let (words, arena) = layout::state(&model.view());
+            pair = Pair::new(model, words, arena);
             pair.shuffle(&mut random);
         }
         _ => {}
@@ -118,9 +118,9 @@ fn sequence(seed: u64, place: usize) -> Tally {
             panic!("LIMUDVEK_SEED={seed}, sequence {place} ({theme:?}), command {at}: {what}: {call:?}")
         };
         let nodes = pair.model.nodes();
-        let old_voice = pair.model.is_old_voice(call.numbers[0] as i32);
+        let old_synth = pair.model.is_old_synth(call.numbers[0] as i32);
         match pair.send(&call, &mut random) {
-            Ok(answer) => tally.count(&call, nodes, old_voice, answer),
+            Ok(answer) => tally.count(&call, nodes, old_synth, answer),
             Err(what) => fail(what),
         }
         if at % 200 == 0 || at + 1 == length {

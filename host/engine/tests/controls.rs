@@ -167,7 +167,7 @@ fn a_group_of_mixed_definitions() {
     desk.done(17, [1, 1, 9, 0, 0], b"");
     let expected = [vec![10], vec![7, 99, 8], vec![5, 99], vec![20, 21, 8]];
     assert_eq!(all(&mut desk), expected);
-    // A set of one voice unmaps it alone, and the others' own floats return.
+    // A set of one synth unmaps it alone, and the others' own floats return.
     desk.done(13, [12, 1, 0, 0, 3], b"");
     desk.done(17, [0, 1, -1, 0, 0], b"");
     let expected = [vec![10], vec![7, 3, 8], vec![5, 6], vec![20, 21, 8]];
@@ -260,13 +260,13 @@ fn controls_agree() {
     );
 }
 
-/// Both engines, and what is known of their voices.
+/// Both engines, and what is known of their synths.
 struct Stage {
     random: Random,
     pair: Pair,
     definitions: Vec<Definition>,
-    /// Each voice's number and its definition.
-    voices: Vec<(i32, usize)>,
+    /// Each synth's number and its definition.
+    synths: Vec<(i32, usize)>,
     latest: Option<i32>,
     tally: Tally,
 }
@@ -275,7 +275,7 @@ struct Stage {
 #[derive(Clone, Copy)]
 enum Named {
     Group,
-    Voice(usize),
+    Synth(usize),
     Nothing,
 }
 
@@ -286,7 +286,7 @@ impl Stage {
             pair: Pair::fresh(&mut random),
             random,
             definitions,
-            voices: Vec::new(),
+            synths: Vec::new(),
             latest: None,
             tally: Tally::default(),
         };
@@ -312,7 +312,7 @@ impl Stage {
             )?;
         }
         for _ in 0..self.random.one_of(&[4, 12, 40]) {
-            self.voice()?;
+            self.synth()?;
         }
         if self.random.below(2) == 0 {
             self.pair.shuffle(&mut self.random);
@@ -327,7 +327,7 @@ impl Stage {
             50..=66 => self.change(17),
             67..=74 => self.buses(),
             75..=89 => self.read(),
-            90..=93 => self.voice(),
+            90..=93 => self.synth(),
             94..=95 => self.free(),
             96 => self.send_of_groups(10),
             97 => self.send_of_groups(25),
@@ -339,9 +339,9 @@ impl Stage {
         }
     }
 
-    fn voice(&mut self) -> Result<(), String> {
+    fn synth(&mut self) -> Result<(), String> {
         let number = 1 + self.random.below(800) as i32;
-        if self.voices.len() >= 80 || self.voices.iter().any(|voice| voice.0 == number) {
+        if self.synths.len() >= 80 || self.synths.iter().any(|synth| synth.0 == number) {
             return Ok(());
         }
         let definition = self.random.below(self.definitions.len());
@@ -352,17 +352,17 @@ impl Stage {
             &Call::new(3, [number, 1, group, 0, 0], &name),
             &mut self.random,
         )?;
-        self.voices.push((number, definition));
+        self.synths.push((number, definition));
         self.latest = Some(number);
         Ok(())
     }
 
     fn free(&mut self) -> Result<(), String> {
-        if self.voices.is_empty() {
+        if self.synths.is_empty() {
             return Ok(());
         }
-        let at = self.random.below(self.voices.len());
-        let (number, _) = self.voices.swap_remove(at);
+        let at = self.random.below(self.synths.len());
+        let (number, _) = self.synths.swap_remove(at);
         self.latest = self.latest.filter(|&latest| latest != number);
         self.pair.expect(
             0,
@@ -371,11 +371,11 @@ impl Stage {
         )
     }
 
-    /// Moves a voice into a group, or shows a group's tree.
+    /// Moves a synth into a group, or shows a group's tree.
     fn send_of_groups(&mut self, op: u32) -> Result<(), String> {
         let group = self.random.one_of(&GROUPS);
-        let call = match (op, self.voices.first()) {
-            (10, Some(&(voice, _))) => Call::new(10, [group, voice, 0, 0, 0], b""),
+        let call = match (op, self.synths.first()) {
+            (10, Some(&(synth, _))) => Call::new(10, [group, synth, 0, 0, 0], b""),
             _ => Call::new(25, [group, 1, 0, 0, 0], b""),
         };
         self.pair.send(&call, &mut self.random).map(drop)
@@ -383,13 +383,13 @@ impl Stage {
 
     /// A number that a command names a node by, and what it is.
     fn node(&mut self) -> (i32, Named) {
-        let voices = &self.voices;
-        let kind = |number| voices.iter().find(|voice| voice.0 == number);
-        let named = |number| kind(number).map_or(Named::Nothing, |voice| Named::Voice(voice.1));
+        let synths = &self.synths;
+        let kind = |number| synths.iter().find(|synth| synth.0 == number);
+        let named = |number| kind(number).map_or(Named::Nothing, |synth| Named::Synth(synth.1));
         match self.random.below(20) {
-            0..=12 if !voices.is_empty() => {
-                let (number, definition) = self.random.one_of(voices);
-                (number, Named::Voice(definition))
+            0..=12 if !synths.is_empty() => {
+                let (number, definition) = self.random.one_of(synths);
+                (number, Named::Synth(definition))
             }
             0..=16 => (self.random.one_of(&GROUPS), Named::Group),
             17..=18 => (-1, self.latest.map_or(Named::Nothing, named)),
@@ -428,10 +428,10 @@ impl Stage {
         any & 0x8000_0000 | 0x7f80_0000 | (low & 0x7f_ffff).max(1)
     }
 
-    /// The controls that a voice has, or some number of them.
+    /// The controls that a synth has, or some number of them.
     fn controls(&mut self, named: Named) -> usize {
         match named {
-            Named::Voice(definition) => self.definitions[definition].initial.len(),
+            Named::Synth(definition) => self.definitions[definition].initial.len(),
             _ => self.random.one_of(&[0, 1, 3, MOST_PARAMETERS]),
         }
     }
@@ -470,7 +470,7 @@ impl Stage {
         // The first control, if the node has one of that name.
         let first = match named {
             _ if op == by_index => Some(self.index(controls)),
-            Named::Voice(definition) => index_of(&self.definitions[definition], name),
+            Named::Synth(definition) => index_of(&self.definitions[definition], name),
             _ => Some(0),
         };
         let start = first.unwrap_or(0);
@@ -483,7 +483,7 @@ impl Stage {
         let bus = self.bus();
         let (value, is_value) = self.value();
         let within = match named {
-            Named::Voice(_) => first.is_some() && end <= controls as i64,
+            Named::Synth(_) => first.is_some() && end <= controls as i64,
             _ => true,
         };
         let answer = match named {
@@ -499,18 +499,18 @@ impl Stage {
             &Call::new(op, [node, start, third, value[0], value[1]], name),
             &mut self.random,
         )?;
-        let voice = matches!(named, Named::Voice(_));
+        let synth = matches!(named, Named::Synth(_));
         self.count_sum(start, count);
         let tally = &mut self.tally;
-        let filled = fills && voice && end == controls as i64;
+        let filled = fills && synth && end == controls as i64;
         tally.count("fills to a synth's last control", filled && answer == 0);
-        let past = fills && voice && end == controls as i64 + 1;
+        let past = fills && synth && end == controls as i64 + 1;
         tally.count("fills one past it", past && answer == 21);
-        tally.count("changes of groups", answer == 0 && !voice);
+        tally.count("changes of groups", answer == 0 && !synth);
         tally.count("maps", answer == 0 && maps && bus >= 0);
         tally.count("unmaps", answer == 0 && maps && bus < 0);
         // What was set is read.
-        if answer == 0 && voice && !maps && count > 0 && value[0] == 0 {
+        if answer == 0 && synth && !maps && count > 0 && value[0] == 0 {
             let last = (end - 1) as i32;
             let get = Call::new(21, [node, last, 0, 0, 0], b"");
             if float(self.pair.ask(&get)?) != value[1] as u32 {

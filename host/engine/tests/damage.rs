@@ -8,7 +8,7 @@ use common::{say, seed, spread};
 use independent::engine::{Commands, Theme, BUSES, MOST_NODES, SLOTS};
 use independent::layout::{self, record, row_words, Record};
 use independent::layout::{BUS, CONTROL, COUNT, LATEST, LENGTH, NEXT, NODE, ORDER, ORDER_LENGTH};
-use independent::layout::{RECORD, RESIDENT, ROW, SHELF, WORDS};
+use independent::layout::{RECORD, RESIDENT, ROW, ARENA, WORDS};
 use independent::{running, well_formed, Engine, Random, MOST_BYTES, MOST_PARAMETERS};
 
 const STATES: usize = 420;
@@ -86,25 +86,25 @@ fn damages(seed: u64, place: usize) -> [usize; 2] {
     let (mut pair, mut commands) = reach(&mut random, place);
     let model = pair.model.clone();
     let words = pair.words.clone();
-    let shelf = pair.shelf.clone();
+    let arena = pair.arena.clone();
     let mut counts = [0; 2];
     for at in 0..DAMAGES {
         for _ in 0..random.one_of(&[1, 1, 1, 2, 2, 3, 4]) {
-            damage(&mut random, &mut pair.words, &mut pair.shelf);
+            damage(&mut random, &mut pair.words, &mut pair.arena);
         }
         if random.below(4) == 0 {
             mend_order(&mut pair.words);
         }
         pair.expected_words.copy_from_slice(&pair.words);
-        pair.expected_shelf.copy_from_slice(&pair.shelf);
+        pair.expected_arena.copy_from_slice(&pair.arena);
         let call = match random.below(3) {
             0 => commands.next(&model),
             1 => commands.kind(25, &model),
             _ => commands.kind(26, &model),
         };
-        let outcome = if well_formed(&pair.words, &pair.shelf) {
+        let outcome = if well_formed(&pair.words, &pair.arena) {
             counts[1] += 1;
-            pair.model = Engine::of(&layout::view(&pair.words, &pair.shelf));
+            pair.model = Engine::of(&layout::view(&pair.words, &pair.arena));
             pair.send(&call, &mut random).map(drop)
         } else {
             counts[0] += 1;
@@ -114,13 +114,13 @@ fn damages(seed: u64, place: usize) -> [usize; 2] {
             panic!("LIMUDVEK_SEED={seed}, state {place}, damage {at}: {what}: {call:?}");
         }
         pair.words.copy_from_slice(&words);
-        pair.shelf.copy_from_slice(&shelf);
+        pair.arena.copy_from_slice(&arena);
     }
     counts
 }
 
 /// Changes a word or a byte, mostly one that is looked at.
-fn damage(random: &mut Random, words: &mut [u32], shelf: &mut [u8]) {
+fn damage(random: &mut Random, words: &mut [u32], arena: &mut [u8]) {
     let count = (words[COUNT] as usize).clamp(1, MOST_NODES);
     let node = random.below(count);
     let other = record(words, random.below(count));
@@ -166,18 +166,18 @@ fn damage(random: &mut Random, words: &mut [u32], shelf: &mut [u8]) {
         33..=37 => {
             let length = (words[LENGTH + slot] as usize).clamp(1, MOST_BYTES);
             let place = MOST_BYTES * slot + random.below(length);
-            shelf[place] = new_byte(random, shelf[place]);
+            arena[place] = new_byte(random, arena[place]);
             return;
         }
         38 => {
             // One definition over another.
             let from = MOST_BYTES * random.below(SLOTS);
-            shelf.copy_within(from..from + MOST_BYTES, MOST_BYTES * slot);
+            arena.copy_within(from..from + MOST_BYTES, MOST_BYTES * slot);
             return;
         }
         _ => {
-            let place = random.below(SHELF);
-            shelf[place] = new_byte(random, shelf[place]);
+            let place = random.below(ARENA);
+            arena[place] = new_byte(random, arena[place]);
             return;
         }
     };
@@ -222,29 +222,29 @@ fn wrong_sizes_are_refused() {
     let (pair, _) = reach(&mut random, 0);
     let lengths = |right: usize| [0, 1, right - 1, right, right + 1, 2 * right];
     for words_length in lengths(WORDS) {
-        for shelf_length in lengths(SHELF) {
-            if (words_length, shelf_length) == (WORDS, SHELF) {
+        for arena_length in lengths(ARENA) {
+            if (words_length, arena_length) == (WORDS, ARENA) {
                 continue;
             }
             let mut words = pair.words.clone();
-            let mut shelf = pair.shelf.clone();
+            let mut arena = pair.arena.clone();
             words.resize(words_length, 0);
-            shelf.resize(shelf_length, 0);
-            let (old_words, old_shelf) = (words.clone(), shelf.clone());
+            arena.resize(arena_length, 0);
+            let (old_words, old_arena) = (words.clone(), arena.clone());
             for op in 0..=28 {
                 let mut reply = [7; 200];
                 let file = b"SCgf\0\0\0\x02\0\0";
-                let answer = engine::apply(op, [0; 5], file, &mut words, &mut shelf, &mut reply);
+                let answer = engine::apply(op, [0; 5], file, &mut words, &mut arena, &mut reply);
                 let expected = match op {
                     1..=27 => 1,
                     _ => engine::UNKNOWN,
                 };
-                assert_eq!(answer, expected, "op {op}, {words_length} {shelf_length}");
-                assert!(words == old_words && shelf == old_shelf && reply == [7; 200]);
+                assert_eq!(answer, expected, "op {op}, {words_length} {arena_length}");
+                assert!(words == old_words && arena == old_arena && reply == [7; 200]);
             }
-            assert_eq!(engine::fresh(&mut words, &mut shelf), 1);
-            assert!(words == old_words && shelf == old_shelf);
+            assert_eq!(engine::fresh(&mut words, &mut arena), 1);
+            assert!(words == old_words && arena == old_arena);
         }
     }
-    assert_eq!((engine::words(), engine::shelf()), (WORDS, SHELF));
+    assert_eq!((engine::words(), engine::arena()), (WORDS, ARENA));
 }

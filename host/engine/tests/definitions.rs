@@ -1,7 +1,7 @@
 //! Definitions that come, go and stay in use: slots, old shapes and the export.
 //!
 //! By hand from the paper first, then at random against the independent engine. The random part also
-//! keeps its own account of what each name means and what each voice was made from, and works out
+//! keeps its own account of what each name means and what each synth was made from, and works out
 //! from it what the paper says of refusal 12, of the export and of where a set lands.
 
 mod common;
@@ -21,7 +21,7 @@ const NEW_FADE: u32 = 0x4040_0000;
 const NEW_AMP: u32 = 0x3e80_0000;
 const SET: u32 = 0x4110_0000;
 
-/// "rain" as the old voice has it, and with its controls in another order.
+/// "rain" as the old synth has it, and with its controls in another order.
 fn rains() -> [Definition; 2] {
     [
         definition("rain", &["amp", "fade"], &[RAIN_AMP, RAIN_FADE]),
@@ -57,11 +57,11 @@ fn a_set_lands_on_the_old_shapes_index() {
         desk.load(new);
         desk.set(1000, "fade", SET);
         assert_eq!([0, 1].map(|index| desk.read(1000, index)), [RAIN_AMP, SET]);
-        // The old voice has no third control, by index or by name.
+        // The old synth has no third control, by index or by name.
         desk.refused(21, 14, [1000, 0, 0, 0, 5], b"wet");
         desk.refused(21, 13, [1000, 2, 0, 0, 5], b"");
         desk.refused(21, 22, [1000, 0, 0, 0, 0], b"wet");
-        // A new voice has the new shape; a set of the group finds each one's own.
+        // A new synth has the new shape; a set of the group finds each one's own.
         desk.synth("rain", 1001, 1);
         desk.set(1, "amp", 11);
         desk.set(1, "wet", 12);
@@ -81,7 +81,7 @@ fn a_set_lands_on_the_old_shapes_index() {
 }
 
 #[test]
-fn a_retired_slot_is_free_with_its_last_voice() {
+fn a_retired_slot_is_free_with_its_last_synth() {
     let rains = rains();
     let (old, new) = rains.split_at(1);
     let ways: [fn(&mut Desk); 4] = [
@@ -200,8 +200,8 @@ struct Library {
     fits: usize,
     /// What each name means.
     meant: BTreeMap<Vec<u8>, Rc<Definition>>,
-    /// What each voice was made from.
-    voices: BTreeMap<i32, Rc<Definition>>,
+    /// What each synth was made from.
+    synths: BTreeMap<i32, Rc<Definition>>,
     tally: Tally,
 }
 
@@ -216,7 +216,7 @@ impl Library {
             pair,
             fresh,
             meant: BTreeMap::new(),
-            voices: BTreeMap::new(),
+            synths: BTreeMap::new(),
             tally: Tally::default(),
         };
         for group in GROUPS {
@@ -240,7 +240,7 @@ impl Library {
                 let name = self.resident();
                 self.delete(name)?;
             }
-            32..=55 => self.voice()?,
+            32..=55 => self.synth()?,
             56..=64 => self.free()?,
             65..=94 => self.set()?,
             95 => self.sweep()?,
@@ -296,10 +296,10 @@ impl Library {
         definition
     }
 
-    /// How many slots stay taken where these names are loaded: those that a voice holds, and those of
+    /// How many slots stay taken where these names are loaded: those that a synth holds, and those of
     /// residents under other names.
     fn staying(&self, names: &BTreeSet<Vec<u8>>) -> usize {
-        let held = self.voices.values();
+        let held = self.synths.values();
         let others = self.meant.iter().filter(|(name, _)| !names.contains(*name));
         let slots = held.chain(others.map(|(_, definition)| definition));
         let slots: BTreeSet<*const Definition> = slots.map(Rc::as_ptr).collect();
@@ -422,26 +422,26 @@ impl Library {
             .expect(refusal, &Call::new(2, [0; 5], &name), &mut self.random)
     }
 
-    /// A live voice's number, if there is one.
+    /// A live synth's number, if there is one.
     fn live(&mut self) -> Option<i32> {
-        let at = self.random.below(self.voices.len().max(1));
-        self.voices.keys().nth(at).copied()
+        let at = self.random.below(self.synths.len().max(1));
+        self.synths.keys().nth(at).copied()
     }
 
-    /// The number of a voice whose definition's name means another one by now, if there is one.
+    /// The number of a synth whose definition's name means another one by now, if there is one.
     fn old(&mut self) -> Option<i32> {
-        let is_old = |voice: &Rc<Definition>| {
-            let today = self.meant.get(&voice.name);
-            today.is_some_and(|today| !Rc::ptr_eq(today, voice))
+        let is_old = |synth: &Rc<Definition>| {
+            let today = self.meant.get(&synth.name);
+            today.is_some_and(|today| !Rc::ptr_eq(today, synth))
         };
-        let old = self.voices.iter().filter(|(_, voice)| is_old(voice));
+        let old = self.synths.iter().filter(|(_, synth)| is_old(synth));
         let old: Vec<i32> = old.map(|(number, _)| *number).collect();
         (!old.is_empty()).then(|| self.random.one_of(&old))
     }
 
-    /// A new voice, now and then in the place of another.
-    fn voice(&mut self) -> Result<(), String> {
-        if self.voices.len() >= 60 {
+    /// A new synth, now and then in the place of another.
+    fn synth(&mut self) -> Result<(), String> {
+        if self.synths.len() >= 60 {
             return self.sweep();
         }
         let number = 1 + self.random.below(800) as i32;
@@ -451,19 +451,19 @@ impl Library {
             _ => None,
         };
         let refusal = match self.meant.get(&name) {
-            _ if self.voices.contains_key(&number) => 15,
+            _ if self.synths.contains_key(&number) => 15,
             None => 16,
             Some(_) => 0,
         };
         let numbers = match replaced {
-            Some(voice) => [number, 4, voice, 0, 0],
+            Some(synth) => [number, 4, synth, 0, 0],
             None => [number, 1, self.random.one_of(&GROUPS), 0, 0],
         };
         self.pair
             .expect(refusal, &Call::new(3, numbers, &name), &mut self.random)?;
         if refusal == 0 {
-            replaced.map(|voice| self.voices.remove(&voice));
-            self.voices.insert(number, self.meant[&name].clone());
+            replaced.map(|synth| self.synths.remove(&synth));
+            self.synths.insert(number, self.meant[&name].clone());
         }
         Ok(())
     }
@@ -472,7 +472,7 @@ impl Library {
         let Some(number) = self.live() else {
             return Ok(());
         };
-        self.voices.remove(&number);
+        self.synths.remove(&number);
         self.pair.expect(
             0,
             &Call::new(5, [number, 0, 0, 0, 0], b""),
@@ -480,14 +480,14 @@ impl Library {
         )
     }
 
-    /// Frees all voices.
+    /// Frees all synths.
     fn sweep(&mut self) -> Result<(), String> {
-        self.voices.clear();
+        self.synths.clear();
         self.pair
             .expect(0, &Call::new(7, [0; 5], b""), &mut self.random)
     }
 
-    /// Sets a control by its name, and reads it by the index that the voice's own definition has.
+    /// Sets a control by its name, and reads it by the index that the synth's own definition has.
     fn set(&mut self) -> Result<(), String> {
         let control = self.random.one_of(&CONTROLS);
         let pattern = self.random.bits() as i32;
@@ -509,7 +509,7 @@ impl Library {
                 &mut self.random,
             );
         };
-        let own = index(&self.voices[&number]);
+        let own = index(&self.synths[&number]);
         let refusal = if own.is_some() { 0 } else { 21 };
         self.pair.expect(
             refusal,
@@ -523,7 +523,7 @@ impl Library {
         if float(self.pair.ask(&get)?) != pattern as u32 {
             return Err(format!("the set of {number} is not at {own}"));
         }
-        let today = self.meant.get(&self.voices[&number].name);
+        let today = self.meant.get(&self.synths[&number].name);
         let today = today.and_then(|definition| index(definition));
         self.tally.count(
             "sets of an old shape's index",

@@ -9,9 +9,9 @@ use std::collections::HashMap;
 
 /// Brings a state from before an accepted command to the one after it, given what it then holds.
 /// `op` is the command's kind.
-pub fn leave(op: u32, after: &View, words: &mut [u32], shelf: &mut [u8]) {
+pub fn leave(op: u32, after: &View, words: &mut [u32], arena: &mut [u8]) {
     match op {
-        1 | 2 => slots(after, words, shelf),
+        1 | 2 => slots(after, words, arena),
         3..=12 => tree(op, after, words),
         13..=18 => controls(after, words, |_| true),
         19 | 20 => words[BUS..].copy_from_slice(&after.buses),
@@ -20,14 +20,14 @@ pub fn leave(op: u32, after: &View, words: &mut [u32], shelf: &mut [u8]) {
 }
 
 /// The flags of all slots, and the length and bytes of each definition that is new there.
-fn slots(after: &View, words: &mut [u32], shelf: &mut [u8]) {
+fn slots(after: &View, words: &mut [u32], arena: &mut [u8]) {
     for slot in 0..SLOTS {
         let seen = after.slots[slot].as_ref();
         words[RESIDENT + slot] = u32::from(seen.is_some_and(|seen| seen.resident));
         if let Some(seen) = seen {
             let length = seen.bytes.len();
             words[LENGTH + slot] = length as u32;
-            shelf[MOST_BYTES * slot..][..length].copy_from_slice(&seen.bytes);
+            arena[MOST_BYTES * slot..][..length].copy_from_slice(&seen.bytes);
         }
     }
 }

@@ -375,7 +375,7 @@ impl Engine {
     }
 
     /// Whether a number is that of a synth whose definition's name means another one by now.
-    pub fn is_old_voice(&self, number: i32) -> bool {
+    pub fn is_old_synth(&self, number: i32) -> bool {
         let place = self.tree.find(number);
         place
             .and_then(|place| self.tree.synth(place))

@@ -3,14 +3,14 @@
 use crate::engine::{BUSES, FIRST_GENERATED, MOST_NODES, SLOTS};
 use crate::layout::{record, row_words, slot_bytes, Record};
 use crate::layout::{COUNT, GROUP, LATEST, LENGTH, NEXT, NONE_LEFT, ORDER, ORDER_LENGTH, RESIDENT};
-use crate::layout::{MOST_ORDER, SHELF, WORDS};
+use crate::layout::{MOST_ORDER, ARENA, WORDS};
 use crate::{read_definition, Definition, MOST_BYTES};
 use std::collections::HashSet;
 
 /// Whether refusal 1 is not given.
-pub fn well_formed(words: &[u32], shelf: &[u8]) -> bool {
+pub fn well_formed(words: &[u32], arena: &[u8]) -> bool {
     // Rules 1 and 2.
-    if words.len() != WORDS || shelf.len() != SHELF {
+    if words.len() != WORDS || arena.len() != ARENA {
         return false;
     }
     let count = words[COUNT] as usize;
@@ -29,7 +29,7 @@ pub fn well_formed(words: &[u32], shelf: &[u8]) -> bool {
     if order != running(&records) {
         return false;
     }
-    let Some(definitions) = definitions(&records, words, shelf) else {
+    let Some(definitions) = definitions(&records, words, arena) else {
         return false;
     };
     // Rule 10.
@@ -120,7 +120,7 @@ pub fn running(records: &[Record]) -> Vec<u32> {
 }
 
 /// Rule 9: the definitions of the taken slots.
-fn definitions(records: &[Record], words: &[u32], shelf: &[u8]) -> Option<Vec<Option<Definition>>> {
+fn definitions(records: &[Record], words: &[u32], arena: &[u8]) -> Option<Vec<Option<Definition>>> {
     let mut definitions = Vec::with_capacity(SLOTS);
     let mut names = HashSet::new();
     for slot in 0..SLOTS {
@@ -137,7 +137,7 @@ fn definitions(records: &[Record], words: &[u32], shelf: &[u8]) -> Option<Vec<Op
         if words[LENGTH + slot] > MOST_BYTES as u32 {
             return None;
         }
-        let definition = read_definition(slot_bytes(words, shelf, slot))?;
+        let definition = read_definition(slot_bytes(words, arena, slot))?;
         if resident && !names.insert(definition.name.clone()) {
             return None;
         }

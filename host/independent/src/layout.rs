@@ -7,7 +7,7 @@ use std::ops::Range;
 
 /// The lengths of the two runs.
 pub const WORDS: usize = BUS + BUSES;
-pub const SHELF: usize = SLOTS * MOST_BYTES;
+pub const ARENA: usize = SLOTS * MOST_BYTES;
 
 pub const COUNT: usize = 0;
 pub const ORDER_LENGTH: usize = 1;
@@ -59,9 +59,9 @@ pub fn record(words: &[u32], place: usize) -> Record {
 }
 
 /// The bytes of a slot's definition. Its length is at most the limit.
-pub fn slot_bytes<'a>(words: &[u32], shelf: &'a [u8], slot: usize) -> &'a [u8] {
+pub fn slot_bytes<'a>(words: &[u32], arena: &'a [u8], slot: usize) -> &'a [u8] {
     let start = MOST_BYTES * slot;
-    &shelf[start..start + words[LENGTH + slot] as usize]
+    &arena[start..start + words[LENGTH + slot] as usize]
 }
 
 /// The words of a row's first controls.
@@ -71,7 +71,7 @@ pub fn row_words(row: usize, controls: usize) -> Range<usize> {
 }
 
 /// What a well-formed state holds.
-pub fn view(words: &[u32], shelf: &[u8]) -> View {
+pub fn view(words: &[u32], arena: &[u8]) -> View {
     let records: Vec<Record> = (0..words[COUNT] as usize)
         .map(|place| record(words, place))
         .collect();
@@ -80,7 +80,7 @@ pub fn view(words: &[u32], shelf: &[u8]) -> View {
     for slot in 0..SLOTS {
         let resident = words[RESIDENT + slot] == 1;
         if resident || records.iter().any(|record| record.slot == slot as u32) {
-            let bytes = slot_bytes(words, shelf, slot).to_vec();
+            let bytes = slot_bytes(words, arena, slot).to_vec();
             let definition = read_definition(&bytes).expect("a taken slot is readable");
             parameters[slot] = definition.initial.len();
             slots[slot] = Some(SlotView { bytes, resident });
@@ -117,7 +117,7 @@ pub fn view(words: &[u32], shelf: &[u8]) -> View {
 /// A state that holds this; the synths have their rows by the order of the nodes.
 pub fn state(view: &View) -> (Vec<u32>, Vec<u8>) {
     let mut words = vec![0; WORDS];
-    let mut shelf = vec![0; SHELF];
+    let mut arena = vec![0; ARENA];
     words[COUNT] = view.nodes.len() as u32;
     words[ORDER_LENGTH] = view.order.len() as u32;
     words[NEXT] = view.next.map_or(NONE_LEFT, |number| number as u32);
@@ -126,7 +126,7 @@ pub fn state(view: &View) -> (Vec<u32>, Vec<u8>) {
         if let Some(slot) = slot {
             words[LENGTH + place] = slot.bytes.len() as u32;
             words[RESIDENT + place] = u32::from(slot.resident);
-            shelf[MOST_BYTES * place..][..slot.bytes.len()].copy_from_slice(&slot.bytes);
+            arena[MOST_BYTES * place..][..slot.bytes.len()].copy_from_slice(&slot.bytes);
         }
     }
     let mut row = 0;
@@ -154,5 +154,5 @@ pub fn state(view: &View) -> (Vec<u32>, Vec<u8>) {
         *word = number as u32;
     }
     words[BUS..].copy_from_slice(&view.buses);
-    (words, shelf)
+    (words, arena)
 }

@@ -420,7 +420,7 @@ fn frees() {
 }
 
 #[test]
-fn an_old_voice_keeps_its_shape() {
+fn an_old_synth_keeps_its_shape() {
     let mut desk = Desk(Engine::new());
     desk.load(&[definition("rain", &["amp", "fade"], &[0.5, 2.0])]);
     desk.synth("rain", 1, 1, 0);
@@ -433,7 +433,7 @@ fn an_old_voice_keeps_its_shape() {
     assert_eq!(
         (desk.value(1, "amp"), desk.value(1, "fade")),
         (0.5, 9.0),
-        "the old voice"
+        "the old synth"
     );
     assert_eq!((desk.value(2, "amp"), desk.value(2, "fade")), (0.25, 9.0));
     let residents = |view: &View| -> Vec<Option<bool>> {
@@ -447,7 +447,7 @@ fn an_old_voice_keeps_its_shape() {
         [Some(false), Some(true), None],
         "a slot each"
     );
-    // The old definition's slot is free with its last voice.
+    // The old definition's slot is free with its last synth.
     desk.done(Command::Free(1));
     assert_eq!(residents(&desk.0.view()), [None, Some(true), None]);
     desk.load(&[definition("snow", &[], &[])]);

@@ -3,7 +3,7 @@
 use independent::engine::{Commands, Theme};
 use independent::layout::{self, record, row_words};
 use independent::layout::{BUS, CONTROL, COUNT, GROUP, LATEST, LENGTH, NEXT, NODE, NONE_LEFT};
-use independent::layout::{ORDER, ORDER_LENGTH, RECORD, RESIDENT, ROW, SHELF, WORDS};
+use independent::layout::{ORDER, ORDER_LENGTH, RECORD, RESIDENT, ROW, ARENA, WORDS};
 use independent::{leave, well_formed, write, Call, Definition, Engine, Random, MOST_BYTES};
 
 /// Sends random commands and looks at some of the states.
@@ -13,7 +13,7 @@ fn states_are_well_formed_and_read_back() {
     let mut answers = [0; 26];
     for (seed, theme) in (1..=40).zip(Theme::ALL.into_iter().cycle()) {
         let mut engine = Engine::new();
-        let (mut words, mut shelf) = layout::state(&engine.view());
+        let (mut words, mut arena) = layout::state(&engine.view());
         let mut commands = Commands::new(Random::new(seed), theme);
         for round in 0..1000 {
             let call = commands.next(&engine);
@@ -24,14 +24,14 @@ fn states_are_well_formed_and_read_back() {
             answers[answer.err().map_or(0, |fault| fault.number as usize)] += 1;
             let view = engine.view();
             if answer.is_ok() {
-                leave(call.op, &view, &mut words, &mut shelf);
+                leave(call.op, &view, &mut words, &mut arena);
             }
             if round % 20 == 0 {
-                assert!(well_formed(&words, &shelf));
-                assert_eq!(layout::view(&words, &shelf), view);
-                let (words, shelf) = layout::state(&view);
-                assert!(well_formed(&words, &shelf));
-                assert_eq!(layout::view(&words, &shelf), view);
+                assert!(well_formed(&words, &arena));
+                assert_eq!(layout::view(&words, &arena), view);
+                let (words, arena) = layout::state(&view);
+                assert!(well_formed(&words, &arena));
+                assert_eq!(layout::view(&words, &arena), view);
                 assert_eq!(Engine::of(&view).view(), view);
             }
         }
@@ -43,15 +43,15 @@ fn states_are_well_formed_and_read_back() {
 
 #[test]
 fn the_parts_lie_where_the_page_says() {
-    assert_eq!((WORDS, SHELF), (22_083, 65_536));
+    assert_eq!((WORDS, ARENA), (22_083, 65_536));
     assert_eq!([LENGTH, RESIDENT, NODE], [4, 36, 68]);
     assert_eq!([ORDER, CONTROL, BUS], [1348, 1603, 17_987]);
     assert_eq!(row_words(2, 3), 1603 + 128..1603 + 134);
-    let (words, shelf) = layout::state(&Engine::new().view());
+    let (words, arena) = layout::state(&Engine::new().view());
     assert_eq!(words[..4], [1, 0, 4_294_967_288, 0]);
     assert_eq!(words[NODE..NODE + RECORD], [0, 0, 1, GROUP, 0]);
     assert_eq!(words.iter().filter(|&&word| word != 0).count(), 4);
-    assert!(shelf.iter().all(|&byte| byte == 0));
+    assert!(arena.iter().all(|&byte| byte == 0));
 }
 
 /// A state with groups 1 and 2, synths 10 (off), 11 and -8, and the definitions "a" and "b", of
@@ -93,23 +93,23 @@ fn word(place: usize, field: usize) -> usize {
 
 /// Whether the example is well formed with some of its words changed.
 fn holds(changes: &[(usize, u32)]) -> bool {
-    let (mut words, shelf) = example();
+    let (mut words, arena) = example();
     for &(place, new) in changes {
         assert_ne!(words[place], new, "word {place} stays");
         words[place] = new;
     }
-    well_formed(&words, &shelf)
+    well_formed(&words, &arena)
 }
 
 #[test]
 fn sizes() {
-    let (words, shelf) = example();
-    assert!(well_formed(&words, &shelf));
-    assert!(!well_formed(&words[1..], &shelf));
-    assert!(!well_formed(&words, &shelf[1..]));
+    let (words, arena) = example();
+    assert!(well_formed(&words, &arena));
+    assert!(!well_formed(&words[1..], &arena));
+    assert!(!well_formed(&words, &arena[1..]));
     assert!(!well_formed(&[], &[]));
-    assert!(!well_formed(&[words.as_slice(), &[0]].concat(), &shelf));
-    assert!(!well_formed(&words, &[shelf.as_slice(), &[0]].concat()));
+    assert!(!well_formed(&[words.as_slice(), &[0]].concat(), &arena));
+    assert!(!well_formed(&words, &[arena.as_slice(), &[0]].concat()));
 }
 
 #[test]
@@ -210,7 +210,7 @@ fn nodes() {
 
 #[test]
 fn slots_and_controls() {
-    let (words, shelf) = example();
+    let (words, arena) = example();
     assert_eq!(words[RESIDENT..RESIDENT + 3], [0, 1, 0]);
     assert_eq!(words[LENGTH..LENGTH + 3], [28, 32, 0]);
     let control = |row: usize, index: usize| CONTROL + ROW * row + 2 * index + 1;
@@ -244,13 +244,13 @@ fn slots_and_controls() {
         assert!(holds(changes), "{changes:?}");
     }
     let formed = |place: usize, byte: u8, resident: u32| {
-        let (mut words, mut shelf) = example();
+        let (mut words, mut arena) = example();
         words[RESIDENT] = resident;
-        shelf[place] = byte;
-        well_formed(&words, &shelf)
+        arena[place] = byte;
+        well_formed(&words, &arena)
     };
     // A name twice among residents, and twice with one of them retired.
-    assert_eq!(shelf[..2], *b"\x01a");
+    assert_eq!(arena[..2], *b"\x01a");
     assert!(!formed(1, b'b', 1));
     assert!(formed(1, b'b', 0));
     assert!(!formed(0, 0, 0));

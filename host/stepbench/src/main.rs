@@ -20,17 +20,17 @@ const REPLY: usize = 1 << 20;
 #[derive(Clone)]
 struct State {
     words: Vec<u32>,
-    shelf: Vec<u8>,
+    arena: Vec<u8>,
     reply: Vec<u8>,
 }
 
 impl State {
     fn of(engine: &Engine) -> State {
-        let (words, shelf) = layout::state(&engine.view());
-        assert!(well_formed(&words, &shelf));
+        let (words, arena) = layout::state(&engine.view());
+        assert!(well_formed(&words, &arena));
         State {
             words,
-            shelf,
+            arena,
             reply: vec![0; REPLY],
         }
     }
@@ -41,7 +41,7 @@ impl State {
             call.numbers,
             &call.bytes,
             &mut self.words,
-            &mut self.shelf,
+            &mut self.arena,
             &mut self.reply,
         )
     }
@@ -54,7 +54,7 @@ impl State {
                 call.numbers,
                 &call.bytes,
                 &mut self.words,
-                &mut self.shelf,
+                &mut self.arena,
                 &mut self.reply,
             )
         }
@@ -98,7 +98,7 @@ fn measure(name: &str, nodes: usize, calls: &[Call]) {
             assert_eq!(way(state, call), *answer, "{call:?}");
         }
     }
-    assert!(states[0].words == states[1].words && states[0].shelf == states[1].shelf);
+    assert!(states[0].words == states[1].words && states[0].arena == states[1].arena);
     let plain: Box<dyn FnMut() + '_> = Box::new(|| {
         for call in calls {
             black_box(plain(call));

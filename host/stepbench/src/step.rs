@@ -14,8 +14,8 @@ mod proved {
             bytes_length: usize,
             words: *mut u32,
             words_length: usize,
-            shelf: *mut u8,
-            shelf_length: usize,
+            arena: *mut u8,
+            arena_length: usize,
             reply: *mut u8,
             reply_length: usize,
         ) -> u64;
@@ -26,13 +26,13 @@ mod proved {
 ///
 /// # Safety
 ///
-/// The words and the shelf are a well-formed state.
+/// The words and the arena are a well-formed state.
 pub unsafe fn step(
     op: u32,
     numbers: [u32; 5],
     bytes: &[u8],
     words: &mut [u32],
-    shelf: &mut [u8],
+    arena: &mut [u8],
     reply: &mut [u8],
 ) -> u64 {
     let [a, b, c, d, e] = numbers;
@@ -47,8 +47,8 @@ pub unsafe fn step(
         bytes.len(),
         words.as_mut_ptr(),
         words.len(),
-        shelf.as_mut_ptr(),
-        shelf.len(),
+        arena.as_mut_ptr(),
+        arena.len(),
         reply.as_mut_ptr(),
         reply.len(),
     )

@@ -1,12 +1,7 @@
 -- `buscommands::bus_step` meets its contract: each arm hands on what its function ensures.
-use mathlib.Core.Path.{_≡_, refl, sym, ap, _∙_}
 use borrow.Author.Needs.{needs}
 use Rattle.buscommands.proofs.bus_step.Statement.{statement}
 use Rattle.buscommands.proofs.bus_step.Tie as tie
-use Rattle.buscommands.proofs.bus_step.Reads as reads
-use Rattle.buscommands.proofs.bus_step.Lts as lts
-use Rattle.buscommands.proofs.fill_range.Reads as fill-range-reads
-use Rattle.buscommands.proofs.set_one.Reads as set-one-reads
 
 enum-known-command : tie.Need-enum-known-command
 enum-known-command c = search needs

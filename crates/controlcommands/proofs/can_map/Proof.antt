@@ -1,16 +1,11 @@
 -- `controlcommands::can_map` meets its contract.
-use Prim.Native.Nat.{ℕ}
-use mathlib.Core.Bool.{Bool, true, false, not}
-use mathlib.Core.Path.{_≡_, refl, sym, ap, _∙_}
-use mathlib.Core.List.{List}
-use native.Mathlib.Omega.{arith}
+
+use mathlib.Core.Path.{sym}
+
 use borrow.Author.Needs.{needs}
-use borrow.Author.Tests.{not-true, not-false, eq-eqb, ne-eqb}
+use borrow.Author.Tests.{eq-eqb, ne-eqb}
 use Rattle.controlcommands.proofs.can_map.Statement.{statement}
 use Rattle.controlcommands.proofs.can_map.Tie as tie
-use Rattle.controlcommands.proofs.can_map.Reads as reads
-use Rattle.controlcommands.proofs.can_map.Lts as lts
-use Rattle.controls.proofs.is_bus.Reads as is-bus-reads
 
 returns : tie.Need-returns
 returns c = sym (rw (eq-eqb (c .before .args .bus) 4294967295 (c .if1 .taken)))

@@ -1,34 +1,23 @@
 -- `controlcommands::change_run` meets its contract: refusal 21, or the run changed.
-use Prim.Native.Nat.{ℕ}
-use mathlib.Core.Bool.{Bool, true, false, not}
-use mathlib.Core.Path.{_≡_, refl, sym, ap, _∙_}
-use mathlib.Core.List.{List}
-use native.Mathlib.Omega.{arith}
+use mathlib.Core.Bool.{Bool}
+use mathlib.Core.Path.{refl, sym, ap, _∙_}
+
 use borrow.Author.Needs.{needs}
-use borrow.Author.Tests.{not-true, not-false, eq-eqb, ne-eqb}
 use Rattle.words.specs.Choice.{pick}
-use Rattle.words.specs.declared.Refusal.the-variants.{NoControl}
-use Rattle.model.specs.declared.Answer.{Answer}
+use Rattle.refusals.specs.declared.Refusal.the-variants.{NoControl}
 use Rattle.model.specs.declared.Answer.the-variants.{Done, Refused}
-use Rattle.model.specs.Layout.{countIn, nodesIn, controlsIn, putControls}
-use Rattle.model.specs.Engine.{decode}
-use Rattle.model.specs.Effects.{changeAll}
-use Rattle.controls.specs.Change.{changeOf}
+
+
+
 use Rattle.controlcommands.specs.Steps.{ready, run-inside, run-changed}
 use Rattle.controlcommands.proofs.change_run.Statement.{statement}
 use Rattle.controlcommands.proofs.change_run.Tie as tie
-use Rattle.controlcommands.proofs.change_run.Reads as reads
-use Rattle.controlcommands.proofs.change_run.Lts as lts
-use Rattle.controls.proofs.controls_missing.Reads as controls-missing-reads
-use Rattle.controls.proofs.change_all.Reads as change-all-reads
-use Rattle.tree.proofs.subtree_end.Reads as subtree-end-reads
-use Rattle.words.proofs.wide.Reads as wide-reads
 
 controls-missing-requires : tie.Need-controls-missing-requires
 controls-missing-requires c κs =
     let a = c .before .before .before .before .args in
     let p = c .before .before .before .before .pre in
-    (ready (a .words .now) (a .shelf .now) (p .0), p .1)
+    (ready (a .words .now) (a .arena .now) (p .0), p .1)
 
 same-length : tie.Need-same-length
 same-length c = search needs
@@ -58,7 +47,7 @@ change-all-requires : tie.Need-change-all-requires
 change-all-requires c κs =
     let a = c .before .before .before .before .before .before .before .before .before .before .before .before .args in
     let p = c .before .before .before .before .before .before .before .before .before .before .before .before .pre in
-    (ready (a .words .now) (a .shelf .now) (p .0), run-inside (a .words .now) (a .at) (c .before .before .before .before .wide .result) (c .before .subtree-end .result) (p .1) (c .before .before .before .before .wide .ensures) (c .before .subtree-end .ensures))
+    (ready (a .words .now) (a .arena .now) (p .0), run-inside (a .words .now) (a .at) (c .before .before .before .before .wide .result) (c .before .subtree-end .result) (p .1) (c .before .before .before .before .wide .ensures) (c .before .subtree-end .ensures))
 
 same-length-2 : tie.Need-same-length-2
 same-length-2 c = search needs
@@ -66,7 +55,7 @@ same-length-2 c = search needs
 returns-2 : tie.Need-returns-2
 returns-2 c =
     let a = c .before .before .before .before .before .before .before .before .before .before .before .before .before .before .before .args in
-    run-changed (a .change) (a .key) (a .count) (a .bytes .now) (a .at) (a .words .now) (a .shelf .now) (c .before .before .before .before .before .before .before .wide .result) (c .before .before .before .before .subtree-end .result) (c .before .before .change-all .last .0)
+    run-changed (a .change) (a .key) (a .count) (a .bytes .now) (a .at) (a .words .now) (a .arena .now) (c .before .before .before .before .before .before .before .wide .result) (c .before .before .before .before .subtree-end .result) (c .before .before .change-all .last .0)
     (sym (c .before .before .before .before .before .before .before .before .before .before .controls-missing .ensures) ∙ c .before .before .before .before .before .before .before .before .before .if1 .left) (c .before .before .before .before .before .before .before .wide .ensures) (c .before .before .before .before .subtree-end .ensures) (c .before .before .change-all .ensures)
 
 pub change-run-spec : {M : Type 1} → statement M

@@ -1,18 +1,11 @@
 -- `controlcommands::control_step` meets its contract: each arm hands on what its function ensures.
-use Prim.Native.Nat.{ℕ}
-use mathlib.Core.Bool.{Bool, true, false, not}
-use mathlib.Core.Path.{_≡_, refl, sym, ap, _∙_}
-use mathlib.Core.List.{List}
-use native.Mathlib.Omega.{arith}
+
+
+
+
 use borrow.Author.Needs.{needs}
-use borrow.Author.Tests.{not-true, not-false, eq-eqb, ne-eqb}
 use Rattle.controlcommands.proofs.control_step.Statement.{statement}
 use Rattle.controlcommands.proofs.control_step.Tie as tie
-use Rattle.controlcommands.proofs.control_step.Reads as reads
-use Rattle.controlcommands.proofs.control_step.Lts as lts
-use Rattle.controlcommands.proofs.fill_controls.Reads as fill-controls-reads
-use Rattle.controlcommands.proofs.map_control.Reads as map-control-reads
-use Rattle.controlcommands.proofs.set_control.Reads as set-control-reads
 
 enum-known-command : tie.Need-enum-known-command
 enum-known-command c = search needs

@@ -1,32 +1,21 @@
 -- `controlcommands::map_control` meets its contract: each refusal by the check that fires.
-use Prim.Native.Nat.{ℕ}
-use mathlib.Core.Bool.{Bool, true, false, not}
-use mathlib.Core.Path.{_≡_, refl, sym, ap, _∙_}
-use mathlib.Core.List.{List}
+use mathlib.Core.Bool.{not}
+use mathlib.Core.Path.{sym, ap, _∙_}
 use native.Mathlib.Omega.{arith}
 use borrow.Author.Needs.{needs}
-use borrow.Author.Tests.{not-true, not-false, eq-eqb, ne-eqb}
-use Prim.Native.Nat.{_<_}
+use borrow.Author.Tests.{not-false}
 use Rattle.model.specs.declared.ControlCommand.the-variants as controls
-use Rattle.words.specs.declared.Refusal.the-variants.{NoBus, BadValue}
-use Rattle.values.specs.Values.{inBounds}
-use Rattle.values.specs.ValueLaws.{bounds-told}
+
+
 use Rattle.names.specs.Named.{findable}
-use Rattle.controlcommands.specs.Steps.{Changed, no-node, second, map-row, map-ran}
+use Rattle.controlcommands.specs.Steps.{no-node, second, map-row, map-ran}
 use Rattle.controlcommands.proofs.map_control.Statement.{statement}
 use Rattle.controlcommands.proofs.map_control.Tie as tie
-use Rattle.controlcommands.proofs.map_control.Reads as reads
-use Rattle.controlcommands.proofs.map_control.Lts as lts
-use Rattle.controlcommands.proofs.can_map.Reads as can-map-reads
-use Rattle.controlcommands.proofs.change_run.Reads as change-run-reads
-use Rattle.controlcommands.proofs.mapping_to.Reads as mapping-to-reads
-use Rattle.names.proofs.node_place.Reads as node-place-reads
-use Rattle.words.proofs.wide.Reads as wide-reads
 
 node-place-requires : tie.Need-node-place-requires
 node-place-requires c κs =
     let a = c .before .before .before .before .args in
-    findable (a .words .now) (a .shelf .now) (c .before .before .before .before .pre)
+    findable (a .words .now) (a .arena .now) (c .before .before .before .before .pre)
 
 slice-read-wide : tie.Need-slice-read-wide
 slice-read-wide c = search needs
@@ -40,8 +29,8 @@ same-length c = search needs
 returns : tie.Need-returns
 returns c =
     let a = c .before .before .before .before .before .before .before .before .args in
-    no-node (a .node) (a .words .now) (a .shelf .now) (c .before .before .before .node-place .result) (c .before .before .before .node-place .ensures) (controls.Map (a .node) (a .key) (a .bus)) (a .bytes .now) _ _ _
-    (map-row (a .node) (a .key) (a .bytes .now) (a .words .now) (a .shelf .now) (a .bus)) (omega arith)
+    no-node (a .node) (a .words .now) (a .arena .now) (c .before .before .before .node-place .result) (c .before .before .before .node-place .ensures) (controls.Map (a .node) (a .key) (a .bus)) (a .bytes .now) _ _ _
+    (map-row (a .node) (a .key) (a .bytes .now) (a .words .now) (a .arena .now) (a .bus)) (omega arith)
 
 can-map-requires : tie.Need-can-map-requires
 can-map-requires c κs = search needs
@@ -52,8 +41,8 @@ same-length-2 c = search needs
 returns-2 : tie.Need-returns-2
 returns-2 c =
     let a = c .before .before .before .before .before .before .before .before .before .before .args in
-    second (a .node) (a .words .now) (a .shelf .now) (c .before .before .before .before .before .node-place .result) (c .before .before .before .before .before .node-place .ensures) (omega arith) (controls.Map (a .node) (a .key) (a .bus)) (a .bytes .now) _ _ _
-    (map-row (a .node) (a .key) (a .bytes .now) (a .words .now) (a .shelf .now) (a .bus)) (ap not (sym (c .before .can-map .ensures)) ∙ c .if2 .taken)
+    second (a .node) (a .words .now) (a .arena .now) (c .before .before .before .before .before .node-place .result) (c .before .before .before .before .before .node-place .ensures) (omega arith) (controls.Map (a .node) (a .key) (a .bus)) (a .bytes .now) _ _ _
+    (map-row (a .node) (a .key) (a .bytes .now) (a .words .now) (a .arena .now) (a .bus)) (ap not (sym (c .before .can-map .ensures)) ∙ c .if2 .taken)
 
 mapping-to-requires : tie.Need-mapping-to-requires
 mapping-to-requires c κs = search needs
@@ -68,7 +57,7 @@ returns-3 : tie.Need-returns-3
 returns-3 c =
     let a = c .before .before .before .before .before .before .before .before .before .before .before .before .before .before .before .args in
     let fine = sym (c .before .before .before .before .before .before .can-map .ensures) ∙ not-false (c .before .before .before .before .before .before .can-map .result) (c .before .before .before .before .before .if2 .left) in
-    map-ran (a .node) (a .key) (a .bytes .now) (a .words .now) (a .shelf .now) (c .before .before .before .before .before .before .before .before .before .before .node-place .result) (c .before .before .before .before .before .before .before .before .before .before .node-place .ensures) (omega arith) _ _
+    map-ran (a .node) (a .key) (a .bytes .now) (a .words .now) (a .arena .now) (c .before .before .before .before .before .before .before .before .before .before .node-place .result) (c .before .before .before .before .before .before .before .before .before .before .node-place .ensures) (omega arith) _ _
     (a .bus) fine (rw (c .before .before .before .before .mapping-to .ensures) at (c .before .before .change-run .ensures))
 
 pub map-control-spec : {M : Type 1} → statement M

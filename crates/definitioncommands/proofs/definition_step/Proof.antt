@@ -1,16 +1,11 @@
 -- `definitioncommands::definition_step` meets its contract: each arm hands on what its function ensures.
-use Prim.Native.Nat.{ℕ}
-use mathlib.Core.Bool.{Bool, true, false}
-use mathlib.Core.Path.{_≡_, refl, sym, ap, _∙_}
-use mathlib.Core.List.{List}
-use native.Mathlib.Omega.{arith}
+
+
+
+
 use borrow.Author.Needs.{needs}
 use Rattle.definitioncommands.proofs.definition_step.Statement.{statement}
 use Rattle.definitioncommands.proofs.definition_step.Tie as tie
-use Rattle.definitioncommands.proofs.definition_step.Reads as reads
-use Rattle.definitioncommands.proofs.definition_step.Lts as lts
-use Rattle.definitioncommands.proofs.free.Reads as free-reads
-use Rattle.definitioncommands.proofs.receive.Reads as receive-reads
 
 enum-told : tie.Need-enum-told
 enum-told c = search needs

@@ -1,17 +1,12 @@
 -- `definitioncommands::export_query` meets its contract: refusal 24, or the export.
-use Prim.Native.Nat.{ℕ}
-use mathlib.Core.Bool.{Bool, true, false}
-use mathlib.Core.Path.{_≡_, refl, sym, ap, _∙_}
-use mathlib.Core.List.{List}
+
+
+
 use native.Mathlib.Omega.{arith}
 use borrow.Author.Needs.{needs}
 use Rattle.definitioncommands.specs.Steps.{formed-table, export-long, export-done}
 use Rattle.definitioncommands.proofs.export_query.Statement.{statement}
 use Rattle.definitioncommands.proofs.export_query.Tie as tie
-use Rattle.definitioncommands.proofs.export_query.Reads as reads
-use Rattle.definitioncommands.proofs.export_query.Lts as lts
-use Rattle.definitions.proofs.export.Reads as export-reads
-use Rattle.definitions.proofs.export_length.Reads as export-length-reads
 
 sub-export-length : tie.Need-sub-export-length
 sub-export-length c = search needs
@@ -25,13 +20,13 @@ part-export-length-end c = search needs
 export-length-requires : tie.Need-export-length-requires
 export-length-requires c κs =
     let s = c .before .before .before .before in
-    formed-table (s .args .words .now) (s .args .shelf .now) (s .pre)
+    formed-table (s .args .words .now) (s .args .arena .now) (s .pre)
 
 returns : tie.Need-returns
 returns c =
     let a = c .before .before .before .before .before .before .args in
     let long = c .before .export-length .ensures in
-    export-long (a .words .now) (a .shelf .now) (a .out .now) (omega arith)
+    export-long (a .words .now) (a .arena .now) (a .out .now) (omega arith)
 
 sub-export : tie.Need-sub-export
 sub-export c = search needs
@@ -46,7 +41,7 @@ export-requires : tie.Need-export-requires
 export-requires c κs =
     let s = c .before .before .before .before .before .before .before .before in
     let long = c .before .before .before .export-length .ensures in
-    (formed-table (s .args .words .now) (s .args .shelf .now) (s .pre), omega arith)
+    (formed-table (s .args .words .now) (s .args .arena .now) (s .pre), omega arith)
 
 same-length : tie.Need-same-length
 same-length c = search needs
@@ -54,7 +49,7 @@ same-length c = search needs
 returns-2 : tie.Need-returns-2
 returns-2 c =
     let a = c .before .before .before .before .before .before .before .before .before .before .before .args in
-    export-done (a .words .now) (a .shelf .now) (a .out .now) (c .before .before .before .before .before .before .export-length .result) (c .before .before .export .last .1 .1 .0) (c .before .before .before .before .before .before .export-length .ensures) (omega arith) (c .before .before .export .ensures)
+    export-done (a .words .now) (a .arena .now) (a .out .now) (c .before .before .before .before .before .before .export-length .result) (c .before .before .export .last .1 .1 .0) (c .before .before .before .before .before .before .export-length .ensures) (omega arith) (c .before .before .export .ensures)
 
 pub export-query-spec : {M : Type 1} → statement M
 export-query-spec =

@@ -1,17 +1,12 @@
 -- `definitioncommands::free` meets its contract: refusal 16, or one resident retired.
-use Prim.Native.Nat.{ℕ}
-use mathlib.Core.Bool.{Bool, true, false}
-use mathlib.Core.Path.{_≡_, refl, sym, ap, _∙_}
-use mathlib.Core.List.{List}
+
+
+
 use native.Mathlib.Omega.{arith}
 use borrow.Author.Needs.{needs}
 use Rattle.definitioncommands.specs.Steps.{formed-table, free-none, free-done}
 use Rattle.definitioncommands.proofs.free.Statement.{statement}
 use Rattle.definitioncommands.proofs.free.Tie as tie
-use Rattle.definitioncommands.proofs.free.Reads as reads
-use Rattle.definitioncommands.proofs.free.Lts as lts
-use Rattle.definitions.proofs.find_resident.Reads as find-resident-reads
-use Rattle.definitions.proofs.retire.Reads as retire-reads
 
 sub-find-resident : tie.Need-sub-find-resident
 sub-find-resident c = search needs
@@ -25,7 +20,7 @@ part-find-resident-end c = search needs
 find-resident-requires : tie.Need-find-resident-requires
 find-resident-requires c κs =
     let s = c .before .before .before .before .before in
-    formed-table (s .args .words .now) (s .args .shelf .now) (s .pre)
+    formed-table (s .args .words .now) (s .args .arena .now) (s .pre)
 
 same-length : tie.Need-same-length
 same-length c = search needs
@@ -33,7 +28,7 @@ same-length c = search needs
 returns : tie.Need-returns
 returns c =
     let a = c .before .before .before .before .before .before .before .args in
-    free-none (a .bytes .now) (a .words .now) (a .shelf .now) (c .before .find-resident .result) (c .before .find-resident .ensures) (c .if1 .taken)
+    free-none (a .bytes .now) (a .words .now) (a .arena .now) (c .before .find-resident .result) (c .before .find-resident .ensures) (c .if1 .taken)
 
 sub-retire : tie.Need-sub-retire
 sub-retire c = search needs
@@ -53,7 +48,7 @@ same-length-2 c = search needs
 returns-2 : tie.Need-returns-2
 returns-2 c =
     let a = c .before .before .before .before .before .before .before .before .before .before .before .args in
-    free-done (a .bytes .now) (a .words .now) (a .shelf .now) (c .before .before .before .before .before .find-resident .result) (c .before .before .before .before .before .find-resident .ensures) (c .before .before .before .before .before .before .before .before .before .before .before .pre)
+    free-done (a .bytes .now) (a .words .now) (a .arena .now) (c .before .before .before .before .before .find-resident .result) (c .before .before .before .before .before .find-resident .ensures) (c .before .before .before .before .before .before .before .before .before .before .before .pre)
     (c .before .before .retire .last .0) (omega arith) (c .before .before .retire .ensures)
 
 pub free-spec : {M : Type 1} → statement M

@@ -1,21 +1,12 @@
 -- `definitioncommands::load_file` meets its contract: refusal 12, or the file loaded.
-use Prim.Native.Nat.{ℕ}
-use mathlib.Core.Bool.{Bool, true, false}
-use mathlib.Core.Path.{_≡_, refl, sym, ap, _∙_}
-use mathlib.Core.List.{List}
-use native.Mathlib.Omega.{arith}
+
+use mathlib.Core.Path.{sym, _∙_}
+
 use borrow.Author.Needs.{needs}
 use Rattle.definitions.specs.Lent.{receive-lent}
-use Rattle.definitioncommands.specs.Steps.{formed-table, receive-full, receive-done, full-told, held-here}
+use Rattle.definitioncommands.specs.Steps.{formed-table, receive-full, receive-done, full-fact, held-here}
 use Rattle.definitioncommands.proofs.load_file.Statement.{statement}
 use Rattle.definitioncommands.proofs.load_file.Tie as tie
-use Rattle.definitioncommands.proofs.load_file.Reads as reads
-use Rattle.definitioncommands.proofs.load_file.Lts as lts
-use Rattle.definitioncommands.proofs.no_slot.Reads as no-slot-reads
-use Rattle.definitions.proofs.held_slots.Reads as held-slots-reads
-use Rattle.definitions.proofs.load.Reads as load-reads
-use Rattle.definitions.proofs.staying_count.Reads as staying-count-reads
-use Rattle.words.proofs.wide.Reads as wide-reads
 
 sub-held-slots : tie.Need-sub-held-slots
 sub-held-slots c = search needs
@@ -47,7 +38,7 @@ part-staying-count-end c = search needs
 staying-count-requires : tie.Need-staying-count-requires
 staying-count-requires c κs =
     let s = c .before .before .before .before .before .before .before .before .before .before in
-    (formed-table (s .args .words .now) (s .args .shelf .now) (s .pre .0), s .pre .1 .0)
+    (formed-table (s .args .words .now) (s .args .arena .now) (s .pre .0), s .pre .1 .0)
 
 no-slot-requires : tie.Need-no-slot-requires
 no-slot-requires c κs = search needs
@@ -61,9 +52,9 @@ same-length-2 c = search needs
 returns : tie.Need-returns
 returns c =
     let a = c .before .before .before .before .before .before .before .before .before .before .before .before .before .args in
-    let told = full-told (a .bytes .now) (a .words .now) (a .shelf .now) (c .before .before .before .before .before .before .before .wide .result) (a .count) (c .before .before .staying-count .result) (c .before .before .before .before .before .before .held-slots .result)
+    let fact = full-fact (a .bytes .now) (a .words .now) (a .arena .now) (c .before .before .before .before .before .before .before .wide .result) (a .count) (c .before .before .staying-count .result) (c .before .before .before .before .before .before .held-slots .result)
     (c .before .before .before .before .before .before .before .wide .ensures) (c .before .before .before .before .before .before .held-slots .ensures) (c .before .before .before .before .before .before .before .before .before .before .before .before .before .pre .1 .1) (c .before .before .staying-count .ensures) in
-    receive-full (a .bytes .now) (a .words .now) (a .shelf .now) (c .before .before .before .before .before .before .before .before .before .before .before .before .before .pre .1 .0) (sym told ∙ sym (c .before .no-slot .ensures) ∙ c .if1 .taken)
+    receive-full (a .bytes .now) (a .words .now) (a .arena .now) (c .before .before .before .before .before .before .before .before .before .before .before .before .before .pre .1 .0) (sym fact ∙ sym (c .before .no-slot .ensures) ∙ c .if1 .taken)
 
 sub-load : tie.Need-sub-load
 sub-load c = search needs
@@ -77,7 +68,7 @@ part-load-end c = search needs
 load-requires : tie.Need-load-requires
 load-requires c κs =
     let s = c .before .before .before .before .before .before .before .before .before .before .before .before .before .before .before in
-    (formed-table (s .args .words .now) (s .args .shelf .now) (s .pre .0), s .pre .1 .0)
+    (formed-table (s .args .words .now) (s .args .arena .now) (s .pre .0), s .pre .1 .0)
 
 same-length-3 : tie.Need-same-length-3
 same-length-3 c = search needs
@@ -88,11 +79,11 @@ same-length-4 c = search needs
 returns-2 : tie.Need-returns-2
 returns-2 c =
     let a = c .before .before .before .before .before .before .before .before .before .before .before .before .before .before .before .before .before .before .before .before .args in
-    let told = full-told (a .bytes .now) (a .words .now) (a .shelf .now) (c .before .before .before .before .before .before .before .before .before .before .before .before .before .before .wide .result) (a .count) (c .before .before .before .before .before .before .before .before .before .staying-count .result) (c .before .before .before .before .before .before .before .before .before .before .before .before .before .held-slots .result)
+    let fact = full-fact (a .bytes .now) (a .words .now) (a .arena .now) (c .before .before .before .before .before .before .before .before .before .before .before .before .before .before .wide .result) (a .count) (c .before .before .before .before .before .before .before .before .before .staying-count .result) (c .before .before .before .before .before .before .before .before .before .before .before .before .before .held-slots .result)
     (c .before .before .before .before .before .before .before .before .before .before .before .before .before .before .wide .ensures) (c .before .before .before .before .before .before .before .before .before .before .before .before .before .held-slots .ensures) (c .before .before .before .before .before .before .before .before .before .before .before .before .before .before .before .before .before .before .before .before .pre .1 .1) (c .before .before .before .before .before .before .before .before .before .staying-count .ensures) in
-    let held = held-here (a .bytes .now) (a .words .now) (a .shelf .now) (c .before .before .before .before .before .before .before .before .before .before .before .before .before .before .wide .result) (c .before .before .before .before .before .before .before .before .before .before .before .before .before .held-slots .result) (c .before .before .before .before .before .before .before .before .before .before .before .before .before .before .wide .ensures) (c .before .before .before .before .before .before .before .before .before .before .before .before .before .held-slots .ensures) in
-    receive-done (a .bytes .now) (a .words .now) (a .shelf .now) _ _ (c .before .before .before .before .before .before .before .before .before .before .before .before .before .before .before .before .before .before .before .before .pre .1 .0) (sym told ∙ sym (c .before .before .before .before .before .before .before .before .no-slot .ensures) ∙ c .before .before .before .before .before .before .before .if1 .left)
-    (receive-lent (a .words .now) (a .shelf .now) (a .bytes .now) (c .before .before .before .before .before .before .before .before .before .before .before .before .before .held-slots .result) (c .before .before .before .before .load .last .0) (c .before .before .before .before .load .last .1 .0) (c .before .before .before .before .before .before .before .before .before .before .before .before .before .before .before .before .before .before .before .before .pre .0 .size) held (c .before .before .before .before .load .ensures))
+    let held = held-here (a .bytes .now) (a .words .now) (a .arena .now) (c .before .before .before .before .before .before .before .before .before .before .before .before .before .before .wide .result) (c .before .before .before .before .before .before .before .before .before .before .before .before .before .held-slots .result) (c .before .before .before .before .before .before .before .before .before .before .before .before .before .before .wide .ensures) (c .before .before .before .before .before .before .before .before .before .before .before .before .before .held-slots .ensures) in
+    receive-done (a .bytes .now) (a .words .now) (a .arena .now) _ _ (c .before .before .before .before .before .before .before .before .before .before .before .before .before .before .before .before .before .before .before .before .pre .1 .0) (sym fact ∙ sym (c .before .before .before .before .before .before .before .before .no-slot .ensures) ∙ c .before .before .before .before .before .before .before .if1 .left)
+    (receive-lent (a .words .now) (a .arena .now) (a .bytes .now) (c .before .before .before .before .before .before .before .before .before .before .before .before .before .held-slots .result) (c .before .before .before .before .load .last .0) (c .before .before .before .before .load .last .1 .0) (c .before .before .before .before .before .before .before .before .before .before .before .before .before .before .before .before .before .before .before .before .pre .0 .size) held (c .before .before .before .before .load .ensures))
 
 pub load-file-spec : {M : Type 1} → statement M
 load-file-spec =

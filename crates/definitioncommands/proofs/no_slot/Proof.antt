@@ -1,16 +1,12 @@
 -- `definitioncommands::no_slot` meets its contract.
 use Prim.Native.Nat.{ℕ}
-use mathlib.Core.Bool.{Bool, true, false}
-use mathlib.Core.Path.{_≡_, refl, sym, ap, _∙_}
-use mathlib.Core.List.{List}
+use mathlib.Core.Path.{_≡_, sym, ap}
 use native.Mathlib.Omega.{arith}
 use borrow.Author.Needs.{needs}
 use Prim.Native.Nat.{_-_}
 use lib.Dec.{ltb}
 use Rattle.definitioncommands.proofs.no_slot.Statement.{statement}
 use Rattle.definitioncommands.proofs.no_slot.Tie as tie
-use Rattle.definitioncommands.proofs.no_slot.Reads as reads
-use Rattle.definitioncommands.proofs.no_slot.Lts as lts
 
 returns : tie.Need-returns
 returns c =

@@ -1,18 +1,12 @@
 -- `definitioncommands::receive` meets its contract: the file's own faults, or what follows them.
-use Prim.Native.Nat.{ℕ}
-use mathlib.Core.Bool.{Bool, true, false}
-use mathlib.Core.Path.{_≡_, refl, sym, ap, _∙_}
-use mathlib.Core.List.{List}
-use native.Mathlib.Omega.{arith}
+
+use mathlib.Core.Path.{sym, _∙_}
+
 use borrow.Author.Needs.{needs}
 use Rattle.synthdef.specs.Reader.{readFile}
 use Rattle.definitioncommands.specs.Steps.{verdict-bad, verdict-got, receive-fault}
 use Rattle.definitioncommands.proofs.receive.Statement.{statement}
 use Rattle.definitioncommands.proofs.receive.Tie as tie
-use Rattle.definitioncommands.proofs.receive.Reads as reads
-use Rattle.definitioncommands.proofs.receive.Lts as lts
-use Rattle.definitioncommands.proofs.load_file.Reads as load-file-reads
-use Rattle.synthdef.proofs.check_file.Reads as check-file-reads
 
 check-file-requires : tie.Need-check-file-requires
 check-file-requires c κs = search needs
@@ -40,7 +34,7 @@ returns c = search needs
 returns-2 : tie.Need-returns-2
 returns-2 c =
     let a = c .before .before .before .before .before .before .before .args in
-    receive-fault (a .bytes .now) (a .words .now) (a .shelf .now) _ _ (verdict-bad (readFile (a .bytes .now)) (sym (c .before .before .before .check-file .ensures) ∙ c .before .refusal .given .1))
+    receive-fault (a .bytes .now) (a .words .now) (a .arena .now) _ _ (verdict-bad (readFile (a .bytes .now)) (sym (c .before .before .before .check-file .ensures) ∙ c .before .refusal .given .1))
 
 pub receive-spec : {M : Type 1} → statement M
 receive-spec =

@@ -1,28 +1,19 @@
-use Rattle.definitions.specs.Checking.{endsAt, whole-ending, part-read}
-use Rattle.model.specs.Layout.{slotRoom}
-use Rattle.model.specs.Formed.{isWhole}
-use Rattle.synthdef.specs.Reader.{readDefinition, sizeLimit}
+use Rattle.definitions.specs.Checking.{endsAt, part-read}
+
+use Rattle.synthdef.specs.Reader.{sizeLimit}
 use Rattle.synthdef.specs.Answers.{stepOf}
-use Rattle.synthdef.specs.Read.{Read, got, bad, ending}
-use Rattle.words.specs.Choice.{both}
-use lib.Seq.{take-take}
-use lib.Dec.{leb, eqb}
+use Rattle.synthdef.specs.Read.{Read}
+
+
 use Prim.{Unit, tt}
-use Prim.Native.Nat.{ℕ, zero, suc, _+_, _*_, _-_, _≤_, _<_}
-use mathlib.Core.Bool.{Bool, true, false, not}
-use mathlib.Core.Path.{_≡_, refl, sym, ap, _∙_}
-use mathlib.Core.List.{List, [], _∷_, _++_, append-assoc}
+use Prim.Native.Nat.{_≤_}
+use mathlib.Core.Path.{sym, ap, _∙_}
 use native.Mathlib.Omega.{arith}
-use native.Mathlib.Numerals.{add-one}
 use borrow.Author.Needs.{needs}
-use borrow.Author.Tests.{lt-ltb, le-ltb, le-leb, lt-leb, eq-eqb, ne-eqb}
-use lib.ListN.{length, take, drop, getD, set, length-set, length-drop}
+use borrow.Author.Tests.{lt-leb}
 use borrow.Author.Needs.{needs}
 use Rattle.definitions.proofs.bytes_formed.Statement.{statement}
 use Rattle.definitions.proofs.bytes_formed.Tie as tie
-use Rattle.definitions.proofs.bytes_formed.Reads as reads
-use Rattle.definitions.proofs.bytes_formed.Lts as lts
-use Rattle.synthdef.proofs.read_definition.Reads as read-definition-reads
 
 returns : tie.Need-returns
 returns c = rw (lt-leb (c .before .before .args .size) sizeLimit (c .if1 .taken))
@@ -56,14 +47,14 @@ returns-2 c = let a = c .before .before .before .before .before .before .before 
     let small : a .size ≤ 2048 = c .before .before .before .before .before .before .if1 .left in
     let call = c .before .before .before .before .read-definition in
     sym (ap (λ (r : Read (Unit {0})). endsAt (a .size) r) (ap stepOf (c .before .before .next .given .1)))
-    ∙ part-read (a .shelf .now) (a .k) (a .size) (stepOf (call .result)) small (call .ensures)
+    ∙ part-read (a .arena .now) (a .k) (a .size) (stepOf (call .result)) small (call .ensures)
 
 returns-3 : tie.Need-returns-3
 returns-3 c = let a = c .before .before .before .before .before .before .before .args in
     let small : a .size ≤ 2048 = c .before .before .before .before .before .if1 .left in
     let call = c .before .before .before .read-definition in
     sym (ap (λ (r : Read (Unit {0})). endsAt (a .size) r) (ap stepOf (c .before .refusal .given .1)))
-    ∙ part-read (a .shelf .now) (a .k) (a .size) (stepOf (call .result)) small (call .ensures)
+    ∙ part-read (a .arena .now) (a .k) (a .size) (stepOf (call .result)) small (call .ensures)
 
 pub bytes-formed-spec : {M : Type 1} → statement M
 bytes-formed-spec =

@@ -1,18 +1,13 @@
-use Rattle.words.specs.Parts.{put}
-use lib.Seq.{paste, paste-zero, paste-suc, length-paste, take-all, drop-drop}
-use Prim.Native.Nat.{ℕ, zero, suc, _+_, _*_, _-_, _≤_, _<_}
-use mathlib.Core.Bool.{Bool, true, false, not}
-use mathlib.Core.Path.{_≡_, refl, sym, ap, _∙_}
-use mathlib.Core.List.{List, [], _∷_, _++_, append-assoc}
+use lib.Seq.{paste, paste-zero, paste-suc, take-all, drop-drop}
+use Prim.Native.Nat.{ℕ, _+_, _-_, _≤_, _<_}
+use mathlib.Core.Path.{_≡_, refl, ap, _∙_}
+use mathlib.Core.List.{List, append-assoc}
 use native.Mathlib.Omega.{arith}
 use native.Mathlib.Numerals.{add-one}
 use borrow.Author.Needs.{needs}
-use borrow.Author.Tests.{lt-ltb, le-ltb, le-leb, lt-leb, eq-eqb, ne-eqb}
-use lib.ListN.{length, take, drop, getD, set, length-set, length-drop}
+use lib.ListN.{length, take, drop, getD, set, length-set}
 use Rattle.definitions.proofs.copy_in.Statement.{statement}
 use Rattle.definitions.proofs.copy_in.Tie as tie
-use Rattle.definitions.proofs.copy_in.Reads as reads
-use Rattle.definitions.proofs.copy_in.Lts as lts
 
 abbrev Inv-loop : tie.InvT-loop
 Inv-loop to₀ at from i₀ to i = (i ≤ length from) × ((to ≡ paste to₀ at from i) × (length to ≡ length to₀))

@@ -1,38 +1,32 @@
 use native.Mathlib.Nat.{add-zero}
-use Rattle.definitions.specs.Names.{nameOn}
-use Rattle.model.specs.Engine as engine
-use Rattle.synthdef.specs.Reader.{among}
-use Rattle.words.specs.Choice.{pick, both, either}
+
+use Rattle.words.specs.Choice.{pick}
 use native.Mathlib.Nat.{zero-add}
 use mathlib.Core.Logic.{⊎-elim}
 use Prim.{tt}
-use Rattle.definitions.specs.Slots.{slotsOn, residentOn}
+use Rattle.definitions.specs.Slots.{slotsOn}
 use Rattle.definitions.specs.Naming.{NamedBy, staying-step, staying-end}
-use Rattle.definitions.specs.Holders.{holders, held-holders}
+use Rattle.definitions.specs.Holders.{holders}
 use Rattle.model.specs.Checks.{staying}
-use Prim.Native.Nat.{ℕ, zero, suc, _+_, _*_, _-_, _≤_, _<_}
-use mathlib.Core.Bool.{Bool, true, false, not}
-use mathlib.Core.Path.{_≡_, refl, sym, ap, _∙_}
-use mathlib.Core.List.{List, [], _∷_, _++_, append-assoc}
+use Prim.Native.Nat.{ℕ, _+_, _-_, _≤_}
+use mathlib.Core.Bool.{Bool}
+use mathlib.Core.Path.{_≡_, sym, ap, _∙_}
+use mathlib.Core.List.{List}
 use native.Mathlib.Omega.{arith}
-use native.Mathlib.Numerals.{add-one}
-use borrow.Author.Needs.{needs}
-use borrow.Author.Tests.{lt-ltb, le-ltb, le-leb, lt-leb, eq-eqb, ne-eqb}
-use lib.ListN.{length, take, drop, getD, set, length-set, length-drop}
+
+
+use lib.ListN.{drop}
 use Rattle.definitions.proofs.count_staying.Statement.{statement}
 use Rattle.definitions.proofs.count_staying.Tie as tie
-use Rattle.definitions.proofs.count_staying.Reads as reads
-use Rattle.definitions.proofs.count_staying.Lts as lts
-use Rattle.definitions.proofs.stays.Reads as stays-reads
 
 abbrev Inv-loop : tie.InvT-loop
-Inv-loop table held marks n₀ k₀ n k = (k ≤ 32) × ((n ≤ k) × ((shelf : List ℕ) (names : List (List ℕ)) → NamedBy table shelf names marks → n + staying k names (drop k (slotsOn table shelf)) (holders held) ≡ staying 0 names (slotsOn table shelf) (holders held)))
+Inv-loop table held marks n₀ k₀ n k = (k ≤ 32) × ((n ≤ k) × ((arena : List ℕ) (names : List (List ℕ)) → NamedBy table arena names marks → n + staying k names (drop k (slotsOn table arena)) (holders held) ≡ staying 0 names (slotsOn table arena) (holders held)))
 
 abbrev μ-loop : tie.MeasureT-loop
 μ-loop table held marks n₀ k₀ n k = 32 - k
 
 loop-holds : tie.Need-loop-holds Inv-loop μ-loop
-loop-holds c = (omega arith, (omega arith, λ shelf names n. zero-add (staying 0 names (slotsOn (c .before .args .table .now) shelf) (holders (c .before .args .t2)))))
+loop-holds c = (omega arith, (omega arith, λ arena names n. zero-add (staying 0 names (slotsOn (c .before .args .table .now) arena) (holders (c .before .args .t2)))))
 
 add-stays : tie.Need-add-stays Inv-loop μ-loop
 add-stays c = omega arith
@@ -75,21 +69,21 @@ loop-again c = let k = c .before .before .before .before .loop .k in
       omega arith,
       (
         omega arith,
-        λ shelf names n.
-            let rest = staying (k + 1) names (drop (k + 1) (slotsOn (a .table .now) shelf)) (holders (a .t2)) in
-            let step : staying k names (drop k (slotsOn (a .table .now) shelf)) (holders (a .t2)) ≡ pick test 1 0 + rest =
-            staying-step (a .table .now) shelf names (a .t3) (a .t2) k n (omega arith) ∙ ap (λ (b : Bool). pick b 1 0 + rest) (sym (c .before .stays .ensures)) in
-            let all = inv .1 .1 shelf names n in
+        λ arena names n.
+            let rest = staying (k + 1) names (drop (k + 1) (slotsOn (a .table .now) arena)) (holders (a .t2)) in
+            let step : staying k names (drop k (slotsOn (a .table .now) arena)) (holders (a .t2)) ≡ pick test 1 0 + rest =
+            staying-step (a .table .now) arena names (a .t3) (a .t2) k n (omega arith) ∙ ap (λ (b : Bool). pick b 1 0 + rest) (sym (c .before .stays .ensures)) in
+            let all = inv .1 .1 arena names n in
             let sum = more .0 in
             omega arith,
       ),
     )
 
 returns : tie.Need-returns Inv-loop μ-loop
-returns c = λ shelf names n.
+returns c = λ arena names n.
     let a = c .before .before .before .args in
-    let last = staying-end (a .table .now) shelf names (holders (a .t2)) (c .before .loop .k) (omega arith) in
-    let all = c .before .loop .inv .1 .1 shelf names n in
+    let last = staying-end (a .table .now) arena names (holders (a .t2)) (c .before .loop .k) (omega arith) in
+    let all = c .before .loop .inv .1 .1 arena names n in
     omega arith
 
 pub count-staying-spec : {M : Type 1} → statement M

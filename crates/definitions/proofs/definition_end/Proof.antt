@@ -1,22 +1,16 @@
 use Rattle.synthdef.specs.Definition.{Definition}
 use Rattle.synthdef.specs.Answers.{stepOf}
 use Rattle.synthdef.specs.Read.{Read, got, bad, ending}
-use Prim.{Unit, tt}
-use Prim.Native.Nat.{ℕ, zero, suc, _+_, _*_, _-_, _≤_, _<_}
-use mathlib.Core.Bool.{Bool, true, false, not}
-use mathlib.Core.Path.{_≡_, refl, sym, ap, _∙_}
-use mathlib.Core.List.{List, [], _∷_, _++_, append-assoc}
-use native.Mathlib.Omega.{arith}
-use native.Mathlib.Numerals.{add-one}
+use Prim.{tt}
+
+use mathlib.Core.Path.{_≡_, ap, _∙_}
+
+
 use borrow.Author.Needs.{needs}
-use borrow.Author.Tests.{lt-ltb, le-ltb, le-leb, lt-leb, eq-eqb, ne-eqb}
-use lib.ListN.{length, take, drop, getD, set, length-set, length-drop}
+
 use borrow.Author.Needs.{needs}
 use Rattle.definitions.proofs.definition_end.Statement.{statement}
 use Rattle.definitions.proofs.definition_end.Tie as tie
-use Rattle.definitions.proofs.definition_end.Reads as reads
-use Rattle.definitions.proofs.definition_end.Lts as lts
-use Rattle.synthdef.proofs.read_definition.Reads as read-definition-reads
 
 read-definition-requires : tie.Need-read-definition-requires
 read-definition-requires c κs = tt

@@ -4,26 +4,21 @@ use Rattle.definitions.specs.Slots.{lengthsOn, slotsOn}
 use Rattle.definitions.specs.Holders.{holders, held-holders}
 use Rattle.model.specs.Formed.{slotsFormed}
 use Rattle.words.specs.Choice.{both}
-use Prim.Native.Nat.{ℕ, zero, suc, _+_, _*_, _-_, _≤_, _<_}
-use mathlib.Core.Bool.{Bool, true, false, not}
+use Prim.Native.Nat.{_+_, _-_, _≤_}
+use mathlib.Core.Bool.{Bool, true, false}
 use mathlib.Core.Path.{_≡_, refl, sym, ap, _∙_}
-use mathlib.Core.List.{List, [], _∷_, _++_, append-assoc}
 use native.Mathlib.Omega.{arith}
-use native.Mathlib.Numerals.{add-one}
-use borrow.Author.Needs.{needs}
-use borrow.Author.Tests.{lt-ltb, le-ltb, le-leb, lt-leb, eq-eqb, ne-eqb}
-use lib.ListN.{length, take, drop, getD, set, length-set, length-drop}
+
+
+use lib.ListN.{drop}
 use Rattle.definitions.proofs.each_formed.Statement.{statement}
 use Rattle.definitions.proofs.each_formed.Tie as tie
-use Rattle.definitions.proofs.each_formed.Reads as reads
-use Rattle.definitions.proofs.each_formed.Lts as lts
-use Rattle.definitions.proofs.slot_formed.Reads as slot-formed-reads
 
 abbrev Inv-loop : tie.InvT-loop
-Inv-loop table shelf held k₀ k = (k ≤ 32) × (slotsFormed k (drop k (lengthsOn table)) (drop k (slotsOn table shelf)) (holders held) ≡ slotsFormed 0 (lengthsOn table) (slotsOn table shelf) (holders held))
+Inv-loop table arena held k₀ k = (k ≤ 32) × (slotsFormed k (drop k (lengthsOn table)) (drop k (slotsOn table arena)) (holders held) ≡ slotsFormed 0 (lengthsOn table) (slotsOn table arena) (holders held))
 
 abbrev μ-loop : tie.MeasureT-loop
-μ-loop table shelf held k₀ k = 32 - k
+μ-loop table arena held k₀ k = 32 - k
 
 loop-holds : tie.Need-loop-holds Inv-loop μ-loop
 loop-holds c = (omega arith, refl)
@@ -38,11 +33,11 @@ returns : tie.Need-returns Inv-loop μ-loop
 returns c = let a = c .before .before .before .before .before .before .args in
     let k = c .before .before .before .loop .k in
     let table = a .table .now in
-    let shelf = a .shelf .now in
+    let arena = a .arena .now in
     let t = holders (a .t3) in
-    let bad : formedOn table shelf t k ≡ false = sym (c .before .slot-formed .ensures t (sym (held-holders (a .t3) k))) ∙ not-true (c .before .slot-formed .result) (c .if1 .taken) in
-    let rest = slotsFormed (k + 1) (drop (k + 1) (lengthsOn table)) (drop (k + 1) (slotsOn table shelf)) t in
-    sym (formed-turn table shelf t k (omega arith) ∙ ap (λ (b : Bool). both b rest) bad) ∙ c .before .before .before .loop .inv .1
+    let bad : formedOn table arena t k ≡ false = sym (c .before .slot-formed .ensures t (sym (held-holders (a .t3) k))) ∙ not-true (c .before .slot-formed .result) (c .if1 .taken) in
+    let rest = slotsFormed (k + 1) (drop (k + 1) (lengthsOn table)) (drop (k + 1) (slotsOn table arena)) t in
+    sym (formed-turn table arena t k (omega arith) ∙ ap (λ (b : Bool). both b rest) bad) ∙ c .before .before .before .loop .inv .1
 
 add-k : tie.Need-add-k Inv-loop μ-loop
 add-k c = omega arith
@@ -54,15 +49,15 @@ loop-again : tie.Need-loop-again Inv-loop μ-loop
 loop-again c = let a = c .before .before .before .before .before .before .args in
     let k = c .before .before .before .loop .k in
     let table = a .table .now in
-    let shelf = a .shelf .now in
+    let arena = a .arena .now in
     let t = holders (a .t3) in
-    let good : formedOn table shelf t k ≡ true = sym (c .before .slot-formed .ensures t (sym (held-holders (a .t3) k))) ∙ not-false (c .before .slot-formed .result) (c .if1 .left) in
-    let rest = slotsFormed (k + 1) (drop (k + 1) (lengthsOn table)) (drop (k + 1) (slotsOn table shelf)) t in
-    (omega arith, sym (formed-turn table shelf t k (omega arith) ∙ ap (λ (b : Bool). both b rest) good) ∙ c .before .before .before .loop .inv .1)
+    let good : formedOn table arena t k ≡ true = sym (c .before .slot-formed .ensures t (sym (held-holders (a .t3) k))) ∙ not-false (c .before .slot-formed .result) (c .if1 .left) in
+    let rest = slotsFormed (k + 1) (drop (k + 1) (lengthsOn table)) (drop (k + 1) (slotsOn table arena)) t in
+    (omega arith, sym (formed-turn table arena t k (omega arith) ∙ ap (λ (b : Bool). both b rest) good) ∙ c .before .before .before .loop .inv .1)
 
 returns-2 : tie.Need-returns-2 Inv-loop μ-loop
 returns-2 c = let a = c .before .before .before .before .args in
-    sym (formed-end (a .table .now) (a .shelf .now) (holders (a .t3)) (c .before .loop .k) (omega arith)) ∙ c .before .loop .inv .1
+    sym (formed-end (a .table .now) (a .arena .now) (holders (a .t3)) (c .before .loop .k) (omega arith)) ∙ c .before .loop .inv .1
 
 pub each-formed-spec : {M : Type 1} → statement M
 each-formed-spec =

@@ -1,27 +1,20 @@
 use Rattle.definitions.specs.Exporting.{bodyFrom, size-turn, body-end, export-size}
-use Rattle.definitions.specs.Slots.{residentOn}
-use Rattle.words.specs.Choice.{pick}
+
 use mathlib.Core.Logic.{⊎-elim}
-use Prim.Native.Nat.{ℕ, zero, suc, _+_, _*_, _-_, _≤_, _<_}
-use mathlib.Core.Bool.{Bool, true, false, not}
-use mathlib.Core.Path.{_≡_, refl, sym, ap, _∙_}
-use mathlib.Core.List.{List, [], _∷_, _++_, append-assoc}
+use Prim.Native.Nat.{_+_, _*_, _-_, _≤_}
+use mathlib.Core.Path.{_≡_, refl, ap}
 use native.Mathlib.Omega.{arith}
-use native.Mathlib.Numerals.{add-one}
-use borrow.Author.Needs.{needs}
-use borrow.Author.Tests.{lt-ltb, le-ltb, le-leb, lt-leb, eq-eqb, ne-eqb}
-use lib.ListN.{length, take, drop, getD, set, length-set, length-drop}
+
+use borrow.Author.Tests.{eq-eqb, ne-eqb}
+use lib.ListN.{length, getD}
 use Rattle.definitions.proofs.export_length.Statement.{statement}
 use Rattle.definitions.proofs.export_length.Tie as tie
-use Rattle.definitions.proofs.export_length.Reads as reads
-use Rattle.definitions.proofs.export_length.Lts as lts
-use Rattle.words.proofs.wide.Reads as wide-reads
 
 abbrev Inv-loop : tie.InvT-loop
-Inv-loop table shelf n₀ k₀ n k = (k ≤ 32) × ((n ≤ 10 + 2048 * k) × (n + length (bodyFrom table shelf k) ≡ 10 + length (bodyFrom table shelf 0)))
+Inv-loop table arena n₀ k₀ n k = (k ≤ 32) × ((n ≤ 10 + 2048 * k) × (n + length (bodyFrom table arena k) ≡ 10 + length (bodyFrom table arena 0)))
 
 abbrev μ-loop : tie.MeasureT-loop
-μ-loop table shelf n₀ k₀ n k = 32 - k
+μ-loop table arena n₀ k₀ n k = 32 - k
 
 loop-holds : tie.Need-loop-holds Inv-loop μ-loop
 loop-holds c = (omega arith, (omega arith, refl))
@@ -62,11 +55,11 @@ loop-less c = omega arith
 loop-again : tie.Need-loop-again Inv-loop μ-loop
 loop-again c = let s = c .before .before .before .before .before .before in
     let table = s .args .table .now in
-    let shelf = s .args .shelf .now in
+    let arena = s .args .arena .now in
     let k = c .before .before .before .loop .k in
     let before = c .before .before .before .loop .n in
     let inv = c .before .before .before .loop .inv in
-    let step = size-turn table shelf (λ i. c .before .before .before .before .shared-slice-known2 .given i .fits) (s .pre) k (omega arith) in
+    let step = size-turn table arena (λ i. c .before .before .before .before .shared-slice-known2 .given i .fits) (s .pre) k (omega arith) in
     ⊎-elim
     (λ w.
     let in-slot = eq-eqb (getD table (32 + k) 0) 1 (w .0 .taken) in
@@ -84,8 +77,8 @@ loop-again c = let s = c .before .before .before .before .before .before in
 returns : tie.Need-returns Inv-loop μ-loop
 returns c = let a = c .before .before .before .before .args in
     let all = c .before .loop .inv .1 .1 in
-    let none = ap length (body-end (a .table .now) (a .shelf .now) (c .before .loop .k) (omega arith)) in
-    let whole = export-size (a .table .now) (a .shelf .now) in
+    let none = ap length (body-end (a .table .now) (a .arena .now) (c .before .loop .k) (omega arith)) in
+    let whole = export-size (a .table .now) (a .arena .now) in
     omega arith
 
 pub export-length-spec : {M : Type 1} → statement M

@@ -2,27 +2,21 @@ use Rattle.definitions.specs.Slots.{slotsOn}
 use Rattle.definitions.specs.Names.{namedOn, resident-turn, resident-end}
 use Rattle.words.specs.Choice.{pick}
 use Rattle.model.specs.Engine.{residentFrom}
-use Prim.Native.Nat.{ℕ, zero, suc, _+_, _*_, _-_, _≤_, _<_}
-use mathlib.Core.Bool.{Bool, true, false, not}
+use Prim.Native.Nat.{ℕ, _+_, _-_, _≤_}
+use mathlib.Core.Bool.{Bool, true, false}
 use mathlib.Core.Path.{_≡_, refl, sym, ap, _∙_}
-use mathlib.Core.List.{List, [], _∷_, _++_, append-assoc}
 use native.Mathlib.Omega.{arith}
-use native.Mathlib.Numerals.{add-one}
-use borrow.Author.Needs.{needs}
-use borrow.Author.Tests.{lt-ltb, le-ltb, le-leb, lt-leb, eq-eqb, ne-eqb}
-use lib.ListN.{length, take, drop, getD, set, length-set, length-drop}
+
+
+use lib.ListN.{drop}
 use Rattle.definitions.proofs.find_resident.Statement.{statement}
 use Rattle.definitions.proofs.find_resident.Tie as tie
-use Rattle.definitions.proofs.find_resident.Reads as reads
-use Rattle.definitions.proofs.find_resident.Lts as lts
-use Rattle.definitions.proofs.slot_named.Reads as slot-named-reads
-use Rattle.words.proofs.wide.Reads as wide-reads
 
 abbrev Inv-loop : tie.InvT-loop
-Inv-loop table shelf name k₀ k = (k ≤ 32) × (residentFrom k name (drop k (slotsOn table shelf)) ≡ residentFrom 0 name (slotsOn table shelf))
+Inv-loop table arena name k₀ k = (k ≤ 32) × (residentFrom k name (drop k (slotsOn table arena)) ≡ residentFrom 0 name (slotsOn table arena))
 
 abbrev μ-loop : tie.MeasureT-loop
-μ-loop table shelf name k₀ k = 32 - k
+μ-loop table arena name k₀ k = 32 - k
 
 loop-holds : tie.Need-loop-holds Inv-loop μ-loop
 loop-holds c = (omega arith, refl)
@@ -37,12 +31,12 @@ returns : tie.Need-returns Inv-loop μ-loop
 returns c = let k = c .before .before .before .before .loop .k in
     let a = c .before .before .before .before .before .before .before .before .args in
     let table = a .table .now in
-    let shelf = a .shelf .now in
+    let arena = a .arena .now in
     let name = a .name .now in
     let here : c .before .before .wide .result ≡ k = c .before .before .wide .ensures in
-    let found : namedOn table shelf name k ≡ true = ap (λ (j : ℕ). namedOn table shelf name j) (sym here) ∙ sym (c .before .slot-named .ensures) ∙ c .if1 .taken in
-    let next = residentFrom (k + 1) name (drop (k + 1) (slotsOn table shelf)) in
-    sym (resident-turn table shelf name k (omega arith) ∙ ap (λ (b : Bool). pick b k next) found) ∙ c .before .before .before .before .loop .inv .1
+    let found : namedOn table arena name k ≡ true = ap (λ (j : ℕ). namedOn table arena name j) (sym here) ∙ sym (c .before .slot-named .ensures) ∙ c .if1 .taken in
+    let next = residentFrom (k + 1) name (drop (k + 1) (slotsOn table arena)) in
+    sym (resident-turn table arena name k (omega arith) ∙ ap (λ (b : Bool). pick b k next) found) ∙ c .before .before .before .before .loop .inv .1
 
 add-k : tie.Need-add-k Inv-loop μ-loop
 add-k c = omega arith
@@ -54,18 +48,18 @@ loop-again : tie.Need-loop-again Inv-loop μ-loop
 loop-again c = let k = c .before .before .before .before .loop .k in
     let a = c .before .before .before .before .before .before .before .before .args in
     let table = a .table .now in
-    let shelf = a .shelf .now in
+    let arena = a .arena .now in
     let name = a .name .now in
     let here : c .before .before .wide .result ≡ k = c .before .before .wide .ensures in
-    let missed : namedOn table shelf name k ≡ false = ap (λ (j : ℕ). namedOn table shelf name j) (sym here) ∙ sym (c .before .slot-named .ensures) ∙ c .if1 .left in
-    let next = residentFrom (k + 1) name (drop (k + 1) (slotsOn table shelf)) in
-    (omega arith, sym (resident-turn table shelf name k (omega arith) ∙ ap (λ (b : Bool). pick b k next) missed) ∙ c .before .before .before .before .loop .inv .1)
+    let missed : namedOn table arena name k ≡ false = ap (λ (j : ℕ). namedOn table arena name j) (sym here) ∙ sym (c .before .slot-named .ensures) ∙ c .if1 .left in
+    let next = residentFrom (k + 1) name (drop (k + 1) (slotsOn table arena)) in
+    (omega arith, sym (resident-turn table arena name k (omega arith) ∙ ap (λ (b : Bool). pick b k next) missed) ∙ c .before .before .before .before .loop .inv .1)
 
 returns-2 : tie.Need-returns-2 Inv-loop μ-loop
 returns-2 c = let k = c .before .loop .k in
     let a = c .before .before .before .before .before .args in
     let last : k ≡ 32 = omega arith in
-    sym last ∙ sym (resident-end (a .table .now) (a .shelf .now) (a .name .now) k (omega arith)) ∙ c .before .loop .inv .1
+    sym last ∙ sym (resident-end (a .table .now) (a .arena .now) (a .name .now) k (omega arith)) ∙ c .before .loop .inv .1
 
 pub find-resident-spec : {M : Type 1} → statement M
 find-resident-spec =

@@ -1,21 +1,16 @@
 use Rattle.definitions.specs.Checking.{flags-turn, flags-end}
 use Rattle.definitions.specs.Slots.{flagsOn}
-use lib.Dec.{leb}
 use Rattle.model.specs.Formed.{flagsFormed}
 use Rattle.words.specs.Choice.{both}
-use Prim.Native.Nat.{ℕ, zero, suc, _+_, _*_, _-_, _≤_, _<_}
-use mathlib.Core.Bool.{Bool, true, false, not}
+use Prim.Native.Nat.{_+_, _-_, _≤_}
+use mathlib.Core.Bool.{Bool}
 use mathlib.Core.Path.{_≡_, refl, sym, ap, _∙_}
-use mathlib.Core.List.{List, [], _∷_, _++_, append-assoc}
 use native.Mathlib.Omega.{arith}
-use native.Mathlib.Numerals.{add-one}
-use borrow.Author.Needs.{needs}
-use borrow.Author.Tests.{lt-ltb, le-ltb, le-leb, lt-leb, eq-eqb, ne-eqb}
-use lib.ListN.{length, take, drop, getD, set, length-set, length-drop}
+
+use borrow.Author.Tests.{le-leb, lt-leb}
+use lib.ListN.{drop, getD}
 use Rattle.definitions.proofs.flags_formed.Statement.{statement}
 use Rattle.definitions.proofs.flags_formed.Tie as tie
-use Rattle.definitions.proofs.flags_formed.Reads as reads
-use Rattle.definitions.proofs.flags_formed.Lts as lts
 
 abbrev Inv-loop : tie.InvT-loop
 Inv-loop table k₀ k = (k ≤ 32) × (flagsFormed (drop k (flagsOn table)) ≡ flagsFormed (flagsOn table))

@@ -1,24 +1,20 @@
 use lib.Dec.{eqb}
 use mathlib.Core.Logic.{⊎-elim}
-use lib.ListN.{replicate, getD-replicate}
-use Rattle.definitions.specs.Holders.{HeldBy, held-turn, held-end, held-set, held-skip}
+use lib.ListN.{getD-replicate}
+use Rattle.definitions.specs.Holders.{held-turn, held-end, held-set, held-skip}
 use Rattle.model.specs.Engine as engine
 use Rattle.words.specs.Choice.{either}
 use Rattle.nodes.specs.Table.{rows}
-use Prim.Native.Nat.{ℕ, zero, suc, _+_, _*_, _-_, _≤_, _<_}
-use mathlib.Core.Bool.{Bool, true, false, not}
+use Prim.Native.Nat.{ℕ, _+_, _*_, _-_, _≤_, _<_}
+use mathlib.Core.Bool.{Bool, true, false}
 use mathlib.Core.Path.{_≡_, refl, sym, ap, _∙_}
-use mathlib.Core.List.{List, [], _∷_, _++_, append-assoc}
+use mathlib.Core.List.{List}
 use native.Mathlib.Omega.{arith}
-use native.Mathlib.Numerals.{add-one}
-use borrow.Author.Needs.{needs}
-use borrow.Author.Tests.{lt-ltb, le-ltb, le-leb, lt-leb, eq-eqb, ne-eqb}
-use lib.ListN.{length, take, drop, getD, set, length-set, length-drop}
+
+
+use lib.ListN.{length, drop, getD, length-set}
 use Rattle.definitions.proofs.held_slots.Statement.{statement}
 use Rattle.definitions.proofs.held_slots.Tie as tie
-use Rattle.definitions.proofs.held_slots.Reads as reads
-use Rattle.definitions.proofs.held_slots.Lts as lts
-use Rattle.words.proofs.wide.Reads as wide-reads
 
 abbrev Inv-loop : tie.InvT-loop
 Inv-loop nodes count held₀ i₀ held i = (i ≤ count) × ((length held ≡ 32) × ((k : ℕ) → k < 32 → either (getD held k false) (engine.held k (drop i (rows count nodes))) ≡ engine.held k (rows count nodes)))

@@ -1,28 +1,22 @@
 use Rattle.definitions.specs.Retired.{retired-formed}
 use Rattle.definitions.specs.Loading.{load-whole}
-use Prim.Native.Nat.{ℕ, zero, suc, _+_, _*_, _-_, _≤_, _<_}
-use mathlib.Core.Bool.{Bool, true, false, not}
-use mathlib.Core.Path.{_≡_, refl, sym, ap, _∙_}
-use mathlib.Core.List.{List, [], _∷_, _++_, append-assoc}
-use native.Mathlib.Omega.{arith}
-use native.Mathlib.Numerals.{add-one}
+
+
+
+
+
 use borrow.Author.Needs.{needs}
-use borrow.Author.Tests.{lt-ltb, le-ltb, le-leb, lt-leb, eq-eqb, ne-eqb}
-use lib.ListN.{length, take, drop, getD, set, length-set, length-drop}
+
 use borrow.Author.Needs.{needs}
 use Rattle.definitions.proofs.load.Statement.{statement}
 use Rattle.definitions.proofs.load.Tie as tie
-use Rattle.definitions.proofs.load.Reads as reads
-use Rattle.definitions.proofs.load.Lts as lts
-use Rattle.definitions.proofs.place_all.Reads as place-all-reads
-use Rattle.definitions.proofs.retire_named.Reads as retire-named-reads
 
 retire-named-requires : tie.Need-retire-named-requires
 retire-named-requires c κs = c .before .before .before .before .before .pre
 
 place-all-requires : tie.Need-place-all-requires
 place-all-requires c κs = let s = c .before .before .before .before .before .before .before .before .before .before in
-    (rw (c .before .before .before .before .retire-named .ensures) (retired-formed (s .args .table .now) (s .args .shelf .now) _ (s .pre .0)), s .pre .1)
+    (rw (c .before .before .before .before .retire-named .ensures) (retired-formed (s .args .table .now) (s .args .arena .now) _ (s .pre .0)), s .pre .1)
 
 same-length : tie.Need-same-length
 same-length c = search needs
@@ -33,7 +27,7 @@ same-length-2 c = search needs
 returns : tie.Need-returns
 returns c = let s = c .before .before .before .before .before .before .before .before .before .before .before .before .before .before .before in
     let a = s .args in
-    load-whole (a .table .now) (a .shelf .now) (a .file .now) (a .held) (c .before .before .before .before .before .before .before .before .before .retire-named .last .0) (c .before .before .before .before .place-all .last .0) (c .before .before .before .before .place-all .last .1 .0) (s .pre .0) (c .before .before .before .before .before .before .before .before .before .retire-named .ensures) (c .before .before .before .before .place-all .ensures)
+    load-whole (a .table .now) (a .arena .now) (a .file .now) (a .held) (c .before .before .before .before .before .before .before .before .before .retire-named .last .0) (c .before .before .before .before .place-all .last .0) (c .before .before .before .before .place-all .last .1 .0) (s .pre .0) (c .before .before .before .before .before .before .before .before .before .retire-named .ensures) (c .before .before .before .before .place-all .ensures)
 
 pub load-spec : {M : Type 1} → statement M
 load-spec =

@@ -1,25 +1,19 @@
 use mathlib.Core.Logic.{⊎-elim}
-use Rattle.definitions.specs.Names.{namedOn, MarkedMore, Marking, marking-set, marking-skip}
-use Prim.Native.Nat.{ℕ, zero, suc, _+_, _*_, _-_, _≤_, _<_}
-use mathlib.Core.Bool.{Bool, true, false, not}
-use mathlib.Core.Path.{_≡_, refl, sym, ap, _∙_}
-use mathlib.Core.List.{List, [], _∷_, _++_, append-assoc}
+use Rattle.definitions.specs.Names.{Marking, marking-set, marking-skip}
+use Prim.Native.Nat.{_-_, _<_}
+use mathlib.Core.Path.{refl, sym, _∙_}
 use native.Mathlib.Omega.{arith}
-use native.Mathlib.Numerals.{add-one}
-use borrow.Author.Needs.{needs}
-use borrow.Author.Tests.{lt-ltb, le-ltb, le-leb, lt-leb, eq-eqb, ne-eqb}
-use lib.ListN.{length, take, drop, getD, set, length-set, length-drop}
+
+
+
 use Rattle.definitions.proofs.mark_named.Statement.{statement}
 use Rattle.definitions.proofs.mark_named.Tie as tie
-use Rattle.definitions.proofs.mark_named.Reads as reads
-use Rattle.definitions.proofs.mark_named.Lts as lts
-use Rattle.definitions.proofs.slot_named.Reads as slot-named-reads
 
 abbrev Inv-loop : tie.InvT-loop
-Inv-loop table shelf name named₀ k₀ named k = Marking table shelf name named₀ k named
+Inv-loop table arena name named₀ k₀ named k = Marking table arena name named₀ k named
 
 abbrev μ-loop : tie.MeasureT-loop
-μ-loop table shelf name named₀ k₀ named k = 32 - k
+μ-loop table arena name named₀ k₀ named k = 32 - k
 
 loop-holds : tie.Need-loop-holds Inv-loop μ-loop
 loop-holds c = record { most = omega arith; size = c .before .before .before .pre .1; before = λ j h. absurd (omega arith); behind = λ j h. refl }
@@ -41,13 +35,13 @@ loop-again c = let k = c .before .before .before .loop .k in
     let now = c .before .before .before .loop .named in
     let a = c .before .before .before .before .before .before .before .args in
     let table = a .table .now in
-    let shelf = a .shelf .now in
+    let arena = a .arena .now in
     let name = a .name .now in
     let inv = c .before .before .before .loop .inv in
     let less : k < 32 = omega arith in
     ⊎-elim
-    (λ w. rw (w .1) (marking-set table shelf name (a .marks) k now inv less (sym (c .before .slot-named .ensures) ∙ w .0 .taken)))
-    (λ w. rw (w .1) (marking-skip table shelf name (a .marks) k now inv less (sym (c .before .slot-named .ensures) ∙ w .0 .left)))
+    (λ w. rw (w .1) (marking-set table arena name (a .marks) k now inv less (sym (c .before .slot-named .ensures) ∙ w .0 .taken)))
+    (λ w. rw (w .1) (marking-skip table arena name (a .marks) k now inv less (sym (c .before .slot-named .ensures) ∙ w .0 .left)))
     (c .if1 .came)
 
 returns : tie.Need-returns Inv-loop μ-loop

@@ -3,26 +3,21 @@ use Rattle.definitions.specs.Names.{namedOn}
 use Rattle.definitions.specs.Slots.{slotsOn}
 use Rattle.model.specs.Formed.{nameResident}
 use Rattle.words.specs.Choice.{pick}
-use Prim.Native.Nat.{ℕ, zero, suc, _+_, _*_, _-_, _≤_, _<_}
+use Prim.Native.Nat.{_+_, _-_, _≤_}
 use mathlib.Core.Bool.{Bool, true, false, not}
 use mathlib.Core.Path.{_≡_, refl, sym, ap, _∙_}
-use mathlib.Core.List.{List, [], _∷_, _++_, append-assoc}
 use native.Mathlib.Omega.{arith}
-use native.Mathlib.Numerals.{add-one}
-use borrow.Author.Needs.{needs}
-use borrow.Author.Tests.{lt-ltb, le-ltb, le-leb, lt-leb, eq-eqb, ne-eqb}
-use lib.ListN.{length, take, drop, getD, set, length-set, length-drop}
+
+
+use lib.ListN.{drop}
 use Rattle.definitions.proofs.name_apart.Statement.{statement}
 use Rattle.definitions.proofs.name_apart.Tie as tie
-use Rattle.definitions.proofs.name_apart.Reads as reads
-use Rattle.definitions.proofs.name_apart.Lts as lts
-use Rattle.definitions.proofs.slot_named.Reads as slot-named-reads
 
 abbrev Inv-loop : tie.InvT-loop
-Inv-loop table shelf name from k₀ k = (k ≤ 32) × (nameResident name (drop k (slotsOn table shelf)) ≡ nameResident name (drop from (slotsOn table shelf)))
+Inv-loop table arena name from k₀ k = (k ≤ 32) × (nameResident name (drop k (slotsOn table arena)) ≡ nameResident name (drop from (slotsOn table arena)))
 
 abbrev μ-loop : tie.MeasureT-loop
-μ-loop table shelf name from k₀ k = 32 - k
+μ-loop table arena name from k₀ k = 32 - k
 
 loop-holds : tie.Need-loop-holds Inv-loop μ-loop
 loop-holds c = (c .before .before .before .pre .1, refl)
@@ -34,11 +29,11 @@ returns : tie.Need-returns Inv-loop μ-loop
 returns c = let a = c .before .before .before .before .before .before .before .args in
     let k = c .before .before .before .loop .k in
     let table = a .table .now in
-    let shelf = a .shelf .now in
+    let arena = a .arena .now in
     let name = a .name .now in
-    let there : namedOn table shelf name k ≡ true = sym (c .before .slot-named .ensures) ∙ c .if1 .taken in
-    let rest = nameResident name (drop (k + 1) (slotsOn table shelf)) in
-    ap not (sym (resident-turn table shelf name k (omega arith) ∙ ap (λ (b : Bool). pick b true rest) there) ∙ c .before .before .before .loop .inv .1)
+    let there : namedOn table arena name k ≡ true = sym (c .before .slot-named .ensures) ∙ c .if1 .taken in
+    let rest = nameResident name (drop (k + 1) (slotsOn table arena)) in
+    ap not (sym (resident-turn table arena name k (omega arith) ∙ ap (λ (b : Bool). pick b true rest) there) ∙ c .before .before .before .loop .inv .1)
 
 add-k : tie.Need-add-k Inv-loop μ-loop
 add-k c = omega arith
@@ -50,15 +45,15 @@ loop-again : tie.Need-loop-again Inv-loop μ-loop
 loop-again c = let a = c .before .before .before .before .before .before .before .args in
     let k = c .before .before .before .loop .k in
     let table = a .table .now in
-    let shelf = a .shelf .now in
+    let arena = a .arena .now in
     let name = a .name .now in
-    let other : namedOn table shelf name k ≡ false = sym (c .before .slot-named .ensures) ∙ c .if1 .left in
-    let rest = nameResident name (drop (k + 1) (slotsOn table shelf)) in
-    (omega arith, sym (resident-turn table shelf name k (omega arith) ∙ ap (λ (b : Bool). pick b true rest) other) ∙ c .before .before .before .loop .inv .1)
+    let other : namedOn table arena name k ≡ false = sym (c .before .slot-named .ensures) ∙ c .if1 .left in
+    let rest = nameResident name (drop (k + 1) (slotsOn table arena)) in
+    (omega arith, sym (resident-turn table arena name k (omega arith) ∙ ap (λ (b : Bool). pick b true rest) other) ∙ c .before .before .before .loop .inv .1)
 
 returns-2 : tie.Need-returns-2 Inv-loop μ-loop
 returns-2 c = let a = c .before .before .before .before .before .args in
-    ap not (sym (resident-end (a .table .now) (a .shelf .now) (a .name .now) (c .before .loop .k) (omega arith)) ∙ c .before .loop .inv .1)
+    ap not (sym (resident-end (a .table .now) (a .arena .now) (a .name .now) (c .before .loop .k) (omega arith)) ∙ c .before .loop .inv .1)
 
 pub name-apart-spec : {M : Type 1} → statement M
 name-apart-spec =

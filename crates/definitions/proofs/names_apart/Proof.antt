@@ -1,31 +1,26 @@
 use borrow.Author.Tests.{not-true, not-false}
 use mathlib.Core.Logic.{⊎-elim}
 use Rattle.definitions.specs.Checking.{apart-turn, apart-end}
-use Rattle.definitions.specs.Names.{nameOn, NamedThere, named-there}
+use Rattle.definitions.specs.Names.{nameOn, named-there}
 use Rattle.definitions.specs.Slots.{slotsOn, residentOn}
 use Rattle.model.specs.Formed.{nameResident, namesApart}
 use Rattle.words.specs.Choice.{pick, both}
-use Prim.Native.Nat.{ℕ, zero, suc, _+_, _*_, _-_, _≤_, _<_}
+use Prim.Native.Nat.{ℕ, _+_, _-_, _≤_, _<_}
 use mathlib.Core.Bool.{Bool, true, false, not}
 use mathlib.Core.Path.{_≡_, refl, sym, ap, _∙_}
-use mathlib.Core.List.{List, [], _∷_, _++_, append-assoc}
+use mathlib.Core.List.{List}
 use native.Mathlib.Omega.{arith}
-use native.Mathlib.Numerals.{add-one}
-use borrow.Author.Needs.{needs}
-use borrow.Author.Tests.{lt-ltb, le-ltb, le-leb, lt-leb, eq-eqb, ne-eqb}
-use lib.ListN.{length, take, drop, getD, set, length-set, length-drop}
+
+use borrow.Author.Tests.{eq-eqb, ne-eqb}
+use lib.ListN.{drop, getD}
 use Rattle.definitions.proofs.names_apart.Statement.{statement}
 use Rattle.definitions.proofs.names_apart.Tie as tie
-use Rattle.definitions.proofs.names_apart.Reads as reads
-use Rattle.definitions.proofs.names_apart.Lts as lts
-use Rattle.definitions.proofs.name_apart.Reads as name-apart-reads
-use Rattle.definitions.proofs.name_at.Reads as name-at-reads
 
 abbrev Inv-loop : tie.InvT-loop
-Inv-loop table shelf k₀ k = (k ≤ 32) × (namesApart (drop k (slotsOn table shelf)) ≡ namesApart (slotsOn table shelf))
+Inv-loop table arena k₀ k = (k ≤ 32) × (namesApart (drop k (slotsOn table arena)) ≡ namesApart (slotsOn table arena))
 
 abbrev μ-loop : tie.MeasureT-loop
-μ-loop table shelf k₀ k = 32 - k
+μ-loop table arena k₀ k = 32 - k
 
 loop-holds : tie.Need-loop-holds Inv-loop μ-loop
 loop-holds c = (omega arith, refl)
@@ -48,7 +43,7 @@ name-at-requires c κs = let s = c .before .before .before .before .before .befo
     let k = c .before .before .before .loop .k in
     let less : k < 32 = omega arith in
     let in-slot : residentOn (a .table .now) k ≡ true = eq-eqb (getD (a .table .now) (32 + k) 0) 1 (c .if1 .taken) in
-    named-there (a .table .now) (a .shelf .now) k (s .pre .sized) less (s .pre .resident k less in-slot) .inside
+    named-there (a .table .now) (a .arena .now) k (s .pre .sized) less (s .pre .resident k less in-slot) .inside
 
 add-name-apart : tie.Need-add-name-apart Inv-loop μ-loop
 add-name-apart c = omega arith
@@ -61,13 +56,13 @@ returns c = let s = c .before .before .before .before .before .before .before .b
     let a = s .args in
     let k = c .before .before .before .before .before .before .loop .k in
     let table = a .table .now in
-    let shelf = a .shelf .now in
+    let arena = a .arena .now in
     let less : k < 32 = omega arith in
     let in-slot : residentOn table k ≡ true = eq-eqb (getD table (32 + k) 0) 1 (c .before .before .before .if1 .taken) in
-    let name = named-there table shelf k (s .pre .sized) less (s .pre .resident k less in-slot) .same in
-    let test : not (nameResident (nameOn table shelf k) (drop (k + 1) (slotsOn table shelf))) ≡ false =
-    ap (λ (n : List ℕ). not (nameResident n (drop (k + 1) (slotsOn table shelf)))) (name ∙ sym (c .before .before .name-at .ensures)) ∙ sym (c .before .name-apart .ensures) ∙ not-true (c .before .name-apart .result) (c .if2 .taken) in
-    sym (rw (in-slot, test) at (apart-turn table shelf k less)) ∙ c .before .before .before .before .before .before .loop .inv .1
+    let name = named-there table arena k (s .pre .sized) less (s .pre .resident k less in-slot) .same in
+    let test : not (nameResident (nameOn table arena k) (drop (k + 1) (slotsOn table arena))) ≡ false =
+    ap (λ (n : List ℕ). not (nameResident n (drop (k + 1) (slotsOn table arena)))) (name ∙ sym (c .before .before .name-at .ensures)) ∙ sym (c .before .name-apart .ensures) ∙ not-true (c .before .name-apart .result) (c .if2 .taken) in
+    sym (rw (in-slot, test) at (apart-turn table arena k less)) ∙ c .before .before .before .before .before .before .loop .inv .1
 
 add-k : tie.Need-add-k Inv-loop μ-loop
 add-k c = omega arith
@@ -80,22 +75,22 @@ loop-again c = let s = c .before .before .before .before .before .before in
     let a = s .args in
     let k = c .before .before .before .loop .k in
     let table = a .table .now in
-    let shelf = a .shelf .now in
+    let arena = a .arena .now in
     let less : k < 32 = omega arith in
-    let rest = namesApart (drop (k + 1) (slotsOn table shelf)) in
-    let test : pick (residentOn table k) (not (nameResident (nameOn table shelf k) (drop (k + 1) (slotsOn table shelf)))) true ≡ true =
+    let rest = namesApart (drop (k + 1) (slotsOn table arena)) in
+    let test : pick (residentOn table k) (not (nameResident (nameOn table arena k) (drop (k + 1) (slotsOn table arena)))) true ≡ true =
     ⊎-elim
     (λ w.
     let in-slot : residentOn table k ≡ true = eq-eqb (getD table (32 + k) 0) 1 (w .0 .taken) in
-    let name = named-there table shelf k (s .pre .sized) less (s .pre .resident k less in-slot) .same in
-    rw in-slot (ap (λ (n : List ℕ). not (nameResident n (drop (k + 1) (slotsOn table shelf)))) (name ∙ sym (w .1 .ensures)) ∙ sym (w .2 .ensures) ∙ not-false (w .2 .result) (w .3 .left)))
+    let name = named-there table arena k (s .pre .sized) less (s .pre .resident k less in-slot) .same in
+    rw in-slot (ap (λ (n : List ℕ). not (nameResident n (drop (k + 1) (slotsOn table arena)))) (name ∙ sym (w .1 .ensures)) ∙ sym (w .2 .ensures) ∙ not-false (w .2 .result) (w .3 .left)))
     (λ w. rw (ne-eqb (getD table (32 + k) 0) 1 (w .left)))
     (c .if1 .came) in
-    (omega arith, sym (apart-turn table shelf k less ∙ ap (λ (b : Bool). both b rest) test) ∙ c .before .before .before .loop .inv .1)
+    (omega arith, sym (apart-turn table arena k less ∙ ap (λ (b : Bool). both b rest) test) ∙ c .before .before .before .loop .inv .1)
 
 returns-2 : tie.Need-returns-2 Inv-loop μ-loop
 returns-2 c = let a = c .before .before .before .before .args in
-    sym (apart-end (a .table .now) (a .shelf .now) (c .before .loop .k) (omega arith)) ∙ c .before .loop .inv .1
+    sym (apart-end (a .table .now) (a .arena .now) (c .before .loop .k) (omega arith)) ∙ c .before .loop .inv .1
 
 pub names-apart-spec : {M : Type 1} → statement M
 names-apart-spec =

@@ -1,18 +1,12 @@
-use Prim.Native.Nat.{ℕ, zero, suc, _+_, _*_, _-_, _≤_, _<_}
-use mathlib.Core.Bool.{Bool, true, false, not}
-use mathlib.Core.Path.{_≡_, refl, sym, ap, _∙_}
-use mathlib.Core.List.{List, [], _∷_, _++_, append-assoc}
+
+
+
 use native.Mathlib.Omega.{arith}
-use native.Mathlib.Numerals.{add-one}
 use borrow.Author.Needs.{needs}
-use borrow.Author.Tests.{lt-ltb, le-ltb, le-leb, lt-leb, eq-eqb, ne-eqb}
-use lib.ListN.{length, take, drop, getD, set, length-set, length-drop}
+use lib.ListN.{length-set}
 use borrow.Author.Needs.{needs}
 use Rattle.definitions.proofs.place.Statement.{statement}
 use Rattle.definitions.proofs.place.Tie as tie
-use Rattle.definitions.proofs.place.Reads as reads
-use Rattle.definitions.proofs.place.Lts as lts
-use Rattle.definitions.proofs.copy_in.Reads as copy-in-reads
 
 mul-copy-in : tie.Need-mul-copy-in
 mul-copy-in c = search needs

@@ -1,35 +1,26 @@
 use Rattle.words.specs.Parts.{region-length}
 use Prim.{tt}
-use Rattle.definitions.specs.Naming.{Next, run-next}
-use Rattle.definitions.specs.Loading.{Loaded, Loading, loading-first, loading-next, loading-skip, loading-last}
+use Rattle.definitions.specs.Naming.{run-next}
+use Rattle.definitions.specs.Loading.{Loading, loading-first, loading-next, loading-skip, loading-last}
 use Rattle.definitions.specs.Files.{accepted-run}
-use Prim.Native.Nat.{ℕ, zero, suc, _+_, _*_, _-_, _≤_, _<_}
-use mathlib.Core.Bool.{Bool, true, false, not}
-use mathlib.Core.Path.{_≡_, refl, sym, ap, _∙_}
-use mathlib.Core.List.{List, [], _∷_, _++_, append-assoc}
+use Prim.Native.Nat.{ℕ, _-_}
+use mathlib.Core.Path.{_≡_, sym, ap, _∙_}
 use native.Mathlib.Omega.{arith}
-use native.Mathlib.Numerals.{add-one}
 use borrow.Author.Needs.{needs}
-use borrow.Author.Tests.{lt-ltb, le-ltb, le-leb, lt-leb, eq-eqb, ne-eqb}
-use lib.ListN.{length, take, drop, getD, set, length-set, length-drop}
+use lib.ListN.{length, take, drop}
 use Rattle.definitions.proofs.place_all.Statement.{statement}
 use Rattle.definitions.proofs.place_all.Tie as tie
-use Rattle.definitions.proofs.place_all.Reads as reads
-use Rattle.definitions.proofs.place_all.Lts as lts
-use Rattle.definitions.proofs.definition_end.Reads as definition-end-reads
-use Rattle.definitions.proofs.lowest_free.Reads as lowest-free-reads
-use Rattle.definitions.proofs.place.Reads as place-reads
 
 abbrev Inv-loop : tie.InvT-loop
-Inv-loop table₀ shelf₀ held file at₀ table shelf at = Loading table₀ shelf₀ file held at table shelf
+Inv-loop table₀ arena₀ held file at₀ table arena at = Loading table₀ arena₀ file held at table arena
 
 abbrev μ-loop : tie.MeasureT-loop
-μ-loop table₀ shelf₀ held file at₀ table shelf at = length file - at
+μ-loop table₀ arena₀ held file at₀ table arena at = length file - at
 
 loop-holds : tie.Need-loop-holds Inv-loop μ-loop
 loop-holds c = let s = c .before .before .before in
     let a = s .args in
-    loading-first (a .table .now) (a .shelf .now) (a .file .now) (a .held) (s .pre .0) (accepted-run (a .file .now) (λ i. c .shared-slice-known .given i .fits) (s .pre .1))
+    loading-first (a .table .now) (a .arena .now) (a .file .now) (a .held) (s .pre .0) (accepted-run (a .file .now) (λ i. c .shared-slice-known .given i .fits) (s .pre .1))
 
 definition-end-requires : tie.Need-definition-end-requires Inv-loop μ-loop
 definition-end-requires c κs = tt
@@ -83,7 +74,7 @@ loop-again c = let s = c .before .before .before .before .before .before .before
     let same : from ≡ take (n .next - l .at) (drop (l .at) (a .file .now)) = ap (λ (e : ℕ). take (e - l .at) (drop (l .at) (a .file .now))) end in
     let p = c .before .before .before .before .place .ensures in
     rw (end, p .0, p .1)
-    (loading-next (a .table .now) (a .shelf .now) (a .file .now) (a .held) (l .at) (l .table) (l .shelf) (s .pre .0 .sized .shelfSize) (l .inv) n (c .before .before .before .before .before .before .before .before .before .lowest-free .result) (c .before .before .before .before .before .before .before .before .before .lowest-free .ensures) (c .before .before .before .before .before .before .before .before .if1 .taken) from same)
+    (loading-next (a .table .now) (a .arena .now) (a .file .now) (a .held) (l .at) (l .table) (l .arena) (s .pre .0 .sized .arenaSize) (l .inv) n (c .before .before .before .before .before .before .before .before .before .lowest-free .result) (c .before .before .before .before .before .before .before .before .before .lowest-free .ensures) (c .before .before .before .before .before .before .before .before .if1 .taken) from same)
 
 loop-less-2 : tie.Need-loop-less-2 Inv-loop μ-loop
 loop-less-2 c = let n = run-next (c .before .before .before .before .before .loop .inv .run) (c .before .before .before .before .loop-test .taken) in
@@ -98,17 +89,17 @@ loop-again-2 c = let s = c .before .before .before .before .before .before .befo
     let n = run-next (l .inv .run) (c .before .before .before .before .loop-test .taken) in
     let end : c .before .before .before .definition-end .result ≡ n .next = c .before .before .before .definition-end .ensures (n .first) (n .next) (n .here .read) in
     rw end
-    (loading-skip (a .table .now) (a .shelf .now) (a .file .now) (a .held) (l .at) (l .table) (l .shelf) (s .pre .0 .sized .shelfSize) (l .inv) n (c .before .lowest-free .result) (c .before .lowest-free .ensures) (c .if1 .left))
+    (loading-skip (a .table .now) (a .arena .now) (a .file .now) (a .held) (l .at) (l .table) (l .arena) (s .pre .0 .sized .arenaSize) (l .inv) n (c .before .lowest-free .result) (c .before .lowest-free .ensures) (c .if1 .left))
 
 same-length : tie.Need-same-length Inv-loop μ-loop
 same-length c = search needs
 
 same-length-2 : tie.Need-same-length-2 Inv-loop μ-loop
-same-length-2 c = let z = c .before .loop .inv .sized .shelfSize in let y = c .before .before .before .before .before .pre .0 .sized .shelfSize in z ∙ sym y
+same-length-2 c = let z = c .before .loop .inv .sized .arenaSize in let y = c .before .before .before .before .before .pre .0 .sized .arenaSize in z ∙ sym y
 
 returns : tie.Need-returns Inv-loop μ-loop
 returns c = let a = c .before .before .before .before .before .args in
-    loading-last (a .table .now) (a .shelf .now) (a .file .now) (a .held) (c .before .loop .at) (c .before .loop .table) (c .before .loop .shelf) (c .before .loop .inv) (omega arith)
+    loading-last (a .table .now) (a .arena .now) (a .file .now) (a .held) (c .before .loop .at) (c .before .loop .table) (c .before .loop .arena) (c .before .loop .inv) (omega arith)
 
 pub place-all-spec : {M : Type 1} → statement M
 place-all-spec =

@@ -1,30 +1,25 @@
 use Rattle.definitions.specs.Exporting.{countFrom, count-turn, count-end}
-use Rattle.definitions.specs.Slots.{residentOn}
-use Rattle.words.specs.Choice.{pick}
+
 use native.Mathlib.Nat.{zero-add}
 use mathlib.Core.Logic.{⊎-elim}
-use Prim.Native.Nat.{ℕ, zero, suc, _+_, _*_, _-_, _≤_, _<_}
-use mathlib.Core.Bool.{Bool, true, false, not}
-use mathlib.Core.Path.{_≡_, refl, sym, ap, _∙_}
-use mathlib.Core.List.{List, [], _∷_, _++_, append-assoc}
+use Prim.Native.Nat.{ℕ, _+_, _-_, _≤_}
+use mathlib.Core.Path.{_≡_}
+use mathlib.Core.List.{List}
 use native.Mathlib.Omega.{arith}
-use native.Mathlib.Numerals.{add-one}
-use borrow.Author.Needs.{needs}
-use borrow.Author.Tests.{lt-ltb, le-ltb, le-leb, lt-leb, eq-eqb, ne-eqb}
-use lib.ListN.{length, take, drop, getD, set, length-set, length-drop}
+
+use borrow.Author.Tests.{eq-eqb, ne-eqb}
+use lib.ListN.{getD}
 use Rattle.definitions.proofs.resident_count.Statement.{statement}
 use Rattle.definitions.proofs.resident_count.Tie as tie
-use Rattle.definitions.proofs.resident_count.Reads as reads
-use Rattle.definitions.proofs.resident_count.Lts as lts
 
 abbrev Inv-loop : tie.InvT-loop
-Inv-loop table n₀ k₀ n k = (k ≤ 32) × ((n ≤ k) × ((shelf : List ℕ) → n + countFrom table shelf k ≡ countFrom table shelf 0))
+Inv-loop table n₀ k₀ n k = (k ≤ 32) × ((n ≤ k) × ((arena : List ℕ) → n + countFrom table arena k ≡ countFrom table arena 0))
 
 abbrev μ-loop : tie.MeasureT-loop
 μ-loop table n₀ k₀ n k = 32 - k
 
 loop-holds : tie.Need-loop-holds Inv-loop μ-loop
-loop-holds c = (omega arith, (omega arith, λ shelf. zero-add (countFrom (c .args .table .now) shelf 0)))
+loop-holds c = (omega arith, (omega arith, λ arena. zero-add (countFrom (c .args .table .now) arena 0)))
 
 add-if1 : tie.Need-add-if1 Inv-loop μ-loop
 add-if1 c = omega arith
@@ -54,9 +49,9 @@ loop-again c = let table = c .before .before .before .before .args .table .now i
       omega arith,
       (
         omega arith,
-        λ shelf.
-            let turn = rw (eq-eqb (getD table (32 + k) 0) 1 (w .0 .taken)) at (count-turn table shelf k (omega arith)) in
-            let all = inv .1 .1 shelf in
+        λ arena.
+            let turn = rw (eq-eqb (getD table (32 + k) 0) 1 (w .0 .taken)) at (count-turn table arena k (omega arith)) in
+            let all = inv .1 .1 arena in
             let n = w .1 in
             omega arith,
       ),
@@ -65,9 +60,9 @@ loop-again c = let table = c .before .before .before .before .args .table .now i
       omega arith,
       (
         omega arith,
-        λ shelf.
-            let turn = rw (ne-eqb (getD table (32 + k) 0) 1 (w .0 .left)) at (count-turn table shelf k (omega arith)) in
-            let all = inv .1 .1 shelf in
+        λ arena.
+            let turn = rw (ne-eqb (getD table (32 + k) 0) 1 (w .0 .left)) at (count-turn table arena k (omega arith)) in
+            let all = inv .1 .1 arena in
             let n = w .1 in
             omega arith,
       ),
@@ -75,9 +70,9 @@ loop-again c = let table = c .before .before .before .before .args .table .now i
     (c .if1 .came)
 
 returns : tie.Need-returns Inv-loop μ-loop
-returns c = λ shelf.
-    let all = c .before .loop .inv .1 .1 shelf in
-    let none = count-end (c .before .before .args .table .now) shelf (c .before .loop .k) (omega arith) in
+returns c = λ arena.
+    let all = c .before .loop .inv .1 .1 arena in
+    let none = count-end (c .before .before .args .table .now) arena (c .before .loop .k) (omega arith) in
     omega arith
 
 pub resident-count-spec : {M : Type 1} → statement M

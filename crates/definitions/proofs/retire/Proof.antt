@@ -1,20 +1,13 @@
 use Rattle.definitions.specs.Retiring.{retire-table}
 use Prim.{tt}
-use Prim.Native.Nat.{ℕ, zero, suc, _+_, _*_, _-_, _≤_, _<_}
-use mathlib.Core.Bool.{Bool, true, false, not}
-use mathlib.Core.Path.{_≡_, refl, sym, ap, _∙_}
-use mathlib.Core.List.{List, [], _∷_, _++_, append-assoc}
+use Prim.Native.Nat.{ℕ, _+_}
+use mathlib.Core.Path.{_≡_, ap, _∙_}
 use native.Mathlib.Omega.{arith}
-use native.Mathlib.Numerals.{add-one}
 use borrow.Author.Needs.{needs}
-use borrow.Author.Tests.{lt-ltb, le-ltb, le-leb, lt-leb, eq-eqb, ne-eqb}
-use lib.ListN.{length, take, drop, getD, set, length-set, length-drop}
+use lib.ListN.{set}
 use borrow.Author.Needs.{needs}
 use Rattle.definitions.proofs.retire.Statement.{statement}
 use Rattle.definitions.proofs.retire.Tie as tie
-use Rattle.definitions.proofs.retire.Reads as reads
-use Rattle.definitions.proofs.retire.Lts as lts
-use Rattle.words.proofs.wide.Reads as wide-reads
 
 wide-requires : tie.Need-wide-requires
 wide-requires c κs = tt
@@ -32,10 +25,10 @@ same-length : tie.Need-same-length
 same-length c = search needs
 
 returns : tie.Need-returns
-returns c = λ shelf f.
+returns c = λ arena f.
     let a = c .before .before .args in
     let here : c .wide .result ≡ a .k = c .wide .ensures in
-    ap (λ (j : ℕ). set (a .table .now) (32 + j) 0) here ∙ retire-table (a .table .now) shelf (a .k) f (c .before .before .pre .1)
+    ap (λ (j : ℕ). set (a .table .now) (32 + j) 0) here ∙ retire-table (a .table .now) arena (a .k) f (c .before .before .pre .1)
 
 pub retire-spec : {M : Type 1} → statement M
 retire-spec =

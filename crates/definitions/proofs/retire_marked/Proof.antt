@@ -1,18 +1,12 @@
 use mathlib.Core.Logic.{⊎-elim}
 use Rattle.definitions.specs.Retiring.{Retiring, retiring-set, retiring-skip, retiring-done}
-use Prim.Native.Nat.{ℕ, zero, suc, _+_, _*_, _-_, _≤_, _<_}
-use mathlib.Core.Bool.{Bool, true, false, not}
-use mathlib.Core.Path.{_≡_, refl, sym, ap, _∙_}
-use mathlib.Core.List.{List, [], _∷_, _++_, append-assoc}
+use Prim.Native.Nat.{_-_, _<_}
+use mathlib.Core.Path.{refl}
 use native.Mathlib.Omega.{arith}
-use native.Mathlib.Numerals.{add-one}
 use borrow.Author.Needs.{needs}
-use borrow.Author.Tests.{lt-ltb, le-ltb, le-leb, lt-leb, eq-eqb, ne-eqb}
-use lib.ListN.{length, take, drop, getD, set, length-set, length-drop}
+
 use Rattle.definitions.proofs.retire_marked.Statement.{statement}
 use Rattle.definitions.proofs.retire_marked.Tie as tie
-use Rattle.definitions.proofs.retire_marked.Reads as reads
-use Rattle.definitions.proofs.retire_marked.Lts as lts
 
 abbrev Inv-loop : tie.InvT-loop
 Inv-loop table₀ marks k₀ table k = Retiring table₀ marks k table
@@ -56,9 +50,9 @@ same-length : tie.Need-same-length Inv-loop μ-loop
 same-length c = search needs
 
 returns : tie.Need-returns Inv-loop μ-loop
-returns c = λ shelf names f n.
+returns c = λ arena names f n.
     let a = c .before .before .args in
-    retiring-done (a .table .now) shelf names f (a .t2) (c .before .loop .k) (c .before .loop .table) n (c .before .loop .inv) (omega arith)
+    retiring-done (a .table .now) arena names f (a .t2) (c .before .loop .k) (c .before .loop .table) n (c .before .loop .inv) (omega arith)
 
 pub retire-marked-spec : {M : Type 1} → statement M
 retire-marked-spec =

@@ -1,4 +1,3 @@
-use Rattle.definitions.specs.Checking.{formedOn}
 use Rattle.definitions.specs.Slots.{residentOn, bytesOn}
 use Rattle.model.specs.Formed.{isWhole}
 use Rattle.model.specs.Engine as engine
@@ -7,24 +6,17 @@ use Rattle.synthdef.specs.Reader.{readDefinition, sizeLimit}
 use Rattle.words.specs.Choice.{pick, both, either}
 use borrow.Author.Tests.{not-true, not-false}
 use mathlib.Core.Logic.{⊎-elim}
-use lib.Dec.{leb, eqb}
+use lib.Dec.{leb}
 use Prim.{tt}
-use Prim.Native.Nat.{ℕ, zero, suc, _+_, _*_, _-_, _≤_, _<_}
-use mathlib.Core.Bool.{Bool, true, false, not}
+use Prim.Native.Nat.{ℕ, _+_, _*_}
+use mathlib.Core.Bool.{Bool, true, false}
 use mathlib.Core.Path.{_≡_, refl, sym, ap, _∙_}
-use mathlib.Core.List.{List, [], _∷_, _++_, append-assoc}
 use native.Mathlib.Omega.{arith}
-use native.Mathlib.Numerals.{add-one}
-use borrow.Author.Needs.{needs}
-use borrow.Author.Tests.{lt-ltb, le-ltb, le-leb, lt-leb, eq-eqb, ne-eqb}
-use lib.ListN.{length, take, drop, getD, set, length-set, length-drop}
-use borrow.Author.Needs.{needs}
+
+use borrow.Author.Tests.{eq-eqb, ne-eqb}
+use lib.ListN.{take, drop, getD}
 use Rattle.definitions.proofs.slot_formed.Statement.{statement}
 use Rattle.definitions.proofs.slot_formed.Tie as tie
-use Rattle.definitions.proofs.slot_formed.Reads as reads
-use Rattle.definitions.proofs.slot_formed.Lts as lts
-use Rattle.definitions.proofs.bytes_formed.Reads as bytes-formed-reads
-use Rattle.words.proofs.wide.Reads as wide-reads
 
 add-if1 : tie.Need-add-if1
 add-if1 c = omega arith
@@ -52,7 +44,7 @@ wide-requires : tie.Need-wide-requires
 wide-requires c κs = tt
 
 bytes-formed-requires : tie.Need-bytes-formed-requires
-bytes-formed-requires c κs = (c .before .before .before .before .before .before .pre .0 .shelfSize, c .before .before .before .before .before .before .pre .1)
+bytes-formed-requires c κs = (c .before .before .before .before .before .before .pre .0 .arenaSize, c .before .before .before .before .before .before .pre .1)
 
 returns-2 : tie.Need-returns-2
 returns-2 c = λ t e.
@@ -64,8 +56,8 @@ returns-2 c = λ t e.
     (c .before .before .before .if1 .came) in
     let size : c .before .wide .result ≡ getD (a .table .now) (a .k) 0 = c .before .wide .ensures in
     c .bytes-formed .ensures
-    ∙ ap (λ (n : ℕ). both (leb n sizeLimit) (isWhole n (readDefinition (take n (take slotRoom (drop (slotRoom * a .k) (a .shelf .now)))) 0))) size
-    ∙ sym (ap (λ (b : Bool). pick b (both (leb (getD (a .table .now) (a .k) 0) sizeLimit) (isWhole (getD (a .table .now) (a .k) 0) (readDefinition (bytesOn (a .table .now) (a .shelf .now) (a .k)) 0))) true) taken)
+    ∙ ap (λ (n : ℕ). both (leb n sizeLimit) (isWhole n (readDefinition (take n (take slotRoom (drop (slotRoom * a .k) (a .arena .now)))) 0))) size
+    ∙ sym (ap (λ (b : Bool). pick b (both (leb (getD (a .table .now) (a .k) 0) sizeLimit) (isWhole (getD (a .table .now) (a .k) 0) (readDefinition (bytesOn (a .table .now) (a .arena .now) (a .k)) 0))) true) taken)
   where
     orTrue : (b : Bool) → either b true ≡ true
     orTrue true = refl

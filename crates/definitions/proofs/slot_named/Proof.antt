@@ -1,23 +1,18 @@
-use Rattle.definitions.specs.Names.{nameOn, NamedThere, named-there}
+use Rattle.definitions.specs.Names.{nameOn, named-there}
 use Rattle.definitions.specs.Slots.{residentOn}
 use Rattle.synthdef.specs.Reader.{sameName}
 use Rattle.words.specs.Choice.{both}
-use Prim.Native.Nat.{ℕ, zero, suc, _+_, _*_, _-_, _≤_, _<_}
-use mathlib.Core.Bool.{Bool, true, false, not}
-use mathlib.Core.Path.{_≡_, refl, sym, ap, _∙_}
-use mathlib.Core.List.{List, [], _∷_, _++_, append-assoc}
-use native.Mathlib.Omega.{arith}
-use native.Mathlib.Numerals.{add-one}
+use Prim.Native.Nat.{ℕ, _+_}
+use mathlib.Core.Bool.{Bool, true, false}
+use mathlib.Core.Path.{_≡_, sym, ap, _∙_}
+use mathlib.Core.List.{List}
+
 use borrow.Author.Needs.{needs}
-use borrow.Author.Tests.{lt-ltb, le-ltb, le-leb, lt-leb, eq-eqb, ne-eqb}
-use lib.ListN.{length, take, drop, getD, set, length-set, length-drop}
+use borrow.Author.Tests.{eq-eqb, ne-eqb}
+use lib.ListN.{getD}
 use borrow.Author.Needs.{needs}
 use Rattle.definitions.proofs.slot_named.Statement.{statement}
 use Rattle.definitions.proofs.slot_named.Tie as tie
-use Rattle.definitions.proofs.slot_named.Reads as reads
-use Rattle.definitions.proofs.slot_named.Lts as lts
-use Rattle.definitions.proofs.name_at.Reads as name-at-reads
-use Rattle.synthdef.proofs.same_name.Reads as same-name-reads
 
 add-if1 : tie.Need-add-if1
 add-if1 c = search needs
@@ -41,7 +36,7 @@ name-at-requires c κs = let s = c .before .before .before .before .before in
     let a = s .args in
     let p = s .pre in
     let in-slot : residentOn (a .table .now) (a .k) ≡ true = eq-eqb (getD (a .table .now) (32 + a .k) 0) 1 (c .if1 .left) in
-    named-there (a .table .now) (a .shelf .now) (a .k) (p .0 .sized) (p .1) (p .0 .resident (a .k) (p .1) in-slot) .inside
+    named-there (a .table .now) (a .arena .now) (a .k) (p .0 .sized) (p .1) (p .0 .resident (a .k) (p .1) in-slot) .inside
 
 same-name-requires : tie.Need-same-name-requires
 same-name-requires c κs = search needs
@@ -51,10 +46,10 @@ returns-2 c = let s = c .before .before .before .before .before .before .before 
     let a = s .args in
     let p = s .pre in
     let in-slot : residentOn (a .table .now) (a .k) ≡ true = eq-eqb (getD (a .table .now) (32 + a .k) 0) 1 (c .before .before .if1 .left) in
-    let name = named-there (a .table .now) (a .shelf .now) (a .k) (p .0 .sized) (p .1) (p .0 .resident (a .k) (p .1) in-slot) .same in
+    let name = named-there (a .table .now) (a .arena .now) (a .k) (p .0 .sized) (p .1) (p .0 .resident (a .k) (p .1) in-slot) .same in
     c .same-name .ensures
     ∙ ap (λ (n : List ℕ). sameName n (a .name .now)) (c .before .name-at .ensures ∙ sym name)
-    ∙ sym (ap (λ (b : Bool). both b (sameName (nameOn (a .table .now) (a .shelf .now) (a .k)) (a .name .now))) in-slot)
+    ∙ sym (ap (λ (b : Bool). both b (sameName (nameOn (a .table .now) (a .arena .now) (a .k)) (a .name .now))) in-slot)
 
 pub slot-named-spec : {M : Type 1} → statement M
 slot-named-spec =

@@ -1,26 +1,18 @@
 use Rattle.definitions.specs.Checking.{check-formed}
 use Rattle.definitions.specs.Slots.{lengthsOn, flagsOn, slotsOn}
 use Rattle.definitions.specs.Holders.{holders}
-use Rattle.model.specs.Formed.{flagsFormed, slotsFormed, namesApart}
-use Rattle.words.specs.Choice.{both}
+use Rattle.model.specs.Formed.{flagsFormed, slotsFormed}
 use borrow.Author.Tests.{not-true, not-false}
-use Prim.Native.Nat.{ℕ, zero, suc, _+_, _*_, _-_, _≤_, _<_}
-use mathlib.Core.Bool.{Bool, true, false, not}
-use mathlib.Core.Path.{_≡_, refl, sym, ap, _∙_}
-use mathlib.Core.List.{List, [], _∷_, _++_, append-assoc}
-use native.Mathlib.Omega.{arith}
-use native.Mathlib.Numerals.{add-one}
-use borrow.Author.Needs.{needs}
-use borrow.Author.Tests.{lt-ltb, le-ltb, le-leb, lt-leb, eq-eqb, ne-eqb}
-use lib.ListN.{length, take, drop, getD, set, length-set, length-drop}
-use borrow.Author.Needs.{needs}
+use mathlib.Core.Bool.{true, false}
+use mathlib.Core.Path.{_≡_, sym, _∙_}
+
+
+
+
+
+
 use Rattle.definitions.proofs.slots_formed.Statement.{statement}
 use Rattle.definitions.proofs.slots_formed.Tie as tie
-use Rattle.definitions.proofs.slots_formed.Reads as reads
-use Rattle.definitions.proofs.slots_formed.Lts as lts
-use Rattle.definitions.proofs.each_formed.Reads as each-formed-reads
-use Rattle.definitions.proofs.flags_formed.Reads as flags-formed-reads
-use Rattle.definitions.proofs.names_apart.Reads as names-apart-reads
 
 flags-formed-requires : tie.Need-flags-formed-requires
 flags-formed-requires c κs = c .before .before .pre .tableSize
@@ -36,19 +28,19 @@ each-formed-requires c κs = c .before .before .before .before .pre
 returns-2 : tie.Need-returns-2
 returns-2 c = let a = c .before .before .before .before .before .before .args in
     let flags : flagsFormed (flagsOn (a .table .now)) ≡ true = sym (c .before .before .before .flags-formed .ensures) ∙ not-false (c .before .before .before .flags-formed .result) (c .before .before .if1 .left) in
-    let slots : slotsFormed 0 (lengthsOn (a .table .now)) (slotsOn (a .table .now) (a .shelf .now)) (holders (a .held)) ≡ false = sym (c .before .each-formed .ensures) ∙ not-true (c .before .each-formed .result) (c .if2 .taken) in
+    let slots : slotsFormed 0 (lengthsOn (a .table .now)) (slotsOn (a .table .now) (a .arena .now)) (holders (a .held)) ≡ false = sym (c .before .each-formed .ensures) ∙ not-true (c .before .each-formed .result) (c .if2 .taken) in
     rw (flags, slots)
 
 names-apart-requires : tie.Need-names-apart-requires
 names-apart-requires c κs = let a = c .before .before .before .before .before .before .args in
     let flags : flagsFormed (flagsOn (a .table .now)) ≡ true = sym (c .before .before .before .flags-formed .ensures) ∙ not-false (c .before .before .before .flags-formed .result) (c .before .before .if1 .left) in
-    let slots : slotsFormed 0 (lengthsOn (a .table .now)) (slotsOn (a .table .now) (a .shelf .now)) (holders (a .held)) ≡ true = sym (c .before .each-formed .ensures) ∙ not-false (c .before .each-formed .result) (c .if2 .left) in
-    check-formed (a .table .now) (a .shelf .now) (holders (a .held)) (c .before .before .before .before .before .before .pre) flags slots
+    let slots : slotsFormed 0 (lengthsOn (a .table .now)) (slotsOn (a .table .now) (a .arena .now)) (holders (a .held)) ≡ true = sym (c .before .each-formed .ensures) ∙ not-false (c .before .each-formed .result) (c .if2 .left) in
+    check-formed (a .table .now) (a .arena .now) (holders (a .held)) (c .before .before .before .before .before .before .pre) flags slots
 
 returns-3 : tie.Need-returns-3
 returns-3 c = let a = c .before .before .before .before .before .before .before .args in
     let flags : flagsFormed (flagsOn (a .table .now)) ≡ true = sym (c .before .before .before .before .flags-formed .ensures) ∙ not-false (c .before .before .before .before .flags-formed .result) (c .before .before .before .if1 .left) in
-    let slots : slotsFormed 0 (lengthsOn (a .table .now)) (slotsOn (a .table .now) (a .shelf .now)) (holders (a .held)) ≡ true = sym (c .before .before .each-formed .ensures) ∙ not-false (c .before .before .each-formed .result) (c .before .if2 .left) in
+    let slots : slotsFormed 0 (lengthsOn (a .table .now)) (slotsOn (a .table .now) (a .arena .now)) (holders (a .held)) ≡ true = sym (c .before .before .each-formed .ensures) ∙ not-false (c .before .before .each-formed .result) (c .before .if2 .left) in
     rw (flags, slots) (c .names-apart .ensures)
 
 pub slots-formed-spec : {M : Type 1} → statement M

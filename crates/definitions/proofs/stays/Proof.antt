@@ -1,18 +1,14 @@
-use Rattle.words.specs.Choice.{both, either}
-use Prim.Native.Nat.{ℕ, zero, suc, _+_, _*_, _-_, _≤_, _<_}
-use mathlib.Core.Bool.{Bool, true, false, not}
-use mathlib.Core.Path.{_≡_, refl, sym, ap, _∙_}
-use mathlib.Core.List.{List, [], _∷_, _++_, append-assoc}
-use native.Mathlib.Omega.{arith}
-use native.Mathlib.Numerals.{add-one}
-use borrow.Author.Needs.{needs}
-use borrow.Author.Tests.{lt-ltb, le-ltb, le-leb, lt-leb, eq-eqb, ne-eqb}
-use lib.ListN.{length, take, drop, getD, set, length-set, length-drop}
-use borrow.Author.Needs.{needs}
+
+
+
+
+
+
+
+use borrow.Author.Tests.{eq-eqb, ne-eqb}
+
 use Rattle.definitions.proofs.stays.Statement.{statement}
 use Rattle.definitions.proofs.stays.Tie as tie
-use Rattle.definitions.proofs.stays.Reads as reads
-use Rattle.definitions.proofs.stays.Lts as lts
 
 returns : tie.Need-returns
 returns c = rw (c .if1 .taken)

@@ -1,10 +1,11 @@
 -- `ops::call_number` meets its contract.
 use Prim.Native.Nat.{ℕ, _+_, _*_, _%_}
-use mathlib.Core.Path.{_≡_, sym, ap, _∙_}
+use mathlib.Core.Path.{sym, ap, _∙_}
 use native.Mathlib.Omega.{arith}
 use native.Mathlib.Nat.{zero-add}
 use borrow.Author.Needs.{needs}
-use Rattle.ops.specs.Numbers.{room, callNumber, number-small}
+use Rattle.faults.specs.Faults.{fault-high}
+use Rattle.ops.specs.Numbers.{room, callNumber}
 use Rattle.ops.proofs.call_number.Statement.{statement}
 use Rattle.ops.proofs.call_number.Tie as tie
 
@@ -29,11 +30,11 @@ cast-result c = search needs
 enum-known-answer-3 : tie.Need-enum-known-answer-3
 enum-known-answer-3 c = search needs
 
-refusal-number-requires-2 : tie.Need-refusal-number-requires-2
-refusal-number-requires-2 c κs = search needs
+fault-number-requires : tie.Need-fault-number-requires
+fault-number-requires c κs = search needs
 
 placed-requires-2 : tie.Need-placed-requires-2
-placed-requires-2 c κs = omega (arith, number-small (c .before .before .answer3 .given .0 .0), c .refusal-number2 .ensures)
+placed-requires-2 c κs = omega (arith, fault-high (c .before .before .answer3 .given .0 .0), c .fault-number .ensures)
 
 returns : tie.Need-returns
 returns c = search needs
@@ -46,8 +47,8 @@ returns-3 c = c .refusal-number .ensures ∙ ap callNumber (sym (c .before .befo
 
 returns-4 : tie.Need-returns-4
 returns-4 c =
-    let told = c .before .before .before .answer3 .given in
-    c .placed2 .ensures ∙ ap (λ (n : ℕ). n + 256 * (told .0 .1 .0 % room)) (c .before .refusal-number2 .ensures) ∙ ap callNumber (sym (told .1))
+    let fact = c .before .before .before .answer3 .given in
+    c .placed2 .ensures ∙ ap (λ (n : ℕ). n + 256 * (fact .0 .1 .0 % room)) (c .before .fault-number .ensures) ∙ ap callNumber (sym (fact .1))
 
 pub call-number-spec : {M : Type 1} → statement M
 call-number-spec =
@@ -60,7 +61,7 @@ call-number-spec =
     refusal-number-requires
     cast-result
     enum-known-answer-3
-    refusal-number-requires-2
+    fault-number-requires
     placed-requires-2
     returns
     returns-2

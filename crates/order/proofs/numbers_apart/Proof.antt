@@ -1,6 +1,6 @@
 -- `order::numbers_apart` meets its contract. The invariant: the numbers of the records gone over differ, and are those met.
 use Prim.Native.Nat.{ℕ, _+_, _*_, _-_, _%_, _≤_}
-use mathlib.Core.Bool.{Bool, true, false}
+use mathlib.Core.Bool.{true, false}
 use mathlib.Core.Path.{_≡_, sym, ap, _∙_, subst}
 use native.Mathlib.Omega.{arith}
 use lib.ListN.{drop, getD, set, length-replicate}

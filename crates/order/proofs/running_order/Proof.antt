@@ -127,21 +127,21 @@ loop-again c =
     (λ w. (omega arith, omega arith, so-same t (drop (i + 1) t) (c .if4 .limit) (c .if4 .length) (c .if4 .numbers) (so-off n us i limit many numbers h (inv .3) (w .0 .taken) (w .1 .left)) (w .2) (w .3) (w .4)))
     (λ w. (omega arith, omega arith, so-same t (drop (i + 1) t) (c .if4 .limit) (c .if4 .length) (c .if4 .numbers) (so-under n us i limit many numbers h (inv .3) (w .0 .left)) (w .1) (w .2) (w .3)))))
     (c .if4 .came) in
-    let told = b .loop .distinct in
+    let fact = b .loop .distinct in
     let seen = b .loop .seen in
     let row = getD us (5 * i + 4) 0 in
     let marks : both (c .before .if1 .distinct) (pass (c .before .if1 .seen) (drop (i + 1) t)) ≡ rowsHold t =
     ⊎-elim
     (λ w.
     let same : w .2 .result ≡ row = w .2 .ensures in
-    let mark : w .4 .distinct ≡ both told (pick (getD seen (w .2 .result) false) false true) =
-    ⊎-elim (λ v. v .1 ∙ sym (ap (λ (m : Bool). both told (pick m false true)) (v .0 .taken) ∙ marked told)) (λ v. v .1 ∙ sym (ap (λ (m : Bool). both told (pick m false true)) (v .0 .left) ∙ unmarked told)) (w .4 .came) in
+    let mark : w .4 .distinct ≡ both fact (pick (getD seen (w .2 .result) false) false true) =
+    ⊎-elim (λ v. v .1 ∙ sym (ap (λ (m : Bool). both fact (pick m false true)) (v .0 .taken) ∙ marked fact)) (λ v. v .1 ∙ sym (ap (λ (m : Bool). both fact (pick m false true)) (v .0 .left) ∙ unmarked fact)) (w .4 .came) in
     ap₂ (λ (d : Bool) (l : List Bool). both d (pass l (drop (i + 1) t))) (w .6 ∙ mark) (w .5)
-    ∙ ap (λ (k : ℕ). both (both told (pick (getD seen k false) false true)) (pass (set seen k true) (drop (i + 1) t))) same
-    ∙ pass-mark n us i seen told (rowsHold t) h (inv .4) (w .0 .taken) (omega arith))
+    ∙ ap (λ (k : ℕ). both (both fact (pick (getD seen k false) false true)) (pass (set seen k true) (drop (i + 1) t))) same
+    ∙ pass-mark n us i seen fact (rowsHold t) h (inv .4) (w .0 .taken) (omega arith))
     (⊎-elim
-    (λ w. ap₂ (λ (d : Bool) (l : List Bool). both d (pass l (drop (i + 1) t))) (w .5) (w .4) ∙ pass-past n us i seen told (rowsHold t) h (inv .4) (w .0 .taken) (omega arith))
-    (λ w. ap₂ (λ (d : Bool) (l : List Bool). both d (pass l (drop (i + 1) t))) (w .2) (w .1) ∙ pass-group n us i seen told (rowsHold t) h (inv .4) (omega arith)))
+    (λ w. ap₂ (λ (d : Bool) (l : List Bool). both d (pass l (drop (i + 1) t))) (w .5) (w .4) ∙ pass-past n us i seen fact (rowsHold t) h (inv .4) (w .0 .taken) (omega arith))
+    (λ w. ap₂ (λ (d : Bool) (l : List Bool). both d (pass l (drop (i + 1) t))) (w .2) (w .1) ∙ pass-group n us i seen fact (rowsHold t) h (inv .4) (omega arith)))
     (c .before .if1 .came) in (omega arith, under .0, under .1, under .2, marks)
 
 returns : tie.Need-returns Inv-loop μ-loop

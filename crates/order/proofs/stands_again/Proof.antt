@@ -4,9 +4,6 @@ use mathlib.Core.Path.{_≡_, refl, sym}
 use borrow.Author.Needs.{needs}
 use Rattle.order.proofs.stands_again.Statement.{statement}
 use Rattle.order.proofs.stands_again.Tie as tie
-use Rattle.order.proofs.stands_again.Reads as reads
-use Rattle.order.proofs.stands_again.Lts as lts
-use Rattle.order.proofs.number_lives.Reads as number-lives-reads
 
 unmarked : (b : Bool) → not b ≡ true → b ≡ false
 unmarked true h = sym h

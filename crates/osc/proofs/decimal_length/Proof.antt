@@ -1,6 +1,5 @@
 use mathlib.Core.Path.{sym}
 use native.Mathlib.Omega.{arith}
-use borrow.Author.Needs.{needs}
 use Rattle.osc.specs.Over.{digits-1, digits-2, digits-3, digits-4}
 use Rattle.osc.proofs.decimal_length.Statement.{statement}
 use Rattle.osc.proofs.decimal_length.Tie as tie

@@ -1,14 +1,12 @@
-use Prim.Native.Nat.{ℕ, zero, suc, _+_, _*_, _-_, _≤_, _<_}
-use mathlib.Core.Bool.{Bool, true, false, not}
+use Prim.Native.Nat.{ℕ, zero, _+_, _-_, _≤_}
 use mathlib.Core.Path.{_≡_, refl, sym, ap, _∙_}
-use mathlib.Core.List.{List, [], _∷_, _++_, append-assoc}
+use mathlib.Core.List.{List, _++_}
 use native.Mathlib.Omega.{arith}
 use native.Mathlib.Numerals.{add-one}
 use borrow.Author.Needs.{needs}
 use lib.ListN.{replicate, length-replicate, getD-replicate}
 use lib.Seq.{paste, paste-zero, paste-suc, take-length}
-use borrow.Author.Tests.{lt-ltb, le-ltb, le-leb, lt-leb, eq-eqb, ne-eqb}
-use lib.ListN.{length, take, drop, getD, set, length-set, length-drop}
+use lib.ListN.{length, take, drop, getD, set, length-set}
 use Rattle.osc.proofs.put_zeros.Statement.{statement}
 use Rattle.osc.proofs.put_zeros.Tie as tie
 

@@ -8,12 +8,12 @@ use Rattle.start.proofs.fresh.Tie as tie
 returns : tie.Need-returns
 returns c =
     let a = c .before .before .before .args in
-    refused-size (a .words .now) (a .shelf .now) (c .if1 .taken)
+    refused-size (a .words .now) (a .arena .now) (c .if1 .taken)
 
 returns-2 : tie.Need-returns-2
 returns-2 c =
     let a = c .before .before .before .before .args in
-    refused-room (a .words .now) (a .shelf .now) (omega arith) (c .if2 .taken)
+    refused-room (a .words .now) (a .arena .now) (omega arith) (c .if2 .taken)
 
 fresh-words-requires : tie.Need-fresh-words-requires
 fresh-words-requires c κs = search needs
@@ -30,7 +30,7 @@ same-length-2 c = search needs
 returns-3 : tie.Need-returns-3
 returns-3 c =
     let a = c .before .before .before .before .before .before .before .before .before .before .before .before .args in
-    made (a .words .now) (a .shelf .now) (c .before .before .before .before .before .before .fresh-words .last .0) (c .before .before .zero-bytes .last .0) (omega arith) (omega arith) (c .before .before .before .before .before .before .fresh-words .ensures) (c .before .before .zero-bytes .ensures)
+    made (a .words .now) (a .arena .now) (c .before .before .before .before .before .before .fresh-words .last .0) (c .before .before .zero-bytes .last .0) (omega arith) (omega arith) (c .before .before .before .before .before .before .fresh-words .ensures) (c .before .before .zero-bytes .ensures)
 
 pub fresh-spec : {M : Type 1} → statement M
 fresh-spec =

@@ -1,6 +1,6 @@
 -- `statecheck::slots_hold` meets its contract.
 use Prim.Native.Nat.{ℕ}
-use mathlib.Core.Path.{_≡_, subst, _∙_}
+use mathlib.Core.Path.{subst, _∙_}
 use lib.ListN.{getD}
 use borrow.Author.Needs.{needs}
 use Rattle.definitions.specs.Holders.{HeldBy}
@@ -44,7 +44,7 @@ returns c =
     let a = c .before .before .before .before .before .before .before .before .args in
     let tests = c .before .before .held-slots .result in
     let counted : HeldBy tests (nodesOf (getD (a .words .now) 0 0) (a .words .now)) = subst (λ (n : ℕ). HeldBy tests (nodesOf n (a .words .now))) (c .before .before .before .before .wide .ensures) (c .before .before .held-slots .ensures) in
-    c .slots-formed .ensures ∙ check-lent (a .words .now) (a .shelf .now) tests counted
+    c .slots-formed .ensures ∙ check-lent (a .words .now) (a .arena .now) tests counted
 
 pub slots-hold-spec : {M : Type 1} → statement M
 slots-hold-spec =

@@ -1,5 +1,5 @@
 -- `statecheck::tree_formed` meets its contract: each part tested is what its function ensures.
-use mathlib.Core.Bool.{true, false}
+use mathlib.Core.Bool.{true}
 use mathlib.Core.Path.{_≡_, sym, _∙_}
 use native.Mathlib.Omega.{arith}
 use borrow.Author.Needs.{needs}

@@ -11,12 +11,12 @@ use Rattle.statecheck.proofs.well_formed.Tie as tie
 returns : tie.Need-returns
 returns c =
     let a = c .before .before .before .args in
-    sym (bad-size (a .words .now) (a .shelf .now) (c .if1 .taken))
+    sym (bad-size (a .words .now) (a .arena .now) (c .if1 .taken))
 
 returns-2 : tie.Need-returns-2
 returns-2 c =
     let a = c .before .before .before .before .args in
-    sym (bad-room (a .words .now) (a .shelf .now) (omega arith) (c .if2 .taken))
+    sym (bad-room (a .words .now) (a .arena .now) (omega arith) (c .if2 .taken))
 
 tree-formed-requires : tie.Need-tree-formed-requires
 tree-formed-requires c κs = search needs
@@ -24,33 +24,33 @@ tree-formed-requires c κs = search needs
 returns-3 : tie.Need-returns-3
 returns-3 c =
     let a = c .before .before .before .before .before .before .args in
-    sym (bad-tree (a .words .now) (a .shelf .now) (omega arith) (omega arith) (sym (c .before .tree-formed .ensures) ∙ not-true (c .before .tree-formed .result) (c .if3 .taken)))
+    sym (bad-tree (a .words .now) (a .arena .now) (omega arith) (omega arith) (sym (c .before .tree-formed .ensures) ∙ not-true (c .before .tree-formed .result) (c .if3 .taken)))
 
 slots-hold-requires : tie.Need-slots-hold-requires
 slots-hold-requires c κs =
     let a = c .before .before .before .before .before .before .args in
     let tree : treePart (a .words .now) ≡ true = sym (c .before .tree-formed .ensures) ∙ not-false (c .before .tree-formed .result) (c .if3 .left) in
-    ((omega arith), ((omega arith), few (a .words .now) (a .shelf .now) (omega arith) (omega arith) tree))
+    ((omega arith), ((omega arith), few (a .words .now) (a .arena .now) (omega arith) (omega arith) tree))
 
 returns-4 : tie.Need-returns-4
 returns-4 c =
     let a = c .before .before .before .before .before .before .before .before .args in
     let tree : treePart (a .words .now) ≡ true = sym (c .before .before .before .tree-formed .ensures) ∙ not-false (c .before .before .before .tree-formed .result) (c .before .before .if3 .left) in
-    sym (good-tree (a .words .now) (a .shelf .now) (omega arith) (omega arith) false tree (sym (c .before .slots-hold .ensures) ∙ not-true (c .before .slots-hold .result) (c .if4 .taken)))
+    sym (good-tree (a .words .now) (a .arena .now) (omega arith) (omega arith) false tree (sym (c .before .slots-hold .ensures) ∙ not-true (c .before .slots-hold .result) (c .if4 .taken)))
 
 controls-formed-requires : tie.Need-controls-formed-requires
 controls-formed-requires c κs =
     let a = c .before .before .before .before .before .before .before .before .args in
     let tree : treePart (a .words .now) ≡ true = sym (c .before .before .before .tree-formed .ensures) ∙ not-false (c .before .before .before .tree-formed .result) (c .before .before .if3 .left) in
-    let slots : slotsPart (a .words .now) (a .shelf .now) ≡ true = sym (c .before .slots-hold .ensures) ∙ not-false (c .before .slots-hold .result) (c .if4 .left) in
-    ready (a .words .now) (a .shelf .now) (omega arith) (omega arith) tree slots
+    let slots : slotsPart (a .words .now) (a .arena .now) ≡ true = sym (c .before .slots-hold .ensures) ∙ not-false (c .before .slots-hold .result) (c .if4 .left) in
+    ready (a .words .now) (a .arena .now) (omega arith) (omega arith) tree slots
 
 returns-5 : tie.Need-returns-5
 returns-5 c =
     let a = c .before .before .before .before .before .before .before .before .before .args in
     let tree : treePart (a .words .now) ≡ true = sym (c .before .before .before .before .tree-formed .ensures) ∙ not-false (c .before .before .before .before .tree-formed .result) (c .before .before .before .if3 .left) in
-    let slots : slotsPart (a .words .now) (a .shelf .now) ≡ true = sym (c .before .before .slots-hold .ensures) ∙ not-false (c .before .before .slots-hold .result) (c .before .if4 .left) in
-    c .controls-formed .ensures ∙ sym (good-tree (a .words .now) (a .shelf .now) (omega arith) (omega arith) true tree slots)
+    let slots : slotsPart (a .words .now) (a .arena .now) ≡ true = sym (c .before .before .slots-hold .ensures) ∙ not-false (c .before .before .slots-hold .result) (c .before .if4 .left) in
+    c .controls-formed .ensures ∙ sym (good-tree (a .words .now) (a .arena .now) (omega arith) (omega arith) true tree slots)
 
 pub well-formed-spec : {M : Type 1} → statement M
 well-formed-spec =

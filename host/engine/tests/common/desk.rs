@@ -31,7 +31,7 @@ impl Desk {
             Err(refused),
             "{op} {numbers:?}"
         );
-        assert!(self.0.words() == before.words() && self.0.shelf() == before.shelf());
+        assert!(self.0.words() == before.words() && self.0.arena() == before.arena());
     }
 
     pub fn load(&mut self, definitions: &[Definition]) {

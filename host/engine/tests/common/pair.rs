@@ -10,9 +10,9 @@ const LONGEST: usize = 1 << 20;
 #[derive(Clone)]
 pub struct Pair {
     pub words: Vec<u32>,
-    pub shelf: Vec<u8>,
+    pub arena: Vec<u8>,
     pub expected_words: Vec<u32>,
-    pub expected_shelf: Vec<u8>,
+    pub expected_arena: Vec<u8>,
     pub model: Engine,
     /// How many commands were compared.
     pub sent: usize,
@@ -22,12 +22,12 @@ pub struct Pair {
 
 impl Pair {
     /// Two engines that hold the same. The state is one that does.
-    pub fn new(model: Engine, words: Vec<u32>, shelf: Vec<u8>) -> Pair {
+    pub fn new(model: Engine, words: Vec<u32>, arena: Vec<u8>) -> Pair {
         Pair {
             expected_words: words.clone(),
-            expected_shelf: shelf.clone(),
+            expected_arena: arena.clone(),
             words,
-            shelf,
+            arena,
             model,
             sent: 0,
             reply: vec![0; LONGEST],
@@ -38,8 +38,8 @@ impl Pair {
     /// Fresh engines. The proved one is made in runs full of other things.
     pub fn fresh(random: &mut Random) -> Pair {
         let words = (0..layout::WORDS).map(|_| random.bits() as u32).collect();
-        let shelf = (0..layout::SHELF).map(|_| random.byte()).collect();
-        let mut pair = Pair::new(Engine::new(), words, shelf);
+        let arena = (0..layout::ARENA).map(|_| random.byte()).collect();
+        let mut pair = Pair::new(Engine::new(), words, arena);
         pair.renew();
         pair
     }
@@ -47,16 +47,16 @@ impl Pair {
     /// Makes both engines fresh, whatever they hold.
     pub fn renew(&mut self) {
         self.model = Engine::new();
-        (self.expected_words, self.expected_shelf) = layout::state(&self.model.view());
-        assert_eq!(engine::fresh(&mut self.words, &mut self.shelf), 0);
-        assert!(self.words == self.expected_words && self.shelf == self.expected_shelf);
+        (self.expected_words, self.expected_arena) = layout::state(&self.model.view());
+        assert_eq!(engine::fresh(&mut self.words, &mut self.arena), 0);
+        assert!(self.words == self.expected_words && self.arena == self.expected_arena);
     }
 
     /// Puts anything into what the state leaves open.
     pub fn shuffle(&mut self, random: &mut Random) {
-        super::shuffle::shuffle(&mut self.words, &mut self.shelf, random);
+        super::shuffle::shuffle(&mut self.words, &mut self.arena, random);
         self.expected_words.copy_from_slice(&self.words);
-        self.expected_shelf.copy_from_slice(&self.shelf);
+        self.expected_arena.copy_from_slice(&self.arena);
     }
 
     /// Sends a command to both. Answers the refusal's number, or 0, or says where they differ.
@@ -100,14 +100,14 @@ impl Pair {
                         call.op,
                         &view,
                         &mut self.expected_words,
-                        &mut self.expected_shelf,
+                        &mut self.expected_arena,
                     );
                 }
                 packed(answer)
             }
             None => engine::UNKNOWN,
         };
-        let answer = apply(call, &mut self.words, &mut self.shelf, reply);
+        let answer = apply(call, &mut self.words, &mut self.arena, reply);
         if answer != expected {
             let (answer, expected) = (parts(answer), parts(expected));
             return Err(format!("answer {answer:?}, expected {expected:?}"));
@@ -119,8 +119,8 @@ impl Pair {
             let (word, expected) = (self.words[place], self.expected_words[place]);
             return Err(format!("word {place} is {word}, expected {expected}"));
         }
-        if let Some(place) = differ(&self.shelf, &self.expected_shelf) {
-            return Err(format!("shelf byte {place} differs"));
+        if let Some(place) = differ(&self.arena, &self.expected_arena) {
+            return Err(format!("arena byte {place} differs"));
         }
         Ok(answer)
     }
@@ -132,12 +132,12 @@ impl Pair {
             None => engine::UNKNOWN,
         };
         let mut reply = [7; 300];
-        let answer = apply(call, &mut self.words, &mut self.shelf, &mut reply);
+        let answer = apply(call, &mut self.words, &mut self.arena, &mut reply);
         if answer != expected {
             let answer = parts(answer);
             return Err(format!("answer {answer:?}, but a rule is broken"));
         }
-        let same = self.words == self.expected_words && self.shelf == self.expected_shelf;
+        let same = self.words == self.expected_words && self.arena == self.expected_arena;
         if same && reply == [7; 300] {
             Ok(())
         } else {
@@ -169,7 +169,7 @@ impl Pair {
 
     /// What the state holds is what the model holds.
     pub fn compare_views(&self) -> Result<(), String> {
-        if layout::view(&self.words, &self.shelf) == self.model.view() {
+        if layout::view(&self.words, &self.arena) == self.model.view() {
             Ok(())
         } else {
             Err("the views differ".to_string())
@@ -178,8 +178,8 @@ impl Pair {
 }
 
 /// The proved engine's answer to a command.
-fn apply(call: &Call, words: &mut [u32], shelf: &mut [u8], reply: &mut [u8]) -> u64 {
-    engine::apply(call.op, call.numbers, &call.bytes, words, shelf, reply)
+fn apply(call: &Call, words: &mut [u32], arena: &mut [u8], reply: &mut [u8]) -> u64 {
+    engine::apply(call.op, call.numbers, &call.bytes, words, arena, reply)
 }
 
 /// An answer's refusal, and its place or length.

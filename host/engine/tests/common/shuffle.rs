@@ -7,7 +7,7 @@ use independent::layout::{
 use independent::Random;
 
 /// Puts anything into what a well-formed state leaves open, and gives the synths other rows.
-pub fn shuffle(words: &mut [u32], shelf: &mut [u8], random: &mut Random) {
+pub fn shuffle(words: &mut [u32], arena: &mut [u8], random: &mut Random) {
     let records: Vec<_> = (0..words[COUNT] as usize)
         .map(|place| record(words, place))
         .collect();
@@ -21,7 +21,7 @@ pub fn shuffle(words: &mut [u32], shelf: &mut [u8], random: &mut Random) {
             *word = random.bits() as u32;
         } else {
             *word = row as u32;
-            let slot = slot_bytes(words, shelf, record.slot as usize);
+            let slot = slot_bytes(words, arena, record.slot as usize);
             let definition = independent::read_definition(slot).expect("a taken slot is readable");
             let parameters = definition.initial.len();
             let from = row_words(record.row as usize, parameters);
@@ -35,7 +35,7 @@ pub fn shuffle(words: &mut [u32], shelf: &mut [u8], random: &mut Random) {
     for slot in 0..independent::engine::SLOTS {
         let resident = words[RESIDENT + slot] == 1;
         let taken = resident || records.iter().any(|record| record.slot == slot as u32);
-        let bytes = &mut shelf[independent::MOST_BYTES * slot..][..independent::MOST_BYTES];
+        let bytes = &mut arena[independent::MOST_BYTES * slot..][..independent::MOST_BYTES];
         if taken {
             bytes[words[LENGTH + slot] as usize..].fill_with(|| random.byte());
         } else {

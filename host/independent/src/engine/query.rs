@@ -102,12 +102,12 @@ impl Engine {
     }
 
     pub(super) fn status(&self, reply: &mut [u8]) -> Answer {
-        let held = self.slots.slots.iter().filter(|slot| slot.voices > 0);
+        let held = self.slots.slots.iter().filter(|slot| slot.synths > 0);
         let (mut units, mut synths) = (0, 0);
         for slot in held {
             let definition = slot.kept.as_ref().map(|kept| &kept.definition);
-            units += slot.voices * definition.map_or(0, |definition| definition.units.len());
-            synths += slot.voices;
+            units += slot.synths * definition.map_or(0, |definition| definition.units.len());
+            synths += slot.synths;
         }
         let groups = self.tree.count() - synths;
         let mut message = Message::new();

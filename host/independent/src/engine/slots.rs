@@ -48,7 +48,7 @@ pub struct Slot {
     pub kept: Option<Kept>,
     pub resident: bool,
     /// How many live synths hold it.
-    pub voices: usize,
+    pub synths: usize,
 }
 
 #[derive(Clone, Debug)]
@@ -85,7 +85,7 @@ impl Slots {
         let given_up = definitions
             .iter()
             .filter_map(|definition| self.resident(&definition.name))
-            .filter(|&slot| self.slots[slot].voices == 0)
+            .filter(|&slot| self.slots[slot].synths == 0)
             .count();
         if definitions.len() > SLOTS - (taken - given_up) {
             return refuse(12);
@@ -114,7 +114,7 @@ impl Slots {
         self.slots[slot] = Slot {
             kept: Some(kept),
             resident,
-            voices: 0,
+            synths: 0,
         };
     }
 
@@ -131,18 +131,18 @@ impl Slots {
     }
 
     pub fn hold(&mut self, slot: usize) {
-        self.slots[slot].voices += 1;
+        self.slots[slot].synths += 1;
     }
 
     /// A synth that held the slot is gone.
     pub fn release(&mut self, slot: usize) {
-        self.slots[slot].voices -= 1;
+        self.slots[slot].synths -= 1;
         self.free_unless_taken(slot);
     }
 
     fn free_unless_taken(&mut self, slot: usize) {
         let slot = &mut self.slots[slot];
-        if !slot.resident && slot.voices == 0 {
+        if !slot.resident && slot.synths == 0 {
             slot.kept = None;
         }
     }

@@ -43,14 +43,14 @@ node-definition-requires c κs =
     let a = c .before .before .before .before .before .before .before .before .args in
     let p = c .before .before .before .before .before .before .before .before .pre in
     let single : isGroup (nodeIn (a .words .now) (a .place)) ≡ false = sym (c .before .node-is-group .ensures) ∙ c .if3 .left in
-    (p .0 .size, omega (arith, p .0 .few, p .1), synth-ready (a .words .now) (a .shelf .now) (p .0) (a .place) (p .1) single .slot)
+    (p .0 .size, omega (arith, p .0 .few, p .1), synth-ready (a .words .now) (a .arena .now) (p .0) (a .place) (p .1) single .slot)
 
 has-controls-requires : tie.Need-has-controls-requires
 has-controls-requires c κs =
     let a = c .before .before .before .before .before .before .before .before .before .args in
     let p = c .before .before .before .before .before .before .before .before .before .pre in
     let single : isGroup (nodeIn (a .words .now) (a .place)) ≡ false = sym (c .before .before .node-is-group .ensures) ∙ c .before .if3 .left in
-    synth-readable (a .words .now) (a .shelf .now) (p .0) (a .place) (p .1) single (c .node-definition .ensures)
+    synth-readable (a .words .now) (a .arena .now) (p .0) (a .place) (p .1) single (c .node-definition .ensures)
 
 returns-4 : tie.Need-returns-4
 returns-4 c =
@@ -60,10 +60,10 @@ returns-4 c =
     let key : negativeKey (a .key) ≡ false = sym (c .before .before .before .before .before .before .negative-key .ensures) ∙ c .before .before .before .before .before .if1 .left in
     let count : isNegative (a .count) ≡ false = lt-leb 2147483648 (a .count) (omega arith) in
     let single : isGroup (nodeIn ws (a .place)) ≡ false = sym (c .before .before .before .node-is-group .ensures) ∙ c .before .before .if3 .left in
-    let has : c .has-controls .result ≡ hasControls (startOf (a .key) (a .name .now) (definitionOf (decode ws (a .shelf .now) .slots) (nodeIn ws (a .place)))) (a .count) (definitionOf (decode ws (a .shelf .now) .slots) (nodeIn ws (a .place))) =
+    let has : c .has-controls .result ≡ hasControls (startOf (a .key) (a .name .now) (definitionOf (decode ws (a .arena .now) .slots) (nodeIn ws (a .place)))) (a .count) (definitionOf (decode ws (a .arena .now) .slots) (nodeIn ws (a .place))) =
     c .has-controls .ensures
     ∙ ap (λ (s : List ℕ). hasControls (startOf (a .key) (a .name .now) (frontOnly s)) (a .count) (frontOnly s)) (c .before .node-definition .ensures)
-    ∙ sym (synth-has ws (a .shelf .now) (p .0) (a .place) (p .1) single (a .key) (a .name .now) (a .count)) in
+    ∙ sym (synth-has ws (a .arena .now) (p .0) (a .place) (p .1) single (a .key) (a .name .now) (a .count)) in
     ap not has ∙ sym (rw (key, count, single))
 
 pub controls-missing-spec : {M : Type 1} → statement M

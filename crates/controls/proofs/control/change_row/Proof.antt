@@ -70,13 +70,13 @@ loop-again c =
     let l = c .before .before .before .before .before .loop in
     let m = c .before .before .before .before .before .before .before .before .before .reached .result in
     let f = changeOf (a .change) in
-    let told : c .before .before .change-one .last .0 ≡ changedAt f (l .at) (l .controls) = c .before .before .change-one .ensures in
+    let fact : c .before .before .change-one .last .0 ≡ changedAt f (l .at) (l .controls) = c .before .before .change-one .ensures in
     let room : l .at + 2 ≤ length (l .controls) = omega arith in
     let more : m - l .i ≡ suc (m - (l .i + 1)) = omega arith in (
       omega arith,
       omega arith,
-      ap length told ∙ changed-length f (l .controls) (l .at) room ∙ l .inv .2,
-      ap (changeFromPlace f (l .at + 2) (m - (l .i + 1))) told
+      ap length fact ∙ changed-length f (l .controls) (l .at) room ∙ l .inv .2,
+      ap (changeFromPlace f (l .at + 2) (m - (l .i + 1))) fact
           ∙ change-turn f (l .controls) (l .at) (m - (l .i + 1)) room
           ∙ ap (λ (n : ℕ). changeFromPlace f (l .at) n (l .controls)) (sym more)
           ∙ l .inv .3,

@@ -8,7 +8,7 @@ use Rattle.synthdef.specs.Lookup.{valuesIn}
 use Rattle.nodes.specs.Table.{over}
 use Rattle.model.specs.Effects.{initialWords}
 use Rattle.controls.specs.Encoded.{frontIn, values-few}
-use Rattle.controls.specs.Initial.{floatsFrom, values-told, values-none, nothing-written, empty}
+use Rattle.controls.specs.Initial.{floatsFrom, values-fact, values-none, nothing-written, empty}
 use Rattle.controls.proofs.definition.initial_row.Statement.{statement}
 use Rattle.controls.proofs.definition.initial_row.Tie as tie
 
@@ -21,7 +21,7 @@ enum-known-start c = search needs
 returns : tie.Need-returns
 returns c =
     let a = c .before .before .before .before .before .before .before .args in
-    let t = values-told (a .definition .now) (sym (c .before .before .before .before .values .ensures) ∙ c .before .before .start .given .1) in
+    let t = values-fact (a .definition .now) (sym (c .before .before .before .before .values .ensures) ∙ c .before .before .start .given .1) in
     sym (nothing-written (64 * a .row) (frontIn (a .definition .now) .values) (a .controls .now) (empty (frontIn (a .definition .now) .values) (omega arith)))
 
 wide-requires : tie.Need-wide-requires
@@ -36,7 +36,7 @@ wide-requires-2 c κs = search needs
 write-initial-requires : tie.Need-write-initial-requires
 write-initial-requires c κs =
     let a = c .before .before .before .before .before .before .before .before .before .before .args in
-    let t = values-told (a .definition .now) (sym (c .before .before .before .before .before .before .before .values .ensures) ∙ c .before .before .before .before .before .start .given .1) in
+    let t = values-fact (a .definition .now) (sym (c .before .before .before .before .before .before .before .values .ensures) ∙ c .before .before .before .before .before .start .given .1) in
     let few = values-few (a .definition .now) in
     let end = t .end (omega arith) in
     (omega arith, omega arith)
@@ -52,7 +52,7 @@ returns-2 c =
     let a = c .before .before .before .before .before .before .before .before .before .before .before .before .before .args in
     let start = c .before .before .before .before .before .before .before .before .start .given .0 .0 in
     let t =
-    values-told (a .definition .now)
+    values-fact (a .definition .now)
     (sym (c .before .before .before .before .before .before .before .before .before .before .values .ensures) ∙ c .before .before .before .before .before .before .before .before .start .given .1) in
     c .before .before .write-initial .ensures
     ∙ ap₂ (λ (k : ℕ) (xs : List ℕ). over k (initialWords xs) (a .controls .now))

@@ -3,7 +3,6 @@ use Rattle.synthdef.specs.declared.lookup.Found.the-variants as found
 use Rattle.model.specs.Meaning.{startOf}
 use Rattle.controls.specs.Encoded.{frontOnly, foundAt}
 use Rattle.controls.specs.Reach.{reach-at, reach-none}
-use Prim.Native.Nat.{_-_}
 use mathlib.Core.Path.{_≡_, sym, ap, _∙_}
 use borrow.Author.Needs.{needs}
 use Rattle.controls.proofs.reach.reach_in.Statement.{statement}

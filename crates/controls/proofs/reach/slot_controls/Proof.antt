@@ -2,7 +2,7 @@ use mathlib.Core.Path.{subst}
 use Rattle.readable.specs.Readable.{Readable}
 use Rattle.controls.specs.Encoded.{frontIn}
 use Rattle.controls.specs.Ready.{slotBytes}
-use Prim.Native.Nat.{ℕ, _+_, _*_, _-_}
+use Prim.Native.Nat.{ℕ, _+_, _*_}
 use mathlib.Core.Path.{_≡_, sym, ap, _∙_}
 use mathlib.Core.List.{List}
 use borrow.Author.Needs.{needs}
@@ -33,16 +33,16 @@ parameter-count-requires : tie.Need-parameter-count-requires
 parameter-count-requires c κs =
     let a = c .before .before .before .before .before .before .args in
     let size = ap (λ (k : ℕ). getD (a .words .now) (4 + k) 0) (c .before .before .wide .ensures) in
-    let bytes : c .slot-bytes .result .now ≡ slotBytes (a .words .now) (a .shelf .now) (a .slot) =
-    c .slot-bytes .ensures ∙ ap (λ (k : ℕ). take k (take 2048 (drop (2048 * a .slot) (a .shelf .now)))) size in
+    let bytes : c .slot-bytes .result .now ≡ slotBytes (a .words .now) (a .arena .now) (a .slot) =
+    c .slot-bytes .ensures ∙ ap (λ (k : ℕ). take k (take 2048 (drop (2048 * a .slot) (a .arena .now)))) size in
     subst Readable (sym bytes) (c .before .before .before .before .before .before .pre .2)
 
 returns-2 : tie.Need-returns-2
 returns-2 c =
     let a = c .before .before .before .before .before .before .before .args in
     let size = ap (λ (k : ℕ). getD (a .words .now) (4 + k) 0) (c .before .before .before .wide .ensures) in
-    let bytes : c .before .slot-bytes .result .now ≡ slotBytes (a .words .now) (a .shelf .now) (a .slot) =
-    c .before .slot-bytes .ensures ∙ ap (λ (k : ℕ). take k (take 2048 (drop (2048 * a .slot) (a .shelf .now)))) size in
+    let bytes : c .before .slot-bytes .result .now ≡ slotBytes (a .words .now) (a .arena .now) (a .slot) =
+    c .before .slot-bytes .ensures ∙ ap (λ (k : ℕ). take k (take 2048 (drop (2048 * a .slot) (a .arena .now)))) size in
     c .parameter-count .ensures ∙ ap (λ (s : List ℕ). length (frontIn s .values)) bytes
 
 pub slot-controls-spec : {M : Type 1} → statement M

@@ -1,7 +1,7 @@
 use mathlib.Core.Path.{subst}
 use Rattle.readable.specs.Readable.{Readable}
 use Rattle.controls.specs.Ready.{slotBytes}
-use Prim.Native.Nat.{ℕ, _+_, _*_, _-_}
+use Prim.Native.Nat.{ℕ, _+_, _*_}
 use mathlib.Core.Path.{_≡_, sym, ap, _∙_}
 use borrow.Author.Needs.{needs}
 use lib.ListN.{take, drop, getD}
@@ -31,16 +31,16 @@ reach-in-requires : tie.Need-reach-in-requires
 reach-in-requires c κs =
     let a = c .before .before .before .before .before .before .before .before .args in
     let size = ap (λ (k : ℕ). getD (a .words .now) (4 + k) 0) (c .before .before .wide .ensures) in
-    let bytes : c .slot-bytes .result .now ≡ slotBytes (a .words .now) (a .shelf .now) (a .slot) =
-    c .slot-bytes .ensures ∙ ap (λ (k : ℕ). take k (take 2048 (drop (2048 * a .slot) (a .shelf .now)))) size in
+    let bytes : c .slot-bytes .result .now ≡ slotBytes (a .words .now) (a .arena .now) (a .slot) =
+    c .slot-bytes .ensures ∙ ap (λ (k : ℕ). take k (take 2048 (drop (2048 * a .slot) (a .arena .now)))) size in
     subst Readable (sym bytes) (c .before .before .before .before .before .before .before .before .pre .2)
 
 returns-2 : tie.Need-returns-2
 returns-2 c =
     let a = c .before .before .before .before .before .before .before .before .before .args in
     let size = ap (λ (k : ℕ). getD (a .words .now) (4 + k) 0) (c .before .before .before .wide .ensures) in
-    let bytes : c .before .slot-bytes .result .now ≡ slotBytes (a .words .now) (a .shelf .now) (a .slot) =
-    c .before .slot-bytes .ensures ∙ ap (λ (k : ℕ). take k (take 2048 (drop (2048 * a .slot) (a .shelf .now)))) size in
+    let bytes : c .before .slot-bytes .result .now ≡ slotBytes (a .words .now) (a .arena .now) (a .slot) =
+    c .before .slot-bytes .ensures ∙ ap (λ (k : ℕ). take k (take 2048 (drop (2048 * a .slot) (a .arena .now)))) size in
     rw bytes at (c .reach-in .ensures)
 
 pub slot-reach-spec : {M : Type 1} → statement M

@@ -21,7 +21,7 @@ slice-aggregate-result c = search needs
 returns : tie.Need-returns
 returns c =
     let a = c .before .before .before .before .args in
-    let past : drop (2048 * a .slot) (a .shelf .now) ≡ [] = drop-of-length-le (a .shelf .now) {i = 2048 * a .slot} (omega arith) in
+    let past : drop (2048 * a .slot) (a .arena .now) ≡ [] = drop-of-length-le (a .arena .now) {i = 2048 * a .slot} (omega arith) in
     rw (past, take-nil {A = ℕ} 2048, take-nil {A = ℕ} (a .size))
 
 sub-least : tie.Need-sub-least
@@ -53,13 +53,13 @@ returns-2 c =
     let a = c .before .before .before .before .before .before .before .args in
     let w = c .before .before .before .before .before in
     let start : 2048 * w .wide .result ≡ 2048 * a .slot = omega arith in
-    let l = drop (2048 * a .slot) (a .shelf .now) in
-    let room : length (a .shelf .now) - 2048 * w .wide .result ≡ length l = ap (λ (k : ℕ). length (a .shelf .now) - k) start ∙ sym (length-drop (2048 * a .slot) (a .shelf .now)) in
+    let l = drop (2048 * a .slot) (a .arena .now) in
+    let room : length (a .arena .now) - 2048 * w .wide .result ≡ length l = ap (λ (k : ℕ). length (a .arena .now) - k) start ∙ sym (length-drop (2048 * a .slot) (a .arena .now)) in
     let size : 2048 * w .wide .result + c .before .least2 .result - 2048 * w .wide .result ≡ min (min 2048 (length l)) (a .size) =
     back-off (2048 * w .wide .result) (c .before .least2 .result)
     ∙ c .before .least2 .ensures
     ∙ ap₂ (λ (x y : ℕ). min x y) (c .before .before .before .least .ensures ∙ ap (λ (x : ℕ). min 2048 x) room) (c .before .before .wide2 .ensures) in
-    ap₂ (λ (k m : ℕ). take k (drop m (a .shelf .now))) size start ∙ take-least (a .size) 2048 l
+    ap₂ (λ (k m : ℕ). take k (drop m (a .arena .now))) size start ∙ take-least (a .size) 2048 l
 
 pub slot-bytes-spec : {M : Type 1} → statement M
 slot-bytes-spec =

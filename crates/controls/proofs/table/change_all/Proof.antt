@@ -20,14 +20,14 @@ use Rattle.controls.proofs.table.change_all.Statement.{statement}
 use Rattle.controls.proofs.table.change_all.Tie as tie
 
 abbrev Inv-loop : tie.InvT-loop
-Inv-loop words₀ shelf from to key name count change reaches₀ i₀ words reaches i =
+Inv-loop words₀ arena from to key name count change reaches₀ i₀ words reaches i =
     (length words ≡ wordsLength) × (words ≡ putControls (controlsIn words) words₀)
-    × (changeAll (changeOf change) key name count (decode words₀ shelf .slots) (take (to - i) (drop i (nodesIn words₀))) (controlsIn words)
-    ≡ changeAll (changeOf change) key name count (decode words₀ shelf .slots) (take (to - from) (drop from (nodesIn words₀))) (controlsIn words₀))
-    × Reached key name words₀ shelf reaches
+    × (changeAll (changeOf change) key name count (decode words₀ arena .slots) (take (to - i) (drop i (nodesIn words₀))) (controlsIn words)
+    ≡ changeAll (changeOf change) key name count (decode words₀ arena .slots) (take (to - from) (drop from (nodesIn words₀))) (controlsIn words₀))
+    × Reached key name words₀ arena reaches
 
 abbrev μ-loop : tie.MeasureT-loop
-μ-loop words₀ shelf from to key name count change reaches₀ i₀ words reaches i = to - i
+μ-loop words₀ arena from to key name count change reaches₀ i₀ words reaches i = to - i
 
 loop-holds : tie.Need-loop-holds Inv-loop μ-loop
 loop-holds c =
@@ -58,7 +58,7 @@ mul-slot-reach c =
     let s = c .before .before .before .before .before .before .before .before .before in
     let a = s .args in
     let l = c .before .before .before .before .before .loop in
-    let w = synth-lent (a .words .now) (a .shelf .now) (l .words) (l .i) (s .pre .0) (l .inv .0) (l .inv .1) (omega (arith, s .pre .1)) (c .before .before .if1 .taken) in
+    let w = synth-lent (a .words .now) (a .arena .now) (l .words) (l .i) (s .pre .0) (l .inv .0) (l .inv .1) (omega (arith, s .pre .1)) (c .before .before .if1 .taken) in
     let same = c .before .wide .ensures in
     omega (arith, w .low)
 
@@ -67,7 +67,7 @@ array-copy-out-slot-reach c =
     let s = c .before .before .before .before .before .before .before .before .before in
     let a = s .args in
     let l = c .before .before .before .before .before .loop in
-    let w = synth-lent (a .words .now) (a .shelf .now) (l .words) (l .i) (s .pre .0) (l .inv .0) (l .inv .1) (omega (arith, s .pre .1)) (c .before .before .if1 .taken) in
+    let w = synth-lent (a .words .now) (a .arena .now) (l .words) (l .i) (s .pre .0) (l .inv .0) (l .inv .1) (omega (arith, s .pre .1)) (c .before .before .if1 .taken) in
     let same = c .before .wide .ensures in
     omega (arith, w .low)
 
@@ -76,12 +76,12 @@ slot-reach-requires c κs =
     let s = c .before .before .before .before .before .before .before .before .before .before in
     let a = s .args in
     let l = c .before .before .before .before .before .before .loop in
-    let w = synth-lent (a .words .now) (a .shelf .now) (l .words) (l .i) (s .pre .0) (l .inv .0) (l .inv .1) (omega (arith, s .pre .1)) (c .before .before .before .if1 .taken) in
+    let w = synth-lent (a .words .now) (a .arena .now) (l .words) (l .i) (s .pre .0) (l .inv .0) (l .inv .1) (omega (arith, s .pre .1)) (c .before .before .before .if1 .taken) in
     let same = c .before .before .wide .ensures in (
       l .inv .0,
       w .low,
       w .readable,
-      λ other. subst (λ (bytes : List ℕ). Reaches (a .key) (a .name .now) bytes (getD (l .reaches) (c .before .before .wide .result) (record { start = 0; controls = 0 }))) (ap (slotBytes (a .words .now) (a .shelf .now)) same ∙ sym (w .kept)) (l .inv .3 .same (record { start = 0; controls = 0 }) (c .before .before .wide .result) (omega (arith, w .low)) other),
+      λ other. subst (λ (bytes : List ℕ). Reaches (a .key) (a .name .now) bytes (getD (l .reaches) (c .before .before .wide .result) (record { start = 0; controls = 0 }))) (ap (slotBytes (a .words .now) (a .arena .now)) same ∙ sym (w .kept)) (l .inv .3 .same (record { start = 0; controls = 0 }) (c .before .before .wide .result) (omega (arith, w .low)) other),
     )
 
 mul-reaches : tie.Need-mul-reaches Inv-loop μ-loop
@@ -89,7 +89,7 @@ mul-reaches c =
     let s = c .before .before .before .before .before .before .before .before .before .before .before in
     let a = s .args in
     let l = c .before .before .before .before .before .before .before .loop in
-    let w = synth-lent (a .words .now) (a .shelf .now) (l .words) (l .i) (s .pre .0) (l .inv .0) (l .inv .1) (omega (arith, s .pre .1)) (c .before .before .before .before .if1 .taken) in
+    let w = synth-lent (a .words .now) (a .arena .now) (l .words) (l .i) (s .pre .0) (l .inv .0) (l .inv .1) (omega (arith, s .pre .1)) (c .before .before .before .before .if1 .taken) in
     let same = c .before .before .before .wide .ensures in
     omega (arith, w .low)
 
@@ -98,7 +98,7 @@ array-set-from-reaches c =
     let s = c .before .before .before .before .before .before .before .before .before .before .before in
     let a = s .args in
     let l = c .before .before .before .before .before .before .before .loop in
-    let w = synth-lent (a .words .now) (a .shelf .now) (l .words) (l .i) (s .pre .0) (l .inv .0) (l .inv .1) (omega (arith, s .pre .1)) (c .before .before .before .before .if1 .taken) in
+    let w = synth-lent (a .words .now) (a .arena .now) (l .words) (l .i) (s .pre .0) (l .inv .0) (l .inv .1) (omega (arith, s .pre .1)) (c .before .before .before .before .if1 .taken) in
     let same = c .before .before .before .wide .ensures in
     omega (arith, w .low)
 
@@ -107,7 +107,7 @@ change-node-requires c κs =
     let s = c .before .before .before .before .before .before .before .before .before .before .before .before in
     let a = s .args in
     let l = c .before .before .before .before .before .before .before .before .loop in
-    let w = synth-lent (a .words .now) (a .shelf .now) (l .words) (l .i) (s .pre .0) (l .inv .0) (l .inv .1) (omega (arith, s .pre .1)) (c .before .before .before .before .before .if1 .taken) in
+    let w = synth-lent (a .words .now) (a .arena .now) (l .words) (l .i) (s .pre .0) (l .inv .0) (l .inv .1) (omega (arith, s .pre .1)) (c .before .before .before .before .before .if1 .taken) in
     let same = c .before .before .before .before .wide .ensures in
     (l .inv .0, w .place, w .row, c .before .slot-reach .ensures .few)
 
@@ -127,20 +127,20 @@ loop-again c =
     ⊎-elim
     (λ w.
     let other = w .0 .taken in
-    let e = synth-lent (a .words .now) (a .shelf .now) (l .words) (l .i) (s .pre .0) (l .inv .0) (l .inv .1) live other in
-    let told = w .6 .ensures ∙ ap (λ (cs : List ℕ). putControls cs (l .words)) (reach-change f (a .key) (a .name .now) (a .count) (l .words) (a .shelf .now) (l .i) (e .place) (w .4 .result) other (w .4 .ensures)) in
+    let e = synth-lent (a .words .now) (a .arena .now) (l .words) (l .i) (s .pre .0) (l .inv .0) (l .inv .1) live other in
+    let fact = w .6 .ensures ∙ ap (λ (cs : List ℕ). putControls cs (l .words)) (reach-change f (a .key) (a .name .now) (a .count) (l .words) (a .arena .now) (l .i) (e .place) (w .4 .result) other (w .4 .ensures)) in
     let t =
-    turned f (a .key) (a .name .now) (a .count) (a .words .now) (a .shelf .now) (a .to) (l .i) (l .words) (w .6 .last .0)
-    (s .pre .0) (omega arith) (s .pre .1) (l .inv .0) (l .inv .1) (w .6 .kept .0) told in
+    turned f (a .key) (a .name .now) (a .count) (a .words .now) (a .arena .now) (a .to) (l .i) (l .words) (w .6 .last .0)
+    (s .pre .0) (omega arith) (s .pre .1) (l .inv .0) (l .inv .1) (w .6 .kept .0) fact in
     let here =
-    subst (λ (bytes : List ℕ). Reaches (a .key) (a .name .now) bytes (w .4 .result)) (e .kept ∙ ap (slotBytes (a .words .now) (a .shelf .now)) (sym (w .1 .ensures))) (w .4 .ensures) in
+    subst (λ (bytes : List ℕ). Reaches (a .key) (a .name .now) bytes (w .4 .result)) (e .kept ∙ ap (slotBytes (a .words .now) (a .arena .now)) (sym (w .1 .ensures))) (w .4 .ensures) in
     let more = noted-more _ _ (l .reaches) (l .inv .3) (w .1 .result) (w .4 .result) (omega (arith, e .low, w .1 .ensures)) here in
     (rw (w .9) (t .size), rw (w .9) (t .rest), rw (w .9) (t .left ∙ l .inv .2), rw (w .10) more))
     (λ w.
-    let b = bounds-lent (a .words .now) (a .shelf .now) (l .words) (l .i) (s .pre .0) (l .inv .0) (l .inv .1) live in
+    let b = bounds-lent (a .words .now) (a .arena .now) (l .words) (l .i) (s .pre .0) (l .inv .0) (l .inv .1) live in
     let t =
-    turned f (a .key) (a .name .now) (a .count) (a .words .now) (a .shelf .now) (a .to) (l .i) (l .words) (l .words)
-    (s .pre .0) (omega arith) (s .pre .1) (l .inv .0) (l .inv .1) refl (no-change f (a .key) (a .name .now) (a .count) (l .words) (a .shelf .now) (l .i) (b .place) (w .0 .left)) in
+    turned f (a .key) (a .name .now) (a .count) (a .words .now) (a .arena .now) (a .to) (l .i) (l .words) (l .words)
+    (s .pre .0) (omega arith) (s .pre .1) (l .inv .0) (l .inv .1) refl (no-change f (a .key) (a .name .now) (a .count) (l .words) (a .arena .now) (l .i) (b .place) (w .0 .left)) in
     (rw (w .1) (t .size), rw (w .1) (t .rest), rw (w .1) (t .left ∙ l .inv .2), rw (w .2) (l .inv .3)))
     (c .if1 .came)
 
@@ -152,7 +152,7 @@ returns c =
     let a = c .before .before .before .before .before .args in
     let l = c .before .loop in
     let done =
-    all-none (changeOf (a .change)) (a .key) (a .name .now) (a .count) (decode (a .words .now) (a .shelf .now) .slots) (a .words .now)
+    all-none (changeOf (a .change)) (a .key) (a .name .now) (a .count) (decode (a .words .now) (a .arena .now) .slots) (a .words .now)
     (a .to - l .i) (drop (l .i) (nodesIn (a .words .now))) (controlsIn (l .words)) (omega arith) in
     l .inv .1 ∙ ap (λ (cs : List ℕ). putControls cs (a .words .now)) (sym done ∙ l .inv .2)
 

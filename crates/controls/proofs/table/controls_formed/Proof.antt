@@ -20,12 +20,12 @@ use Rattle.controls.proofs.table.controls_formed.Statement.{statement}
 use Rattle.controls.proofs.table.controls_formed.Tie as tie
 
 abbrev Inv-loop : tie.InvT-loop
-Inv-loop words shelf count told₀ i₀ told i =
-    (controlsFormed (decode words shelf .slots) (controlsIn words) (drop i (nodesIn words)) ≡ controlsFormed (decode words shelf .slots) (controlsIn words) (nodesIn words))
-    × Counted words shelf told
+Inv-loop words arena count fact₀ i₀ fact i =
+    (controlsFormed (decode words arena .slots) (controlsIn words) (drop i (nodesIn words)) ≡ controlsFormed (decode words arena .slots) (controlsIn words) (nodesIn words))
+    × Counted words arena fact
 
 abbrev μ-loop : tie.MeasureT-loop
-μ-loop words shelf count told₀ i₀ told i = count - i
+μ-loop words arena count fact₀ i₀ fact i = count - i
 
 shared-slice-read-wide : tie.Need-shared-slice-read-wide Inv-loop μ-loop
 shared-slice-read-wide c = omega arith
@@ -58,9 +58,9 @@ mul-slot-controls : tie.Need-mul-slot-controls Inv-loop μ-loop
 mul-slot-controls c =
     let s = c .before .before .before .before .before .before .before .before .before in
     let ws = s .args .words .now in
-    let shelf = s .args .shelf .now in
+    let arena = s .args .arena .now in
     let l = c .before .before .before .before .loop in
-    let h = synth-here ws shelf (s .pre) (l .i) (omega arith) (c .before .if1 .taken) in
+    let h = synth-here ws arena (s .pre) (l .i) (omega arith) (c .before .if1 .taken) in
     let same = c .wide2 .ensures in
     omega (arith, h .low)
 
@@ -68,9 +68,9 @@ array-read-slot-controls : tie.Need-array-read-slot-controls Inv-loop μ-loop
 array-read-slot-controls c =
     let s = c .before .before .before .before .before .before .before .before .before in
     let ws = s .args .words .now in
-    let shelf = s .args .shelf .now in
+    let arena = s .args .arena .now in
     let l = c .before .before .before .before .loop in
-    let h = synth-here ws shelf (s .pre) (l .i) (omega arith) (c .before .if1 .taken) in
+    let h = synth-here ws arena (s .pre) (l .i) (omega arith) (c .before .if1 .taken) in
     let same = c .wide2 .ensures in
     omega (arith, h .low)
 
@@ -78,33 +78,33 @@ slot-controls-requires : tie.Need-slot-controls-requires Inv-loop μ-loop
 slot-controls-requires c κs =
     let s = c .before .before .before .before .before .before .before .before .before in
     let ws = s .args .words .now in
-    let shelf = s .args .shelf .now in
+    let arena = s .args .arena .now in
     let l = c .before .before .before .before .loop in
-    let h = synth-here ws shelf (s .pre) (l .i) (omega arith) (c .before .if1 .taken) in
+    let h = synth-here ws arena (s .pre) (l .i) (omega arith) (c .before .if1 .taken) in
     let same = c .wide2 .ensures in (
       s .pre .size,
       h .low,
       h .readable,
-      λ other. l .inv .1 .same 0 (c .wide2 .result) (omega (arith, h .low)) other ∙ ap (controlsOn ws shelf) same,
+      λ other. l .inv .1 .same 0 (c .wide2 .result) (omega (arith, h .low)) other ∙ ap (controlsOn ws arena) same,
     )
 
-mul-told : tie.Need-mul-told Inv-loop μ-loop
-mul-told c =
+mul-known : tie.Need-mul-known Inv-loop μ-loop
+mul-known c =
     let s = c .before .before .before .before .before .before .before .before .before .before in
     let ws = s .args .words .now in
-    let shelf = s .args .shelf .now in
+    let arena = s .args .arena .now in
     let l = c .before .before .before .before .before .loop in
-    let h = synth-here ws shelf (s .pre) (l .i) (omega arith) (c .before .before .if1 .taken) in
+    let h = synth-here ws arena (s .pre) (l .i) (omega arith) (c .before .before .if1 .taken) in
     let same = c .before .wide2 .ensures in
     omega (arith, h .low)
 
-array-write-told : tie.Need-array-write-told Inv-loop μ-loop
-array-write-told c =
+array-write-known : tie.Need-array-write-known Inv-loop μ-loop
+array-write-known c =
     let s = c .before .before .before .before .before .before .before .before .before .before in
     let ws = s .args .words .now in
-    let shelf = s .args .shelf .now in
+    let arena = s .args .arena .now in
     let l = c .before .before .before .before .before .loop in
-    let h = synth-here ws shelf (s .pre) (l .i) (omega arith) (c .before .before .if1 .taken) in
+    let h = synth-here ws arena (s .pre) (l .i) (omega arith) (c .before .before .if1 .taken) in
     let same = c .before .wide2 .ensures in
     omega (arith, h .low)
 
@@ -138,9 +138,9 @@ row-formed-requires : tie.Need-row-formed-requires Inv-loop μ-loop
 row-formed-requires c κs =
     let s = c .before .before .before .before .before .before .before .before .before .before .before .before in
     let ws = s .args .words .now in
-    let shelf = s .args .shelf .now in
+    let arena = s .args .arena .now in
     let l = c .before .before .before .before .before .before .before .loop in
-    let h = synth-here ws shelf (s .pre) (l .i) (omega arith) (c .before .before .before .before .if1 .taken) in
+    let h = synth-here ws arena (s .pre) (l .i) (omega arith) (c .before .before .before .before .if1 .taken) in
     let same = c .before .before .before .wide2 .ensures in
     let many = c .before .before .slot-controls .ensures in
     let long : length (region 1603 16384 ws) ≡ 16384 = region-length 1603 16384 ws (omega (arith, s .pre .size)) in
@@ -150,13 +150,13 @@ returns : tie.Need-returns Inv-loop μ-loop
 returns c =
     let s = c .before .before .before .before .before .before .before .before .before .before .before .before .before .before in
     let ws = s .args .words .now in
-    let shelf = s .args .shelf .now in
+    let arena = s .args .arena .now in
     let l = c .before .before .before .before .before .before .before .before .before .loop in
-    let h = synth-here ws shelf (s .pre) (l .i) (omega arith) (c .before .before .before .before .before .before .if1 .taken) in
+    let h = synth-here ws arena (s .pre) (l .i) (omega arith) (c .before .before .before .before .before .before .if1 .taken) in
     let same = c .before .before .before .before .before .wide2 .ensures in
-    let turn = formed-turn ws shelf (s .pre) (l .i) (omega arith) in
+    let turn = formed-turn ws arena (s .pre) (l .i) (omega arith) in
     let many = c .before .before .before .before .slot-controls .ensures in
-    let no-more : nodeFormed ws shelf (l .i) ≡ false =
+    let no-more : nodeFormed ws arena (l .i) ≡ false =
     h .test
     ∙ ap (λ (n : ℕ). mappingsFormed n (drop (64 * getD ws (68 + 5 * l .i + 4) 0) (controlsIn ws))) (sym many)
     ∙ sym (c .before .row-formed .ensures)
@@ -173,28 +173,28 @@ loop-again : tie.Need-loop-again Inv-loop μ-loop
 loop-again c =
     let s = c .before .before .before .before .before .before .before .before in
     let ws = s .args .words .now in
-    let shelf = s .args .shelf .now in
+    let arena = s .args .arena .now in
     let l = c .before .before .before .loop in
-    let turn = formed-turn ws shelf (s .pre) (l .i) (omega arith) in
+    let turn = formed-turn ws arena (s .pre) (l .i) (omega arith) in
     ⊎-elim
     (λ w.
-    let h = synth-here ws shelf (s .pre) (l .i) (omega arith) (w .0 .taken) in
-    let more : nodeFormed ws shelf (l .i) ≡ true =
+    let h = synth-here ws arena (s .pre) (l .i) (omega arith) (w .0 .taken) in
+    let more : nodeFormed ws arena (l .i) ≡ true =
     h .test
     ∙ ap (λ (n : ℕ). mappingsFormed n (drop (64 * getD ws (68 + 5 * l .i + 4) 0) (controlsIn ws))) (sym (w .2 .ensures))
     ∙ sym (w .5 .ensures)
     ∙ not-false (w .5 .result) (w .6 .left) in
-    let told = noted-more _ _ (l .told) (l .inv .1) (w .1 .result) (w .2 .result) (omega (arith, h .low, w .1 .ensures)) (w .2 .ensures ∙ ap (controlsOn ws shelf) (sym (w .1 .ensures))) in
-    (sym (rw more at turn) ∙ l .inv .0, rw (w .7) told))
+    let fact = noted-more _ _ (l .fact) (l .inv .1) (w .1 .result) (w .2 .result) (omega (arith, h .low, w .1 .ensures)) (w .2 .ensures ∙ ap (controlsOn ws arena) (sym (w .1 .ensures))) in
+    (sym (rw more at turn) ∙ l .inv .0, rw (w .7) fact))
     (λ w.
-    let more : nodeFormed ws shelf (l .i) ≡ true = formed-group ws shelf (l .i) (bounds-ready ws shelf (s .pre) (l .i) (omega arith) .place) (w .0 .left) in
+    let more : nodeFormed ws arena (l .i) ≡ true = formed-group ws arena (l .i) (bounds-ready ws arena (s .pre) (l .i) (omega arith) .place) (w .0 .left) in
     (sym (rw more at turn) ∙ l .inv .0, rw (w .1) (l .inv .1)))
     (c .if1 .came)
 
 returns-2 : tie.Need-returns-2 Inv-loop μ-loop
 returns-2 c =
     let a = c .before .before .before .before .before .before in
-    sym (formed-end (a .args .words .now) (a .args .shelf .now) (a .pre) (c .before .loop .i) (omega arith)) ∙ c .before .loop .inv .0
+    sym (formed-end (a .args .words .now) (a .args .arena .now) (a .pre) (c .before .loop .i) (omega arith)) ∙ c .before .loop .inv .0
 
 pub controls-formed-spec : {M : Type 1} → statement M
 controls-formed-spec =
@@ -214,8 +214,8 @@ controls-formed-spec =
     mul-slot-controls
     array-read-slot-controls
     slot-controls-requires
-    mul-told
-    array-write-told
+    mul-known
+    array-write-known
     sub-row-formed
     part-row-formed-start
     part-row-formed-end

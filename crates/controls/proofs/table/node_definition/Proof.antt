@@ -52,8 +52,8 @@ returns c =
     let a = c .before .before .before .before .before .before .args in
     let slot = getD (a .words .now) (68 + 5 * a .place + 3) 0 in
     c .slot-bytes .ensures
-    ∙ ap (λ (k : ℕ). take (getD (a .words .now) (4 + k) 0) (take 2048 (drop (2048 * slot) (a .shelf .now)))) (c .before .before .wide .ensures)
-    ∙ ap (slotBytes (a .words .now) (a .shelf .now)) (sym (slot-word (a .words .now) (a .place) (omega arith)))
+    ∙ ap (λ (k : ℕ). take (getD (a .words .now) (4 + k) 0) (take 2048 (drop (2048 * slot) (a .arena .now)))) (c .before .before .wide .ensures)
+    ∙ ap (slotBytes (a .words .now) (a .arena .now)) (sym (slot-word (a .words .now) (a .place) (omega arith)))
 
 pub node-definition-spec : {M : Type 1} → statement M
 node-definition-spec =

@@ -2,7 +2,6 @@
 use mathlib.Core.Path.{_≡_, refl, sym, _∙_}
 use borrow.Author.Needs.{needs}
 use Rattle.ops.specs.declared.Parsed.the-variants.{Nothing}
-use Rattle.engine.specs.Calls.{Called}
 use Rattle.engine.proofs.exports.engine_apply.Statement.{statement}
 use Rattle.engine.proofs.exports.engine_apply.Tie as tie
 
@@ -32,13 +31,13 @@ same-length-3 c = search needs
 
 returns : tie.Need-returns
 returns c =
-    let told = c .before .before .before .before .before .before .before .before .before .before .before .before .command .given in
-    rw (sym (c .before .before .before .before .before .before .before .before .before .before .before .before .before .before .command-of .ensures) ∙ told .1) (record { answer = c .before .before .before .before .before .before .before .apply .result; number = c .call-number .ensures; does = c .before .before .before .before .before .before .before .apply .ensures })
+    let fact = c .before .before .before .before .before .before .before .before .before .before .before .before .command .given in
+    rw (sym (c .before .before .before .before .before .before .before .before .before .before .before .before .before .before .command-of .ensures) ∙ fact .1) (record { answer = c .before .before .before .before .before .before .before .apply .result; number = c .call-number .ensures; does = c .before .before .before .before .before .before .before .apply .ensures })
 
 returns-2 : tie.Need-returns-2
 returns-2 c =
-    let told : c .before .before .command-of .result ≡ Nothing = cc in
-    rw (sym (c .before .before .command-of .ensures) ∙ told) (record { number = refl; words = refl; shelf = refl; reply = refl })
+    let fact : c .before .before .command-of .result ≡ Nothing = cc in
+    rw (sym (c .before .before .command-of .ensures) ∙ fact) (record { number = refl; words = refl; arena = refl; reply = refl })
 
 pub engine-apply-spec : {M : Type 1} → statement M
 engine-apply-spec =

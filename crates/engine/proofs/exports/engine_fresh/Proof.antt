@@ -2,7 +2,7 @@
 use mathlib.Core.Path.{_≡_, ap, _∙_}
 use native.Mathlib.Omega.{arith}
 use borrow.Author.Needs.{needs}
-use Rattle.model.specs.Door.{freshAnswer}
+use Rattle.model.specs.Apply.{freshAnswer}
 use Rattle.ops.specs.Numbers.{callNumber}
 use Rattle.engine.specs.Calls.{fresh-number, fresh-small}
 use Rattle.engine.proofs.exports.engine_fresh.Statement.{statement}
@@ -17,8 +17,8 @@ call-number-requires c κs = search needs
 cast-result : tie.Need-cast-result
 cast-result c =
     let a = c .before .before .before .before .before .before .before .before .before .before .args in
-    let told : c .call-number .result ≡ callNumber (freshAnswer (a .words .now) (a .shelf .now)) = c .call-number .ensures ∙ ap callNumber (c .before .before .before .before .before .fresh .ensures .answers) in
-    omega (arith, fresh-small (a .words .now) (a .shelf .now))
+    let fact : c .call-number .result ≡ callNumber (freshAnswer (a .words .now) (a .arena .now)) = c .call-number .ensures ∙ ap callNumber (c .before .before .before .before .before .fresh .ensures .answers) in
+    omega (arith, fresh-small (a .words .now) (a .arena .now))
 
 same-length : tie.Need-same-length
 same-length c = search needs
@@ -31,9 +31,9 @@ returns c =
     let a = c .before .before .before .before .before .before .before .before .before .before .args in
     let made = c .before .before .before .before .before .fresh .ensures in
     record {
-      number = c .call-number .ensures ∙ ap callNumber (made .answers) ∙ fresh-number (a .words .now) (a .shelf .now);
+      number = c .call-number .ensures ∙ ap callNumber (made .answers) ∙ fresh-number (a .words .now) (a .arena .now);
       words = made .words;
-      shelf = made .shelf;
+      arena = made .arena;
     }
 
 pub engine-fresh-spec : {M : Type 1} → statement M

@@ -70,16 +70,16 @@ same-length-5 c = search needs
 
 returns-5 : tie.Need-returns-5
 returns-5 c =
-    let told : c .before .before .before .before .before .before .before .before .before .before .args .query ≡ Status = cc in
-    rw told (c .before .before .status-query .ensures)
+    let fact : c .before .before .before .before .before .before .before .before .before .before .args .query ≡ Status = cc in
+    rw fact (c .before .before .status-query .ensures)
 
 same-length-6 : tie.Need-same-length-6
 same-length-6 c = search needs
 
 returns-6 : tie.Need-returns-6
 returns-6 c =
-    let told : c .before .before .before .before .before .before .before .before .before .before .args .query ≡ Export = cc in
-    rw told (c .before .before .export-query .ensures (c .before .before .before .before .before .before .before .before .before .before .args .bytes .now))
+    let fact : c .before .before .before .before .before .before .before .before .before .before .args .query ≡ Export = cc in
+    rw fact (c .before .before .export-query .ensures (c .before .before .before .before .before .before .before .before .before .before .args .bytes .now))
 
 pub query-step-spec : {M : Type 1} → statement M
 query-step-spec =

@@ -49,7 +49,7 @@ row-for-requires : tie.Need-row-for-requires
 row-for-requires c κs =
     let a = c .before .before .before .before .before .before .before .before .before .args in
     let p = c .before .before .before .before .before .before .before .before .before .pre in
-    standing (a .number) (a .action) (p .target) (a .at) (a .slot) (p .bytes) (a .words .now) (a .shelf .now) (p .ground) (c .before .before .before .before .before .wide .result) (c .before .before .before .before .before .wide .ensures)
+    standing (a .number) (a .action) (p .target) (a .at) (a .slot) (p .bytes) (a .words .now) (a .arena .now) (p .ground) (c .before .before .before .before .before .wide .result) (c .before .before .before .before .before .wide .ensures)
 
 number-for-requires : tie.Need-number-for-requires
 number-for-requires c κs = search needs
@@ -70,13 +70,13 @@ next-after-requires : tie.Need-next-after-requires
 next-after-requires c κs =
     let a = c .before .before .before .before .before .before .before .before .before .before .before .before .before .before .before .args in
     let p = c .before .before .before .before .before .before .before .before .before .before .before .before .before .before .before .pre in
-    next-some (a .number) (a .action) (p .target) (a .at) (a .slot) (p .bytes) (a .words .now) (a .shelf .now) (p .ground)
+    next-some (a .number) (a .action) (p .target) (a .at) (a .slot) (p .bytes) (a .words .now) (a .arena .now) (p .ground)
 
 settle-requires : tie.Need-settle-requires
 settle-requires c κs =
     let a = c .before .before .before .before .before .before .before .before .before .before .before .before .before .before .before .before .before .args in
     let p = c .before .before .before .before .before .before .before .before .before .before .before .before .before .before .before .before .before .pre in
-    synth-ready (a .number) (a .action) (p .target) (a .at) (a .slot) (p .bytes) (a .words .now) (a .shelf .now) (p .ground) (c .before .before .before .before .before .before .before .before .before .before .before .before .before .wide .result) (c .before .before .before .before .before .before .before .before .before .before .before .before .before .wide .ensures) (c .before .before .before .before .before .before .before .row-for .result) (c .before .before .before .before .before .before .before .row-for .ensures) (getD (a .words .now) 2 0) refl (c .before .before .before .before .before .before .number-for .result) (c .before .before .before .before .before .before .number-for .ensures) (c .before .before .before .before .add-node .last .0) (c .before .before .before .before .add-node .result) (c .before .before .before .before .add-node .ensures)
+    synth-ready (a .number) (a .action) (p .target) (a .at) (a .slot) (p .bytes) (a .words .now) (a .arena .now) (p .ground) (c .before .before .before .before .before .before .before .before .before .before .before .before .before .wide .result) (c .before .before .before .before .before .before .before .before .before .before .before .before .before .wide .ensures) (c .before .before .before .before .before .before .before .row-for .result) (c .before .before .before .before .before .before .before .row-for .ensures) (getD (a .words .now) 2 0) refl (c .before .before .before .before .before .before .number-for .result) (c .before .before .before .before .before .before .number-for .ensures) (c .before .before .before .before .add-node .last .0) (c .before .before .before .before .add-node .result) (c .before .before .before .before .add-node .ensures)
 
 slot-bytes-requires : tie.Need-slot-bytes-requires
 slot-bytes-requires c κs = search needs
@@ -91,7 +91,7 @@ part-initial-row-end : tie.Need-part-initial-row-end
 part-initial-row-end c =
     let a = c .before .before .before .before .before .before .before .before .before .before .before .before .before .before .before .before .before .before .before .before .before .args in
     let p = c .before .before .before .before .before .before .before .before .before .before .before .before .before .before .before .before .before .before .before .before .before .pre in
-    omega (arith, mid-size (a .number) (a .action) (p .target) (a .at) (a .slot) (p .bytes) (a .words .now) (a .shelf .now) (p .ground) (c .before .before .before .before .before .before .before .before .before .before .before .before .before .before .before .before .before .wide .result) (c .before .before .before .before .before .before .before .before .before .before .before .before .before .before .before .before .before .wide .ensures) (c .before .before .before .before .before .before .before .before .before .before .before .row-for .result) (c .before .before .before .before .before .before .before .before .before .before .before .row-for .ensures) (getD (a .words .now) 2 0) refl (c .before .before .before .before .before .before .before .before .before .before .number-for .result) (c .before .before .before .before .before .before .before .before .before .before .number-for .ensures) (c .before .before .before .before .before .before .before .before .add-node .last .0) (c .before .before .before .before .before .before .before .before .add-node .result) (c .before .before .before .before .before .before .before .before .add-node .ensures) (c .before .before .before .before .before .next-after .result) (c .before .before .before .before .before .next-after .ensures) (c .before .before .before .settle .last .0) (c .before .before .before .settle .ensures))
+    omega (arith, mid-size (a .number) (a .action) (p .target) (a .at) (a .slot) (p .bytes) (a .words .now) (a .arena .now) (p .ground) (c .before .before .before .before .before .before .before .before .before .before .before .before .before .before .before .before .before .wide .result) (c .before .before .before .before .before .before .before .before .before .before .before .before .before .before .before .before .before .wide .ensures) (c .before .before .before .before .before .before .before .before .before .before .before .row-for .result) (c .before .before .before .before .before .before .before .before .before .before .before .row-for .ensures) (getD (a .words .now) 2 0) refl (c .before .before .before .before .before .before .before .before .before .before .number-for .result) (c .before .before .before .before .before .before .before .before .before .before .number-for .ensures) (c .before .before .before .before .before .before .before .before .add-node .last .0) (c .before .before .before .before .before .before .before .before .add-node .result) (c .before .before .before .before .before .before .before .before .add-node .ensures) (c .before .before .before .before .before .next-after .result) (c .before .before .before .before .before .next-after .ensures) (c .before .before .before .settle .last .0) (c .before .before .before .settle .ensures))
 
 initial-row-requires : tie.Need-initial-row-requires
 initial-row-requires c κs =
@@ -99,8 +99,8 @@ initial-row-requires c κs =
     let p = c .before .before .before .before .before .before .before .before .before .before .before .before .before .before .before .before .before .before .before .before .before .before .pre in
     let size = getD (a .words .now) (4 + c .before .before .before .before .before .before .before .before .before .before .before .before .before .before .before .before .wide2 .result) 0 in
     let there = ap (λ (j : ℕ). getD (a .words .now) (4 + j) 0) (c .before .before .before .before .before .before .before .before .before .before .before .before .before .before .before .before .wide2 .ensures) in (
-      row-fits (a .number) (a .action) (p .target) (a .at) (a .slot) (p .bytes) (a .words .now) (a .shelf .now) (p .ground) (c .before .before .before .before .before .before .before .before .before .before .before .before .before .before .before .before .before .before .wide .result) (c .before .before .before .before .before .before .before .before .before .before .before .before .before .before .before .before .before .before .wide .ensures) (c .before .before .before .before .before .before .before .before .before .before .before .before .row-for .result) (c .before .before .before .before .before .before .before .before .before .before .before .before .row-for .ensures) (getD (a .words .now) 2 0) refl (c .before .before .before .before .before .before .before .before .before .before .before .number-for .result) (c .before .before .before .before .before .before .before .before .before .before .before .number-for .ensures) (c .before .before .before .before .before .before .before .before .before .add-node .last .0) (c .before .before .before .before .before .before .before .before .before .add-node .result) (c .before .before .before .before .before .before .before .before .before .add-node .ensures) (c .before .before .before .before .before .before .next-after .result) (c .before .before .before .before .before .before .next-after .ensures) (c .before .before .before .before .settle .last .0) (c .before .before .before .before .settle .ensures),
-      subst Readable (sym (c .before .slot-bytes .ensures)) (definition-readable (a .number) (a .action) (p .target) (a .at) (a .slot) (p .bytes) (a .words .now) (a .shelf .now) (p .ground) size there),
+      row-fits (a .number) (a .action) (p .target) (a .at) (a .slot) (p .bytes) (a .words .now) (a .arena .now) (p .ground) (c .before .before .before .before .before .before .before .before .before .before .before .before .before .before .before .before .before .before .wide .result) (c .before .before .before .before .before .before .before .before .before .before .before .before .before .before .before .before .before .before .wide .ensures) (c .before .before .before .before .before .before .before .before .before .before .before .before .row-for .result) (c .before .before .before .before .before .before .before .before .before .before .before .before .row-for .ensures) (getD (a .words .now) 2 0) refl (c .before .before .before .before .before .before .before .before .before .before .before .number-for .result) (c .before .before .before .before .before .before .before .before .before .before .before .number-for .ensures) (c .before .before .before .before .before .before .before .before .before .add-node .last .0) (c .before .before .before .before .before .before .before .before .before .add-node .result) (c .before .before .before .before .before .before .before .before .before .add-node .ensures) (c .before .before .before .before .before .before .next-after .result) (c .before .before .before .before .before .before .next-after .ensures) (c .before .before .before .before .settle .last .0) (c .before .before .before .before .settle .ensures),
+      subst Readable (sym (c .before .slot-bytes .ensures)) (definition-readable (a .number) (a .action) (p .target) (a .at) (a .slot) (p .bytes) (a .words .now) (a .arena .now) (p .ground) size there),
     )
 
 same-length : tie.Need-same-length
@@ -110,7 +110,7 @@ returns : tie.Need-returns
 returns c =
     λ target bytes g.
     let a = c .before .before .before .before .before .before .before .before .before .before .before .before .before .before .before .before .before .before .before .before .before .before .before .before .before .args in
-    synth-done (a .number) (a .action) target (a .at) (a .slot) bytes (a .words .now) (a .shelf .now) g (c .before .before .before .before .before .before .before .before .before .before .before .before .before .before .before .before .before .before .before .before .before .wide .result) (c .before .before .before .before .before .before .before .before .before .before .before .before .before .before .before .before .before .before .before .before .before .wide .ensures) (c .before .before .before .before .before .before .before .before .before .before .before .before .before .before .before .row-for .result) (c .before .before .before .before .before .before .before .before .before .before .before .before .before .before .before .row-for .ensures) (getD (a .words .now) 2 0) refl (c .before .before .before .before .before .before .before .before .before .before .before .before .before .before .number-for .result) (c .before .before .before .before .before .before .before .before .before .before .before .before .before .before .number-for .ensures) (c .before .before .before .before .before .before .before .before .before .before .before .before .add-node .last .0) (c .before .before .before .before .before .before .before .before .before .before .before .before .add-node .result) (c .before .before .before .before .before .before .before .before .before .before .before .before .add-node .ensures)
+    synth-done (a .number) (a .action) target (a .at) (a .slot) bytes (a .words .now) (a .arena .now) g (c .before .before .before .before .before .before .before .before .before .before .before .before .before .before .before .before .before .before .before .before .before .wide .result) (c .before .before .before .before .before .before .before .before .before .before .before .before .before .before .before .before .before .before .before .before .before .wide .ensures) (c .before .before .before .before .before .before .before .before .before .before .before .before .before .before .before .row-for .result) (c .before .before .before .before .before .before .before .before .before .before .before .before .before .before .before .row-for .ensures) (getD (a .words .now) 2 0) refl (c .before .before .before .before .before .before .before .before .before .before .before .before .before .before .number-for .result) (c .before .before .before .before .before .before .before .before .before .before .before .before .before .before .number-for .ensures) (c .before .before .before .before .before .before .before .before .before .before .before .before .add-node .last .0) (c .before .before .before .before .before .before .before .before .before .before .before .before .add-node .result) (c .before .before .before .before .before .before .before .before .before .before .before .before .add-node .ensures)
     (c .before .before .before .before .before .before .before .before .before .next-after .result) (c .before .before .before .before .before .before .before .before .before .next-after .ensures) (c .before .before .before .before .before .before .before .settle .last .0) (c .before .before .before .before .before .before .before .settle .ensures)
     (getD (a .words .now) (4 + c .before .before .before .before .before .before .before .before .before .before .before .before .before .before .before .before .before .before .before .wide2 .result) 0) (ap (λ (j : ℕ). getD (a .words .now) (4 + j) 0) (c .before .before .before .before .before .before .before .before .before .before .before .before .before .before .before .before .before .before .before .wide2 .ensures))
     (put controlsPlace controlsWords (c .before .before .initial-row .last .0) (c .before .before .before .before .before .before .before .settle .last .0))

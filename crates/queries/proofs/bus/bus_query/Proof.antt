@@ -4,7 +4,7 @@ use mathlib.Core.List.{[], _∷_}
 use native.Mathlib.Omega.{arith}
 use borrow.Author.Needs.{needs}
 use lib.ListN.{getD}
-use Rattle.words.specs.declared.Refusal.the-variants.{NoBus}
+use Rattle.refusals.specs.declared.Refusal.the-variants.{NoBus}
 use Rattle.model.specs.declared.Query.the-variants as query
 use Rattle.model.specs.Layout.{busesPlace}
 use Rattle.model.specs.Engine.{decode}
@@ -18,7 +18,7 @@ use Rattle.queries.proofs.bus.bus_query.Tie as tie
 returns : tie.Need-returns
 returns c =
     let a = c .before .before .before .before .before .args in
-    reply-refused (query.Bus (a .bus)) (a .bytes .now) (a .words .now) (a .shelf .now) (a .out .now) NoBus (bus-fires (a .bus) (a .bytes .now) (decode (a .words .now) (a .shelf .now)) (omega arith))
+    reply-refused (query.Bus (a .bus)) (a .bytes .now) (a .words .now) (a .arena .now) (a .out .now) NoBus (bus-fires (a .bus) (a .bytes .now) (decode (a .words .now) (a .arena .now)) (omega arith))
 
 wide-requires : tie.Need-wide-requires
 wide-requires c κs = search needs
@@ -52,9 +52,9 @@ returns-2 c =
     let a = c .before .before .before .before .before .before .before .before .before .before .before .before .before .before .args in
     let ws = a .words .now in
     let w = c .before .before .before .before .before .before .before .before .wide in
-    reply-sent (query.Bus (a .bus)) (a .bytes .now) ws (a .shelf .now) (a .out .now) (wordMessage busAddress busTags (a .bus ∷ (getD ws (busesPlace + w .result) 0 ∷ []))) (c .before .before .send-words .result) (c .before .before .send-words .last .0)
-    (bus-passes (a .bus) (a .bytes .now) (decode ws (a .shelf .now)) (omega arith))
-    (ap (λ (k : ℕ). wordMessage busAddress busTags (a .bus ∷ (getD ws (busesPlace + k) 0 ∷ []))) (w .ensures) ∙ bus-reply (a .bus) (a .bytes .now) ws (a .shelf .now) (omega arith))
+    reply-sent (query.Bus (a .bus)) (a .bytes .now) ws (a .arena .now) (a .out .now) (wordMessage busAddress busTags (a .bus ∷ (getD ws (busesPlace + w .result) 0 ∷ []))) (c .before .before .send-words .result) (c .before .before .send-words .last .0)
+    (bus-passes (a .bus) (a .bytes .now) (decode ws (a .arena .now)) (omega arith))
+    (ap (λ (k : ℕ). wordMessage busAddress busTags (a .bus ∷ (getD ws (busesPlace + k) 0 ∷ []))) (w .ensures) ∙ bus-reply (a .bus) (a .bytes .now) ws (a .arena .now) (omega arith))
     (c .before .before .send-words .ensures)
 
 pub bus-query-spec : {M : Type 1} → statement M

@@ -4,7 +4,7 @@ use mathlib.Core.List.{[], _∷_}
 use native.Mathlib.Omega.{arith}
 use borrow.Author.Needs.{needs}
 use lib.ListN.{getD}
-use Rattle.words.specs.declared.Refusal.the-variants.{NoNode, WrongKind, NoControl}
+use Rattle.refusals.specs.declared.Refusal.the-variants.{NoNode, WrongKind, NoControl}
 use Rattle.osc.specs.Message.{int, float, message}
 use Rattle.model.specs.declared.Query.the-variants as query
 use Rattle.model.specs.Layout.{nodesPlace, nodesWords}
@@ -29,7 +29,7 @@ returns : tie.Need-returns
 returns c =
     let s = c .before .before .before .before .before .before .before .before in
     let ws = s .args .words .now in
-    let bs = s .args .shelf .now in
+    let bs = s .args .arena .now in
     let n = c .before .before .before .node-place in
     reply-refused (query.Control (s .args .node) (s .args .key)) (s .args .bytes .now) ws bs (s .args .out .now) NoNode
     (control-unknown (s .args .node) (s .args .key) (s .args .bytes .now) ws bs (n .result) (n .ensures) (omega (arith, c .before .wide .ensures)))
@@ -41,7 +41,7 @@ returns-2 : tie.Need-returns-2
 returns-2 c =
     let s = c .before .before .before .before .before .before .before .before .before .before in
     let ws = s .args .words .now in
-    let bs = s .args .shelf .now in
+    let bs = s .args .arena .now in
     let n = c .before .before .before .before .before .node-place in
     reply-refused (query.Control (s .args .node) (s .args .key)) (s .args .bytes .now) ws bs (s .args .out .now) WrongKind
     (control-group (s .args .node) (s .args .key) (s .args .bytes .now) ws bs (n .result) (n .ensures) (record { state = s .pre; live = omega (arith, c .before .before .before .wide .ensures) }) (sym (c .before .node-is-group .ensures) ∙ c .if2 .taken))
@@ -53,7 +53,7 @@ returns-3 : tie.Need-returns-3
 returns-3 c =
     let s = c .before .before .before .before .before .before .before .before .before .before .before .before in
     let ws = s .args .words .now in
-    let bs = s .args .shelf .now in
+    let bs = s .args .arena .now in
     let n = c .before .before .before .before .before .before .before .node-place in
     reply-refused (query.Control (s .args .node) (s .args .key)) (s .args .bytes .now) ws bs (s .args .out .now) NoControl
     (control-lacks (s .args .node) (s .args .key) (s .args .bytes .now) ws bs (n .result) (n .ensures) (record { state = s .pre; live = omega (arith, c .before .before .before .before .before .wide .ensures) }) (sym (c .before .before .before .node-is-group .ensures) ∙ c .before .before .if2 .left) (sym (c .before .controls-missing .ensures) ∙ c .if3 .taken))
@@ -83,7 +83,7 @@ returns-4 : tie.Need-returns-4
 returns-4 c =
     let s = c .before .before .before .before .before .before .before .before .before .before .before .before .before .before .before .before .before .before in
     let ws = s .args .words .now in
-    let bs = s .args .shelf .now in
+    let bs = s .args .arena .now in
     let n = c .before .before .before .before .before .before .before .before .before .before .before .before .before .node-place in
     let at : ℕ = n .result in
     let value = c .before .before .before .before .before .read-key in

@@ -6,7 +6,7 @@ use borrow.Author.Needs.{needs}
 use borrow.Author.Tests.{eq-eqb, ne-eqb}
 use lib.ListN.{getD}
 use Rattle.words.specs.Parts.{region}
-use Rattle.words.specs.declared.Refusal.the-variants.{NoNode}
+use Rattle.refusals.specs.declared.Refusal.the-variants.{NoNode}
 use Rattle.nodes.specs.Table.{rows}
 use Rattle.nodes.specs.Place.{groupSlot, place}
 use Rattle.nodes.specs.Structure.{headOf, tailOf, nextOf}
@@ -34,8 +34,8 @@ returns : tie.Need-returns
 returns c =
     let a = c .before .before .before .before .before .before .before .before .args in
     let n = c .before .before .before .node-place in
-    reply-refused (query.Node (a .node)) (a .bytes .now) (a .words .now) (a .shelf .now) (a .out .now) NoNode
-    (node-fires (a .node) (a .bytes .now) (a .words .now) (a .shelf .now) (n .result) (n .ensures) (omega (arith, c .before .wide .ensures)))
+    reply-refused (query.Node (a .node)) (a .bytes .now) (a .words .now) (a .arena .now) (a .out .now) NoNode
+    (node-fires (a .node) (a .bytes .now) (a .words .now) (a .arena .now) (n .result) (n .ensures) (omega (arith, c .before .wide .ensures)))
 
 sub-nodes : tie.Need-sub-nodes
 sub-nodes c = search needs
@@ -101,7 +101,7 @@ returns-2 : tie.Need-returns-2
 returns-2 c =
     let s = c .before .before .before .before .before .before .before .before .before .before .before .before .before .before .before .before .before .before .before .before .before .before .before .before in
     let ws = s .args .words .now in
-    let bs = s .args .shelf .now in
+    let bs = s .args .arena .now in
     let us = region nodesPlace nodesWords ws in
     let n = c .before .before .before .before .before .before .before .before .before .before .before .before .before .before .before .before .before .before .before .node-place in
     let w = c .before .before .before .before .before .before .before .before .before .before .before .before .before .before .before .before .before .wide in
@@ -140,7 +140,7 @@ returns-3 : tie.Need-returns-3
 returns-3 c =
     let s = c .before .before .before .before .before .before .before .before .before .before .before .before .before .before .before .before .before .before .before .before .before .before in
     let ws = s .args .words .now in
-    let bs = s .args .shelf .now in
+    let bs = s .args .arena .now in
     let us = region nodesPlace nodesWords ws in
     let n = c .before .before .before .before .before .before .before .before .before .before .before .before .before .before .before .before .before .node-place in
     let w = c .before .before .before .before .before .before .before .before .before .before .before .before .before .before .before .wide in

@@ -2,7 +2,6 @@ use Prim.Native.Nat.{_+_, _*_, _-_, _≤_}
 use mathlib.Core.Path.{_≡_}
 use mathlib.Core.Logic.{⊎-elim}
 use native.Mathlib.Omega.{arith}
-use borrow.Author.Needs.{needs}
 use borrow.Author.Tests.{eq-eqb, ne-eqb}
 use lib.ListN.{getD}
 use Rattle.nodes.specs.Place.{groupSlot}
@@ -13,11 +12,11 @@ use Rattle.queries.proofs.status.group_count.Statement.{statement}
 use Rattle.queries.proofs.status.group_count.Tie as tie
 
 abbrev Inv-loop : tie.InvT-loop
-Inv-loop words shelf count groups₀ i₀ groups i =
-    (i ≤ countIn words) × (groups ≤ i) × (groups + groupCount (viewFrom words shelf i) ≡ groupCount (viewFrom words shelf 0))
+Inv-loop words arena count groups₀ i₀ groups i =
+    (i ≤ countIn words) × (groups ≤ i) × (groups + groupCount (viewFrom words arena i) ≡ groupCount (viewFrom words arena 0))
 
 abbrev μ-loop : tie.MeasureT-loop
-μ-loop words shelf count groups₀ i₀ groups i = countIn words - i
+μ-loop words arena count groups₀ i₀ groups i = countIn words - i
 
 shared-slice-read-wide : tie.Need-shared-slice-read-wide Inv-loop μ-loop
 shared-slice-read-wide c = omega arith
@@ -57,7 +56,7 @@ loop-again c =
     let a = c .before .before .before .before .before .before .before .before in
     let ws = a .args .words .now in
     let i = c .before .before .before .loop .i in
-    let turn = group-word-turn ws (a .args .shelf .now) i (record { state = a .pre; live = omega arith }) in
+    let turn = group-word-turn ws (a .args .arena .now) i (record { state = a .pre; live = omega arith }) in
     ⊎-elim
     (λ w. (omega (arith, w .1), omega (arith, w .1), omega (arith, w .1, rw (eq-eqb (getD ws (nodesPlace + 5 * i + 3) 0) groupSlot (w .0 .taken)) at turn)))
     (λ w. (omega (arith, w .1), omega (arith, w .1), omega (arith, w .1, rw (ne-eqb (getD ws (nodesPlace + 5 * i + 3) 0) groupSlot (w .0 .left)) at turn)))
@@ -66,7 +65,7 @@ loop-again c =
 returns : tie.Need-returns Inv-loop μ-loop
 returns c =
     let a = c .before .before .before .before .before .before .args in
-    omega (arith, groups-end (a .words .now) (a .shelf .now) (c .before .loop .i) (omega arith))
+    omega (arith, groups-end (a .words .now) (a .arena .now) (c .before .loop .i) (omega arith))
 
 pub group-count-spec : {M : Type 1} → statement M
 group-count-spec =

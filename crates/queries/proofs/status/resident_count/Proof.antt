@@ -2,17 +2,16 @@ use Prim.Native.Nat.{_+_, _-_, _≤_}
 use mathlib.Core.Path.{_≡_}
 use mathlib.Core.Logic.{⊎-elim}
 use native.Mathlib.Omega.{arith}
-use borrow.Author.Needs.{needs}
 use borrow.Author.Tests.{eq-eqb, ne-eqb}
 use lib.ListN.{drop, getD}
-use Rattle.model.specs.Layout.{slotCount, residentPlace, residentIn}
+use Rattle.model.specs.Layout.{slotCount, residentPlace, flagsIn}
 use Rattle.queries.specs.Status.{flagCount, flag-word-turn, flags-end}
 use Rattle.queries.proofs.status.resident_count.Statement.{statement}
 use Rattle.queries.proofs.status.resident_count.Tie as tie
 
 abbrev Inv-loop : tie.InvT-loop
 Inv-loop words names₀ i₀ names i =
-    (i ≤ slotCount) × (names ≤ i) × (names + flagCount (slotCount - i) (drop i (residentIn words)) ≡ flagCount slotCount (residentIn words))
+    (i ≤ slotCount) × (names ≤ i) × (names + flagCount (slotCount - i) (drop i (flagsIn words)) ≡ flagCount slotCount (flagsIn words))
 
 abbrev μ-loop : tie.MeasureT-loop
 μ-loop words names₀ i₀ names i = slotCount - i
@@ -52,7 +51,7 @@ loop-again c =
 returns : tie.Need-returns Inv-loop μ-loop
 returns c =
     let ws = c .before .before .args .words .now in
-    omega (arith, flags-end slotCount (c .before .loop .i) (residentIn ws) (omega arith))
+    omega (arith, flags-end slotCount (c .before .loop .i) (flagsIn ws) (omega arith))
 
 pub resident-count-spec : {M : Type 1} → statement M
 resident-count-spec =

@@ -22,7 +22,7 @@ shared-slice-read-synths : tie.Need-shared-slice-read-synths
 shared-slice-read-synths c = search needs
 
 sub-synths : tie.Need-sub-synths
-sub-synths c = omega (arith, c .before .group-count .ensures, kinds-all (c .before .before .before .before .before .before .before .args .words .now) (c .before .before .before .before .before .before .before .args .shelf .now))
+sub-synths c = omega (arith, c .before .group-count .ensures, kinds-all (c .before .before .before .before .before .before .before .args .words .now) (c .before .before .before .before .before .before .before .args .arena .now))
 
 resident-count-requires : tie.Need-resident-count-requires
 resident-count-requires c κs = search needs
@@ -49,7 +49,7 @@ returns : tie.Need-returns
 returns c =
     let a = c .before .before .before .before .before .before .before .before .before .before .before .before .before .before .before .args in
     let ws = a .words .now in
-    let bs = a .shelf .now in
+    let bs = a .arena .now in
     let units = c .before .before .before .before .before .before .before .before .before .before .unit-count in
     let groups = c .before .before .before .before .before .before .before .before .before .group-count in
     let names = c .before .before .before .before .before .before .before .resident-count in

@@ -1,4 +1,3 @@
-use Prim.Native.Nat.{_-_}
 use borrow.Author.Needs.{needs}
 use Rattle.queries.proofs.status.units_known.Statement.{statement}
 use Rattle.queries.proofs.status.units_known.Tie as tie

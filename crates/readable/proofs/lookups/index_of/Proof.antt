@@ -1,7 +1,6 @@
 use Rattle.synthdef.specs.declared.front.Counts.{Counts}
 use Rattle.synthdef.specs.Lookup.{firstNamed}
 use Rattle.readable.specs.Readable.{parts, front-entries}
-use Prim.Native.Nat.{_-_}
 use mathlib.Core.Path.{sym, ap, _∙_}
 use borrow.Author.Needs.{needs}
 use Rattle.readable.proofs.lookups.index_of.Statement.{statement}

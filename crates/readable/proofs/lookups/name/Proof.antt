@@ -1,5 +1,4 @@
-use Rattle.readable.specs.Readable.{name-told}
-use Prim.Native.Nat.{_-_}
+use Rattle.readable.specs.Readable.{name-fact}
 use mathlib.Core.Path.{_∙_}
 use borrow.Author.Needs.{needs}
 use Rattle.readable.proofs.lookups.name.Statement.{statement}
@@ -11,7 +10,7 @@ name-at-requires c κs = search needs
 returns : tie.Need-returns
 returns c =
     let k = c .before .before .pre in
-    c .name-at .ensures ∙ name-told (c .before .before .args .s .now) k
+    c .name-at .ensures ∙ name-fact (c .before .before .args .s .now) k
 
 pub name-spec : {M : Type 1} → statement M
 name-spec = tie.close (tie.spec name-at-requires returns)

@@ -2,7 +2,6 @@ use Rattle.synthdef.specs.declared.front.Counts.{Counts}
 use Rattle.synthdef.specs.FieldLaws.{word}
 use Rattle.synthdef.specs.Lookup.{atNumber}
 use Rattle.readable.specs.Readable.{whole-readable, parts, front-entries, units-at}
-use Prim.Native.Nat.{_-_}
 use mathlib.Core.Path.{sym, ap, _∙_}
 use Rattle.readable.proofs.lookups.units.Statement.{statement}
 use Rattle.readable.proofs.lookups.units.Tie as tie

@@ -1,6 +1,5 @@
 use Rattle.synthdef.specs.declared.front.Counts.{Counts}
 use Rattle.synthdef.specs.declared.lookup.ValuesFound.the-variants.{At}
-use Prim.Native.Nat.{_-_}
 use mathlib.Core.Path.{ap}
 use borrow.Author.Needs.{needs}
 use Rattle.readable.proofs.lookups.values.Statement.{statement}

@@ -22,14 +22,14 @@ part-requires-2 c κs = search needs
 returns : tie.Need-returns
 returns c =
     let a = c .before .before .before .before .before .before .args in
-    let told = sym (rw (c .before .before .next .given .1) at (c .before .before .before .before .read-definition .ensures)) in
-    c .part .ensures ∙ sym (bytes-got (a .s .now) (a .at) told)
+    let fact = sym (rw (c .before .before .next .given .1) at (c .before .before .before .before .read-definition .ensures)) in
+    c .part .ensures ∙ sym (bytes-got (a .s .now) (a .at) fact)
 
 returns-2 : tie.Need-returns-2
 returns-2 c =
     let a = c .before .before .before .before .before .before .args in
-    let told = sym (rw (c .before .before .refusal .given .1) at (c .before .before .before .before .read-definition .ensures)) in
-    c .part2 .ensures ∙ sym (bytes-bad (a .s .now) (a .at) told)
+    let fact = sym (rw (c .before .before .refusal .given .1) at (c .before .before .before .before .read-definition .ensures)) in
+    c .part2 .ensures ∙ sym (bytes-bad (a .s .now) (a .at) fact)
 
 pub bytes-at-spec : {M : Type 1} → statement M
 bytes-at-spec =

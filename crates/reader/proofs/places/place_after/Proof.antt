@@ -16,14 +16,14 @@ enum-known-refusal c = search needs
 returns : tie.Need-returns
 returns c =
     let a = c .before .before .before .before .before .args in
-    let told = sym (rw (c .before .next .given .1) at (c .before .before .before .read-definition .ensures)) in
-    sym (after-got (a .s .now) (a .at) told)
+    let fact = sym (rw (c .before .next .given .1) at (c .before .before .before .read-definition .ensures)) in
+    sym (after-got (a .s .now) (a .at) fact)
 
 returns-2 : tie.Need-returns-2
 returns-2 c =
     let a = c .before .before .before .before .before .args in
-    let told = sym (rw (c .before .refusal .given .1) at (c .before .before .before .read-definition .ensures)) in
-    sym (after-bad (a .s .now) (a .at) told)
+    let fact = sym (rw (c .before .refusal .given .1) at (c .before .before .before .read-definition .ensures)) in
+    sym (after-bad (a .s .now) (a .at) fact)
 
 pub place-after-spec : {M : Type 1} → statement M
 place-after-spec = tie.close (tie.spec read-definition-requires enum-known-next enum-known-refusal returns returns-2)

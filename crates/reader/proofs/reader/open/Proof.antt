@@ -47,7 +47,6 @@ use Rattle.synthdef.proofs.file.Checked as K
 use Rattle.synthdef.proofs.file.Checked.Laws as K′
 use Rattle.synthdef.proofs.check_file as check
 use Rattle.synthdef.proofs.check_file.Symbol as check-def
-use Rattle.synthdef.proofs.check_file.Symbol.{name as #check-file}
 use Rattle.synthdef.proofs.check_file.Met as check-thm
 use Rattle.reader.specs.Places.{startOf}
 use Rattle.reader.specs.Walk.{opened}
@@ -59,9 +58,7 @@ use Rattle.reader.proofs.reader.Opened as O
 use Rattle.reader.proofs.reader.Opened.Laws as O′
 use Rattle.reader.proofs.places.start_of as start
 use Rattle.reader.proofs.places.start_of.Symbol as start-def
-use Rattle.reader.proofs.places.start_of.Symbol.{name as #start-of}
 use Rattle.reader.proofs.places.start_of.Met as start-thm
-use Rattle.reader.proofs.reader.open.Key.{name as #open}
 use Rattle.reader.proofs.reader.open as open′
 use Rattle.reader.proofs.reader.open.Statement as stated
 use Rattle.reader.proofs.reader.open.Code as code

@@ -1,4 +1,3 @@
-use Prim.Native.Nat.{_-_}
 use mathlib.Core.Path.{ap, _∙_}
 use borrow.Author.Needs.{needs}
 use Rattle.synthdef.specs.File.{refusalNumber}
@@ -14,14 +13,14 @@ enum-known-count c = search needs
 enum-known-refusal : tie.Need-enum-known-refusal
 enum-known-refusal c = search needs
 
-refusal-number-requires : tie.Need-refusal-number-requires
-refusal-number-requires c κs = search needs
+fault-number-requires : tie.Need-fault-number-requires
+fault-number-requires c κs = search needs
 
 returns : tie.Need-returns
 returns c = ap refusalNumber (rw (c .before .count .given .1) at (c .before .before .before .check-file .ensures))
 
 returns-2 : tie.Need-returns-2
-returns-2 c = c .refusal-number .ensures ∙ ap refusalNumber (rw (c .before .before .refusal .given .1) at (c .before .before .before .before .check-file .ensures))
+returns-2 c = c .fault-number .ensures ∙ ap refusalNumber (rw (c .before .before .refusal .given .1) at (c .before .before .before .before .check-file .ensures))
 
 pub synthdef-refusal-spec : {M : Type 1} → statement M
 synthdef-refusal-spec =
@@ -30,6 +29,6 @@ synthdef-refusal-spec =
     check-file-requires
     enum-known-count
     enum-known-refusal
-    refusal-number-requires
+    fault-number-requires
     returns
     returns-2)

@@ -1,4 +1,3 @@
-use Prim.Native.Nat.{_-_}
 use mathlib.Core.Path.{sym}
 use borrow.Author.Needs.{needs}
 use Rattle.synthdef.specs.Spans.{spanned, span-past, span-refused, span-found, never-stops, never-bad}
@@ -14,8 +13,8 @@ enum-known-count c = search needs
 returns : tie.Need-returns
 returns c =
     let a = c .before .before .before .before .before .before .args in
-    let told = sym (rw (c .before .before .count .given .1) at (c .before .before .before .before .check-file .ensures)) in
-    sym (span-past (a .s .now) (a .index) told (c .if1 .taken))
+    let fact = sym (rw (c .before .before .count .given .1) at (c .before .before .before .before .check-file .ensures)) in
+    sym (span-past (a .s .now) (a .index) fact (c .if1 .taken))
 
 skip-definitions-requires : tie.Need-skip-definitions-requires
 skip-definitions-requires c κs = search needs
@@ -41,8 +40,8 @@ enum-known-refusal-3 c = search needs
 returns-2 : tie.Need-returns-2
 returns-2 c =
     let a = c .before .before .before .before .before .before .before .before .before .before .before .before .before .before .args in
-    let told = sym (rw (c .before .before .before .before .before .before .before .before .before .before .count .given .1) at (c .before .before .before .before .before .before .before .before .before .before .before .before .check-file .ensures)) in
-    let span = spanned (a .s .now) (a .index) told (c .before .before .before .before .before .before .before .before .if1 .left) in
+    let fact = sym (rw (c .before .before .before .before .before .before .before .before .before .before .count .given .1) at (c .before .before .before .before .before .before .before .before .before .before .before .before .check-file .ensures)) in
+    let span = spanned (a .s .now) (a .index) fact (c .before .before .before .before .before .before .before .before .if1 .left) in
     let walked = sym (rw (c .before .before .before .before .before .here .given .1) at (c .before .before .before .before .before .before .before .skip-definitions .ensures)) in
     let read = sym (rw (c .before .next .given .1) at (c .before .before .before .read-definition .ensures)) in
     sym (span-found (a .s .now) (a .index) span walked read)
@@ -50,8 +49,8 @@ returns-2 c =
 returns-3 : tie.Need-returns-3
 returns-3 c =
     let a = c .before .before .before .before .before .before .before .before .before .before .before .before .before .before .args in
-    let told = sym (rw (c .before .before .before .before .before .before .before .before .before .before .count .given .1) at (c .before .before .before .before .before .before .before .before .before .before .before .before .check-file .ensures)) in
-    let span = spanned (a .s .now) (a .index) told (c .before .before .before .before .before .before .before .before .if1 .left) in
+    let fact = sym (rw (c .before .before .before .before .before .before .before .before .before .before .count .given .1) at (c .before .before .before .before .before .before .before .before .before .before .before .before .check-file .ensures)) in
+    let span = spanned (a .s .now) (a .index) fact (c .before .before .before .before .before .before .before .before .if1 .left) in
     let walked = sym (rw (c .before .before .before .before .before .here .given .1) at (c .before .before .before .before .before .before .before .skip-definitions .ensures)) in
     let read = sym (rw (c .before .refusal .given .1) at (c .before .before .before .read-definition .ensures)) in
     absurd (never-bad (a .s .now) (a .index) span walked read)
@@ -59,16 +58,16 @@ returns-3 c =
 returns-4 : tie.Need-returns-4
 returns-4 c =
     let a = c .before .before .before .before .before .before .before .before .before .before .args in
-    let told = sym (rw (c .before .before .before .before .before .before .count .given .1) at (c .before .before .before .before .before .before .before .before .check-file .ensures)) in
-    let span = spanned (a .s .now) (a .index) told (c .before .before .before .before .if1 .left) in
+    let fact = sym (rw (c .before .before .before .before .before .before .count .given .1) at (c .before .before .before .before .before .before .before .before .check-file .ensures)) in
+    let span = spanned (a .s .now) (a .index) fact (c .before .before .before .before .if1 .left) in
     let walked = sym (rw (c .before .refusal2 .given .1) at (c .before .before .before .skip-definitions .ensures)) in
     absurd (never-stops (a .s .now) (a .index) span walked)
 
 returns-5 : tie.Need-returns-5
 returns-5 c =
     let a = c .before .before .before .before .before .args in
-    let told = sym (rw (c .before .refusal3 .given .1) at (c .before .before .before .check-file .ensures)) in
-    sym (span-refused (a .s .now) (a .index) told)
+    let fact = sym (rw (c .before .refusal3 .given .1) at (c .before .before .before .check-file .ensures)) in
+    sym (span-refused (a .s .now) (a .index) fact)
 
 pub definition-at-spec : {M : Type 1} → statement M
 definition-at-spec =

@@ -2,8 +2,8 @@ use mathlib.Core.Path.{sym, _∙_}
 use mathlib.Core.List.{[]}
 use borrow.Author.Needs.{needs}
 use Rattle.synthdef.specs.Reader.{readFront}
-use Rattle.synthdef.specs.Front.{told}
-use Rattle.synthdef.specs.LookupLaws.{told-bad, name-told}
+use Rattle.synthdef.specs.Front.{countsOf}
+use Rattle.synthdef.specs.LookupLaws.{fact-bad, name-fact}
 use Rattle.synthdef.proofs.lookup.definition_name_in.Statement.{statement}
 use Rattle.synthdef.proofs.lookup.definition_name_in.Tie as tie
 
@@ -26,13 +26,13 @@ returns : tie.Need-returns
 returns c =
     let a = c .before .before .before .before .before .before .args in
     let e = rw (c .before .before .counts .given .1) at (c .before .before .before .before .read-front .ensures) in
-    c .part .ensures ∙ sym (name-told (a .s .now) e)
+    c .part .ensures ∙ sym (name-fact (a .s .now) e)
 
 returns-2 : tie.Need-returns-2
 returns-2 c =
     let a = c .before .before .before .before .before .before .args in
     let e = rw (c .before .before .refusal .given .1) at (c .before .before .before .before .read-front .ensures) in
-    c .part2 .ensures ∙ told-bad (told 0) (readFront (a .s .now) 0) [] (λ f p. f .name) e
+    c .part2 .ensures ∙ fact-bad (countsOf 0) (readFront (a .s .now) 0) [] (λ f p. f .name) e
 
 pub definition-name-in-spec : {M : Type 1} → statement M
 definition-name-in-spec =

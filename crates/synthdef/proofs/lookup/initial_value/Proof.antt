@@ -4,9 +4,9 @@ use native.Mathlib.Omega.{arith}
 use borrow.Author.Needs.{needs}
 use Rattle.synthdef.specs.declared.lookup.Found.the-variants.{At, Nothing}
 use Rattle.synthdef.specs.Reader.{readFront}
-use Rattle.synthdef.specs.Front.{told}
+use Rattle.synthdef.specs.Front.{countsOf}
 use Rattle.synthdef.specs.Fields.{float32}
-use Rattle.synthdef.specs.LookupLaws.{value-place, value-told, value-past, on-got, on-bad, told-bad}
+use Rattle.synthdef.specs.LookupLaws.{value-place, value-fact, value-past, on-got, on-bad, fact-bad}
 use Rattle.synthdef.proofs.lookup.initial_value.Statement.{statement}
 use Rattle.synthdef.proofs.lookup.initial_value.Tie as tie
 
@@ -53,7 +53,7 @@ returns-2 c =
     let k = c .before .before .before .before .before .before .before .before .before .counts .given .0 .0 in
     let e = rw (c .before .before .before .before .before .before .before .before .before .counts .given .1) at (c .before .before .before .before .before .before .before .before .before .before .before .read-front .ensures) in
     let n = rw (c .before .pattern .given .1, c .before .before .before .before .before .wide .ensures) at (c .before .before .before .float32 .ensures) in
-    on-got (float32 (a .s .now) (k .values + 4 * a .index)) Nothing (λ x end. At x) n ∙ sym (value-told (a .s .now) (a .index) e (c .before .before .before .before .before .before .if1 .left))
+    on-got (float32 (a .s .now) (k .values + 4 * a .index)) Nothing (λ x end. At x) n ∙ sym (value-fact (a .s .now) (a .index) e (c .before .before .before .before .before .before .if1 .left))
 
 returns-3 : tie.Need-returns-3
 returns-3 c =
@@ -61,13 +61,13 @@ returns-3 c =
     let k = c .before .before .before .before .before .before .before .before .before .counts .given .0 .0 in
     let e = rw (c .before .before .before .before .before .before .before .before .before .counts .given .1) at (c .before .before .before .before .before .before .before .before .before .before .before .read-front .ensures) in
     let n = rw (c .before .refusal .given .1, c .before .before .before .before .before .wide .ensures) at (c .before .before .before .float32 .ensures) in
-    on-bad (float32 (a .s .now) (k .values + 4 * a .index)) Nothing (λ x end. At x) n ∙ sym (value-told (a .s .now) (a .index) e (c .before .before .before .before .before .before .if1 .left))
+    on-bad (float32 (a .s .now) (k .values + 4 * a .index)) Nothing (λ x end. At x) n ∙ sym (value-fact (a .s .now) (a .index) e (c .before .before .before .before .before .before .if1 .left))
 
 returns-4 : tie.Need-returns-4
 returns-4 c =
     let a = c .before .before .before .before .before .args in
     let e = rw (c .before .refusal2 .given .1) at (c .before .before .before .read-front .ensures) in
-    told-bad (told 0) (readFront (a .s .now) 0) Nothing _ e
+    fact-bad (countsOf 0) (readFront (a .s .now) 0) Nothing _ e
 
 pub initial-value-spec : {M : Type 1} → statement M
 initial-value-spec =

@@ -1,8 +1,8 @@
 use borrow.Author.Needs.{needs}
 use Rattle.synthdef.specs.declared.lookup.Found.the-variants.{At, Nothing}
 use Rattle.synthdef.specs.Reader.{readFront}
-use Rattle.synthdef.specs.Front.{told}
-use Rattle.synthdef.specs.LookupLaws.{told-got, told-bad}
+use Rattle.synthdef.specs.Front.{countsOf}
+use Rattle.synthdef.specs.LookupLaws.{fact-got, fact-bad}
 use Rattle.synthdef.proofs.lookup.parameters_in.Statement.{statement}
 use Rattle.synthdef.proofs.lookup.parameters_in.Tie as tie
 
@@ -19,13 +19,13 @@ returns : tie.Need-returns
 returns c =
     let s = c .before .before .before .before .before .args .s .now in
     let e = rw (c .before .counts .given .1) at (c .before .before .before .read-front .ensures) in
-    told-got (told 0) (readFront s 0) Nothing (λ k p. At (k .parameters)) e
+    fact-got (countsOf 0) (readFront s 0) Nothing (λ k p. At (k .parameters)) e
 
 returns-2 : tie.Need-returns-2
 returns-2 c =
     let s = c .before .before .before .before .before .args .s .now in
     let e = rw (c .before .refusal .given .1) at (c .before .before .before .read-front .ensures) in
-    told-bad (told 0) (readFront s 0) Nothing _ e
+    fact-bad (countsOf 0) (readFront s 0) Nothing _ e
 
 pub parameters-in-spec : {M : Type 1} → statement M
 parameters-in-spec =

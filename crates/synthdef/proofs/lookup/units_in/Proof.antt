@@ -5,9 +5,9 @@ use Rattle.synthdef.specs.declared.lookup.Found.{Found}
 use Rattle.synthdef.specs.declared.lookup.Found.the-variants.{At, Nothing}
 use Rattle.synthdef.specs.Fields.{count}
 use Rattle.synthdef.specs.Reader.{readFront}
-use Rattle.synthdef.specs.Front.{told}
+use Rattle.synthdef.specs.Front.{countsOf}
 use Rattle.synthdef.specs.Lookup.{onRead}
-use Rattle.synthdef.specs.LookupLaws.{on-got, on-bad, told-got, told-bad}
+use Rattle.synthdef.specs.LookupLaws.{on-got, on-bad, fact-got, fact-bad}
 use Rattle.synthdef.proofs.lookup.units_in.Statement.{statement}
 use Rattle.synthdef.proofs.lookup.units_in.Tie as tie
 
@@ -38,7 +38,7 @@ returns c =
     let e = rw (c .before .before .before .before .before .counts .given .1) at (c .before .before .before .before .before .before .before .read-front .ensures) in
     let n = rw (c .before .units .given .1) at (c .before .before .before .count-to .ensures) in
     let past = c .before .before .before .before .before .counts .given .0 .1 .0 .at in
-    on-got (count s past) Nothing units n ∙ told-got (told 0) (readFront s 0) Nothing (λ k p. onRead (count s p) Nothing units) e
+    on-got (count s past) Nothing units n ∙ fact-got (countsOf 0) (readFront s 0) Nothing (λ k p. onRead (count s p) Nothing units) e
 
 returns-2 : tie.Need-returns-2
 returns-2 c =
@@ -46,13 +46,13 @@ returns-2 c =
     let e = rw (c .before .before .before .before .before .counts .given .1) at (c .before .before .before .before .before .before .before .read-front .ensures) in
     let n = rw (c .before .refusal .given .1) at (c .before .before .before .count-to .ensures) in
     let past = c .before .before .before .before .before .counts .given .0 .1 .0 .at in
-    on-bad (count s past) Nothing units n ∙ told-got (told 0) (readFront s 0) Nothing (λ k p. onRead (count s p) Nothing units) e
+    on-bad (count s past) Nothing units n ∙ fact-got (countsOf 0) (readFront s 0) Nothing (λ k p. onRead (count s p) Nothing units) e
 
 returns-3 : tie.Need-returns-3
 returns-3 c =
     let s = c .before .before .before .before .before .args .s .now in
     let e = rw (c .before .refusal2 .given .1) at (c .before .before .before .read-front .ensures) in
-    told-bad (told 0) (readFront s 0) Nothing _ e
+    fact-bad (countsOf 0) (readFront s 0) Nothing _ e
 
 pub units-in-spec : {M : Type 1} → statement M
 units-in-spec =

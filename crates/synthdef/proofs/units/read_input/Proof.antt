@@ -1,4 +1,4 @@
-use Prim.Native.Nat.{ℕ, suc, _-_, _<_}
+use Prim.Native.Nat.{ℕ, suc, _<_}
 use mathlib.Core.Path.{sym, ap, _∙_}
 use native.Mathlib.Omega.{arith}
 use borrow.Author.Needs.{needs}
@@ -49,9 +49,9 @@ returns-3 c =
     let read = sym (rw (c .before .before .before .before .before .before .unit .given .1) at (c .before .before .before .before .before .before .before .before .int32 .ensures)) in
     let less : u < a .units = omega arith in
     let known = outs-at (a .s .now) (a .start) (a .units) u less in
-    let told = c .before .before .before .before .before .before .before .before .before .before .pre .known u less (c .before .before .if3 .taken) in
+    let fact = c .before .before .before .before .before .before .before .before .before .before .pre .known u less (c .before .before .if3 .taken) in
     c .read-index2 .ensures
-    ∙ ap (λ (b : ℕ). ending (indexBelow b (a .s .now) (c .before .before .before .before .before .before .unit .given .0 .1 .0 .at))) (told ∙ sym known)
+    ∙ ap (λ (b : ℕ). ending (indexBelow b (a .s .now) (c .before .before .before .before .before .before .unit .given .0 .1 .0 .at))) (fact ∙ sym known)
     ∙ sym (input-output (a .constants) (outsFrom (a .s .now) (a .start) (a .units)) (a .s .now) (a .cursor .at) read (c .before .before .before .before .if1 .left) (rw outs-length less))
 
 far-outputs-requires : tie.Need-far-outputs-requires

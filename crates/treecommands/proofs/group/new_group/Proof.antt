@@ -30,16 +30,16 @@ part-add-node-end c = search needs
 add-node-requires : tie.Need-add-node-requires
 add-node-requires c κs =
     let a = c .before .before .before .before .before .before .before .before .before .args in
-    let told : c .before .before .before .before .before .before .group-spot .result ≡ spot.At (c .before .before .before .before .spot .given .0 .0) = c .before .before .before .before .spot .given .1 in
-    let ground : GroupGround (a .number) (a .action) (a .target) (a .words .now) (c .before .before .before .before .spot .given .0 .0) = rw told at (c .before .before .before .before .before .before .group-spot .ensures) in
+    let fact : c .before .before .before .before .before .before .group-spot .result ≡ spot.At (c .before .before .before .before .spot .given .0 .0) = c .before .before .before .before .spot .given .1 in
+    let ground : GroupGround (a .number) (a .action) (a .target) (a .words .now) (c .before .before .before .before .spot .given .0 .0) = rw fact at (c .before .before .before .before .before .before .group-spot .ensures) in
     rw (c .before .wide .ensures) (ground .room)
 
 renew-requires : tie.Need-renew-requires
 renew-requires c κs =
     let s = c .before .before .before .before .before .before .before .before .before .before .before .before .before in
     let a = s .args in
-    let told : c .before .before .before .before .before .before .before .before .before .before .group-spot .result ≡ spot.At (c .before .before .before .before .before .before .before .before .spot .given .0 .0) = c .before .before .before .before .before .before .before .before .spot .given .1 in
-    let ground : GroupGround (a .number) (a .action) (a .target) (a .words .now) (c .before .before .before .before .before .before .before .before .spot .given .0 .0) = rw told at (c .before .before .before .before .before .before .before .before .before .before .group-spot .ensures) in
+    let fact : c .before .before .before .before .before .before .before .before .before .before .group-spot .result ≡ spot.At (c .before .before .before .before .before .before .before .before .spot .given .0 .0) = c .before .before .before .before .before .before .before .before .spot .given .1 in
+    let ground : GroupGround (a .number) (a .action) (a .target) (a .words .now) (c .before .before .before .before .before .before .before .before .spot .given .0 .0) = rw fact at (c .before .before .before .before .before .before .before .before .before .before .group-spot .ensures) in
     group-ready (a .number) (a .action) (a .target) (a .words .now) (s .pre) (c .before .before .before .before .before .wide .result) (c .before .before .before .before .before .wide .ensures) (c .before .before .before .before .before .before .before .before .spot .given .0 .0) ground (c .before .before .before .add-node .last .0) (c .before .before .before .add-node .result) (c .before .before .before .add-node .ensures)
 
 enum-known-spot-2 : tie.Need-enum-known-spot-2
@@ -52,8 +52,8 @@ returns : tie.Need-returns
 returns c =
     let s = c .before .before .before .before .before .before .before .before .before .before .before .before .before .before .before .before in
     let a = s .args in
-    let told : c .before .before .before .before .before .before .before .before .before .before .before .before .before .group-spot .result ≡ spot.At (c .before .before .before .before .before .before .before .before .before .before .before .spot .given .0 .0) = c .before .before .before .before .before .before .before .before .before .before .before .spot .given .1 in
-    let ground : GroupGround (a .number) (a .action) (a .target) (a .words .now) (c .before .before .before .before .before .before .before .before .before .before .before .spot .given .0 .0) = rw told at (c .before .before .before .before .before .before .before .before .before .before .before .before .before .group-spot .ensures) in
+    let fact : c .before .before .before .before .before .before .before .before .before .before .before .before .before .group-spot .result ≡ spot.At (c .before .before .before .before .before .before .before .before .before .before .before .spot .given .0 .0) = c .before .before .before .before .before .before .before .before .before .before .before .spot .given .1 in
+    let ground : GroupGround (a .number) (a .action) (a .target) (a .words .now) (c .before .before .before .before .before .before .before .before .before .before .before .spot .given .0 .0) = rw fact at (c .before .before .before .before .before .before .before .before .before .before .before .before .before .group-spot .ensures) in
     group-done (a .number) (a .action) (a .target) (a .words .now) (s .pre) (c .before .before .before .before .before .before .before .before .wide .result) (c .before .before .before .before .before .before .before .before .wide .ensures) (c .before .before .before .before .before .before .before .before .before .before .before .spot .given .0 .0) ground (c .before .before .before .before .before .before .add-node .last .0) (c .before .before .before .before .before .before .add-node .result) (c .before .before .before .before .before .before .add-node .ensures)
     (c .before .before .renew .last .0) (c .before .before .renew .ensures)
 
@@ -63,8 +63,8 @@ same-length-2 c = search needs
 returns-2 : tie.Need-returns-2
 returns-2 c =
     let a = c .before .before .before .before .before .before .args in
-    let told : c .before .before .before .group-spot .result ≡ spot.Refused (c .before .spot2 .given .0 .0) = c .before .spot2 .given .1 in
-    let answers : Answers (a .number) (a .action) (a .target) (a .words .now) (c .before .spot2 .given .0 .0) = rw told at (c .before .before .before .group-spot .ensures) in
+    let fact : c .before .before .before .group-spot .result ≡ spot.Refused (c .before .spot2 .given .0 .0) = c .before .spot2 .given .1 in
+    let answers : Answers (a .number) (a .action) (a .target) (a .words .now) (c .before .spot2 .given .0 .0) = rw fact at (c .before .before .before .group-spot .ensures) in
     group-refused (a .number) (a .action) (a .target) (a .words .now) (c .before .spot2 .given .0 .0) answers
 
 pub new-group-spec : {M : Type 1} → statement M

@@ -32,8 +32,8 @@ move-tail-requires : tie.Need-move-tail-requires
 move-tail-requires c κs =
     let s = c .before .before .before .before .before .before .before .before .before in
     let a = s .args in
-    let told : c .before .before .before .before .before .before .into .result ≡ pair.At (c .before .before .before .before .pair .given .0 .0) (c .before .before .before .before .pair .given .0 .1 .0) = c .before .before .before .before .pair .given .1 in
-    let clear : Clear (intoChecks (a .group) (a .node)) (a .node) (a .group) (a .words .now) (c .before .before .before .before .pair .given .0 .0) (c .before .before .before .before .pair .given .0 .1 .0) = rw told at (c .before .before .before .before .before .before .into .ensures) in
+    let fact : c .before .before .before .before .before .before .into .result ≡ pair.At (c .before .before .before .before .pair .given .0 .0) (c .before .before .before .before .pair .given .0 .1 .0) = c .before .before .before .before .pair .given .1 in
+    let clear : Clear (intoChecks (a .group) (a .node)) (a .node) (a .group) (a .words .now) (c .before .before .before .before .pair .given .0 .0) (c .before .before .before .before .pair .given .0 .1 .0) = rw fact at (c .before .before .before .before .before .before .into .ensures) in
     rw (c .before .wide .ensures) (clear .moving)
 
 renew-requires : tie.Need-renew-requires
@@ -49,8 +49,8 @@ returns : tie.Need-returns
 returns c =
     let s = c .before .before .before .before .before .before .before .before .before .before .before .before .before .before .before .before in
     let a = s .args in
-    let told : c .before .before .before .before .before .before .before .before .before .before .before .before .before .into .result ≡ pair.At (c .before .before .before .before .before .before .before .before .before .before .before .pair .given .0 .0) (c .before .before .before .before .before .before .before .before .before .before .before .pair .given .0 .1 .0) = c .before .before .before .before .before .before .before .before .before .before .before .pair .given .1 in
-    let clear : Clear (intoChecks (a .group) (a .node)) (a .node) (a .group) (a .words .now) (c .before .before .before .before .before .before .before .before .before .before .before .pair .given .0 .0) (c .before .before .before .before .before .before .before .before .before .before .before .pair .given .0 .1 .0) = rw told at (c .before .before .before .before .before .before .before .before .before .before .before .before .before .into .ensures) in
+    let fact : c .before .before .before .before .before .before .before .before .before .before .before .before .before .into .result ≡ pair.At (c .before .before .before .before .before .before .before .before .before .before .before .pair .given .0 .0) (c .before .before .before .before .before .before .before .before .before .before .before .pair .given .0 .1 .0) = c .before .before .before .before .before .before .before .before .before .before .before .pair .given .1 in
+    let clear : Clear (intoChecks (a .group) (a .node)) (a .node) (a .group) (a .words .now) (c .before .before .before .before .before .before .before .before .before .before .before .pair .given .0 .0) (c .before .before .before .before .before .before .before .before .before .before .before .pair .given .0 .1 .0) = rw fact at (c .before .before .before .before .before .before .before .before .before .before .before .before .before .into .ensures) in
     tail-done (a .node) (a .group) (a .words .now) (s .pre) (c .before .before .before .before .before .before .before .before .wide .result) (c .before .before .before .before .before .before .before .before .wide .ensures) (c .before .before .before .before .before .before .before .before .before .before .before .pair .given .0 .0) (c .before .before .before .before .before .before .before .before .before .before .before .pair .given .0 .1 .0) clear (c .before .before .before .before .before .before .move-tail .last .0) (c .before .before .before .before .before .before .move-tail .ensures)
     (c .before .before .renew .last .0) (c .before .before .renew .ensures)
 
@@ -61,8 +61,8 @@ returns-2 : tie.Need-returns-2
 returns-2 c =
     let s = c .before .before .before .before .before .before in
     let a = s .args in
-    let told : c .before .before .before .into .result ≡ pair.Refused (c .before .pair2 .given .0 .0) = c .before .pair2 .given .1 in
-    let answers : Answers (intoChecks (a .group) (a .node)) (a .words .now) (c .before .pair2 .given .0 .0) = rw told at (c .before .before .before .into .ensures) in
+    let fact : c .before .before .before .into .result ≡ pair.Refused (c .before .pair2 .given .0 .0) = c .before .pair2 .given .1 in
+    let answers : Answers (intoChecks (a .group) (a .node)) (a .words .now) (c .before .pair2 .given .0 .0) = rw fact at (c .before .before .before .into .ensures) in
     tail-refused (a .node) (a .group) (a .words .now) (c .before .pair2 .given .0 .0) answers
 
 pub move-tail-spec : {M : Type 1} → statement M

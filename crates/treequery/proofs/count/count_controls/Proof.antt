@@ -12,18 +12,18 @@ use Rattle.treequery.proofs.count.count_controls.Statement.{statement}
 use Rattle.treequery.proofs.count.count_controls.Tie as tie
 
 abbrev Inv-loop : tie.InvT-loop
-Inv-loop words shelf shapes place definition row first many next₀ j₀ next j =
+Inv-loop words arena shapes place definition row first many next₀ j₀ next j =
     (j ≤ many)
-    × Controls words shelf shapes place definition row first many
-    × Counting next₀ (controlsLeft words shelf place 0) next (controlsLeft words shelf place j)
+    × Controls words arena shapes place definition row first many
+    × Counting next₀ (controlsLeft words arena place 0) next (controlsLeft words arena place j)
 
 abbrev μ-loop : tie.MeasureT-loop
-μ-loop words shelf shapes place definition row first many next₀ j₀ next j = many - j
+μ-loop words arena shapes place definition row first many next₀ j₀ next j = many - j
 
 node-definition-requires : tie.Need-node-definition-requires Inv-loop μ-loop
 node-definition-requires c κs =
     let s = c .before .before in
-    let bound = bounds (s .args .words .now) (s .args .shelf .now) (s .args .place) (s .pre .0 .at) in
+    let bound = bounds (s .args .words .now) (s .args .arena .now) (s .args .place) (s .pre .0 .at) in
     (bound .size, bound .place, bound .slot (s .pre .0 .single))
 
 synth-at-requires : tie.Need-synth-at-requires Inv-loop μ-loop
@@ -31,13 +31,13 @@ synth-at-requires c κs = c .before .before .before .pre .0
 
 count-piece-requires : tie.Need-count-piece-requires Inv-loop μ-loop
 count-piece-requires c κs =
-    let k : Controls (c .before .before .before .before .args .words .now) (c .before .before .before .before .args .shelf .now) (c .before .before .before .before .args .shapes .now) (c .before .before .before .before .args .place) (c .before .node-definition .result .now) (c .synth-at .result .row) (c .synth-at .result .first) (c .synth-at .result .many) = record { of = c .before .before .before .before .pre .0; bytes = c .before .node-definition .ensures; rowIs = c .synth-at .ensures .row; firstIs = c .synth-at .ensures .first; manyIs = c .synth-at .ensures .many } in
-    record { short = controls-short k; counts = counting-some (int (c .synth-at .result .many) ∷ []) (controlsLeft (c .before .before .before .before .args .words .now) (c .before .before .before .before .args .shelf .now) (c .before .before .before .before .args .place) 0) (counting-all (c .before .before .before .before .pre .1)) (controls-all k) }
+    let k : Controls (c .before .before .before .before .args .words .now) (c .before .before .before .before .args .arena .now) (c .before .before .before .before .args .shapes .now) (c .before .before .before .before .args .place) (c .before .node-definition .result .now) (c .synth-at .result .row) (c .synth-at .result .first) (c .synth-at .result .many) = record { of = c .before .before .before .before .pre .0; bytes = c .before .node-definition .ensures; rowIs = c .synth-at .ensures .row; firstIs = c .synth-at .ensures .first; manyIs = c .synth-at .ensures .many } in
+    record { short = controls-short k; counts = counting-some (int (c .synth-at .result .many) ∷ []) (controlsLeft (c .before .before .before .before .args .words .now) (c .before .before .before .before .args .arena .now) (c .before .before .before .before .args .place) 0) (counting-all (c .before .before .before .before .pre .1)) (controls-all k) }
 
 loop-holds : tie.Need-loop-holds Inv-loop μ-loop
 loop-holds c =
-    let k : Controls (c .before .before .before .before .before .args .words .now) (c .before .before .before .before .before .args .shelf .now) (c .before .before .before .before .before .args .shapes .now) (c .before .before .before .before .before .args .place) (c .before .before .node-definition .result .now) (c .before .synth-at .result .row) (c .before .synth-at .result .first) (c .before .synth-at .result .many) = record { of = c .before .before .before .before .before .pre .0; bytes = c .before .before .node-definition .ensures; rowIs = c .before .synth-at .ensures .row; firstIs = c .before .synth-at .ensures .first; manyIs = c .before .synth-at .ensures .many } in
-    let first = counting-less (int (c .before .synth-at .result .many) ∷ []) (controlsLeft (c .before .before .before .before .before .args .words .now) (c .before .before .before .before .before .args .shelf .now) (c .before .before .before .before .before .args .place) 0) (counting-all (c .before .before .before .before .before .pre .1)) (controls-all k) (c .count-piece .ensures) in
+    let k : Controls (c .before .before .before .before .before .args .words .now) (c .before .before .before .before .before .args .arena .now) (c .before .before .before .before .before .args .shapes .now) (c .before .before .before .before .before .args .place) (c .before .before .node-definition .result .now) (c .before .synth-at .result .row) (c .before .synth-at .result .first) (c .before .synth-at .result .many) = record { of = c .before .before .before .before .before .pre .0; bytes = c .before .before .node-definition .ensures; rowIs = c .before .synth-at .ensures .row; firstIs = c .before .synth-at .ensures .first; manyIs = c .before .synth-at .ensures .many } in
+    let first = counting-less (int (c .before .synth-at .result .many) ∷ []) (controlsLeft (c .before .before .before .before .before .args .words .now) (c .before .before .before .before .before .args .arena .now) (c .before .before .before .before .before .args .place) 0) (counting-all (c .before .before .before .before .before .pre .1)) (controls-all k) (c .count-piece .ensures) in
     (omega arith, k, counting-all (first .counts))
 
 label-at-requires : tie.Need-label-at-requires Inv-loop μ-loop
@@ -55,7 +55,7 @@ count-piece-requires-2 c κs =
     let ws = s .args .words .now in
     let d = c .before .before .before .before .before .node-definition .result .now in
     let row = c .before .before .before .before .synth-at .result .row in
-    let rest = controlsLeft ws (s .args .shelf .now) (s .args .place) (j + 1) in
+    let rest = controlsLeft ws (s .args .arena .now) (s .args .place) (j + 1) in
     record { short = controls-short k; counts = counting-some (pieceArgument d (c .label-at .result) ∷ []) (valueOf ws row j ∷ rest) (c .before .before .loop .inv .2) (control-turn k j less (c .label-at .result) (c .label-at .ensures .0)) }
 
 value-at-requires : tie.Need-value-at-requires Inv-loop μ-loop
@@ -73,7 +73,7 @@ count-piece-requires-3 c κs =
     let ws = s .args .words .now in
     let d = c .before .before .before .before .before .before .before .node-definition .result .now in
     let row = c .before .before .before .before .before .before .synth-at .result .row in
-    let rest = controlsLeft ws (s .args .shelf .now) (s .args .place) (j + 1) in
+    let rest = controlsLeft ws (s .args .arena .now) (s .args .place) (j + 1) in
     let value = c .value-at in
     record { short = controls-short k; counts = counting-some (pieceArgument d (value .result) ∷ []) rest (counting-less (pieceArgument d (c .before .before .label-at .result) ∷ []) (valueOf ws row j ∷ rest) (c .before .before .before .before .loop .inv .2) (control-turn k j less (c .before .before .label-at .result) (c .before .before .label-at .ensures .0)) (c .before .count-piece2 .ensures)) (ap (λ (x : Argument). x ∷ rest) (sym (value .ensures .is d))) }
 
@@ -95,14 +95,14 @@ loop-again c =
     let ws = s .args .words .now in
     let d = c .before .before .before .before .before .before .before .before .node-definition .result .now in
     let row = c .before .before .before .before .before .before .before .synth-at .result .row in
-    let rest = controlsLeft ws (s .args .shelf .now) (s .args .place) (j + 1) in
+    let rest = controlsLeft ws (s .args .arena .now) (s .args .place) (j + 1) in
     let value = c .before .value-at in
     (omega arith, k, counting-less (pieceArgument d (value .result) ∷ []) rest (counting-less (pieceArgument d (c .before .before .before .label-at .result) ∷ []) (valueOf ws row j ∷ rest) (c .before .before .before .before .before .loop .inv .2) (control-turn k j less (c .before .before .before .label-at .result) (c .before .before .before .label-at .ensures .0)) (c .before .before .count-piece2 .ensures)) (ap (λ (x : Argument). x ∷ rest) (sym (value .ensures .is d))) (c .count-piece3 .ensures))
 
 returns : tie.Need-returns Inv-loop μ-loop
 returns c =
     let k = c .before .loop .inv .1 in
-    let all = (controlsLeft (c .before .before .before .before .before .before .before .args .words .now) (c .before .before .before .before .before .before .before .args .shelf .now) (c .before .before .before .before .before .before .before .args .place) 0) in
+    let all = (controlsLeft (c .before .before .before .before .before .before .before .args .words .now) (c .before .before .before .before .before .before .before .args .arena .now) (c .before .before .before .before .before .before .before .args .place) 0) in
     let first = counting-less (int (c .before .before .before .synth-at .result .many) ∷ []) all (counting-all (c .before .before .before .before .before .before .before .pre .1)) (controls-all k) (c .before .before .count-piece .ensures) in
     let done = counting-none (c .before .loop .inv .2) (controls-end k (c .before .loop .j) (omega arith)) in
     counting-none (counting-less all [] first (sym (append-nil all)) done) refl

@@ -18,7 +18,7 @@ use Rattle.treequery.proofs.count.count_row.Tie as tie
 count-pair-requires : tie.Need-count-pair-requires
 count-pair-requires c κs =
     let s = c .before .before in
-    let some = row-some (s .args .shown) (s .args .words .now) (s .args .shelf .now) (s .args .end) (s .args .place) (s .pre .0 .at) in
+    let some = row-some (s .args .shown) (s .args .words .now) (s .args .arena .now) (s .args .end) (s .args .place) (s .pre .0 .at) in
     let few = s .pre .1 .few in
     record { fair = s .pre .1 .fair; few = omega arith }
 
@@ -29,14 +29,14 @@ returns : tie.Need-returns
 returns c =
     let s = c .before .before .before .before .before in
     let ws = s .args .words .now in
-    let bs = s .args .shelf .now in
+    let bs = s .args .arena .now in
     rw (row-group (s .args .shown) ws bs (s .args .end) (s .args .place) (sym (c .before .node-is-group .ensures) ∙ c .if1 .taken)) (c .before .before .count-pair .ensures (nodeIn ws (s .args .place) .number) (childrenAt ws bs (s .args .end) (s .args .place)))
 
 node-definition-requires : tie.Need-node-definition-requires
 node-definition-requires c κs =
     let s = c .before .before .before .before .before in
     let ws = s .args .words .now in
-    let bs = s .args .shelf .now in
+    let bs = s .args .arena .now in
     let i = s .args .place in
     let at = s .pre .0 .at in
     let one = sym (c .before .node-is-group .ensures) ∙ c .if1 .left in
@@ -47,7 +47,7 @@ string-at-requires : tie.Need-string-at-requires
 string-at-requires c κs =
     let s = c .before .before .before .before .before .before in
     let ws = s .args .words .now in
-    let bs = s .args .shelf .now in
+    let bs = s .args .arena .now in
     let i = s .args .place in
     let at = s .pre .0 .at in
     let one = sym (c .before .before .node-is-group .ensures) ∙ c .before .if1 .left in
@@ -57,7 +57,7 @@ count-piece-requires : tie.Need-count-piece-requires
 count-piece-requires c κs =
     let s = c .before .before .before .before .before .before .before in
     let ws = s .args .words .now in
-    let bs = s .args .shelf .now in
+    let bs = s .args .arena .now in
     let i = s .args .place in
     let at = s .pre .0 .at in
     let one = sym (c .before .before .before .node-is-group .ensures) ∙ c .before .before .if1 .left in
@@ -73,7 +73,7 @@ count-controls-requires : tie.Need-count-controls-requires
 count-controls-requires c κs =
     let s = c .before .before .before .before .before .before .before .before .before in
     let ws = s .args .words .now in
-    let bs = s .args .shelf .now in
+    let bs = s .args .arena .now in
     let i = s .args .place in
     let at = s .pre .0 .at in
     let one = sym (c .before .before .before .before .before .node-is-group .ensures) ∙ c .before .before .before .before .if1 .left in
@@ -90,7 +90,7 @@ returns-2 : tie.Need-returns-2
 returns-2 c =
     let s = c .before .before .before .before .before .before .before .before .before .before in
     let ws = s .args .words .now in
-    let bs = s .args .shelf .now in
+    let bs = s .args .arena .now in
     let i = s .args .place in
     let at = s .pre .0 .at in
     let one = sym (c .before .before .before .before .before .before .node-is-group .ensures) ∙ c .before .before .before .before .before .if1 .left in
@@ -108,7 +108,7 @@ returns-3 : tie.Need-returns-3
 returns-3 c =
     let s = c .before .before .before .before .before .before .before .before .before in
     let ws = s .args .words .now in
-    let bs = s .args .shelf .now in
+    let bs = s .args .arena .now in
     let i = s .args .place in
     let at = s .pre .0 .at in
     let one = sym (c .before .before .before .before .before .node-is-group .ensures) ∙ c .before .before .before .before .if1 .left in

@@ -8,25 +8,25 @@ use Rattle.treequery.proofs.count.count_tree.Statement.{statement}
 use Rattle.treequery.proofs.count.count_tree.Tie as tie
 
 abbrev Inv-loop : tie.InvT-loop
-Inv-loop words shelf shapes shown from end next₀ i₀ next i =
+Inv-loop words arena shapes shown from end next₀ i₀ next i =
     (from ≤ i)
     × (i ≤ end)
-    × Counting nowhere (leftRows shown words shelf end from) next (leftRows shown words shelf end i)
+    × Counting nowhere (leftRows shown words arena end from) next (leftRows shown words arena end i)
 
 abbrev μ-loop : tie.MeasureT-loop
-μ-loop words shelf shapes shown from end next₀ i₀ next i = end - i
+μ-loop words arena shapes shown from end next₀ i₀ next i = end - i
 
 loop-holds : tie.Need-loop-holds Inv-loop μ-loop
 loop-holds c =
     let s = c .before .before in
-    let all = leftRows (s .args .shown) (s .args .words .now) (s .args .shelf .now) (s .args .end) (s .args .from) in
-    (omega arith, s .pre .run .order, counting-all (counts-first all (rows-few (s .args .shown) (s .args .words .now) (s .args .shelf .now) (s .args .from) (s .args .end) (s .pre .run))))
+    let all = leftRows (s .args .shown) (s .args .words .now) (s .args .arena .now) (s .args .end) (s .args .from) in
+    (omega arith, s .pre .run .order, counting-all (counts-first all (rows-few (s .args .shown) (s .args .words .now) (s .args .arena .now) (s .args .from) (s .args .end) (s .pre .run))))
 
 count-row-requires : tie.Need-count-row-requires Inv-loop μ-loop
 count-row-requires c κs =
     let s = c .before .before .before .before in
     let ws = s .args .words .now in
-    let bs = s .args .shelf .now in
+    let bs = s .args .arena .now in
     let shown = s .args .shown in
     let end = s .args .end in
     let i = c .before .loop .i in
@@ -44,7 +44,7 @@ loop-again : tie.Need-loop-again Inv-loop μ-loop
 loop-again c =
     let s = c .before .before .before .before .before in
     let ws = s .args .words .now in
-    let bs = s .args .shelf .now in
+    let bs = s .args .arena .now in
     let shown = s .args .shown in
     let end = s .args .end in
     let i = c .before .before .loop .i in
@@ -56,7 +56,7 @@ returns : tie.Need-returns Inv-loop μ-loop
 returns c =
     let s = c .before .before .before .before in
     let ws = s .args .words .now in
-    let bs = s .args .shelf .now in
+    let bs = s .args .arena .now in
     let shown = s .args .shown in
     let end = s .args .end in
     let i = c .before .loop .i in

@@ -49,11 +49,11 @@ returns c =
     let s = c .before .before .before .before .before .before .before .before .before .before .before .before .before .before .before .before .before .before .before .before .before in
     let a = s .args in
     let f = c .before .before .before .before .before .flag-number in
-    let told = f .result ∷ (a .number ∷ (a .children ∷ [])) in
+    let fact = f .result ∷ (a .number ∷ (a .children ∷ [])) in
     c .before .before .put-words .ensures
-    ∙ ap (λ (l : List ℕ). over (a .front) (wordBytes told) l) (c .before .before .before .before .before .before .before .before .put-zeros .ensures)
-    ∙ ap (λ (l : List ℕ). over (a .front) (wordBytes told) (over (24 + a .many) (tagZeros (a .many)) l)) (c .before .before .before .before .before .before .before .before .before .before .before .before .put-bytes .ensures)
-    ∙ ap (λ (l : List ℕ). over (a .front) (wordBytes told) (over (24 + a .many) (tagZeros (a .many)) (over 20 firstTags l))) (c .before .before .before .before .before .before .before .before .before .before .before .before .before .before .before .before .before .put-padded .ensures)
+    ∙ ap (λ (l : List ℕ). over (a .front) (wordBytes fact) l) (c .before .before .before .before .before .before .before .before .put-zeros .ensures)
+    ∙ ap (λ (l : List ℕ). over (a .front) (wordBytes fact) (over (24 + a .many) (tagZeros (a .many)) l)) (c .before .before .before .before .before .before .before .before .before .before .before .before .put-bytes .ensures)
+    ∙ ap (λ (l : List ℕ). over (a .front) (wordBytes fact) (over (24 + a .many) (tagZeros (a .many)) (over 20 firstTags l))) (c .before .before .before .before .before .before .before .before .before .before .before .before .before .before .before .before .before .put-padded .ensures)
     ∙ ap (λ (k : ℕ). treeFront (a .many) (a .front) k (a .number) (a .children) (a .out .now)) (f .ensures)
 
 pub put-front-spec : {M : Type 1} → statement M

@@ -4,7 +4,7 @@ use mathlib.Core.List.{List, _++_}
 use native.Mathlib.Omega.{arith}
 use borrow.Author.Needs.{needs}
 use lib.ListN.{length}
-use Rattle.words.specs.declared.Refusal.the-variants.{NoRoom}
+use Rattle.refusals.specs.declared.Refusal.the-variants.{NoRoom}
 use Rattle.osc.specs.Message.{tags, arguments}
 use Rattle.osc.specs.Over.{over}
 use Rattle.osc.specs.Lengths.{tags-size}
@@ -41,7 +41,7 @@ returns : tie.Need-returns
 returns c =
     let s = c .before .before .before .before .before .before .before .before .before in
     let a = s .args in
-    let left = leftRows (a .shown) (a .words .now) (a .shelf .now) (a .end) (a .from) in
+    let left = leftRows (a .shown) (a .words .now) (a .arena .now) (a .end) (a .from) in
     let size = c .before .before .before .count-tree in
     let many = size .result .tag in
     let b = size .ensures .byte in
@@ -56,7 +56,7 @@ put-front-requires : tie.Need-put-front-requires
 put-front-requires c κs =
     let s = c .before .before .before .before .before .before .before .before .before .before in
     let a = s .args in
-    let left = leftRows (a .shown) (a .words .now) (a .shelf .now) (a .end) (a .from) in
+    let left = leftRows (a .shown) (a .words .now) (a .arena .now) (a .end) (a .from) in
     let size = c .before .before .before .before .count-tree in
     let many = size .result .tag in
     let b = size .ensures .byte in
@@ -71,14 +71,14 @@ put-tree-requires : tie.Need-put-tree-requires
 put-tree-requires c κs =
     let s = c .before .before .before .before .before .before .before .before .before .before .before .before .before .before .before in
     let a = s .args in
-    let left = leftRows (a .shown) (a .words .now) (a .shelf .now) (a .end) (a .from) in
+    let left = leftRows (a .shown) (a .words .now) (a .arena .now) (a .end) (a .from) in
     let size = c .before .before .before .before .before .before .before .before .before .count-tree in
     let many = size .result .tag in
     let b = size .ensures .byte in
     let front = 20 + c .before .before .before .before .before .before .before .before .padded-length .result in
     let f : front ≡ frontAt many = ap (λ (k : ℕ). 20 + k) (c .before .before .before .before .before .before .before .before .padded-length .ensures) in
     let e = size .ensures .tag in
-    (record { run = s .pre; told = c .before .before .before .before .before .before .before .before .before .before .before .tree-shapes .ensures }, record { apart = omega (arith, tags-size left); room = omega (arith, c .before .before .before .before .before .before .if1 .left) })
+    (record { run = s .pre; fact = c .before .before .before .before .before .before .before .before .before .before .before .tree-shapes .ensures }, record { apart = omega (arith, tags-size left); room = omega (arith, c .before .before .before .before .before .before .if1 .left) })
 
 same-length : tie.Need-same-length
 same-length c = search needs
@@ -87,7 +87,7 @@ returns-2 : tie.Need-returns-2
 returns-2 c =
     let s = c .before .before .before .before .before .before .before .before .before .before .before .before .before .before .before .before .before .before in
     let a = s .args in
-    let left = leftRows (a .shown) (a .words .now) (a .shelf .now) (a .end) (a .from) in
+    let left = leftRows (a .shown) (a .words .now) (a .arena .now) (a .end) (a .from) in
     let size = c .before .before .before .before .before .before .before .before .before .before .before .before .count-tree in
     let many = size .result .tag in
     let b = size .ensures .byte in

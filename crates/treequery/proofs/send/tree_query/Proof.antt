@@ -5,7 +5,7 @@ use native.Mathlib.Omega.{arith}
 use borrow.Author.Needs.{needs}
 use borrow.Author.Tests.{not-true, not-false}
 use Rattle.words.specs.Parts.{region}
-use Rattle.words.specs.declared.Refusal.the-variants.{NoNode, WrongKind}
+use Rattle.refusals.specs.declared.Refusal.the-variants.{NoNode, WrongKind}
 use Rattle.nodes.specs.Table.{rows}
 use Rattle.nodes.specs.Place.{place}
 use Rattle.nodes.specs.Structure.{childCount}
@@ -37,7 +37,7 @@ returns c =
     let s = c .before .before .before .before .before .before .before .before in
     let a = s .args in
     let ws = a .words .now in
-    let bs = a .shelf .now in
+    let bs = a .arena .now in
     let n = c .before .before .before .node-place in
     reply-refused (query.Tree (a .group) (a .flag)) (a .bytes .now) ws bs (a .out .now) NoNode
     (tree-unknown (a .group) (a .bytes .now) ws bs (n .result) (n .ensures) (a .flag) (omega (arith, c .before .wide .ensures)))
@@ -50,7 +50,7 @@ returns-2 c =
     let s = c .before .before .before .before .before .before .before .before .before .before in
     let a = s .args in
     let ws = a .words .now in
-    let bs = a .shelf .now in
+    let bs = a .arena .now in
     let n = c .before .before .before .before .before .node-place in
     reply-refused (query.Tree (a .group) (a .flag)) (a .bytes .now) ws bs (a .out .now) WrongKind
     (tree-synth (a .group) (a .bytes .now) ws bs (n .result) (n .ensures) (record { state = s .pre; live = omega (arith, c .before .before .before .wide .ensures) }) (a .flag) (sym (c .before .node-is-group .ensures) ∙ not-true (c .before .node-is-group .result) (c .if2 .taken)))
@@ -90,7 +90,7 @@ send-tree-requires c κs =
     let s = c .before .before .before .before .before .before .before .before .before .before .before .before .before .before .before .before in
     let a = s .args in
     let ws = a .words .now in
-    let bs = a .shelf .now in
+    let bs = a .arena .now in
     let n = c .before .before .before .before .before .before .before .before .before .before .before .node-place in
     let us = region nodesPlace nodesWords ws in
     let w = c .before .before .before .before .before .before .before .before .before .wide in
@@ -109,7 +109,7 @@ returns-3 c =
     let s = c .before .before .before .before .before .before .before .before .before .before .before .before .before .before .before .before .before .before .before in
     let a = s .args in
     let ws = a .words .now in
-    let bs = a .shelf .now in
+    let bs = a .arena .now in
     let n = c .before .before .before .before .before .before .before .before .before .before .before .before .before .before .node-place in
     let us = region nodesPlace nodesWords ws in
     let w = c .before .before .before .before .before .before .before .before .before .before .before .before .wide in

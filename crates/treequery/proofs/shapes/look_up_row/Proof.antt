@@ -9,7 +9,7 @@ use Rattle.controls.specs.Ready.{nodeIn, slotBytes}
 use Rattle.queries.specs.Held.{bounds}
 use Rattle.treequery.specs.Shapes.{Filled}
 use Rattle.treequery.specs.LookUp.{looked-group, looked-before, looked-now}
-use Rattle.treequery.specs.SynthRow.{slot-told, synth-slot, synth-readable}
+use Rattle.treequery.specs.SynthRow.{slot-fact, synth-slot, synth-readable}
 use Rattle.treequery.proofs.shapes.look_up_row.Statement.{statement}
 use Rattle.treequery.proofs.shapes.look_up_row.Tie as tie
 
@@ -19,7 +19,7 @@ node-is-group-requires c κs = search needs
 returns : tie.Need-returns
 returns c =
     let s = c .before .before .before .before in
-    looked-group (s .args .words .now) (s .args .shelf .now) (s .args .place) (s .args .shapes .now) (s .pre .1) (sym (c .before .node-is-group .ensures) ∙ c .if1 .taken)
+    looked-group (s .args .words .now) (s .args .arena .now) (s .args .place) (s .args .shapes .now) (s .pre .1) (sym (c .before .node-is-group .ensures) ∙ c .if1 .taken)
 
 mul-wide : tie.Need-mul-wide
 mul-wide c = search needs
@@ -40,33 +40,33 @@ wide-requires : tie.Need-wide-requires
 wide-requires c κs = search needs
 
 mul-if2 : tie.Need-mul-if2
-mul-if2 c = omega (arith, c .wide .ensures, synth-slot (c .before .before .before .before .before .before .args .words .now) (c .before .before .before .before .before .before .args .shelf .now) (c .before .before .before .before .before .before .args .place) (c .before .before .before .before .before .before .pre .0) (sym (c .before .before .before .node-is-group .ensures) ∙ c .before .before .if1 .left))
+mul-if2 c = omega (arith, c .wide .ensures, synth-slot (c .before .before .before .before .before .before .args .words .now) (c .before .before .before .before .before .before .args .arena .now) (c .before .before .before .before .before .before .args .place) (c .before .before .before .before .before .before .pre .0) (sym (c .before .before .before .node-is-group .ensures) ∙ c .before .before .if1 .left))
 
 mul-if2-2 : tie.Need-mul-if2-2
-mul-if2-2 c = omega (arith, c .wide .ensures, synth-slot (c .before .before .before .before .before .before .args .words .now) (c .before .before .before .before .before .before .args .shelf .now) (c .before .before .before .before .before .before .args .place) (c .before .before .before .before .before .before .pre .0) (sym (c .before .before .before .node-is-group .ensures) ∙ c .before .before .if1 .left))
+mul-if2-2 c = omega (arith, c .wide .ensures, synth-slot (c .before .before .before .before .before .before .args .words .now) (c .before .before .before .before .before .before .args .arena .now) (c .before .before .before .before .before .before .args .place) (c .before .before .before .before .before .before .pre .0) (sym (c .before .before .before .node-is-group .ensures) ∙ c .before .before .if1 .left))
 
 element-copy-out-if2 : tie.Need-element-copy-out-if2
-element-copy-out-if2 c = omega (arith, c .wide .ensures, synth-slot (c .before .before .before .before .before .before .args .words .now) (c .before .before .before .before .before .before .args .shelf .now) (c .before .before .before .before .before .before .args .place) (c .before .before .before .before .before .before .pre .0) (sym (c .before .before .before .node-is-group .ensures) ∙ c .before .before .if1 .left))
+element-copy-out-if2 c = omega (arith, c .wide .ensures, synth-slot (c .before .before .before .before .before .before .args .words .now) (c .before .before .before .before .before .before .args .arena .now) (c .before .before .before .before .before .before .args .place) (c .before .before .before .before .before .before .pre .0) (sym (c .before .before .before .node-is-group .ensures) ∙ c .before .before .if1 .left))
 
 returns-2 : tie.Need-returns-2
 returns-2 c =
     let s = c .before .before .before .before .before .before .before .before in
     let ws = s .args .words .now in
-    let slot = c .before .before .wide .ensures ∙ slot-told ws (s .args .shelf .now) (s .args .place) (s .pre .0) (sym (c .before .before .before .before .before .node-is-group .ensures) ∙ c .before .before .before .before .if1 .left) in
-    looked-before ws (s .args .shelf .now) (s .args .place) (s .args .shapes .now) (s .pre .1)
+    let slot = c .before .before .wide .ensures ∙ slot-fact ws (s .args .arena .now) (s .args .place) (s .pre .0) (sym (c .before .before .before .before .before .node-is-group .ensures) ∙ c .before .before .before .before .if1 .left) in
+    looked-before ws (s .args .arena .now) (s .args .place) (s .args .shapes .now) (s .pre .1)
     (pos-of-ne-zero (λ e. c .if2 .taken (ap (λ (k : ℕ). getD (s .args .shapes .now) (33 * k) 0) slot ∙ e)))
 
 node-definition-requires : tie.Need-node-definition-requires
 node-definition-requires c κs =
     let s = c .before .before .before .before .before .before .before .before .before in
-    let bound = bounds (s .args .words .now) (s .args .shelf .now) (s .args .place) (s .pre .0) in
+    let bound = bounds (s .args .words .now) (s .args .arena .now) (s .args .place) (s .pre .0) in
     (bound .size, bound .place, bound .slot (sym (c .before .before .before .before .before .before .node-is-group .ensures) ∙ c .before .before .before .before .before .if1 .left))
 
 look-up-requires : tie.Need-look-up-requires
 look-up-requires c κs =
     let s = c .before .before .before .before .before .before .before .before .before .before in
     let ws = s .args .words .now in
-    let bs = s .args .shelf .now in
+    let bs = s .args .arena .now in
     let one = (sym (c .before .before .before .before .before .before .before .node-is-group .ensures) ∙ c .before .before .before .before .before .before .if1 .left) in
     (omega (arith, c .before .before .before .before .wide .ensures, synth-slot ws bs (s .args .place) (s .pre .0) one), s .pre .1 .size, rw (c .node-definition .ensures) (synth-readable ws bs (s .args .place) (s .pre .0) one))
 
@@ -74,9 +74,9 @@ returns-3 : tie.Need-returns-3
 returns-3 c =
     let s = c .before .before .before .before .before .before .before .before .before .before .before in
     let ws = s .args .words .now in
-    let bs = s .args .shelf .now in
+    let bs = s .args .arena .now in
     let one = (sym (c .before .before .before .before .before .before .before .before .node-is-group .ensures) ∙ c .before .before .before .before .before .before .before .if1 .left) in
-    let slot = c .before .before .before .before .before .wide .ensures ∙ slot-told ws bs (s .args .place) (s .pre .0) one in
+    let slot = c .before .before .before .before .before .wide .ensures ∙ slot-fact ws bs (s .args .place) (s .pre .0) one in
     looked-now ws bs (s .args .place) (s .args .shapes .now) (s .pre .1) (c .look-up .last .0) (bounds ws bs (s .args .place) (s .pre .0) .slot one)
     (subst (λ (k : ℕ). Filled (slotBytes ws bs (nodeIn ws (s .args .place) .slot)) k (s .args .shapes .now) (c .look-up .last .0)) slot
     (subst (λ (d : List ℕ). Filled d (c .before .before .before .before .before .wide .result) (s .args .shapes .now) (c .look-up .last .0)) (c .before .node-definition .ensures) (c .look-up .ensures)))

@@ -13,18 +13,18 @@ use Rattle.treequery.proofs.write.put_controls.Statement.{statement}
 use Rattle.treequery.proofs.write.put_controls.Tie as tie
 
 abbrev Inv-loop : tie.InvT-loop
-Inv-loop out₀ words shelf shapes place definition row first many next₀ j₀ out next j =
+Inv-loop out₀ words arena shapes place definition row first many next₀ j₀ out next j =
     (j ≤ many)
-    × Controls words shelf shapes place definition row first many
-    × Left next₀ (controlsLeft words shelf place 0) out₀ next (controlsLeft words shelf place j) out
+    × Controls words arena shapes place definition row first many
+    × Left next₀ (controlsLeft words arena place 0) out₀ next (controlsLeft words arena place j) out
 
 abbrev μ-loop : tie.MeasureT-loop
-μ-loop out₀ words shelf shapes place definition row first many next₀ j₀ out next j = many - j
+μ-loop out₀ words arena shapes place definition row first many next₀ j₀ out next j = many - j
 
 node-definition-requires : tie.Need-node-definition-requires Inv-loop μ-loop
 node-definition-requires c κs =
     let s = c .before .before .before in
-    let bound = bounds (s .args .words .now) (s .args .shelf .now) (s .args .place) (s .pre .0 .at) in
+    let bound = bounds (s .args .words .now) (s .args .arena .now) (s .args .place) (s .pre .0 .at) in
     (bound .size, bound .place, bound .slot (s .pre .0 .single))
 
 synth-at-requires : tie.Need-synth-at-requires Inv-loop μ-loop
@@ -32,13 +32,13 @@ synth-at-requires c κs = c .before .before .before .before .pre .0
 
 put-argument-requires : tie.Need-put-argument-requires Inv-loop μ-loop
 put-argument-requires c κs =
-    let k : Controls (c .before .before .before .before .before .before .args .words .now) (c .before .before .before .before .before .before .args .shelf .now) (c .before .before .before .before .before .before .args .shapes .now) (c .before .before .before .before .before .before .args .place) (c .before .before .node-definition .result .now) (c .before .synth-at .result .row) (c .before .synth-at .result .first) (c .before .synth-at .result .many) = record { of = c .before .before .before .before .before .before .pre .0; bytes = c .before .before .node-definition .ensures; rowIs = c .before .synth-at .ensures .row; firstIs = c .before .synth-at .ensures .first; manyIs = c .before .synth-at .ensures .many } in
-    record { short = controls-short k; small = refl; room = left-some (int (c .before .synth-at .result .many) ∷ []) (controlsLeft (c .before .before .before .before .before .before .args .words .now) (c .before .before .before .before .before .before .args .shelf .now) (c .before .before .before .before .before .before .args .place) 0) (left-all (c .before .before .before .before .before .before .pre .1)) (controls-all k) }
+    let k : Controls (c .before .before .before .before .before .before .args .words .now) (c .before .before .before .before .before .before .args .arena .now) (c .before .before .before .before .before .before .args .shapes .now) (c .before .before .before .before .before .before .args .place) (c .before .before .node-definition .result .now) (c .before .synth-at .result .row) (c .before .synth-at .result .first) (c .before .synth-at .result .many) = record { of = c .before .before .before .before .before .before .pre .0; bytes = c .before .before .node-definition .ensures; rowIs = c .before .synth-at .ensures .row; firstIs = c .before .synth-at .ensures .first; manyIs = c .before .synth-at .ensures .many } in
+    record { short = controls-short k; small = refl; room = left-some (int (c .before .synth-at .result .many) ∷ []) (controlsLeft (c .before .before .before .before .before .before .args .words .now) (c .before .before .before .before .before .before .args .arena .now) (c .before .before .before .before .before .before .args .place) 0) (left-all (c .before .before .before .before .before .before .pre .1)) (controls-all k) }
 
 loop-holds : tie.Need-loop-holds Inv-loop μ-loop
 loop-holds c =
-    let k : Controls (c .before .before .before .before .before .before .before .before .before .args .words .now) (c .before .before .before .before .before .before .before .before .before .args .shelf .now) (c .before .before .before .before .before .before .before .before .before .args .shapes .now) (c .before .before .before .before .before .before .before .before .before .args .place) (c .before .before .before .before .before .node-definition .result .now) (c .before .before .before .before .synth-at .result .row) (c .before .before .before .before .synth-at .result .first) (c .before .before .before .before .synth-at .result .many) = record { of = c .before .before .before .before .before .before .before .before .before .pre .0; bytes = c .before .before .before .before .before .node-definition .ensures; rowIs = c .before .before .before .before .synth-at .ensures .row; firstIs = c .before .before .before .before .synth-at .ensures .first; manyIs = c .before .before .before .before .synth-at .ensures .many } in
-    let first = left-less (int (c .before .before .before .before .synth-at .result .many) ∷ []) (controlsLeft (c .before .before .before .before .before .before .before .before .before .args .words .now) (c .before .before .before .before .before .before .before .before .before .args .shelf .now) (c .before .before .before .before .before .before .before .before .before .args .place) 0) (left-all (c .before .before .before .before .before .before .before .before .before .pre .1)) (controls-all k) (c .before .before .put-argument .ensures) in
+    let k : Controls (c .before .before .before .before .before .before .before .before .before .args .words .now) (c .before .before .before .before .before .before .before .before .before .args .arena .now) (c .before .before .before .before .before .before .before .before .before .args .shapes .now) (c .before .before .before .before .before .before .before .before .before .args .place) (c .before .before .before .before .before .node-definition .result .now) (c .before .before .before .before .synth-at .result .row) (c .before .before .before .before .synth-at .result .first) (c .before .before .before .before .synth-at .result .many) = record { of = c .before .before .before .before .before .before .before .before .before .pre .0; bytes = c .before .before .before .before .before .node-definition .ensures; rowIs = c .before .before .before .before .synth-at .ensures .row; firstIs = c .before .before .before .before .synth-at .ensures .first; manyIs = c .before .before .before .before .synth-at .ensures .many } in
+    let first = left-less (int (c .before .before .before .before .synth-at .result .many) ∷ []) (controlsLeft (c .before .before .before .before .before .before .before .before .before .args .words .now) (c .before .before .before .before .before .before .before .before .before .args .arena .now) (c .before .before .before .before .before .before .before .before .before .args .place) 0) (left-all (c .before .before .before .before .before .before .before .before .before .pre .1)) (controls-all k) (c .before .before .put-argument .ensures) in
     (omega arith, k, left-all (first .room))
 
 label-at-requires : tie.Need-label-at-requires Inv-loop μ-loop
@@ -56,7 +56,7 @@ put-argument-requires-2 c κs =
     let ws = s .args .words .now in
     let d = c .before .before .before .before .before .before .before .before .before .node-definition .result .now in
     let row = c .before .before .before .before .before .before .before .before .synth-at .result .row in
-    let rest = controlsLeft ws (s .args .shelf .now) (s .args .place) (j + 1) in
+    let rest = controlsLeft ws (s .args .arena .now) (s .args .place) (j + 1) in
     record { short = controls-short k; small = c .label-at .ensures .1; room = left-some (pieceArgument d (c .label-at .result) ∷ []) (valueOf ws row j ∷ rest) (c .before .before .before .loop .inv .2) (control-turn k j less (c .label-at .result) (c .label-at .ensures .0)) }
 
 value-at-requires : tie.Need-value-at-requires Inv-loop μ-loop
@@ -74,7 +74,7 @@ put-argument-requires-3 c κs =
     let ws = s .args .words .now in
     let d = c .before .before .before .before .before .before .before .before .before .before .before .before .before .before .node-definition .result .now in
     let row = c .before .before .before .before .before .before .before .before .before .before .before .before .before .synth-at .result .row in
-    let rest = controlsLeft ws (s .args .shelf .now) (s .args .place) (j + 1) in
+    let rest = controlsLeft ws (s .args .arena .now) (s .args .place) (j + 1) in
     let value = c .value-at in
     record { short = controls-short k; small = value-small k j less (value .result) (value .ensures); room = left-some (pieceArgument d (value .result) ∷ []) rest (left-less (pieceArgument d (c .before .before .before .before .before .label-at .result) ∷ []) (valueOf ws row j ∷ rest) (c .before .before .before .before .before .before .before .before .loop .inv .2) (control-turn k j less (c .before .before .before .before .before .label-at .result) (c .before .before .before .before .before .label-at .ensures .0)) (c .before .before .before .before .put-argument2 .ensures)) (ap (λ (x : Argument). x ∷ rest) (sym (value .ensures .is d))) }
 
@@ -96,7 +96,7 @@ loop-again c =
     let ws = s .args .words .now in
     let d = c .before .before .before .before .before .before .before .before .before .before .before .before .before .before .before .before .before .node-definition .result .now in
     let row = c .before .before .before .before .before .before .before .before .before .before .before .before .before .before .before .before .synth-at .result .row in
-    let rest = controlsLeft ws (s .args .shelf .now) (s .args .place) (j + 1) in
+    let rest = controlsLeft ws (s .args .arena .now) (s .args .place) (j + 1) in
     let value = c .before .before .before .value-at in
     (omega arith, k, left-less (pieceArgument d (value .result) ∷ []) rest (left-less (pieceArgument d (c .before .before .before .before .before .before .before .before .label-at .result) ∷ []) (valueOf ws row j ∷ rest) (c .before .before .before .before .before .before .before .before .before .before .before .loop .inv .2) (control-turn k j less (c .before .before .before .before .before .before .before .before .label-at .result) (c .before .before .before .before .before .before .before .before .label-at .ensures .0)) (c .before .before .before .before .before .before .before .put-argument2 .ensures)) (ap (λ (x : Argument). x ∷ rest) (sym (value .ensures .is d))) (c .before .before .put-argument3 .ensures))
 
@@ -106,7 +106,7 @@ same-length c = search needs
 returns : tie.Need-returns Inv-loop μ-loop
 returns c =
     let k = c .before .loop .inv .1 in
-    let all = (controlsLeft (c .before .before .before .before .before .before .before .before .before .before .before .args .words .now) (c .before .before .before .before .before .before .before .before .before .before .before .args .shelf .now) (c .before .before .before .before .before .before .before .before .before .before .before .args .place) 0) in
+    let all = (controlsLeft (c .before .before .before .before .before .before .before .before .before .before .before .args .words .now) (c .before .before .before .before .before .before .before .before .before .before .before .args .arena .now) (c .before .before .before .before .before .before .before .before .before .before .before .args .place) 0) in
     let first = left-less (int (c .before .before .before .before .before .before .synth-at .result .many) ∷ []) all (left-all (c .before .before .before .before .before .before .before .before .before .before .before .pre .1)) (controls-all k) (c .before .before .before .before .put-argument .ensures) in
     let done = left-none (c .before .loop .inv .2) (controls-end k (c .before .loop .j) (omega arith)) in
     left-none (left-less all [] first (sym (append-nil all)) done) refl

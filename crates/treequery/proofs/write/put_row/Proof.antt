@@ -13,7 +13,7 @@ use Rattle.queries.specs.Held.{bounds}
 use Rattle.treequery.specs.Pieces.{pieceArgument}
 use Rattle.treequery.specs.Writing.{left-all, left-some, left-less, left-none}
 use Rattle.treequery.specs.SynthRow.{controlsShown, synth-short, title-within, synth-pair, synth-turn, synth-hidden}
-use Rattle.treequery.specs.Rows.{group-turn, number-told}
+use Rattle.treequery.specs.Rows.{group-turn, number-fact}
 use Rattle.treequery.proofs.write.put_row.Statement.{statement}
 use Rattle.treequery.proofs.write.put_row.Tie as tie
 
@@ -39,9 +39,9 @@ put-pair-requires : tie.Need-put-pair-requires
 put-pair-requires c κs =
     let s = c .before .before .before .before .before .before .before .before in
     let ws = s .args .words .now in
-    let bs = s .args .shelf .now in
+    let bs = s .args .arena .now in
     let i = s .args .place in
-    rw (sym (group-turn (s .args .shown) ws bs (s .args .end) i (getD ws (nodesPlace + 5 * i) 0) (c .children-at .result) (sym (c .before .before .before .node-is-group .ensures) ∙ c .before .before .if1 .taken) (number-told ws bs i (s .pre .0 .at)) (c .children-at .ensures bs))) (s .pre .1)
+    rw (sym (group-turn (s .args .shown) ws bs (s .args .end) i (getD ws (nodesPlace + 5 * i) 0) (c .children-at .result) (sym (c .before .before .before .node-is-group .ensures) ∙ c .before .before .if1 .taken) (number-fact ws bs i (s .pre .0 .at)) (c .children-at .ensures bs))) (s .pre .1)
 
 same-length : tie.Need-same-length
 same-length c = search needs
@@ -50,26 +50,26 @@ returns : tie.Need-returns
 returns c =
     let s = c .before .before .before .before .before .before .before .before .before .before .before in
     let ws = s .args .words .now in
-    let bs = s .args .shelf .now in
+    let bs = s .args .arena .now in
     let i = s .args .place in
-    rw (group-turn (s .args .shown) ws bs (s .args .end) i (getD ws (nodesPlace + 5 * i) 0) (c .before .before .before .children-at .result) (sym (c .before .before .before .before .before .before .node-is-group .ensures) ∙ c .before .before .before .before .before .if1 .taken) (number-told ws bs i (s .pre .0 .at)) (c .before .before .before .children-at .ensures bs)) (c .before .before .put-pair .ensures)
+    rw (group-turn (s .args .shown) ws bs (s .args .end) i (getD ws (nodesPlace + 5 * i) 0) (c .before .before .before .children-at .result) (sym (c .before .before .before .before .before .before .node-is-group .ensures) ∙ c .before .before .before .before .before .if1 .taken) (number-fact ws bs i (s .pre .0 .at)) (c .before .before .before .children-at .ensures bs)) (c .before .before .put-pair .ensures)
 
 put-pair-requires-2 : tie.Need-put-pair-requires-2
 put-pair-requires-2 c κs =
     let s = c .before .before .before .before .before .before .before in
     let ws = s .args .words .now in
-    let bs = s .args .shelf .now in
+    let bs = s .args .arena .now in
     let i = s .args .place in
     let at = s .pre .0 .at in
     let one = sym (c .before .before .node-is-group .ensures) ∙ c .before .if1 .left in
     let n = getD ws (nodesPlace + 5 * i) 0 in
-    left-some (int n ∷ (int noNode ∷ [])) (text (stringAt (slotBytes ws bs (nodeIn ws i .slot)) 0) ∷ controlsShown ws bs i (s .args .shown)) (left-all (s .pre .1)) (synth-pair ws bs i at one (s .args .shown) (s .args .end) n (number-told ws bs i at))
+    left-some (int n ∷ (int noNode ∷ [])) (text (stringAt (slotBytes ws bs (nodeIn ws i .slot)) 0) ∷ controlsShown ws bs i (s .args .shown)) (left-all (s .pre .1)) (synth-pair ws bs i at one (s .args .shown) (s .args .end) n (number-fact ws bs i at))
 
 node-definition-requires : tie.Need-node-definition-requires
 node-definition-requires c κs =
     let s = c .before .before .before .before .before .before .before .before .before .before in
     let ws = s .args .words .now in
-    let bs = s .args .shelf .now in
+    let bs = s .args .arena .now in
     let i = s .args .place in
     let at = s .pre .0 .at in
     let one = sym (c .before .before .before .before .before .node-is-group .ensures) ∙ c .before .before .before .before .if1 .left in
@@ -80,7 +80,7 @@ string-at-requires : tie.Need-string-at-requires
 string-at-requires c κs =
     let s = c .before .before .before .before .before .before .before .before .before .before .before .before in
     let ws = s .args .words .now in
-    let bs = s .args .shelf .now in
+    let bs = s .args .arena .now in
     let i = s .args .place in
     let at = s .pre .0 .at in
     let one = sym (c .before .before .before .before .before .before .before .node-is-group .ensures) ∙ c .before .before .before .before .before .before .if1 .left in
@@ -90,7 +90,7 @@ put-argument-requires : tie.Need-put-argument-requires
 put-argument-requires c κs =
     let s = c .before .before .before .before .before .before .before .before .before .before .before .before .before in
     let ws = s .args .words .now in
-    let bs = s .args .shelf .now in
+    let bs = s .args .arena .now in
     let i = s .args .place in
     let at = s .pre .0 .at in
     let one = sym (c .before .before .before .before .before .before .before .before .node-is-group .ensures) ∙ c .before .before .before .before .before .before .before .if1 .left in
@@ -98,7 +98,7 @@ put-argument-requires c κs =
     let p = c .string-at .result in
     let n = getD ws (nodesPlace + 5 * i) 0 in
     let shown = controlsShown ws bs i (s .args .shown) in
-    let turn = synth-turn ws bs i at one (s .args .shown) (s .args .end) n d p (number-told ws bs i at) (c .before .before .node-definition .ensures) (c .string-at .ensures .0) in
+    let turn = synth-turn ws bs i at one (s .args .shown) (s .args .end) n d p (number-fact ws bs i at) (c .before .before .node-definition .ensures) (c .string-at .ensures .0) in
     let h1 = left-less (int n ∷ (int noNode ∷ [])) (pieceArgument d p ∷ shown) (left-all (s .pre .1)) turn (c .before .before .before .before .before .put-pair2 .ensures) in
     record { short = rw (c .before .before .node-definition .ensures) (synth-short ws bs i at one); small = c .string-at .ensures .1; room = left-some (pieceArgument d p ∷ []) shown h1 refl }
 
@@ -106,7 +106,7 @@ put-controls-requires : tie.Need-put-controls-requires
 put-controls-requires c κs =
     let s = c .before .before .before .before .before .before .before .before .before .before .before .before .before .before .before .before .before .before in
     let ws = s .args .words .now in
-    let bs = s .args .shelf .now in
+    let bs = s .args .arena .now in
     let i = s .args .place in
     let at = s .pre .0 .at in
     let one = sym (c .before .before .before .before .before .before .before .before .before .before .before .before .before .node-is-group .ensures) ∙ c .before .before .before .before .before .before .before .before .before .before .before .before .if1 .left in
@@ -114,7 +114,7 @@ put-controls-requires c κs =
     let p = c .before .before .before .before .before .string-at .result in
     let n = getD ws (nodesPlace + 5 * i) 0 in
     let shown = controlsShown ws bs i (s .args .shown) in
-    let turn = synth-turn ws bs i at one (s .args .shown) (s .args .end) n d p (number-told ws bs i at) (c .before .before .before .before .before .before .before .node-definition .ensures) (c .before .before .before .before .before .string-at .ensures .0) in
+    let turn = synth-turn ws bs i at one (s .args .shown) (s .args .end) n d p (number-fact ws bs i at) (c .before .before .before .before .before .before .before .node-definition .ensures) (c .before .before .before .before .before .string-at .ensures .0) in
     let h1 = left-less (int n ∷ (int noNode ∷ [])) (pieceArgument d p ∷ shown) (left-all (s .pre .1)) turn (c .before .before .before .before .before .before .before .before .before .before .put-pair2 .ensures) in
     let h2 = left-less (pieceArgument d p ∷ []) shown h1 refl (c .before .before .before .before .put-argument .ensures) in
     (record { at = at; single = one; shape = s .pre .0 .shape (c .before .if2 .taken) one }, rw (c .before .if2 .taken) at (h2 .room))
@@ -126,7 +126,7 @@ returns-2 : tie.Need-returns-2
 returns-2 c =
     let s = c .before .before .before .before .before .before .before .before .before .before .before .before .before .before .before .before .before .before .before .before .before in
     let ws = s .args .words .now in
-    let bs = s .args .shelf .now in
+    let bs = s .args .arena .now in
     let i = s .args .place in
     let at = s .pre .0 .at in
     let one = sym (c .before .before .before .before .before .before .before .before .before .before .before .before .before .before .before .before .node-is-group .ensures) ∙ c .before .before .before .before .before .before .before .before .before .before .before .before .before .before .before .if1 .left in
@@ -134,7 +134,7 @@ returns-2 c =
     let p = c .before .before .before .before .before .before .before .before .string-at .result in
     let n = getD ws (nodesPlace + 5 * i) 0 in
     let shown = controlsShown ws bs i (s .args .shown) in
-    let turn = synth-turn ws bs i at one (s .args .shown) (s .args .end) n d p (number-told ws bs i at) (c .before .before .before .before .before .before .before .before .before .before .node-definition .ensures) (c .before .before .before .before .before .before .before .before .string-at .ensures .0) in
+    let turn = synth-turn ws bs i at one (s .args .shown) (s .args .end) n d p (number-fact ws bs i at) (c .before .before .before .before .before .before .before .before .before .before .node-definition .ensures) (c .before .before .before .before .before .before .before .before .string-at .ensures .0) in
     let h1 = left-less (int n ∷ (int noNode ∷ [])) (pieceArgument d p ∷ shown) (left-all (s .pre .1)) turn (c .before .before .before .before .before .before .before .before .before .before .before .before .before .put-pair2 .ensures) in
     let h2 = left-less (pieceArgument d p ∷ []) shown h1 refl (c .before .before .before .before .before .before .before .put-argument .ensures) in
     let whole = controlsShown ws bs i true in
@@ -147,7 +147,7 @@ returns-3 : tie.Need-returns-3
 returns-3 c =
     let s = c .before .before .before .before .before .before .before .before .before .before .before .before .before .before .before .before .before in
     let ws = s .args .words .now in
-    let bs = s .args .shelf .now in
+    let bs = s .args .arena .now in
     let i = s .args .place in
     let at = s .pre .0 .at in
     let one = sym (c .before .before .before .before .before .before .before .before .before .before .before .before .node-is-group .ensures) ∙ c .before .before .before .before .before .before .before .before .before .before .before .if1 .left in
@@ -155,7 +155,7 @@ returns-3 c =
     let p = c .before .before .before .before .string-at .result in
     let n = getD ws (nodesPlace + 5 * i) 0 in
     let shown = controlsShown ws bs i (s .args .shown) in
-    let turn = synth-turn ws bs i at one (s .args .shown) (s .args .end) n d p (number-told ws bs i at) (c .before .before .before .before .before .before .node-definition .ensures) (c .before .before .before .before .string-at .ensures .0) in
+    let turn = synth-turn ws bs i at one (s .args .shown) (s .args .end) n d p (number-fact ws bs i at) (c .before .before .before .before .before .before .node-definition .ensures) (c .before .before .before .before .string-at .ensures .0) in
     let h1 = left-less (int n ∷ (int noNode ∷ [])) (pieceArgument d p ∷ shown) (left-all (s .pre .1)) turn (c .before .before .before .before .before .before .before .before .before .put-pair2 .ensures) in
     let h2 = left-less (pieceArgument d p ∷ []) shown h1 refl (c .before .before .before .put-argument .ensures) in
     left-none h2 (synth-hidden ws bs i at one (s .args .shown) (c .if2 .left))

@@ -8,13 +8,13 @@ use Rattle.treequery.proofs.write.put_tree.Statement.{statement}
 use Rattle.treequery.proofs.write.put_tree.Tie as tie
 
 abbrev Inv-loop : tie.InvT-loop
-Inv-loop out₀ words shelf shapes shown from end next₀ i₀ out next i =
+Inv-loop out₀ words arena shapes shown from end next₀ i₀ out next i =
     (from ≤ i)
     × (i ≤ end)
-    × Left next₀ (leftRows shown words shelf end from) out₀ next (leftRows shown words shelf end i) out
+    × Left next₀ (leftRows shown words arena end from) out₀ next (leftRows shown words arena end i) out
 
 abbrev μ-loop : tie.MeasureT-loop
-μ-loop out₀ words shelf shapes shown from end next₀ i₀ out next i = end - i
+μ-loop out₀ words arena shapes shown from end next₀ i₀ out next i = end - i
 
 loop-holds : tie.Need-loop-holds Inv-loop μ-loop
 loop-holds c =
@@ -25,7 +25,7 @@ put-row-requires : tie.Need-put-row-requires Inv-loop μ-loop
 put-row-requires c κs =
     let s = c .before .before .before .before .before .before in
     let ws = s .args .words .now in
-    let bs = s .args .shelf .now in
+    let bs = s .args .arena .now in
     let shown = s .args .shown in
     let end = s .args .end in
     let i = c .before .before .loop .i in
@@ -43,7 +43,7 @@ loop-again : tie.Need-loop-again Inv-loop μ-loop
 loop-again c =
     let s = c .before .before .before .before .before .before .before .before .before in
     let ws = s .args .words .now in
-    let bs = s .args .shelf .now in
+    let bs = s .args .arena .now in
     let shown = s .args .shown in
     let end = s .args .end in
     let i = c .before .before .before .before .before .loop .i in
@@ -58,7 +58,7 @@ returns : tie.Need-returns Inv-loop μ-loop
 returns c =
     let s = c .before .before .before .before .before in
     let ws = s .args .words .now in
-    let bs = s .args .shelf .now in
+    let bs = s .args .arena .now in
     let shown = s .args .shown in
     let end = s .args .end in
     let i = c .before .loop .i in

@@ -14,7 +14,6 @@ use Rattle.reader.proofs.Apart.{Says, Asked}
 use Rattle.reader.proofs.Asks.{asks-meets}
 use Rattle.reader.proofs.places.ended_at.Symbol as asked-def
 use Rattle.reader.proofs.places.ended_at.Met as asked-thm
-use Rattle.reader.proofs.reader.Reader.at_end.Key.{name as #at-end}
 use Rattle.reader.proofs.reader.Reader.at_end as at-end
 use Rattle.reader.proofs.reader.Reader.at_end.Statement as stated
 use Rattle.reader.proofs.reader.Reader.at_end.Code as code

@@ -15,7 +15,6 @@ use Rattle.reader.proofs.Apart.{Says, Asked}
 use Rattle.reader.proofs.Asks.{asks-meets}
 use Rattle.reader.proofs.places.bytes_at.Symbol as asked-def
 use Rattle.reader.proofs.places.bytes_at.Met as asked-thm
-use Rattle.reader.proofs.reader.Reader.definition.Key.{name as #definition}
 use Rattle.reader.proofs.reader.Reader.definition as definition
 use Rattle.reader.proofs.reader.Reader.definition.Statement as stated
 use Rattle.reader.proofs.reader.Reader.definition.Code as code

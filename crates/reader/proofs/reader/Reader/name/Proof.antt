@@ -15,7 +15,6 @@ use Rattle.reader.proofs.Apart.{Says, Asked}
 use Rattle.reader.proofs.Asks.{asks-meets}
 use Rattle.reader.proofs.places.name_from.Symbol as asked-def
 use Rattle.reader.proofs.places.name_from.Met as asked-thm
-use Rattle.reader.proofs.reader.Reader.name.Key.{name as #name}
 use Rattle.reader.proofs.reader.Reader.name as name
 use Rattle.reader.proofs.reader.Reader.name.Statement as stated
 use Rattle.reader.proofs.reader.Reader.name.Code as code

@@ -35,7 +35,6 @@ use denote.Exit.{yes}
 use Rattle.reader.specs.declared.reader.Reader.{Reader}
 use Rattle.reader.proofs.reader.Reader as T
 use Rattle.reader.proofs.reader.Reader.Laws as T′
-use Rattle.reader.proofs.reader.Reader.place.Key.{name as #reader·place}
 use Rattle.reader.proofs.reader.Reader.place as place
 use Rattle.reader.proofs.reader.Reader.place.Statement as stated
 use Rattle.reader.proofs.reader.Reader.place.Code as code

@@ -1,6 +1,6 @@
 use borrow.Author.Needs.{needs}
 use borrow.Author.Tests.{le-leb, lt-leb}
-use Rattle.words.specs.declared.Refusal.the-variants.{BadCount}
+use Rattle.faults.specs.declared.Fault.the-variants.{BadCount}
 use lib.Dec.{leb}
 use Rattle.synthdef.specs.ReadLaws.{checked-pass, checked-fail, checked-bad}
 use Rattle.synthdef.proofs.cursor.Cursor.count_to.Statement.{statement}

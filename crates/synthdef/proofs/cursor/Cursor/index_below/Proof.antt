@@ -1,6 +1,6 @@
 use borrow.Author.Needs.{needs}
 use borrow.Author.Tests.{lt-ltb, le-ltb}
-use Rattle.words.specs.declared.Refusal.the-variants.{BadIndex}
+use Rattle.faults.specs.declared.Fault.the-variants.{BadIndex}
 use lib.Dec.{ltb}
 use Rattle.synthdef.specs.ReadLaws.{checked-pass, checked-fail, checked-bad}
 use Rattle.synthdef.proofs.cursor.Cursor.index_below.Statement.{statement}

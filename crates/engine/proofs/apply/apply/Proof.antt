@@ -1,0 +1,53 @@
+-- `engine::apply::apply` meets its contract: the check, and then the step.
+use mathlib.Core.Path.{sym, _∙_}
+use borrow.Author.Needs.{needs}
+use borrow.Author.Tests.{not-true, not-false}
+use Rattle.state.specs.Does.{does-bad}
+use Rattle.engine.proofs.apply.apply.Statement.{statement}
+use Rattle.engine.proofs.apply.apply.Tie as tie
+
+well-formed-requires : tie.Need-well-formed-requires
+well-formed-requires c κs = search needs
+
+same-length : tie.Need-same-length
+same-length c = search needs
+
+same-length-2 : tie.Need-same-length-2
+same-length-2 c = search needs
+
+returns : tie.Need-returns
+returns c =
+    let a = c .before .before .before .before .before .before .before .before .args in
+    let check = c .before .well-formed in
+    does-bad (a .command) (a .bytes .now) (a .words .now) (a .arena .now) (a .reply .now) (sym (check .ensures) ∙ not-true (check .result) (c .if1 .taken))
+
+step-requires : tie.Need-step-requires
+step-requires c κs =
+    let check = c .before .before .before .before .well-formed in
+    sym (check .ensures) ∙ not-false (check .result) (c .before .before .before .if1 .left)
+
+same-length-3 : tie.Need-same-length-3
+same-length-3 c = search needs
+
+same-length-4 : tie.Need-same-length-4
+same-length-4 c = search needs
+
+same-length-5 : tie.Need-same-length-5
+same-length-5 c = search needs
+
+returns-2 : tie.Need-returns-2
+returns-2 c = c .before .before .before .before .before .before .step .ensures
+
+pub apply-spec : {M : Type 1} → statement M
+apply-spec =
+    tie.close
+    (tie.spec
+    well-formed-requires
+    same-length
+    same-length-2
+    returns
+    step-requires
+    same-length-3
+    same-length-4
+    same-length-5
+    returns-2)

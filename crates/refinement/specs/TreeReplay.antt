@@ -1,0 +1,162 @@
+-- Commands of the tree: the engine's nodes and the plain tree after them are the same again.
+use Prim.Native.Nat.{ℕ, zero, suc}
+use mathlib.Core.Bool.{Bool, true}
+use mathlib.Core.Path.{_≡_, refl, sym, ap, ap₂, _∙_}
+use mathlib.Core.List.{List, [], _∷_}
+use lib.Dec.{eqb}
+use Rattle.words.specs.Choice.{pick}
+use Rattle.nodes.specs.declared.Node.{Node}
+use Rattle.nodes.specs.Place.{isGroup, lives}
+use Rattle.nodes.specs.Edit.{withRun, cut, cutBelow, deepFree, setRun, addHead, addTail, addBefore, addAfter, addOver, moveBefore, moveAfter, moveHead, moveTail}
+use Rattle.nodes.specs.Forest.{Forest, flatten, mapForest, single, has, subtree, free, freeBelow, freeDeep, change, putHead, putTail, putBefore, putAfter, putOver, placeBefore, placeAfter, placeHead, placeTail}
+use Rattle.treerefinement.specs.Flatten.{key, lives-has}
+use Rattle.treerefinement.specs.Leaves.{Leaves, NoSynth, leaves-free, leaves-freeBelow, leaves-freeDeep, leaves-run, leaves-subtree, leaves-single, leaves-putBefore, leaves-putAfter, leaves-putOver, leaves-putHead, leaves-putTail, nosynth-free}
+use Rattle.treerefinement.specs.Edits.{cut-tree, cutBelow-tree, deepFree-tree, setRun-tree, addHead-tree, addTail-tree, addBefore-tree, addAfter-tree, addOver-tree, moveBefore-tree, moveAfter-tree, moveHead-tree, moveTail-tree}
+use Rattle.treerefinement.specs.MapForest.{map-has, map-free, map-freeBelow, map-freeDeep, map-change, map-putHead, map-putTail, map-putBefore, map-putAfter, map-putOver, map-placeHead, map-placeTail, map-placeBefore, map-placeAfter}
+use Rattle.values.specs.Targets.{targetOf}
+use Rattle.model.specs.Engine.{Engine}
+use Rattle.model.specs.View.{group, PlainNode, viewOf}
+use Rattle.model.specs.Meaning.{meantBy, meant}
+use Rattle.model.specs.Effects.{withNodes, addBy, newGroup}
+use Rattle.model.specs.Plain.{Plain, meantIn, numberIn, isGroupNode, withTree, putBy, turned}
+use Rattle.refinement.specs.Kept.{Kept, seenTree, group-kind}
+
+-- a node argument means the same
+pub same-meant : (a : ℕ) (e : Engine) (p : Plain) → Kept e p → meant a e ≡ meantIn a p
+same-meant a e p k = ap (λ (l : ℕ). meantBy (targetOf a) l) (k .latest)
+
+-- other nodes, laid out from a tree that is seen as the other plain tree
+module _ (e : Engine) (p : Plain) (k : Kept e p) where
+  pub nodes-replayed : (t : List Node) (g : Forest PlainNode) (f : Forest Node) → t ≡ flatten 0 f → Leaves f → g ≡ seenTree (e .slots) (e .controls) f → Kept (withNodes t e) (withTree g p)
+  nodes-replayed t g f laid leaves seen = record {
+    forest = f;
+    laid = laid;
+    leaves = leaves;
+    tree = seen;
+    names = k .names;
+    nameCount = k .nameCount;
+    once = k .once;
+    next = k .next;
+    latest = ap₂ (λ (b : Bool) (l : ℕ). pick b l 0) (here ∙ sym there) (k .latest);
+    buses = k .buses;
+    ordered = refl;
+  }
+    where
+      here : lives (e .latest) t ≡ has key (e .latest) f
+      here = ap (λ (l : List Node). lives (e .latest) l) laid ∙ lives-has (e .latest) 0 f
+
+      there : has numberIn (p .latest) g ≡ has key (e .latest) f
+      there = ap₂ (λ (n : ℕ) (h : Forest PlainNode). has numberIn n h) (sym (k .latest)) seen ∙ map-has (viewOf (e .slots) (e .controls)) key numberIn (λ x. refl) (e .latest) f
+
+  abbrev look : Node → PlainNode
+  look = viewOf (e .slots) (e .controls)
+
+  abbrev f0 : Forest Node
+  f0 = k .forest
+
+  pub cut-replayed : (n : ℕ) → Kept (withNodes (cut n (e .nodes)) e) (withTree (free numberIn n (p .tree)) p)
+  cut-replayed n =
+      nodes-replayed (cut n (e .nodes)) (free numberIn n (p .tree)) (free key n f0) (ap (λ (l : List Node). cut n l) (k .laid) ∙ cut-tree n f0) (leaves-free n f0 (k .leaves))
+      (ap (λ (g : Forest PlainNode). free numberIn n g) (k .tree) ∙ map-free look key numberIn (λ x. refl) n f0)
+
+  pub cutBelow-replayed : (n : ℕ) → Kept (withNodes (cutBelow n (e .nodes)) e) (withTree (freeBelow numberIn n (p .tree)) p)
+  cutBelow-replayed n =
+      nodes-replayed (cutBelow n (e .nodes)) (freeBelow numberIn n (p .tree)) (freeBelow key n f0) (ap (λ (l : List Node). cutBelow n l) (k .laid) ∙ cutBelow-tree n f0)
+      (leaves-freeBelow n f0 (k .leaves)) (ap (λ (g : Forest PlainNode). freeBelow numberIn n g) (k .tree) ∙ map-freeBelow look key numberIn (λ x. refl) n f0)
+
+  pub deepFree-replayed : (n : ℕ) → Kept (withNodes (deepFree n (e .nodes)) e) (withTree (freeDeep numberIn isGroupNode n (p .tree)) p)
+  deepFree-replayed n =
+      nodes-replayed (deepFree n (e .nodes)) (freeDeep numberIn isGroupNode n (p .tree)) (freeDeep key isGroup n f0) (ap (λ (l : List Node). deepFree n l) (k .laid) ∙ deepFree-tree n f0 (k .leaves))
+      (leaves-freeDeep n f0 (k .leaves))
+      (ap (λ (g : Forest PlainNode). freeDeep numberIn isGroupNode n g) (k .tree) ∙ map-freeDeep look key numberIn (λ x. refl) n f0 isGroup isGroupNode (λ x. group-kind (e .slots) (e .controls) x))
+
+  pub run-replayed : (n flag : ℕ) → Kept (withNodes (setRun n flag (e .nodes)) e) (withTree (change numberIn n (turned flag) (p .tree)) p)
+  run-replayed n flag =
+      nodes-replayed (setRun n flag (e .nodes)) (change numberIn n (turned flag) (p .tree)) (change key n (withRun flag) f0) (ap (λ (l : List Node). setRun n flag l) (k .laid) ∙ setRun-tree n flag f0)
+      (leaves-run n f0 (k .leaves) flag) (ap (λ (g : Forest PlainNode). change numberIn n (turned flag) g) (k .tree) ∙ map-change look key numberIn (λ x. refl) n f0 (withRun flag) (turned flag) (λ x. refl))
+
+  -- moves; the group that a node moves into is no synth
+  module _ (m n : ℕ) where
+    moved : Leaves (subtree key m f0)
+    moved = leaves-subtree m f0 (k .leaves)
+
+    pub before-replayed : Kept (withNodes (moveBefore m n (e .nodes)) e) (withTree (placeBefore numberIn m n (p .tree)) p)
+    before-replayed =
+        nodes-replayed (moveBefore m n (e .nodes)) (placeBefore numberIn m n (p .tree)) (placeBefore key m n f0) (ap (λ (l : List Node). moveBefore m n l) (k .laid) ∙ moveBefore-tree m n f0)
+        (leaves-putBefore n (free key m f0) (leaves-free m f0 (k .leaves)) (subtree key m f0) moved)
+        (ap (λ (g : Forest PlainNode). placeBefore numberIn m n g) (k .tree) ∙ map-placeBefore look key numberIn (λ x. refl) m n f0)
+
+    pub after-replayed : Kept (withNodes (moveAfter m n (e .nodes)) e) (withTree (placeAfter numberIn m n (p .tree)) p)
+    after-replayed =
+        nodes-replayed (moveAfter m n (e .nodes)) (placeAfter numberIn m n (p .tree)) (placeAfter key m n f0) (ap (λ (l : List Node). moveAfter m n l) (k .laid) ∙ moveAfter-tree m n f0)
+        (leaves-putAfter n (free key m f0) (leaves-free m f0 (k .leaves)) (subtree key m f0) moved)
+        (ap (λ (g : Forest PlainNode). placeAfter numberIn m n g) (k .tree) ∙ map-placeAfter look key numberIn (λ x. refl) m n f0)
+
+    pub head-replayed : NoSynth n f0 → Kept (withNodes (moveHead m n (e .nodes)) e) (withTree (placeHead numberIn m n (p .tree)) p)
+    head-replayed s =
+        nodes-replayed (moveHead m n (e .nodes)) (placeHead numberIn m n (p .tree)) (placeHead key m n f0) (ap (λ (l : List Node). moveHead m n l) (k .laid) ∙ moveHead-tree m n f0)
+        (leaves-putHead n (free key m f0) (leaves-free m f0 (k .leaves)) (subtree key m f0) moved (nosynth-free n m f0 s))
+        (ap (λ (g : Forest PlainNode). placeHead numberIn m n g) (k .tree) ∙ map-placeHead look key numberIn (λ x. refl) m n f0)
+
+    pub tail-replayed : NoSynth n f0 → Kept (withNodes (moveTail m n (e .nodes)) e) (withTree (placeTail numberIn m n (p .tree)) p)
+    tail-replayed s =
+        nodes-replayed (moveTail m n (e .nodes)) (placeTail numberIn m n (p .tree)) (placeTail key m n f0) (ap (λ (l : List Node). moveTail m n l) (k .laid) ∙ moveTail-tree m n f0)
+        (leaves-putTail n (free key m f0) (leaves-free m f0 (k .leaves)) (subtree key m f0) moved (nosynth-free n m f0 s))
+        (ap (λ (g : Forest PlainNode). placeTail numberIn m n g) (k .tree) ∙ map-placeTail look key numberIn (λ x. refl) m n f0)
+
+-- one node put in by an add action, on both sides: where both sides see the tree alike and see the new node alike
+pub record Added (look : Node → PlainNode) (t : List Node) (g : Forest PlainNode) : Type 0 where
+  pub forest : Forest Node
+  pub laid : t ≡ flatten 0 forest
+  pub leaves : Leaves forest
+  pub seen : g ≡ mapForest look forest
+
+module _ (look : Node → PlainNode) (same : (x : Node) → numberIn (look x) ≡ key x) (f : Forest Node) (leaves : Leaves f) (x : Node) (x0 : x .depth ≡ 0) (n : ℕ) where
+  one : x ∷ [] ≡ flatten 0 (single x)
+  unfolding flatten
+  one = ap (λ (d : ℕ). record { number = x .number; depth = d; run = x .run; slot = x .slot; row = x .row } ∷ []) x0
+
+  leafy : Leaves (single x)
+  leafy = leaves-single x
+
+  pub added : (action : ℕ) → (eqb action 0 ≡ true → NoSynth n f) → (eqb action 1 ≡ true → NoSynth n f) → Added look (addBy action x n (flatten 0 f)) (putBy action (look x) n (mapForest look f))
+  unfolding mapForest
+  added zero s0 s1 = record {
+    forest = putHead key (single x) n f;
+    laid = ap (λ (l : List Node). addHead l n (flatten 0 f)) one ∙ addHead-tree (single x) n f;
+    leaves = leaves-putHead n f leaves (single x) leafy (s0 refl);
+    seen = map-putHead look key numberIn same n f (single x);
+  }
+  added (suc zero) s0 s1 = record {
+    forest = putTail key (single x) n f;
+    laid = ap (λ (l : List Node). addTail l n (flatten 0 f)) one ∙ addTail-tree (single x) n f;
+    leaves = leaves-putTail n f leaves (single x) leafy (s1 refl);
+    seen = map-putTail look key numberIn same n f (single x);
+  }
+  added (suc (suc zero)) s0 s1 = record {
+    forest = putBefore key (single x) n f;
+    laid = ap (λ (l : List Node). addBefore l n (flatten 0 f)) one ∙ addBefore-tree (single x) n f;
+    leaves = leaves-putBefore n f leaves (single x) leafy;
+    seen = map-putBefore look key numberIn same n f (single x);
+  }
+  added (suc (suc (suc zero))) s0 s1 = record {
+    forest = putAfter key (single x) n f;
+    laid = ap (λ (l : List Node). addAfter l n (flatten 0 f)) one ∙ addAfter-tree (single x) n f;
+    leaves = leaves-putAfter n f leaves (single x) leafy;
+    seen = map-putAfter look key numberIn same n f (single x);
+  }
+  added (suc (suc (suc (suc action)))) s0 s1 = record {
+    forest = putOver key (single x) n f;
+    laid = ap (λ (l : List Node). addOver l n (flatten 0 f)) one ∙ addOver-tree (single x) n f;
+    leaves = leaves-putOver n f leaves (single x) leafy;
+    seen = map-putOver look key numberIn same n f (single x);
+  }
+
+-- a new group
+pub group-replayed : (e : Engine) (p : Plain) (k : Kept e p) (number action n : ℕ) → (eqb action 0 ≡ true → NoSynth n (k .forest)) → (eqb action 1 ≡ true → NoSynth n (k .forest))
+    → Kept (withNodes (addBy action (newGroup number) n (e .nodes)) e) (withTree (putBy action (record { number = number; run = 1; kind = group }) n (p .tree)) p)
+group-replayed e p k number action n s0 s1 =
+    let a = added (viewOf (e .slots) (e .controls)) (λ x. refl) (k .forest) (k .leaves) (newGroup number) refl n action s0 s1 in
+    nodes-replayed e p k (addBy action (newGroup number) n (e .nodes)) (putBy action (record { number = number; run = 1; kind = group }) n (p .tree)) (a .forest)
+    (ap (λ (l : List Node). addBy action (newGroup number) n l) (k .laid) ∙ a .laid) (a .leaves)
+    (ap (λ (g : Forest PlainNode). putBy action (record { number = number; run = 1; kind = group }) n g) (k .tree) ∙ a .seen)

@@ -1,0 +1,36 @@
+-- The refusals' numbers: paper 01, "Refusal numbers". Those of a file, 2 to 11, are in `faults`.
+use Prim.Native.Nat.{ℕ}
+use Rattle.refusals.specs.declared.Refusal.{Refusal}
+use Rattle.refusals.specs.declared.Refusal.the-variants.{BadState, NoSlot, BadFlag, BadNumber, NumberLive, NoDefinition, NoNode, WrongKind, InsideItself, NodesFull, NoControl, NoBus, BadValue, NoRoom, NoNumber}
+
+abbrev pub numberOf : Refusal → ℕ
+-- "a state buffer has the wrong size, or a rule .. doesn't hold"
+numberOf BadState = 1
+-- "no slot"
+numberOf NoSlot = 12
+-- "add action not 0 to 4, run flag not 0 or 1"
+numberOf BadFlag = 13
+-- "new number below -1, or -1 for a group"
+numberOf BadNumber = 14
+-- "number live (0 always; also if 4 would free it)"
+numberOf NumberLive = 15
+-- "no resident of that name"
+numberOf NoDefinition = 16
+-- "no such node"
+numberOf NoNode = 17
+-- "group or synth needed and it isn't; or the root, where it can't be freed, moved, replaced or given a sibling"
+numberOf WrongKind = 18
+-- "place named for a move is the moved node or below it"
+numberOf InsideItself = 19
+-- "256 nodes live (never for action 4)"
+numberOf NodesFull = 20
+-- "no such control"
+numberOf NoControl = 21
+-- "no such bus or bus range"
+numberOf NoBus = 22
+-- "integer value out of bounds"
+numberOf BadValue = 23
+-- "reply or export longer than its buffer"
+numberOf NoRoom = 24
+-- "no number left for a new -1"
+numberOf NoNumber = 25

@@ -1,2 +1,0 @@
-// Laws only: every accepted command keeps a well-formed state well formed. They stand in specs/.
-pub fn nothing() {}
