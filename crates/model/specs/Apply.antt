@@ -19,7 +19,7 @@ use Rattle.model.specs.Engine.{Engine, decode}
 use Rattle.model.specs.Formed.{formed}
 use Rattle.model.specs.Checks.{firstOf, definitionChecks, treeChecks, controlChecks, busChecks, queryChecks, roomCheck}
 use Rattle.model.specs.Replies.{reply}
-use Rattle.model.specs.After.{wordsAfter, arenaAfter, freshState}
+use Rattle.model.specs.After.{wordsAfter, arenaAfter, freshState, freshArena}
 
 -- a query's answer: its checks, then that the reply has room
 unfoldable pub queryAnswer : Query → List ℕ → Engine → ℕ → Answer
@@ -75,7 +75,7 @@ unfoldable pub freshWords : List ℕ → List ℕ → List ℕ
 freshWords ws arena = pick (sized ws arena) freshState ws
 
 unfoldable pub freshArenas : List ℕ → List ℕ → List ℕ
-freshArenas ws arena = pick (sized ws arena) freshArenan arena
+freshArenas ws arena = pick (sized ws arena) freshArena arena
 
 -- an answer as one number: "the refusal's number (0 accepted) plus 256 times the place (refusals 2 to 11) or the length written"
 abbrev pub answerNumber : Answer → ℕ

@@ -35,6 +35,7 @@ use Rattle.reader.specs.declared.reader.Reader.{Reader}
 use Rattle.reader.proofs.reader.Reader as T
 use Rattle.reader.proofs.reader.Reader.Laws as T′
 use Rattle.reader.proofs.Apart.{B, Says, asked, asking, says-asked, Asked, mach, Own, to, apart, said}
+use lib.Dec.{T as Holds}
 
 -- the fields are read into locals, and the function is called with them
 abbrev pub method : Ty → Name → Fn

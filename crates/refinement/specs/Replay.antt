@@ -62,6 +62,7 @@ use Rattle.refinement.specs.SynthReplay.{synth-replayed}
 use Rattle.refinement.specs.DefinitionsReplay.{load-replayed, retire-replayed}
 use Rattle.refinement.specs.RowChange.{FitsWord}
 use Rattle.refinement.specs.ControlsReplay.{changed-replayed}
+use Rattle.model.specs.Meaning.{known as knownIn}
 
 -- commands of the tree
 module _ (bytes sizes : List ℕ) (e : Engine) (p : Plain) (s : Sound sizes e) (k : Kept e p) where

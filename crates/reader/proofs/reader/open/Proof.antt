@@ -62,6 +62,9 @@ use Rattle.reader.proofs.places.start_of.Met as start-thm
 use Rattle.reader.proofs.reader.open as open′
 use Rattle.reader.proofs.reader.open.Statement as stated
 use Rattle.reader.proofs.reader.open.Code as code
+use Rattle.synthdef.proofs.check_file.Symbol.{name as #check-file}
+use Rattle.reader.proofs.places.start_of.Symbol.{name as #start-of}
+use Rattle.reader.proofs.reader.open.Key.{name as #open}
 
 abbrev stayed : Stays (open′.ended .signature .params) (open′.ended .kept)
 stayed = (stay-none-slice (0 ∷ []) tt (plain (λ _. u8)) yes, tt)

@@ -17,6 +17,7 @@ use Rattle.reader.proofs.places.ended_at.Met as asked-thm
 use Rattle.reader.proofs.reader.Reader.at_end as at-end
 use Rattle.reader.proofs.reader.Reader.at_end.Statement as stated
 use Rattle.reader.proofs.reader.Reader.at_end.Code as code
+use Rattle.reader.proofs.reader.Reader.at_end.Key.{name as #at-end}
 
 abbrev R : Slot 1
 R = plain (λ _. bool)

@@ -18,6 +18,7 @@ use Rattle.reader.proofs.places.bytes_at.Met as asked-thm
 use Rattle.reader.proofs.reader.Reader.definition as definition
 use Rattle.reader.proofs.reader.Reader.definition.Statement as stated
 use Rattle.reader.proofs.reader.Reader.definition.Code as code
+use Rattle.reader.proofs.reader.Reader.definition.Key.{name as #definition}
 
 abbrev R : Slot 1
 R = SliceRefOf (0 ∷ []) tt (plain (λ _. u8)) (λ _. tt)

@@ -18,6 +18,7 @@ use Rattle.reader.proofs.places.name_from.Met as asked-thm
 use Rattle.reader.proofs.reader.Reader.name as name
 use Rattle.reader.proofs.reader.Reader.name.Statement as stated
 use Rattle.reader.proofs.reader.Reader.name.Code as code
+use Rattle.reader.proofs.reader.Reader.name.Key.{name as #name}
 
 abbrev R : Slot 1
 R = SliceRefOf (0 ∷ []) tt (plain (λ _. u8)) (λ _. tt)

@@ -46,6 +46,9 @@ use Rattle.reader.proofs.places.place_after.Met as after-thm
 use Rattle.reader.proofs.reader.Reader.next as next
 use Rattle.reader.proofs.reader.Reader.next.Statement as stated
 use Rattle.reader.proofs.reader.Reader.next.Code as code
+use lib.Dec.{T as Holds}
+use Rattle.reader.proofs.places.place_after.Symbol.{name as #place-after}
+use Rattle.reader.proofs.reader.Reader.next.Key.{name as #next}
 
 -- the result of `place_after`, and what its contract says
 abbrev R : Slot 1

@@ -38,6 +38,7 @@ use Rattle.reader.proofs.reader.Reader.Laws as T′
 use Rattle.reader.proofs.reader.Reader.place as place
 use Rattle.reader.proofs.reader.Reader.place.Statement as stated
 use Rattle.reader.proofs.reader.Reader.place.Code as code
+use Rattle.reader.proofs.reader.Reader.place.Key.{name as #reader·place}
 
 -- the struct's type, over the signature's lifetimes
 abbrev B : Lfts 1 → RattleType
