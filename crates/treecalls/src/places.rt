@@ -2,7 +2,7 @@
 use tree::find;
 ghost use mathlib.Core.Path.{_≡_};
 ghost use Rattle.treecalls.specs.Calls.{tabled, bit};
-ghost use Rattle.treecalls.specs.PlaceFound.{PlaceFound};
+ghost use Rattle.treecalls.specs.Found.{PlaceFound};
 
 // The answer of a call that is refused.
 pub const REFUSED: u64 = 4294967296;
