@@ -2,8 +2,8 @@
 
 use independent::engine::{Commands, Theme};
 use independent::layout::{self, record, row_words};
+use independent::layout::{ARENA, ORDER, ORDER_LENGTH, RECORD, RESIDENT, ROW, WORDS};
 use independent::layout::{BUS, CONTROL, COUNT, GROUP, LATEST, LENGTH, NEXT, NODE, NONE_LEFT};
-use independent::layout::{ORDER, ORDER_LENGTH, RECORD, RESIDENT, ROW, ARENA, WORDS};
 use independent::{leave, well_formed, write, Call, Definition, Engine, Random, MOST_BYTES};
 
 /// Sends random commands and looks at some of the states.
