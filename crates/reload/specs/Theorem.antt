@@ -22,7 +22,7 @@ use Rattle.model.specs.Checks.{firstOf, check, faultOf, definitionsOf, namesOf,
 use Rattle.model.specs.Replies.{definitionsIn, exportFile, replyTo, reply}
 use Rattle.model.specs.After.{wordsAfter, arenaAfter, freshState, freshArena}
 use Rattle.model.specs.Apply.{answerIn}
-use Rattle.model.specs.Demands.{AreBytes, receive, meaningIn, Demand2}
+use Rattle.model.specs.Demands.{AreBytes, receive, meaningIn, Demand2, definitionAtSlot as residentDefinition}
 use Rattle.roundtrip.specs.Stands.{Bytes, bytes-of-every}
 use Rattle.roundtrip.specs.Forth.{file-forth}
 use Rattle.state.specs.Known.{Known, known}
