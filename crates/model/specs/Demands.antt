@@ -57,8 +57,8 @@ refusalIn (Replied n) = 0
 refusalIn (Refused r) = numberOf r
 refusalIn (RefusedAt r at) = faultNumber r
 
--- of what a call does: "Any bytes and any command, in any lent state, end in the effect asked for or in one numbered refusal, by the table's order of checks. A refusal
--- changes nothing in the state or the reply buffer". A command that is accepted was given in a well-formed state, and leaves one.
+-- of what a call does: any bytes and any command, in any lent state, end in the effect asked for or in one numbered refusal, by the table's order of checks. A refusal
+-- changes nothing in the state or the reply buffer. A command that is accepted was given in a well-formed state, and leaves one.
 pub record Ends (c : Command) (bytes ws bs out : List ℕ) (a : Answer) (ws′ bs′ out′ : List ℕ) : Type 0 where
   pub table : a ≡ answer c bytes ws bs out
   pub effected : isAccepted a ≡ true → decode ws′ bs′ ≡ effect c bytes (decode ws bs)
@@ -75,7 +75,7 @@ Demand1 =
 abbrev pub receive : Command
 receive = command.Definitions definitions.Receive
 
--- Demand 2: "What a fresh engine accepts is exported byte for byte; an export loaded into a fresh one gives the same definitions."
+-- Demand 2: what a fresh engine accepts is exported byte for byte; an export loaded into a fresh one gives the same definitions.
 pub record Demand2 : Type 0 where
   pub exported : (file : List ℕ) → AreBytes file → answerIn receive file (decode freshState freshArena) 0 ≡ Done
       → reply query.Export [] (decode (wordsAfter receive file freshState freshArena) (arenaAfter receive file freshState freshArena)) ≡ file
@@ -112,7 +112,7 @@ after c s = record {
   arena = pick (acceptedIn c s) (arenaAfter (c .command) (c .bytes) (s .words) (s .arena)) (s .arena);
 }
 
--- "one claim about every sequence of loads and commands from a fresh engine"
+-- one claim about every sequence of loads and commands from a fresh engine
 abbrev pub freshEngine : State
 freshEngine = record { words = freshState; arena = freshArena }
 
@@ -225,7 +225,7 @@ entriesLeft test t [] = []
 entriesLeft test t (r ∷ l) =
     pick (test (r .node .number)) (entriesLeft test t l) (record { node = r .node; parent = parentOf (r .node .number) t } ∷ entriesLeft test t l)
 
--- of one call between the state before it and the state after it: "never refusal 1, each answer as the table says"; "what a command doesn't touch stays as it was": nodes that
+-- of one call between the state before it and the state after it: never refusal 1, each answer as the table says; what a command doesn't touch stays as it was: nodes that
 -- it neither adds, moves nor frees keep their order among themselves; a node outside the subtrees that it adds, moves, sets, maps, turns on or off, or frees keeps its
 -- kind, parent, definition, run flag and controls
 pub record StepHolds (c : Call) (s : State) : Type 0 where
@@ -240,7 +240,7 @@ unfoldable pub EachHolds : List Call → State → Type 0
 EachHolds [] s = Unit {0}
 EachHolds (c ∷ cs) s = StepHolds c s × EachHolds cs (after c s)
 
--- of a tree: "numbers are distinct, every node descends from the root by one parent"
+-- of a tree: numbers are distinct, every node descends from the root by one parent
 pub record TreeHolds (t : List Node) : Type 0 where
   pub distinct : apart t ≡ true
   pub descends : (n : ℕ) → lives n t ≡ true → isBelow n 0 t ≡ true
@@ -260,8 +260,8 @@ isExport (query.Tree g flag) = false
 isExport query.Status = false
 isExport query.Export = true
 
--- of the state after a sequence and the plain tree that was fed the same: "afterwards everything equals paper 01's plain tree, the kept running order equals the one worked
--- out afresh". "All that the plain tree holds is compared: definitions, each synth's and each name's, as read, not by slot; controls by own float and mapping; every float by its bits."
+-- of the state after a sequence and the plain tree that was fed the same: everything equals paper 01's plain tree, the kept running order equals the one worked
+-- out afresh. "All that the plain tree holds is compared: definitions, each synth's and each name's, as read, not by slot; controls by own float and mapping; every float by its bits."
 pub record Same (e : Engine) (p : Plain) : Type 0 where
   pub nodes : view e ≡ plainRows 0 (p .tree)
   pub names : (name : List ℕ) → meaningIn name e ≡ meaning name (p .names)
@@ -282,5 +282,5 @@ pub record Demand3 (cs : List Call) : Type 0 where
   pub each : EachHolds cs freshEngine
   pub same : Same (engineIn (run cs freshEngine)) (replay cs freshEngine atFirst)
   pub tree : TreeHolds (engineIn (run cs freshEngine) .nodes)
-  -- "each synth has the definition its name meant when it was made"
+  -- each synth has the definition its name meant when it was made
   pub synths : (n : ℕ) (d : Definition) → definitionOfSynth n (view (engineIn (run cs freshEngine))) ≡ some d → made cs freshEngine n none ≡ some d

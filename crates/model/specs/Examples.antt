@@ -45,11 +45,11 @@ abbrev fileOf : ℕ → List ℕ → List ℕ → List ℕ
 fileOf parameters names units =
     header 1 ++ (1 ∷ 97 ∷ []) ++ int 0 ++ int parameters ++ replicate (4 * parameters) 0 ++ names ++ units ++ (0 ∷ 0 ∷ [])
 
--- one parameter name, "x", of the index i
+-- one parameter name, `x`, of the index i
 abbrev oneName : ℕ → List ℕ
 oneName i = int 1 ++ (1 ∷ 120 ∷ []) ++ int i
 
--- one unit, "U", whose one input is output 0 of the unit u
+-- one unit, `U`, whose one input is output 0 of the unit u
 abbrev oneUnit : ℕ → List ℕ
 oneUnit u = int 1 ++ (1 ∷ 85 ∷ 0 ∷ []) ++ int 1 ++ int 1 ++ (0 ∷ 0 ∷ []) ++ int u ++ int 0 ++ (0 ∷ [])
 

@@ -106,8 +106,8 @@ controlArguments i names [] = []
 controlArguments i names (c ∷ cs) =
     labelArgument (firstName i names) i ∷ (mappingArgument (c .mapping) (c .own) ∷ controlArguments (i + 1) names cs)
 
--- "`/g_queryTree` as in 000": "node ID; number of child nodes contained within this node. If -1 this is a synth, if >=0 it's a group; then, if this node is a synth: the
--- SynthDef name for this node; then, if flag (see above) is true: numControls for this synth (M)", and for each control its name or index and its value or mapping
+-- "`/g_queryTree` as in 000": "node ID .. number of child nodes contained within this node. If -1 this is a synth, if >=0 it's a group .. then, if this node is a synth: .. the
+-- SynthDef name for this node. .. then, if flag (see above) is true: .. numControls for this synth (M)", and for each control its name or index and its value or mapping
 abbrev pub flagged : Bool → Definition → List ControlValue → List Argument
 flagged true d cs = int (length cs) ∷ controlArguments 0 (d .front .names) cs
 flagged false d cs = []
@@ -135,7 +135,7 @@ unfoldable pub subtreeRows : ℕ → List Row → List Row
 subtreeRows n [] = []
 subtreeRows n (r ∷ l) = pick (eqb (r .node .number) n) (rowsBelow (r .depth) l) (subtreeRows n l)
 
--- "flag: if synth control values are included 1, else 0; node ID of the requested group; number of child nodes contained within the requested group"; "Any nonzero flag is 1."
+-- "flag: if synth control values are included 1, else 0 .. node ID of the requested group .. number of child nodes contained within the requested group"; "Any nonzero flag is 1."
 abbrev pub flagNumber : Bool → ℕ
 flagNumber true = 1
 flagNumber false = 0

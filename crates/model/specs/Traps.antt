@@ -60,7 +60,7 @@ panName = 112 ∷ 97 ∷ 110 ∷ []
 abbrev noName : List ℕ
 noName = 122 ∷ 122 ∷ []
 
--- a definition of 510 constants, longer than 2,048 bytes: the header, "big", 510, zeros up to the last field
+-- a definition of 510 constants, longer than 2,048 bytes: the header, `big`, 510, zeros up to the last field
 abbrev long : List ℕ
 long = take 10 ping ++ (3 ∷ 98 ∷ 105 ∷ 103 ∷ 0 ∷ 0 ∷ 1 ∷ 254 ∷ []) ++ replicate 2040 0 ++ replicate 12 0 ++ (0 ∷ 0 ∷ [])
 
@@ -90,7 +90,7 @@ group number action target = line (Tree (NewGroup number action (argument target
 abbrev one : List Line
 one = load ping ∷ group 1 1 0 ∷ synth 1000 1 1 ∷ []
 
--- an old "rain" 10, the name reloaded with its controls in another order, and a new "rain" 11
+-- an old `rain` 10, the name reloaded with its controls in another order, and a new `rain` 11
 abbrev rains : List Line
 rains =
     load rain
@@ -240,11 +240,11 @@ abbrev pub oldShapes : List Example
 oldShapes =
     -- 22 before 21 in `/n_map`
     example (last (one ++ (line (Controls (Map (argument 1000) (Index 9) 4096)) [] ∷ []))) (22 ∷ [])
-    -- a name means its entry in the synth's own definition: "pan" of the old rain is 1, of the new one 0
+    -- a name means its entry in the synth's own definition: `pan` of the old rain is 1, of the new one 0
     ∷ example (value (rains ++ (line (Controls (Set (argument 0) Name (Integer 9))) panName ∷ [])) 10 1) (65 ∷ 16 ∷ 0 ∷ 0 ∷ [])
     -- .. and the new one
     ∷ example (value (rains ++ (line (Controls (Set (argument 0) Name (Integer 9))) panName ∷ [])) 11 0) (65 ∷ 16 ∷ 0 ∷ 0 ∷ [])
-    -- the first entry: "amp" of the new rain is 1
+    -- the first entry: `amp` of the new rain is 1
     ∷ example (value (rains ++ (line (Controls (Set (argument 11) Name (Integer 9))) ampName ∷ [])) 11 1) (65 ∷ 16 ∷ 0 ∷ 0 ∷ [])
     -- the old rain's other control is as it was
     ∷ example (value (rains ++ (line (Controls (Set (argument 0) Name (Integer 9))) panName ∷ [])) 10 0) (63 ∷ 128 ∷ 0 ∷ 0 ∷ [])

@@ -24,7 +24,7 @@ use Rattle.model.specs.declared.Command.the-variants as command
 use Rattle.ops.specs.declared.Parsed.{Parsed}
 use Rattle.ops.specs.declared.Parsed.the-variants.{Call, Nothing}
 
--- "In a value d is 0 for a float's pattern in e, 1 for an integer in e."
+-- in a value d is 0 for a float's pattern in e, 1 for an integer in e
 abbrev pub valued : ℕ → ℕ → (Value → Command) → Parsed
 valued d e make = pick (eqb d 0) (Call (make (Float e))) (pick (eqb d 1) (Call (make (Integer e))) Nothing)
 
@@ -85,7 +85,7 @@ ops a b c d e =
     ∷ (Call (command.Query query.Export)
     ∷ [])))))))))))))))))))))))))))
 
--- "An `op` that is none of these answers 255 and changes nothing."
+-- an `op` that is none of these is no command
 unfoldable pub commandOf : ℕ → ℕ → ℕ → ℕ → ℕ → ℕ → Parsed
 commandOf op a b c d e = getD (ops a b c d e) op Nothing
 

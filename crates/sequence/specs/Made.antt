@@ -1,4 +1,4 @@
--- "each synth has the definition its name meant when it was made": of one accepted command.
+-- Demand 3, each synth has the definition its name meant when it was made: of one accepted command.
 use Prim.Native.Nat.{ℕ, _<_}
 use mathlib.Core.Bool.{Bool, true, false, not}
 use mathlib.Core.Path.{_≡_, refl, sym, ap, _∙_}
