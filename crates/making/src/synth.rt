@@ -7,6 +7,7 @@ use model::Answer;
 use nodes::Node;
 use treecommands::Spot;
 use treecommands::settle;
+use values::NodeArgument;
 use words::wide;
 ghost use Prim.Native.Nat.{ℕ};
 ghost use mathlib.Core.List.{List};
@@ -45,7 +46,7 @@ fn put_synth(number: u32, action: u32, at: usize, slot: u32, words: &mut [u32], 
 pub fn new_synth(
     number: u32,
     action: u32,
-    target: u32,
+    target: NodeArgument,
     bytes: &[u8],
     words: &mut [u32],
     arena: &[u8],

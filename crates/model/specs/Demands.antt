@@ -17,6 +17,7 @@ use Rattle.nodes.specs.Place.{isGroup, lives}
 use Rattle.nodes.specs.Edit.{isBelow}
 use Rattle.nodes.specs.Structure.{parentOf, childrenOf}
 use Rattle.nodes.specs.Formed.{apart}
+use Rattle.values.specs.declared.NodeArgument.{NodeArgument}
 use Rattle.model.specs.declared.DefinitionCommand.the-variants as definitions
 use Rattle.model.specs.declared.TreeCommand.{TreeCommand}
 use Rattle.model.specs.declared.TreeCommand.the-variants as tree
@@ -196,7 +197,7 @@ turnedBy (tree.Head g a) e n = false
 turnedBy (tree.Tail g a) e n = false
 turnedBy (tree.Run a flag) e n = isBelow n (meant a e) (e .nodes)
 
-abbrev pub controlNode : ControlCommand → ℕ
+abbrev pub controlNode : ControlCommand → NodeArgument
 controlNode (controls.Set n key value) = n
 controlNode (controls.Fill n key count value) = n
 controlNode (controls.Map n key bus) = n

@@ -12,6 +12,7 @@ use Rattle.nodes.specs.Structure.{noNode, childCount, headOf, tailOf, parentOf,
 use Rattle.osc.specs.Message.{Argument, int, float, text, message, decimal}
 use Rattle.values.specs.declared.Key.{Key}
 use Rattle.values.specs.declared.Key.the-variants.{Index, Name}
+use Rattle.values.specs.declared.NodeArgument.{NodeArgument}
 use Rattle.values.specs.declared.Mapping.{Mapping}
 use Rattle.values.specs.declared.Mapping.the-variants.{Unmapped, Bus}
 use Rattle.values.specs.Controls.{ControlValue, shownBy}
@@ -172,7 +173,7 @@ abbrev pub exportFile : List Slot → List ℕ
 exportFile slots = writeFile (definitionsIn (residents slots))
 
 -- the reply to a query about the node that its argument means
-unfoldable pub replyTo : Query → (ℕ → ℕ) → List ℕ → List Row → List ℕ → ℕ → List ℕ → List ℕ
+unfoldable pub replyTo : Query → (NodeArgument → ℕ) → List ℕ → List Row → List ℕ → ℕ → List ℕ → List ℕ
 replyTo (query.Node n) means bytes rows buses names file = infoReply (means n) rows
 replyTo (query.Control n key) means bytes rows buses names file = controlReply (means n) key bytes rows buses
 replyTo (query.Bus bus) means bytes rows buses names file = busReply bus buses
