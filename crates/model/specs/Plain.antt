@@ -7,8 +7,8 @@ use mathlib.Core.Option.{Option, none, some}
 use lib.ListN.{take, drop, replicate}
 use lib.Dec.{eqb}
 use Rattle.words.specs.Choice.{pick}
-use Rattle.synthdef.specs.Definition.{Definition}
-use Rattle.synthdef.specs.Reader.{readFile, sameName}
+use Rattle.format.specs.Definition.{Definition}
+use Rattle.format.specs.Reader.{readFile, sameName}
 use Rattle.nodes.specs.Forest.{Forest, node, single, has, edit, mapForest, free, freeBelow, freeDeep, change, putHead, putTail, putBefore, putAfter, putOver, placeBefore, placeAfter, placeHead, placeTail}
 use Rattle.nodes.specs.Forest as forest
 use Rattle.nodes.specs.Order.{orderTree}

@@ -8,9 +8,9 @@ use lib.ListN.{length}
 use Rattle.words.specs.Choice.{pick}
 use Rattle.refusals.specs.declared.Refusal.{Refusal}
 use Rattle.refusals.specs.declared.Refusal.the-variants.{BadState}
-use Rattle.synthdef.specs.Read.{Read, got, bad}
-use Rattle.synthdef.specs.Definition.{Definition}
-use Rattle.synthdef.specs.Reader.{readFile}
+use Rattle.format.specs.Read.{Read, got, bad}
+use Rattle.format.specs.Definition.{Definition}
+use Rattle.format.specs.Reader.{readFile}
 use Rattle.model.specs.declared.DefinitionCommand.{DefinitionCommand}
 use Rattle.model.specs.declared.DefinitionCommand.the-variants as definitions
 use Rattle.model.specs.declared.TreeCommand.{TreeCommand}
