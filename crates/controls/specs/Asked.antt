@@ -9,7 +9,7 @@ use lib.ListN.{length, drop, getD}
 use lib.Dec.{leb}
 use lib.Seq.{getD-drop}
 use Rattle.words.specs.Choice.{pick, either}
-use Rattle.synthdef.specs.Definition.{Front, Definition}
+use Rattle.format.specs.Definition.{Front, Definition}
 use Rattle.nodes.specs.declared.Node.{Node}
 use Rattle.nodes.specs.Place.{isGroup}
 use Rattle.values.specs.declared.Key.{Key}

@@ -11,11 +11,11 @@ use lib.Seq.{set-append-seam, append-snoc}
 use lib.Dec.{ltb, leb}
 use borrow.Author.Tests.{not-true, le-leb, leb-true, lt-ltb, le-ltb}
 use Rattle.words.specs.Choice.{pick, both, either, both-true}
-use Rattle.synthdef.specs.Read.{Read, got}
-use Rattle.synthdef.specs.Definition.{Definition}
-use Rattle.synthdef.specs.Reader.{readDefinition, readFile, sizeLimit, mostDefinitions, sameName, among}
-use Rattle.synthdef.specs.Writer.{writeDefinition, writeFile}
-use Rattle.synthdef.specs.Bounds.{every, isDefinition, areDefinitions, isFile}
+use Rattle.format.specs.Read.{Read, got}
+use Rattle.format.specs.Definition.{Definition}
+use Rattle.format.specs.Reader.{readDefinition, readFile, sizeLimit, mostDefinitions, sameName, among}
+use Rattle.format.specs.Writer.{writeDefinition, writeFile}
+use Rattle.format.specs.Bounds.{every, isDefinition, areDefinitions, isFile}
 use Rattle.nodes.specs.declared.Node.{Node}
 use Rattle.model.specs.Layout.{slotCount}
 use Rattle.model.specs.Engine.{Slot, slotAt, held, definitionIn, noDefinition, valueOr, nameIn, residents, residentFrom, residentOf}

@@ -11,8 +11,8 @@ use Rattle.words.specs.Choice.{both, both-true}
 use Rattle.words.specs.Parts.{region, put, region-length}
 use Rattle.refusals.specs.declared.Refusal.{Refusal}
 use Rattle.refusals.specs.declared.Refusal.the-variants.{BadFlag, BadNumber, NumberLive, NoDefinition, NoNode, WrongKind, NodesFull, NoNumber}
-use Rattle.synthdef.specs.Read.{Read}
-use Rattle.synthdef.specs.Definition.{Front, Definition}
+use Rattle.format.specs.Read.{Read}
+use Rattle.format.specs.Definition.{Front, Definition}
 use Rattle.readable.specs.Readable.{Readable, whole-readable}
 use Rattle.nodes.specs.declared.Node.{Node}
 use Rattle.nodes.specs.Table.{rows, over}

@@ -1,4 +1,4 @@
--- What every call answers and leaves, for every input: the engine's one door.
+-- What every call answers and leaves, for every input: the one function that commands go through.
 use Prim.Native.Nat.{ℕ, _*_, _+_}
 use mathlib.Core.Bool.{Bool, true, false}
 use mathlib.Core.Path.{_≡_}

@@ -7,9 +7,9 @@ use lib.Dec.{ltb, leb, eqb}
 use Rattle.words.specs.Choice.{pick, both, either}
 use Rattle.refusals.specs.declared.Refusal.{Refusal}
 use Rattle.refusals.specs.declared.Refusal.the-variants.{NoSlot, BadFlag, BadNumber, NumberLive, NoDefinition, NoNode, WrongKind, InsideItself, NodesFull, NoControl, NoBus, BadValue, NoRoom, NoNumber}
-use Rattle.synthdef.specs.Read.{Read, got, bad}
-use Rattle.synthdef.specs.Definition.{Definition}
-use Rattle.synthdef.specs.Reader.{readFile, among}
+use Rattle.format.specs.Read.{Read, got, bad}
+use Rattle.format.specs.Definition.{Definition}
+use Rattle.format.specs.Reader.{readFile, among}
 use Rattle.nodes.specs.declared.Node.{Node}
 use Rattle.nodes.specs.Place.{isGroup, lives}
 use Rattle.nodes.specs.Edit.{isBelow}

@@ -10,8 +10,8 @@ use lib.Dec.{ltb, eqb}
 use Rattle.words.specs.Choice.{pick, either}
 use Rattle.faults.specs.Faults.{faultNumber}
 use Rattle.refusals.specs.Refusals.{numberOf}
-use Rattle.synthdef.specs.Definition.{Definition}
-use Rattle.synthdef.specs.Bounds.{every}
+use Rattle.format.specs.Definition.{Definition}
+use Rattle.format.specs.Bounds.{every}
 use Rattle.nodes.specs.declared.Node.{Node}
 use Rattle.nodes.specs.Place.{isGroup, lives}
 use Rattle.nodes.specs.Edit.{isBelow}

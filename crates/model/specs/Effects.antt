@@ -7,9 +7,9 @@ use lib.ListN.{length, take, drop, getD, set, replicate}
 use lib.Dec.{eqb}
 use Rattle.words.specs.Choice.{pick, both}
 use Rattle.words.specs.Parts.{put}
-use Rattle.synthdef.specs.Definition.{Definition}
-use Rattle.synthdef.specs.Reader.{readFile, among}
-use Rattle.synthdef.specs.Writer.{writeDefinition}
+use Rattle.format.specs.Definition.{Definition}
+use Rattle.format.specs.Reader.{readFile, among}
+use Rattle.format.specs.Writer.{writeDefinition}
 use Rattle.nodes.specs.declared.Node.{Node}
 use Rattle.nodes.specs.Table.{over}
 use Rattle.nodes.specs.Place.{groupSlot, isGroup, lives}

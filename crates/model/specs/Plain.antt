@@ -7,9 +7,9 @@ use mathlib.Core.Option.{Option, none, some}
 use lib.ListN.{take, drop, replicate}
 use lib.Dec.{ltb, eqb}
 use Rattle.words.specs.Choice.{pick}
-use Rattle.synthdef.specs.Read.{Read, got, bad}
-use Rattle.synthdef.specs.Definition.{ParameterName, Definition}
-use Rattle.synthdef.specs.Reader.{readFile, sameName}
+use Rattle.format.specs.Read.{Read, got, bad}
+use Rattle.format.specs.Definition.{ParameterName, Definition}
+use Rattle.format.specs.Reader.{readFile, sameName}
 use Rattle.nodes.specs.Forest.{Forest, node, single, has, edit, mapForest, free, freeBelow, freeDeep, change, putHead, putTail, putBefore, putAfter, putOver, placeBefore, placeAfter, placeHead, placeTail}
 use Rattle.nodes.specs.Forest as forest
 use Rattle.nodes.specs.Order.{orderTree}

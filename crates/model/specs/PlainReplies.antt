@@ -7,7 +7,7 @@ use mathlib.Core.Option.{Option, none, some}
 use lib.ListN.{length, getD}
 use lib.Dec.{eqb}
 use Rattle.words.specs.Choice.{pick}
-use Rattle.synthdef.specs.Definition.{ParameterName}
+use Rattle.format.specs.Definition.{ParameterName}
 use Rattle.nodes.specs.Forest.{Forest, node, below}
 use Rattle.nodes.specs.Forest as forest
 use Rattle.nodes.specs.Structure.{tops, children, parent, previous, next, head, tail}

@@ -6,8 +6,8 @@ use mathlib.Core.Option.{Option, none, some}
 use lib.ListN.{length, getD}
 use lib.Dec.{ltb, eqb}
 use Rattle.words.specs.Choice.{pick}
-use Rattle.synthdef.specs.Definition.{ParameterName, Definition}
-use Rattle.synthdef.specs.Writer.{writeFile}
+use Rattle.format.specs.Definition.{ParameterName, Definition}
+use Rattle.format.specs.Writer.{writeFile}
 use Rattle.nodes.specs.Structure.{noNode, childCount, headOf, tailOf, parentOf, previousOf, nextOf}
 use Rattle.osc.specs.Message.{Argument, int, float, text, message, decimal}
 use Rattle.values.specs.declared.Key.{Key}

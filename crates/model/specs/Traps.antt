@@ -4,10 +4,10 @@ use mathlib.Core.Bool.{Bool, true, false}
 use mathlib.Core.Path.{_≡_, refl}
 use mathlib.Core.List.{List, [], _∷_, _++_}
 use lib.ListN.{length, take, drop, replicate}
-use Rattle.synthdef.specs.Read.{repeat}
-use Rattle.synthdef.specs.Fields.{nameBytes}
-use Rattle.synthdef.specs.Reader.{readFront, readUnit, readUnits, readDefinition, readDefinitions, readFile, sameName, among}
-use Rattle.synthdef.specs.Writer.{writeAll, writeDefinition, writeFile}
+use Rattle.format.specs.Read.{repeat}
+use Rattle.format.specs.Fields.{nameBytes}
+use Rattle.format.specs.Reader.{readFront, readUnit, readUnits, readDefinition, readDefinitions, readFile, sameName, among}
+use Rattle.format.specs.Writer.{writeAll, writeDefinition, writeFile}
 use Rattle.nodes.specs.Place.{lives}
 use Rattle.nodes.specs.Edit.{lift, sink, takeDeeper, dropDeeper, onlyGroups, runOf, editRows}
 use Rattle.nodes.specs.Order.{orderFrom}

@@ -5,7 +5,7 @@ use mathlib.Core.Path.{_≡_, refl, sym, ap, ap₂, _∙_}
 use mathlib.Core.List.{List, [], _∷_}
 use lib.ListN.{drop}
 use Rattle.refusals.specs.declared.Refusal.the-variants.{NoNode, WrongKind, NoControl}
-use Rattle.synthdef.specs.Definition.{Definition}
+use Rattle.format.specs.Definition.{Definition}
 use Rattle.nodes.specs.Place.{isGroup}
 use Rattle.osc.specs.Message.{int, float, message, tags, arguments}
 use Rattle.values.specs.declared.Key.{Key}

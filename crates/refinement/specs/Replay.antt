@@ -11,10 +11,10 @@ use lib.Dec.{ltb, leb, eqb}
 use Rattle.words.specs.Choice.{pick, both, either, both-true}
 use Rattle.words.specs.Parts.{region-length}
 use Rattle.refusals.specs.declared.Refusal.the-variants.{NoSlot, BadFlag, BadNumber, NumberLive, NoDefinition, NoNode, WrongKind, NodesFull, NoBus, NoNumber}
-use Rattle.synthdef.specs.Read.{Read, got, bad}
-use Rattle.synthdef.specs.Definition.{Definition}
-use Rattle.synthdef.specs.Reader.{readFile, mostDefinitions}
-use Rattle.synthdef.specs.Bounds.{areDefinitions}
+use Rattle.format.specs.Read.{Read, got, bad}
+use Rattle.format.specs.Definition.{Definition}
+use Rattle.format.specs.Reader.{readFile, mostDefinitions}
+use Rattle.format.specs.Bounds.{areDefinitions}
 use Rattle.roundtrip.specs.Stands.{bytes-of-every}
 use Rattle.roundtrip.specs.Forth.{file-forth}
 use Rattle.nodes.specs.declared.Node.{Node}

@@ -11,8 +11,8 @@ use borrow.Author.Tests.{lt-ltb, le-ltb}
 use lib.ListN.{length, getD}
 use lib.Dec.{eqb}
 use Rattle.words.specs.Choice.{pick}
-use Rattle.synthdef.specs.Definition.{ParameterName, Definition}
-use Rattle.synthdef.specs.Reader.{sameName}
+use Rattle.format.specs.Definition.{ParameterName, Definition}
+use Rattle.format.specs.Reader.{sameName}
 use Rattle.nodes.specs.declared.Node.{Node}
 use Rattle.nodes.specs.Forest.{Forest, node, flatten, mapForest, has, below}
 use Rattle.nodes.specs.Forest as forest

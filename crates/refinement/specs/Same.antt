@@ -11,7 +11,7 @@ use lib.Dec.{eqb}
 use Rattle.words.specs.Choice.{pick, either, either-false}
 use Rattle.refusals.specs.declared.Refusal.{Refusal}
 use Rattle.refusals.specs.declared.Refusal.the-variants.{NoNode, WrongKind, NoControl}
-use Rattle.synthdef.specs.Definition.{Definition}
+use Rattle.format.specs.Definition.{Definition}
 use Rattle.nodes.specs.declared.Node.{Node}
 use Rattle.nodes.specs.Place.{isGroup, lives}
 use Rattle.nodes.specs.Forest.{Forest, has, below}

@@ -9,9 +9,9 @@ use lib.Dec.{eqb}
 use borrow.Author.Tests.{ne-eqb, eq-eqb}
 use Rattle.words.specs.Choice.{pick, both, both-true}
 use Rattle.faults.specs.Faults.{faultNumber, fault-low}
-use Rattle.synthdef.specs.Read.{Read, got, bad}
-use Rattle.synthdef.specs.Definition.{Definition}
-use Rattle.synthdef.specs.Reader.{readFile}
+use Rattle.format.specs.Read.{Read, got, bad}
+use Rattle.format.specs.Definition.{Definition}
+use Rattle.format.specs.Reader.{readFile}
 use Rattle.model.specs.declared.DefinitionCommand.the-variants as definitions
 use Rattle.model.specs.declared.TreeCommand.{TreeCommand}
 use Rattle.model.specs.declared.TreeCommand.the-variants as tree

@@ -7,7 +7,7 @@ use mathlib.Core.List.{List, [], _∷_}
 use mathlib.Core.Option.{Option, none, some}
 use lib.ListN.{length}
 use Rattle.words.specs.Choice.{pick}
-use Rattle.synthdef.specs.Definition.{Definition}
+use Rattle.format.specs.Definition.{Definition}
 use Rattle.preservation.specs.TreeKept.{known-sound}
 use Rattle.state.specs.Known.{Known, known}
 use Rattle.model.specs.declared.DefinitionCommand.the-variants as definitions
