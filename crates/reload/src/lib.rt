@@ -1,2 +1,1 @@
 // Demand 2 stands in specs/.
-pub fn nothing() {}

@@ -1,2 +1,1 @@
 // Demand 3: one claim about every sequence of calls from a fresh engine. It stands in specs/Theorem.antt.
-pub fn nothing() {}
