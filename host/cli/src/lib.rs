@@ -1,4 +1,5 @@
 //! The parts of the program `limudvek` that are tested apart from it.
 
+pub mod page;
 pub mod play;
 pub mod show;

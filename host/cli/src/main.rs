@@ -2,11 +2,12 @@
 
 mod check;
 
-use cli::play;
+use cli::{page, play};
 use std::env;
 use std::process::ExitCode;
 
-const USAGE: &str = "usage: limudvek check FILE...\n       limudvek play FILE";
+const USAGE: &str =
+    "usage: limudvek check FILE...\n       limudvek play FILE\n       limudvek page FILE";
 
 /// The exit status where a file can't be read, where none is named, and for a bad command.
 const UNREADABLE: u8 = 2;
@@ -18,6 +19,7 @@ fn main() -> ExitCode {
     match command.as_ref().and_then(|word| word.to_str()) {
         Some("check") if !rest.is_empty() => check::run(&rest),
         Some("play") if rest.len() == 1 => play::file(&rest[0], &mut engine::Engine::new()),
+        Some("page") if rest.len() == 1 => page::file(&rest[0], &mut engine::Engine::new()),
         _ => {
             eprintln!("{USAGE}");
             ExitCode::from(UNREADABLE)

@@ -1,8 +1,8 @@
 //! `limudvek play FILE`: sends a script's commands to an engine, one a line, and prints the answers.
 
-mod line;
-mod message;
-mod tree;
+pub(crate) mod line;
+pub(crate) mod message;
+pub(crate) mod tree;
 
 use crate::show;
 use limudvek::{refusal, synthdef};
@@ -77,10 +77,7 @@ pub fn play(
     engine: &mut impl Applies,
     out: &mut impl Write,
 ) -> io::Result<bool> {
-    let mut player = Player {
-        engine,
-        reply: vec![0; REPLY],
-    };
+    let mut player = Player::new(engine);
     let mut all_read = true;
     for (place, text) in script.split(|&byte| byte == b'\n').enumerate() {
         let unread = match line::read(text) {
@@ -96,14 +93,21 @@ pub fn play(
     Ok(all_read)
 }
 
-struct Player<'a, D> {
-    engine: &'a mut D,
-    reply: Vec<u8>,
+pub(crate) struct Player<'a, D> {
+    pub(crate) engine: &'a mut D,
+    pub(crate) reply: Vec<u8>,
 }
 
-impl<D: Applies> Player<'_, D> {
+impl<'a, D: Applies> Player<'a, D> {
+    pub(crate) fn new(engine: &'a mut D) -> Player<'a, D> {
+        Player {
+            engine,
+            reply: vec![0; REPLY],
+        }
+    }
+
     /// Does what a line says and prints it. Answers why it can't be read, if so.
-    fn line(
+    pub(crate) fn line(
         &mut self,
         line: Line,
         folder: &Path,
@@ -129,7 +133,7 @@ impl<D: Applies> Player<'_, D> {
     }
 
     /// Sends a command. Answers the refusal's number, or 0, and the place or the reply's length.
-    fn send(&mut self, call: &Call) -> (u32, usize) {
+    pub(crate) fn send(&mut self, call: &Call) -> (u32, usize) {
         let answer = self
             .engine
             .apply(call.op, call.numbers, &call.bytes, &mut self.reply);

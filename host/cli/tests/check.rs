@@ -254,7 +254,7 @@ fn other_words_get_the_usage() {
         assert_eq!(out, "");
         assert_eq!(
             err,
-            "usage: limudvek check FILE...\n       limudvek play FILE\n"
+            "usage: limudvek check FILE...\n       limudvek play FILE\n       limudvek page FILE\n"
         );
     }
     let (status, out) = folder.check(&["check"]);
