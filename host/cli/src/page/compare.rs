@@ -1,7 +1,7 @@
 //! What differs between the engine's answers before a command and those after it. What the command is
 //! plays no part.
 
-use super::ask::{Answers, Control, Definition, Node};
+use super::ask::{Answers, Definition, Node};
 use std::collections::{HashMap, HashSet};
 
 /// Where nothing differs, all is empty or false.
@@ -17,8 +17,16 @@ pub struct Difference {
     pub latest: bool,
     pub status: bool,
     pub definitions: bool,
-    /// Runs of buses that have another float, which is the same in a run: first bus, how many, float.
-    pub buses: Vec<(usize, usize, u32)>,
+    /// Buses that have another float.
+    pub buses: Vec<BusRun>,
+}
+
+/// Buses in a row that have one float.
+#[derive(Debug, PartialEq, Eq)]
+pub struct BusRun {
+    pub first: usize,
+    pub count: usize,
+    pub float: u32,
 }
 
 #[derive(Debug, PartialEq, Eq)]
@@ -43,8 +51,18 @@ pub struct Changed {
 pub struct Change {
     /// The run flag.
     pub on: Option<bool>,
-    /// First control, how many, the new own float, the new mapping.
-    pub controls: Vec<(usize, usize, Option<u32>, Option<Option<usize>>)>,
+    pub controls: Vec<ControlRun>,
+}
+
+/// Controls in a row that changed alike.
+#[derive(Clone, Debug, PartialEq, Eq, Hash)]
+pub struct ControlRun {
+    pub first: usize,
+    pub count: usize,
+    /// The own float, where it is another.
+    pub own: Option<u32>,
+    /// The mapping, where it is another.
+    pub bus: Option<Option<usize>>,
 }
 
 /// What became of a definition.
@@ -201,40 +219,44 @@ fn change(old: &Node, new: &Node) -> Change {
         let bus = (old.bus != new.bus).then_some(new.bus);
         match change.controls.last_mut() {
             _ if old == new => {}
-            Some((first, count, last_own, last_bus))
-                if *first + *count == index && (*last_own, *last_bus) == (own, bus) =>
-            {
-                *count += 1;
+            Some(run) if run.first + run.count == index && (run.own, run.bus) == (own, bus) => {
+                run.count += 1;
             }
-            _ => change.controls.push((index, 1, own, bus)),
+            _ => change.controls.push(ControlRun {
+                first: index,
+                count: 1,
+                own,
+                bus,
+            }),
         }
     }
     change
 }
 
 /// Whether a control of the node follows one of these buses.
-fn follows(node: &Node, buses: &[(usize, usize, u32)]) -> bool {
+fn follows(node: &Node, buses: &[BusRun]) -> bool {
     let among = |bus: usize| {
-        buses
-            .iter()
-            .any(|&(first, count, _)| (first..first + count).contains(&bus))
+        let mut runs = buses.iter();
+        runs.any(|run| (run.first..run.first + run.count).contains(&bus))
     };
-    let controls: &[Control] = node.synth.as_ref().map_or(&[], |synth| &synth.controls);
-    controls
-        .iter()
-        .any(|control| control.bus.is_some_and(among))
+    let mut controls = node.synth.iter().flat_map(|synth| &synth.controls);
+    controls.any(|control| control.bus.is_some_and(among))
 }
 
-fn buses(before: &[u32], after: &[u32]) -> Vec<(usize, usize, u32)> {
-    let mut runs: Vec<(usize, usize, u32)> = Vec::new();
+fn buses(before: &[u32], after: &[u32]) -> Vec<BusRun> {
+    let mut runs: Vec<BusRun> = Vec::new();
     for (bus, &float) in after.iter().enumerate() {
         // A bus that was not there held zero.
         if before.get(bus).copied().unwrap_or(0) == float {
             continue;
         }
         match runs.last_mut() {
-            Some((first, count, last)) if *first + *count == bus && *last == float => *count += 1,
-            _ => runs.push((bus, 1, float)),
+            Some(run) if run.first + run.count == bus && run.float == float => run.count += 1,
+            _ => runs.push(BusRun {
+                first: bus,
+                count: 1,
+                float,
+            }),
         }
     }
     runs

@@ -108,10 +108,15 @@ impl Data {
             definitions(&before.definitions, &after.definitions, &mut step);
         }
         if !difference.buses.is_empty() {
-            let run = |&(first, count, pattern): &(usize, usize, u32)| {
-                list([first.to_string(), count.to_string(), float(pattern)])
-            };
-            step.set("buses", list(difference.buses.iter().map(run)));
+            let runs = difference.buses.iter();
+            let runs = runs.map(|run| {
+                list([
+                    run.first.to_string(),
+                    run.count.to_string(),
+                    float(run.float),
+                ])
+            });
+            step.set("buses", list(runs));
         }
         self.before = after;
         step
@@ -167,11 +172,11 @@ fn changes(changed: &[Changed]) -> String {
             object.set("on", u8::from(on));
         }
         if !change.controls.is_empty() {
-            let controls = change.controls.iter().map(|&(first, count, own, bus)| {
-                let (own, bus) = (or_null(own.map(float)), or_null(bus.map(mapping)));
-                list([first.to_string(), count.to_string(), own, bus])
+            let runs = change.controls.iter().map(|run| {
+                let (own, bus) = (or_null(run.own.map(float)), or_null(run.bus.map(mapping)));
+                list([run.first.to_string(), run.count.to_string(), own, bus])
             });
-            object.set("c", list(controls));
+            object.set("c", list(runs));
         }
         list([runs(places.into_iter()), object.to_string()])
     }))

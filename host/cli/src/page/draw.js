@@ -1,119 +1,11 @@
 
-/* Draws the step that is looked at. All text goes in as text, never as HTML. */
-const $ = id => document.getElementById(id);
+/* What stands beside the tree, and the steps. */
 const lines = Array.from(document.querySelectorAll('#lines > .step'));
 const last = lines.length;
 let present = 0;
 
-/* An element with a class and with children, which are elements or text. */
-function el(tag, name, ...children) {
-  const element = document.createElement(tag);
-  if (name) element.className = name;
-  element.append(...children.filter(child => child !== null && child !== ''));
-  return element;
-}
-
-const tag = (name, text) => el('span', 'tag ' + name, text);
-const nameOf = shape => data.shapes[shape][0];
-const some = list => list.length > 8 ? list.slice(0, 8).join(', ') + ' and ' + (list.length - 8) + ' more' : list.join(', ');
-
-/* What a control reads, and where from. */
-function reading(state, node, index) {
-  const bus = node.bus[index];
-  return bus < 0 ? node.own[index] : state.buses[bus] + ' from bus ' + bus + ', own ' + node.own[index];
-}
-
-function control(look, node, index) {
-  const item = el('li', '', el('b', '', data.shapes[node.shape][1][index]), ' ' + reading(look.after, node, index));
-  if (node.bus[index] >= 0) item.classList.add('mapped');
-  const controls = look.marks.changed.get(node.n);
-  if (controls && controls.has(index)) {
-    item.classList.add('changed');
-    item.append(el('i', '', ' was ' + reading(look.before, look.before.nodes.get(node.n), index)));
-  }
-  return item;
-}
-
-/* Where a node was before the step. */
-function earlier(look, n) {
-  const up = look.before.nodes.get(n).up;
-  const kids = look.before.nodes.get(up).kids;
-  const at = kids.indexOf(n);
-  return 'moved, was in ' + up + (at === 0 ? ' at the head' : ' after ' + kids[at - 1]);
-}
-
-/* A node's tags: what the step did to it, then what it is. */
-function tags(look, node, off) {
-  const {marks, after} = look;
-  const found = [];
-  if (look.ghost) return [tag('freed', 'freed')];
-  if (marks.came.has(node.n)) found.push(tag('came', 'came'));
-  if (marks.moved.has(node.n)) found.push(tag('moved', earlier(look, node.n)));
-  if (marks.changed.has(node.n)) {
-    const run = look.before.nodes.get(node.n).on !== node.on;
-    found.push(tag('changed', run ? 'changed, was ' + (node.on ? 'off' : 'on') : 'changed'));
-  }
-  if (!node.on) found.push(tag('off', 'off'));
-  if (off !== null) found.push(tag('silent', 'silent: group ' + off + ' is off'));
-  if (after.latest === node.n) found.push(tag('latest', 'latest, -1'));
-  if (node.again) {
-    const [line, shape] = node.again;
-    found.push(tag('again', 'number used before by a ' + (shape < 0 ? 'group' : nameOf(shape) + ' synth') + ', freed by line ' + line));
-  }
-  return found;
-}
-
-/* A node and all below it. `off` is the nearest group above that is off, if any. */
-function branch(look, n, off) {
-  const node = (look.ghost ? look.before : look.after).nodes.get(n);
-  const item = el('li', node.group ? 'group' : 'synth');
-  for (const kind of ['came', 'moved', 'changed']) {
-    if (!look.ghost && look.marks[kind].has(n)) item.classList.add(kind);
-  }
-  if (look.ghost) item.classList.add('freed');
-  if (!node.on || off !== null) item.classList.add('quiet');
-  const head = el('div', 'head');
-  const place = look.places.get(n);
-  if (!node.group && !look.ghost) {
-    const badge = el('span', place ? 'place' : 'place none', place ? String(place) : '\u2013');
-    badge.title = place ? 'place ' + place + ' in the running order' : 'not in the running order';
-    head.append(badge);
-  }
-  head.append(el('span', 'number', String(n)));
-  if (node.group) {
-    head.append(el('span', 'kind', 'group'));
-  } else {
-    const retired = !look.ghost && look.retired.has(node.slot);
-    head.append(el('span', retired ? 'definition old' : 'definition', nameOf(node.shape)));
-    if (retired) head.append(tag('old', 'retired definition'));
-  }
-  head.append(...tags(look, node, off));
-  item.append(head);
-  if (!node.group && !look.ghost && node.own.length > 0) {
-    item.append(el('ul', 'controls', ...node.own.map((_, index) => control(look, node, index))));
-  }
-  if (node.group) item.append(children(look, node, node.on ? off : n));
-  return item;
-}
-
-/* A group's children, and between them those that the step freed, where they were. */
-function children(look, node, off) {
-  const list = el('ul', '');
-  const gone = new Map();
-  const old = look.before.nodes.get(node.n);
-  let behind = null;
-  for (const n of old && !look.ghost ? old.kids : []) {
-    if (look.marks.freed.has(n)) gone.set(behind, (gone.get(behind) || []).concat(n));
-    else if (node.kids.includes(n) && !look.marks.moved.has(n)) behind = n;
-  }
-  const ghosts = n => (gone.get(n) || []).forEach(g => list.append(branch({...look, ghost: true}, g, null)));
-  ghosts(null);
-  for (const n of node.kids) {
-    list.append(branch(look, n, off));
-    ghosts(n);
-  }
-  return list;
-}
+/* The answers that are drawn, and after how many steps. */
+let drawn = {count: -1, answers: null};
 
 function drawOrder({before, after}) {
   const entry = (n, name, text) => el('li', name, el('span', 'number', String(n)), text ? tag(name, text) : null);
@@ -143,10 +35,10 @@ function drawDefinitions({before, after, step}) {
 }
 
 function drawLatest({before, after, step}) {
-  const means = state => state.latest === null ? '-1 means no node' : '-1 means ' + state.latest;
+  const means = state => state.latest === null ? 'no node' : String(state.latest);
   const node = after.nodes.get(after.latest);
-  const text = means(after) + (node ? ', a ' + nameOf(node.shape) + ' synth' : '');
-  $('latest').replaceChildren(text, 'latest' in step ? tag('changed', 'was: ' + means(before)) : '');
+  const text = '-1 means ' + means(after) + (node ? ', a ' + nameOf(node.shape) + ' synth' : '');
+  $('latest').replaceChildren(text, 'latest' in step ? tag('changed', 'was ' + means(before)) : '');
 }
 
 /* The buses in runs that have one float and one mark and are not followed. */
@@ -199,15 +91,17 @@ function drawDid({after, step, marks}) {
 
 function draw() {
   const step = present > 0 ? data.steps[present - 1] : {};
-  const before = answers(Math.max(present - 1, 0));
+  const count = Math.max(present - 1, 0);
+  const before = drawn.count === count ? drawn.answers : answers(count);
   const after = copy(before);
   advance(after, step);
+  drawn = {count: present, answers: after};
   const look = {
-    step, before, after, ghost: false, marks: marksOf(step, after),
+    step, before, after, marks: marksOf(step, after),
     places: new Map(after.order.map((n, at) => [n, at + 1])),
     retired: new Set(after.definitions.filter(definition => definition[2] === null).map(definition => definition[0])),
   };
-  $('tree').replaceChildren(branch(look, after.root, null));
+  drawTree(look);
   drawOrder(look);
   drawDefinitions(look);
   drawLatest(look);

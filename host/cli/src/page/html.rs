@@ -6,7 +6,11 @@ use std::fmt::Write;
 const TEMPLATE: &str = include_str!("page.html");
 const STYLE: &str = include_str!("page.css");
 /// Puts the differences together, and draws.
-const SCRIPT: &str = concat!(include_str!("state.js"), include_str!("draw.js"));
+const SCRIPT: &str = concat!(
+    include_str!("state.js"),
+    include_str!("tree.js"),
+    include_str!("draw.js")
+);
 
 /// Answers of more than so many bytes are cut to their first lines where all would come to more than
 /// the most.

@@ -39,12 +39,11 @@ function advance(state, step) {
   }
 }
 
+/* The lists are copied, since they change later. */
 function arrived(put) {
-  const own = put.own || [];
-  return {
-    n: put.n, up: -1, kids: [], on: put.on === 1, group: !('s' in put), shape: put.s, slot: put.slot,
-    own, bus: put.bus || own.map(() => -1), again: put.again,
-  };
+  const own = (put.own || []).slice();
+  const bus = put.bus ? put.bus.slice() : own.map(() => -1);
+  return {n: put.n, up: -1, kids: [], on: put.on === 1, group: !('s' in put), shape: put.s, slot: put.slot, own, bus, again: put.again};
 }
 
 function alter(node, change) {

@@ -1,7 +1,7 @@
 //! What a page is to show, by what the independent engine holds.
 
 use super::replay::{Marks, Shown, ShownNode, ShownSynth};
-use independent::engine::{Control, NodeView};
+use independent::engine::{Control, NodeView, SlotView};
 use independent::{read_definition, Command, Engine, View};
 use std::collections::{BTreeMap, BTreeSet};
 
@@ -177,5 +177,64 @@ pub fn marks(before: &View, after: &View, command: Option<Command>) -> Marks {
         moved: moved.into_iter().map(i64::from).collect(),
         changed: new.keys().filter(changed).copied().collect(),
         again: Vec::new(),
+        definitions: fates(before, after),
+        gone: gone(before, after),
     }
+}
+
+fn name_in(slot: &SlotView) -> Vec<u8> {
+    read_definition(&slot.bytes).expect("it is readable").name
+}
+
+/// The slot that a name means.
+fn meant(view: &View, name: &[u8]) -> Option<usize> {
+    let means = |slot: &Option<SlotView>| {
+        slot.as_ref()
+            .is_some_and(|slot| slot.resident && name_in(slot) == name)
+    };
+    view.slots.iter().position(means)
+}
+
+/// Whether a slot holds a definition that no name means.
+fn retired(view: &View, slot: usize) -> bool {
+    view.slots[slot].as_ref().is_some_and(|slot| !slot.resident)
+}
+
+/// What became of the definitions that did not stay as they were: 1 came, 2 the name meant another,
+/// 3 retired.
+fn fates(before: &View, after: &View) -> Vec<(i64, i64)> {
+    let mut fates = Vec::new();
+    for (slot, seen) in after.slots.iter().enumerate() {
+        let Some(seen) = seen.as_ref().filter(|seen| seen.resident) else {
+            continue;
+        };
+        match meant(before, &name_in(seen)) {
+            None => fates.push((slot as i64, 1)),
+            Some(old) if old == slot && before.slots[slot] == after.slots[slot] => {}
+            Some(_) => fates.push((slot as i64, 2)),
+        }
+    }
+    for slot in (0..after.slots.len()).filter(|&slot| retired(after, slot)) {
+        if !retired(before, slot) {
+            fates.push((slot as i64, 3));
+        }
+    }
+    fates
+}
+
+fn gone(before: &View, after: &View) -> Vec<(i64, bool)> {
+    let mut gone = Vec::new();
+    for (slot, seen) in before.slots.iter().enumerate() {
+        if let Some(seen) = seen.as_ref().filter(|seen| seen.resident) {
+            if meant(after, &name_in(seen)).is_none() && !retired(after, slot) {
+                gone.push((slot as i64, false));
+            }
+        }
+    }
+    for slot in (0..before.slots.len()).filter(|&slot| retired(before, slot)) {
+        if !retired(after, slot) {
+            gone.push((slot as i64, true));
+        }
+    }
+    gone
 }

@@ -46,9 +46,17 @@ pub fn data(pieces: &[Piece]) -> Json {
     }
 }
 
-/// The lines of the list: number, class, text and answer.
-pub fn lines(pieces: &[Piece]) -> Vec<(usize, String, String, String)> {
-    let mut lines: Vec<(usize, String, String, String)> = Vec::new();
+/// A line of the list.
+#[derive(Debug, Default)]
+pub struct Line {
+    pub number: usize,
+    pub class: String,
+    pub text: String,
+    pub answer: String,
+}
+
+pub fn lines(pieces: &[Piece]) -> Vec<Line> {
+    let mut lines: Vec<Line> = Vec::new();
     let mut answer = false;
     let start = pieces
         .iter()
@@ -57,14 +65,17 @@ pub fn lines(pieces: &[Piece]) -> Vec<(usize, String, String, String)> {
         match (piece, lines.last_mut()) {
             (Piece::Open(name, _), _) if name == "li" => {
                 let value = |key| piece.attribute(key).expect(key).to_string();
-                let number = value("value").parse().expect("a number");
-                lines.push((number, value("class"), String::new(), String::new()));
+                lines.push(Line {
+                    number: value("value").parse().expect("a number"),
+                    class: value("class"),
+                    ..Line::default()
+                });
             }
             (Piece::Open(name, _), _) if name == "samp" => answer = true,
             (Piece::Close(name), _) if name == "samp" => answer = false,
             (Piece::Close(name), _) if name == "ol" => return lines,
-            (Piece::Text(text), Some(line)) if answer => line.3.push_str(text),
-            (Piece::Text(text), Some(line)) => line.2.push_str(text.trim_end_matches('\n')),
+            (Piece::Text(text), Some(line)) if answer => line.answer.push_str(text),
+            (Piece::Text(text), Some(line)) => line.text.push_str(text.trim_end_matches('\n')),
             _ => {}
         }
     }

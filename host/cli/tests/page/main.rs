@@ -14,7 +14,7 @@ use independent::engine::{Theme, MOST_NODES};
 use independent::{write, Definition, Engine};
 use json::Json;
 use look::{data, lines, made, pieces};
-use replay::Replay;
+use replay::{Marks, Replay};
 use script::{quoted, random, Folder};
 use std::collections::HashMap;
 use std::fs;
@@ -56,7 +56,7 @@ fn random_scripts_show_what_the_independent_engine_holds() {
         let steps = data.list_at("steps");
         let mut listed = lines(&pieces)
             .into_iter()
-            .filter(|line| line.1.starts_with("step"));
+            .filter(|line| line.class.starts_with("step"));
         let mut replay = Replay::new(&data);
         let mut model = Engine::new();
         let mut reply = vec![0; 1 << 20];
@@ -83,8 +83,9 @@ fn random_scripts_show_what_the_independent_engine_holds() {
             let context = format!("LIMUDVEK_SEED={seed}, script {place}, line {}", sent.number);
             assert_eq!(replay.step(step), expected, "{context}");
             assert_eq!(replay.shown, shown(&after, &model), "{context}");
-            let (number, class, _, answered) = listed.next().expect("a line");
-            assert_eq!(number, sent.number, "{context}");
+            let line = listed.next().expect("a line");
+            let (class, answered) = (&line.class, &line.answer);
+            assert_eq!(line.number, sent.number, "{context}");
             match answer {
                 Some(Ok(_)) => assert!(!class.contains("re") && answered.starts_with("ok")),
                 Some(Err(fault)) => {
@@ -99,6 +100,8 @@ fn random_scripts_show_what_the_independent_engine_holds() {
                 ("freed", expected.freed.len()),
                 ("changed", expected.changed.len()),
                 ("numbers used before", expected.again.len()),
+                ("definitions", expected.definitions.len()),
+                ("definitions gone", expected.gone.len()),
                 (
                     "refused",
                     usize::from(answer.is_some_and(|answer| answer.is_err())),
@@ -111,7 +114,7 @@ fn random_scripts_show_what_the_independent_engine_holds() {
     }
     println!("{tally:?}");
     assert!(
-        tally.len() == 6 && tally.values().all(|&count| count >= 100),
+        tally.len() == 8 && tally.values().all(|&count| count >= 100),
         "{tally:?}"
     );
 }
@@ -126,10 +129,10 @@ fn the_sample_show() {
     // What is shown of the answers is what `play` prints.
     let steps: Vec<_> = lines
         .iter()
-        .filter(|line| line.1.starts_with("step"))
+        .filter(|line| line.class.starts_with("step"))
         .collect();
     let kept = fs::read_to_string(examples().join("show.out")).expect("its output");
-    let answers: Vec<&str> = steps.iter().flat_map(|line| line.3.lines()).collect();
+    let answers: Vec<&str> = steps.iter().flat_map(|line| line.answer.lines()).collect();
     for (answer, kept) in answers.iter().zip(kept.lines()) {
         assert!(kept.ends_with(answer), "{answer} is not {kept}");
     }
@@ -140,16 +143,20 @@ fn the_sample_show() {
     let mut found = HashMap::new();
     for (step, line) in data.list_at("steps").iter().zip(&steps) {
         let marks = replay.step(step);
-        if line.1.contains("refused") || line.3 != "ok" {
-            assert_eq!(*step, Json::Object(Vec::new()), "line {}", line.0);
+        if line.class.contains("refused") || line.answer != "ok" {
+            assert_eq!(*step, Json::Object(Vec::new()), "line {}", line.number);
         }
-        found.insert(line.2.split("  ").next().unwrap_or(""), marks);
+        found.insert(line.text.split("  ").next().unwrap_or(""), marks);
     }
     let moved = &found["/n_before 2 1"];
     assert!(moved.moved.iter().eq([&2]) && moved.changed.is_empty());
     let returned = &found["/g_new 1002 1 2"];
     assert_eq!(returned.again, [(1002, 45)]);
-    assert!(found["/d_free rain"] == replay::Marks::default());
+    let retired = Marks {
+        definitions: vec![(1, 3)],
+        ..Marks::default()
+    };
+    assert_eq!(found["/d_free rain"], retired);
     assert!(found["/c_fill 7 2 0.5"].changed.iter().eq([&2000]));
     assert_eq!(found["/g_deepFree 0"].freed.len(), 5);
 }
@@ -258,7 +265,7 @@ fn whatever_the_bytes_are() {
         .contains(['\u{202e}', '\u{2066}', '\u{feff}', '\u{85}', '\u{2028}']));
     assert!(listed
         .iter()
-        .any(|line| line.2.contains("\\xe2\\x80\\xaegnp.exe") && line.2.contains("é語")));
+        .any(|line| line.text.contains("\\xe2\\x80\\xaegnp.exe") && line.text.contains("é語")));
 }
 
 #[test]
@@ -271,7 +278,7 @@ fn lines_that_cannot_be_read_stand_there() {
     assert!(!page.all_read);
     let lines = lines(&pieces(&page.html));
     let short: Vec<(usize, &str, &str)> = (lines.iter())
-        .map(|(number, class, _, answer)| (*number, class.as_str(), answer.as_str()))
+        .map(|line| (line.number, line.class.as_str(), line.answer.as_str()))
         .collect();
     assert_eq!(
         short[..3],
@@ -316,7 +323,8 @@ fn two_thousand_commands_on_256_nodes_stay_under_5_mb() {
     const MOST: usize = 5_000_000;
     let folder = Folder::new("size");
     let nodes = |number: usize| 2_147_000_001 + number % (MOST_NODES - 1);
-    let kinds: [(&str, fn(usize, usize) -> String); 4] = [
+    type Line = fn(usize, usize) -> String;
+    let kinds: [(&str, Line); 4] = [
         ("controls", |at, _| {
             format!("/n_fill 0 {} 20 {}", at % 12, at as f32 / 7.0)
         }),

@@ -41,6 +41,10 @@ pub struct Marks {
     pub changed: BTreeSet<i64>,
     /// The nodes that came whose number was used before, with the line that freed the last.
     pub again: Vec<(i64, i64)>,
+    /// The slots of definitions that did not stay as they were, with what became of them.
+    pub definitions: Vec<(i64, i64)>,
+    /// The slots of definitions that are gone, and whether they were retired.
+    pub gone: Vec<(i64, bool)>,
 }
 
 struct Node {
@@ -125,6 +129,20 @@ impl<'a> Replay<'a> {
                 (slot.number(), name.string().to_string(), bytes)
             };
             self.shown.definitions = definitions.list().iter().map(definition).collect();
+        }
+        for definition in step.list_at("definitions") {
+            let [slot, .., fate] = definition.list() else {
+                panic!("{definition:?} is no definition");
+            };
+            if fate.number() != 0 {
+                marks.definitions.push((slot.number(), fate.number()));
+            }
+        }
+        for definition in step.list_at("gone") {
+            let [slot, _, retired] = definition.list() else {
+                panic!("{definition:?} is no definition");
+            };
+            marks.gone.push((slot.number(), retired.number() == 1));
         }
         for run in step.list_at("buses") {
             let [first, count, float] = run.list() else {
