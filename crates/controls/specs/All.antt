@@ -8,7 +8,7 @@ use lib.ListN.{length, take, drop, getD, length-append, length-take, length-drop
 use lib.Seq.{drop-drop}
 use Rattle.words.specs.Choice.{pick}
 use Rattle.words.specs.Parts.{region, put, region-length, region-put, past-put, before-put}
-use Rattle.synthdef.specs.Definition.{Front}
+use Rattle.format.specs.Definition.{Front}
 use Rattle.readable.specs.Readable.{Readable, whole-readable}
 use Rattle.nodes.specs.declared.Node.{Node}
 use Rattle.nodes.specs.Table.{width, rows, nodeFrom, row-from}

@@ -8,15 +8,15 @@ use native.Mathlib.Omega.{arith}
 use borrow.Author.Tests.{leb-true, leb-false, le-leb, lt-leb}
 use lib.ListN.{length}
 use lib.Dec.{leb}
-use Rattle.synthdef.specs.declared.lookup.Found.{Found}
-use Rattle.synthdef.specs.declared.lookup.Found.the-variants as found
-use Rattle.synthdef.specs.Lookup.{onRead, firstOf, parametersIn, firstNamed, indexIn}
-use Rattle.synthdef.specs.Read.{Read, got, bad, repeat}
-use Rattle.synthdef.specs.Fields.{integer, float32, definitionName, count, countTo, highest16, shortCountTo}
-use Rattle.synthdef.specs.FieldLaws.{checked-got}
-use Rattle.synthdef.specs.RepeatLaws.{went-on, repeat-length}
-use Rattle.synthdef.specs.Definition.{ParameterName, Front, Definition}
-use Rattle.synthdef.specs.Reader.{sameName, mostParameters, parameterName, readFront, readUnits, variant, readDefinition}
+use Rattle.readable.specs.declared.found.Found.{Found}
+use Rattle.readable.specs.declared.found.Found.the-variants as found
+use Rattle.format.specs.Read.{onRead, Read, got, bad, repeat}
+use Rattle.readable.specs.Lookup.{firstOf, parametersIn, firstNamed, indexIn}
+use Rattle.format.specs.Fields.{integer, float32, definitionName, count, countTo, highest16, shortCountTo}
+use Rattle.format.specs.FieldLaws.{checked-got}
+use Rattle.format.specs.RepeatLaws.{went-on, repeat-length}
+use Rattle.format.specs.Definition.{ParameterName, Front, Definition}
+use Rattle.format.specs.Reader.{sameName, mostParameters, parameterName, readFront, readUnits, variant, readDefinition}
 use Rattle.words.specs.Choice.{pick}
 use Rattle.faults.specs.declared.Fault.the-variants.{BadCount}
 use Rattle.values.specs.declared.Key.{Key}

@@ -7,8 +7,8 @@ use native.Mathlib.Omega.{arith}
 use lib.ListN.{length, drop, getD}
 use Rattle.words.specs.Choice.{pick, both}
 use Rattle.words.specs.Parts.{region}
-use Rattle.synthdef.specs.Definition.{Front}
-use Rattle.synthdef.specs.Reader.{mostParameters}
+use Rattle.format.specs.Definition.{Front}
+use Rattle.format.specs.Reader.{mostParameters}
 use Rattle.readable.specs.Readable.{Readable, whole-readable}
 use Rattle.nodes.specs.Table.{row-from, rows-end}
 use Rattle.nodes.specs.Place.{groupSlot, isGroup}

@@ -7,17 +7,17 @@ use native.Mathlib.Nat.{add-zero}
 use native.Mathlib.Numerals.{add-one}
 use lib.ListN.{length, take, drop, getD, set, take-append-drop}
 use lib.Seq.{paste, paste-suc, take-all}
-use Rattle.synthdef.specs.declared.lookup.ValuesFound.{ValuesFound}
-use Rattle.synthdef.specs.declared.lookup.ValuesFound.the-variants as values
-use Rattle.synthdef.specs.Lookup.{onRead, valuesIn}
-use Rattle.synthdef.specs.Read.{Read, got, bad, repeat}
-use Rattle.synthdef.specs.Fields.{float32}
-use Rattle.synthdef.specs.FieldLaws.{word, whole-got}
-use Rattle.synthdef.specs.RepeatLaws.{went-on, floats-at}
-use Rattle.synthdef.specs.Definition.{Front}
-use Rattle.synthdef.specs.Reader.{readFront}
-use Rattle.synthdef.specs.Front.{valuesAt}
-use Rattle.synthdef.specs.FrontLaws.{front-got}
+use Rattle.readable.specs.declared.found.ValuesFound.{ValuesFound}
+use Rattle.readable.specs.declared.found.ValuesFound.the-variants as values
+use Rattle.format.specs.Read.{onRead, Read, got, bad, repeat}
+use Rattle.readable.specs.Lookup.{valuesIn}
+use Rattle.format.specs.Fields.{float32, word}
+use Rattle.format.specs.FieldLaws.{whole-got}
+use Rattle.format.specs.RepeatLaws.{went-on, floats-at}
+use Rattle.format.specs.Definition.{Front}
+use Rattle.format.specs.Reader.{readFront}
+use Rattle.front.specs.Front.{valuesAt}
+use Rattle.front.specs.FrontLaws.{front-got}
 use Rattle.nodes.specs.Table.{over}
 use Rattle.model.specs.Engine.{valueOr}
 use Rattle.model.specs.Effects.{initialWords}

@@ -11,9 +11,9 @@ use lib.Seq.{drop-drop, getD-take, getD-drop}
 use lib.Dec.{leb, ltb, eqb}
 use Rattle.words.specs.Choice.{both, either, both-true}
 use Rattle.words.specs.Parts.{region}
-use Rattle.synthdef.specs.Read.{Read, got, bad}
-use Rattle.synthdef.specs.Definition.{Definition}
-use Rattle.synthdef.specs.Reader.{sizeLimit, readDefinition}
+use Rattle.format.specs.Read.{Read, got, bad}
+use Rattle.format.specs.Definition.{Definition}
+use Rattle.format.specs.Reader.{sizeLimit, readDefinition}
 use Rattle.readable.specs.Readable.{Readable, ReadableWhole, whole-readable}
 use Rattle.nodes.specs.declared.Node.{Node}
 use Rattle.nodes.specs.Table.{width, nodeFrom, row-from}

@@ -6,7 +6,7 @@ use crate::synth::read_at;
 use crate::table::node_definition;
 use crate::table::node_is_group;
 use crate::table::node_row;
-use synthdef::Found;
+use readable::Found;
 use values::Key;
 use words::wide;
 ghost use Prim.Native.Nat.{_<_};

@@ -1,15 +1,15 @@
 // What a definition, in its encoded bytes, tells of its controls. Its front is known to be readable.
-use synthdef::Cursor;
-use synthdef::Found;
-use synthdef::Number;
-use synthdef::ValuesFound;
+use fields::Cursor;
+use readable::Found;
+use fields::Number;
+use readable::ValuesFound;
 use values::Key;
 use words::wide;
 ghost use Prim.Native.Nat.{_+_, _*_, _≤_};
 ghost use mathlib.Core.Path.{_≡_};
 ghost use lib.ListN.{length};
 ghost use Rattle.nodes.specs.Table.{over};
-ghost use Rattle.synthdef.specs.Fields.{float32};
+ghost use Rattle.format.specs.Fields.{float32};
 ghost use Rattle.readable.specs.Readable.{Readable};
 ghost use Rattle.model.specs.Engine.{valueOr};
 ghost use Rattle.model.specs.Meaning.{startOf, hasControls};

@@ -2,7 +2,7 @@
 use crate::definition::control_start;
 use crate::definition::parameter_count;
 use crate::synth::slot_bytes;
-use synthdef::Found;
+use readable::Found;
 use values::Key;
 use words::wide;
 ghost use Prim.Native.Nat.{_<_};

@@ -7,7 +7,7 @@ use words::wide;
 ghost use Prim.Native.Nat.{_+_, _*_, _≤_, _<_, min};
 ghost use mathlib.Core.Path.{_≡_};
 ghost use lib.ListN.{length, take, drop, getD};
-ghost use Rattle.synthdef.specs.Reader.{mostParameters};
+ghost use Rattle.format.specs.Reader.{mostParameters};
 ghost use Rattle.nodes.specs.Formed.{mostNodes, mostRows};
 ghost use Rattle.values.specs.Controls.{controlAt, shownBy};
 ghost use Rattle.model.specs.Formed.{mappingsFormed};

@@ -10,11 +10,11 @@ use lib.Dec.{ltb}
 use Rattle.words.specs.Parts.{region, put}
 use Rattle.faults.specs.declared.Fault.{Fault}
 use Rattle.refusals.specs.declared.Refusal.the-variants.{NoSlot, NoDefinition, NoRoom}
-use Rattle.synthdef.specs.Read.{Read, got, bad}
-use Rattle.synthdef.specs.Definition.{Definition}
-use Rattle.synthdef.specs.Reader.{readFile}
-use Rattle.synthdef.specs.File.{verdict}
-use Rattle.synthdef.specs.declared.file.Checked.the-variants as checked
+use Rattle.format.specs.Read.{Read, got, bad}
+use Rattle.format.specs.Definition.{Definition}
+use Rattle.format.specs.Reader.{readFile}
+use Rattle.files.specs.File.{verdict}
+use Rattle.files.specs.declared.file.Checked.the-variants as checked
 use Rattle.nodes.specs.Table.{rows}
 use Rattle.model.specs.declared.DefinitionCommand.{DefinitionCommand}
 use Rattle.model.specs.declared.DefinitionCommand.the-variants.{Receive, Free}

@@ -12,9 +12,9 @@ use lib.Seq.{getD-take, getD-drop, drop-drop, drop-cons, take-take, length-take-
 use lib.Dec.{leb, eqb}
 use borrow.Author.Tests.{leb-true, le-leb, eqb-true, eqb-false}
 use Rattle.words.specs.Choice.{pick, both, either, both-true}
-use Rattle.synthdef.specs.Read.{Read, got, bad, ending}
-use Rattle.synthdef.specs.Definition.{Definition}
-use Rattle.synthdef.specs.Reader.{readDefinition, sizeLimit}
+use Rattle.format.specs.Read.{Read, got, bad, ending}
+use Rattle.format.specs.Definition.{Definition}
+use Rattle.format.specs.Reader.{readDefinition, sizeLimit}
 use Rattle.nodes.specs.declared.Node.{Node}
 use Rattle.model.specs.Layout.{slotCount, slotRoom}
 use Rattle.model.specs.Engine.{Slot, held}

@@ -10,9 +10,9 @@ use lib.Dec.{ltb}
 use borrow.Author.Tests.{ltb-true, ltb-false}
 use Rattle.words.specs.Choice.{pick}
 use Rattle.words.specs.Parts.{put, put-length, past-put}
-use Rattle.synthdef.specs.Read.{Read}
-use Rattle.synthdef.specs.Definition.{Definition}
-use Rattle.synthdef.specs.Writer.{writeAll, writeDefinition, writeFile}
+use Rattle.format.specs.Read.{Read}
+use Rattle.format.specs.Definition.{Definition}
+use Rattle.format.specs.Writer.{writeAll, writeDefinition, writeFile}
 use Rattle.model.specs.Layout.{slotCount, slotRoom}
 use Rattle.model.specs.Engine.{Slot, residents, definitionIn, noDefinition, valueOr}
 use Rattle.model.specs.Replies.{definitionsIn, exportFile}

@@ -10,15 +10,15 @@ use borrow.Author.Tests.{ltb-false}
 use Rattle.words.specs.Choice.{pick}
 use Rattle.words.specs.Parts.{region, region-length}
 use Rattle.faults.specs.declared.Fault.the-variants.{NotSynthDef, BadVersion, BadCount, TooLong, NameTwice, BytesLeft, BadName}
-use Rattle.synthdef.specs.Read.{Read, got, bad, andThen, checked, repeat}
-use Rattle.synthdef.specs.FieldLaws.{checked-got, whole-got}
-use Rattle.synthdef.specs.RepeatLaws.{went-on}
-use Rattle.synthdef.specs.Units.{string-got}
-use Rattle.synthdef.specs.Fields.{int16, int32, float32, stringAt, pstring, definitionName, count, countTo, shortCountTo, highest16}
-use Rattle.synthdef.specs.NameLaws.{full}
-use Rattle.synthdef.specs.Definition.{Front, Definition}
-use Rattle.synthdef.specs.Reader.{mostParameters, mostDefinitions, sizeLimit, fileType, fileVersion, parameterName, variant, among, fits, readFront, readUnits, readDefinition, readDefinitions, readHeader, readFile}
-use Rattle.synthdef.specs.Writer.{writeDefinition}
+use Rattle.format.specs.Read.{Read, got, bad, andThen, checked, repeat}
+use Rattle.format.specs.FieldLaws.{checked-got, whole-got}
+use Rattle.format.specs.RepeatLaws.{went-on}
+use Rattle.format.specs.Sizes.{string-got}
+use Rattle.format.specs.Fields.{int16, int32, float32, stringAt, pstring, definitionName, count, countTo, shortCountTo, highest16}
+use Rattle.format.specs.NameLaws.{full}
+use Rattle.format.specs.Definition.{Front, Definition}
+use Rattle.format.specs.Reader.{mostParameters, mostDefinitions, sizeLimit, fileType, fileVersion, parameterName, variant, among, fits, readFront, readUnits, readDefinition, readDefinitions, readHeader, readFile}
+use Rattle.format.specs.Writer.{writeDefinition}
 use Rattle.model.specs.Checks.{definitionsOf, faultOf}
 use Rattle.roundtrip.specs.Stands.{Bytes}
 use Rattle.roundtrip.specs.Forth.{definition-forth}

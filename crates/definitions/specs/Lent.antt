@@ -9,7 +9,7 @@ use lib.Dec.{eqb}
 use lib.Seq.{drop-drop, drop-at, length-take-le}
 use Rattle.words.specs.Choice.{both}
 use Rattle.words.specs.Parts.{region, region-length, put, before-put}
-use Rattle.synthdef.specs.Definition.{Definition}
+use Rattle.format.specs.Definition.{Definition}
 use Rattle.nodes.specs.declared.Node.{Node}
 use Rattle.model.specs.Layout.{slotCount, slotRoom, lengthsPlace, residentPlace, wordsLength, arenaLength, lengthsIn, flagsIn, nodesIn, putLengths, putResident}
 use Rattle.model.specs.Engine.{Slot, slotsFrom, slotAt, decode, held, residentOf}

@@ -11,8 +11,8 @@ use lib.Dec.{ltb, eqb}
 use borrow.Author.Tests.{ltb-true, ltb-false, eqb-true, eqb-false}
 use Rattle.words.specs.Choice.{pick, either-false}
 use Rattle.words.specs.Parts.{region, region-length, put, put-length}
-use Rattle.synthdef.specs.Definition.{Definition}
-use Rattle.synthdef.specs.Writer.{writeDefinition}
+use Rattle.format.specs.Definition.{Definition}
+use Rattle.format.specs.Writer.{writeDefinition}
 use Rattle.nodes.specs.declared.Node.{Node}
 use Rattle.model.specs.Layout.{slotCount, slotRoom, arenaLength}
 use Rattle.model.specs.Engine.{Slot, slotsFrom, slotAt, held, slotTaken}

@@ -10,10 +10,10 @@ use lib.Seq.{getD-take, getD-drop, drop-drop, take-take, getD-set-same, getD-set
 use lib.Dec.{eqb}
 use borrow.Author.Tests.{eqb-true, eqb-false}
 use Rattle.words.specs.Choice.{pick, both, either}
-use Rattle.synthdef.specs.Read.{Read}
-use Rattle.synthdef.specs.Fields.{stringAt}
-use Rattle.synthdef.specs.Definition.{Definition}
-use Rattle.synthdef.specs.Reader.{sameName}
+use Rattle.format.specs.Read.{Read}
+use Rattle.format.specs.Fields.{stringAt}
+use Rattle.format.specs.Definition.{Definition}
+use Rattle.format.specs.Reader.{sameName}
 use Rattle.model.specs.Layout.{slotCount, slotRoom}
 use Rattle.model.specs.Engine.{Slot, nameIn, noDefinition, valueOr, residentFrom}
 use Rattle.definitions.specs.Lists.{region-take}

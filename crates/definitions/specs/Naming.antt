@@ -8,9 +8,9 @@ use lib.ListN.{length, drop, getD, replicate, getD-replicate}
 use lib.Dec.{eqb}
 use borrow.Author.Tests.{eq-eqb, ne-eqb, eqb-true, eqb-false}
 use Rattle.words.specs.Choice.{pick, both, either}
-use Rattle.synthdef.specs.Fields.{stringAt}
-use Rattle.synthdef.specs.Definition.{Definition}
-use Rattle.synthdef.specs.Reader.{sameName, among}
+use Rattle.format.specs.Fields.{stringAt}
+use Rattle.format.specs.Definition.{Definition}
+use Rattle.format.specs.Reader.{sameName, among}
 use Rattle.nodes.specs.declared.Node.{Node}
 use Rattle.model.specs.Layout.{slotCount}
 use Rattle.model.specs.Engine.{Slot, held}

@@ -8,7 +8,7 @@ use lib.ListN.{length, take, drop, getD}
 use lib.Seq.{getD-take, ext-getD, take-at, take-all, drop-at, getD-append-add, length-take-le}
 use lib.Dec.{eqb}
 use Rattle.words.specs.Choice.{pick, both, both-true}
-use Rattle.synthdef.specs.Reader.{among}
+use Rattle.format.specs.Reader.{among}
 use Rattle.model.specs.Layout.{slotCount, slotRoom}
 use Rattle.model.specs.Engine.{Slot, slotsFrom, slotAt, nameIn}
 use Rattle.model.specs.Effects.{retired}

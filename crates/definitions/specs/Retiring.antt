@@ -9,7 +9,7 @@ use lib.Seq.{getD-take, getD-drop, ext-getD, getD-append-add, getD-set-same, get
 use lib.Dec.{ltb, eqb}
 use borrow.Author.Tests.{eqb-true, eqb-false, ltb-true, ltb-false}
 use Rattle.words.specs.Choice.{pick, both}
-use Rattle.synthdef.specs.Reader.{among}
+use Rattle.format.specs.Reader.{among}
 use Rattle.model.specs.Layout.{slotCount}
 use Rattle.model.specs.Engine.{Slot, slotAt, nameIn}
 use Rattle.model.specs.Effects.{retired, retire}

@@ -10,9 +10,9 @@ use lib.Seq.{getD-take, getD-drop, drop-drop, take-take}
 use lib.Dec.{eqb}
 use Rattle.words.specs.Choice.{pick, either}
 use Rattle.words.specs.Parts.{region}
-use Rattle.synthdef.specs.Read.{got}
-use Rattle.synthdef.specs.Definition.{Definition}
-use Rattle.synthdef.specs.Reader.{readDefinition, sizeLimit}
+use Rattle.format.specs.Read.{got}
+use Rattle.format.specs.Definition.{Definition}
+use Rattle.format.specs.Reader.{readDefinition, sizeLimit}
 use Rattle.nodes.specs.declared.Node.{Node}
 use Rattle.model.specs.Layout.{slotCount, slotRoom, arenaLength, lengthsPlace, lengthsIn, flagsIn}
 use Rattle.model.specs.Engine.{Slot, slotsFrom, decode, held}

@@ -1,8 +1,8 @@
 // Definition slots in the lent state: 64 words, the slots' lengths and then their resident flags, and the arena with 2,048 bytes for each slot.
-use synthdef::Cursor;
-use synthdef::Step;
-use synthdef::read_definition;
-use synthdef::same_name;
+use fields::Cursor;
+use fields::Step;
+use files::read_definition;
+use fields::same_name;
 use words::wide;
 ghost use Prim.Native.Nat.{ℕ, _+_, _*_, _≤_, _<_};
 ghost use mathlib.Core.Bool.{not};
@@ -12,10 +12,10 @@ ghost use lib.ListN.{length, take, drop, getD, set};
 ghost use lib.Dec.{leb, eqb};
 ghost use Rattle.words.specs.Choice.{both, either};
 ghost use Rattle.words.specs.Parts.{put};
-ghost use Rattle.synthdef.specs.Definition.{Definition};
-ghost use Rattle.synthdef.specs.Read.{got};
-ghost use Rattle.synthdef.specs.Reader.{readDefinition, sizeLimit};
-ghost use Rattle.synthdef.specs.Fields.{stringAt};
+ghost use Rattle.format.specs.Definition.{Definition};
+ghost use Rattle.format.specs.Read.{got};
+ghost use Rattle.format.specs.Reader.{readDefinition, sizeLimit};
+ghost use Rattle.format.specs.Fields.{stringAt};
 ghost use Rattle.model.specs.Layout.{slotCount, slotRoom, arenaLength};
 ghost use Rattle.nodes.specs.declared.Node.{Node};
 ghost use Rattle.nodes.specs.Table.{width, rows};

@@ -1,4 +1,4 @@
-// The engine: the one door for commands, and what other languages call. Nothing here asks anything of what it is lent.
+// The engine: `apply`, which every command goes through, and what other languages call. Nothing here asks anything of what it is lent.
 mod commands;
 mod exports;
 mod query;

@@ -6,9 +6,9 @@ use mathlib.Core.Option.{Option, none, some}
 use lib.ListN.{length, take, drop, getD}
 use lib.Dec.{eqb}
 use Rattle.words.specs.Choice.{pick, both, either}
-use Rattle.synthdef.specs.Read.{Read, got, bad}
-use Rattle.synthdef.specs.Definition.{ParameterName, Definition}
-use Rattle.synthdef.specs.Reader.{readDefinition, sameName}
+use Rattle.format.specs.Read.{Read, got, bad}
+use Rattle.format.specs.Definition.{ParameterName, Definition}
+use Rattle.format.specs.Reader.{readDefinition, sameName}
 use Rattle.nodes.specs.declared.Node.{Node}
 use Rattle.values.specs.Controls.{ControlValue, controlAt}
 use Rattle.model.specs.Layout.{slotCount, slotRoom, rowWords, lengthsIn, flagsIn, nodesIn, orderIn, controlsIn, busesIn, nextIn, latestIn}

@@ -5,9 +5,9 @@ use mathlib.Core.List.{List, [], _∷_}
 use lib.ListN.{length, replicate}
 use Rattle.words.specs.Choice.{pick}
 use Rattle.faults.specs.Faults.{faultNumber}
-use Rattle.synthdef.specs.Read.{Read, got, bad}
-use Rattle.synthdef.specs.Definition.{Definition}
-use Rattle.synthdef.specs.Reader.{sameName}
+use Rattle.format.specs.Read.{Read, got, bad}
+use Rattle.format.specs.Definition.{Definition}
+use Rattle.format.specs.Reader.{sameName}
 use Rattle.nodes.specs.Formed.{firstGiven}
 use Rattle.model.specs.declared.Command.{Command}
 use Rattle.model.specs.Layout.{slotCount, controlsWords, busCount}

@@ -83,7 +83,7 @@ addAfter xs n t = editRows n (λ r l. r ∷ (takeDeeper (r .depth) l ++ (lift (r
 abbrev pub addOver : List Node → ℕ → List Node → List Node
 addOver xs n t = editRows n (λ r l. lift (r .depth) xs ++ dropDeeper (r .depth) l) t
 
--- "A move takes A's subtree out and puts it in where fact."
+-- "A move takes A's subtree out and puts it in where told."
 abbrev pub moveBefore : ℕ → ℕ → List Node → List Node
 moveBefore a b t = addBefore (runOf a t) b (cut a t)
 

@@ -6,9 +6,7 @@ use Rattle.nodes.specs.declared.Node.{Node}
 use Rattle.nodes.specs.Order.{order}
 use Rattle.order.specs.declared.Order.{Order}
 use Rattle.order.specs.Order.{orderWords}
-use Rattle.order.specs.Marks.{rowsHold}
 
 pub record Kept (t : List Node) (r : Order) : Type 0 where
   pub numbers : r .numbers ≡ orderWords t
   pub many : r .length ≡ length (order t)
-  pub distinct : r .distinct ≡ rowsHold t

@@ -1,5 +1,6 @@
 pub mod Sizes
 pub mod Pad
+pub mod Visits
 pub mod Order
 pub mod Few
 pub mod Same

@@ -108,46 +108,34 @@ pass-none n l h =
     ∙ ap (λ (b : Bool). both (rowsFormed l) (both (rowsApart l) b)) (unseen-none n l)
     ∙ ap (λ (b : Bool). both (rowsFormed l) b) (both-true-right (rowsApart l))
 
--- one record's part in the pass: what was fact so far, and the rest
-module _ (count : ℕ) (us : List ℕ) (i : ℕ) (seen : List Bool) (fact whole : Bool) (h : i < count) (s : both fact (pass seen (drop i (rows count us))) ≡ whole) where
+-- one record's part in the pass
+module _ (count : ℕ) (us : List ℕ) (i : ℕ) (seen : List Bool) (whole : Bool) (h : i < count) (s : pass seen (drop i (rows count us)) ≡ whole) where
   abbrev this : Node
   this = nodeFrom us (width * i)
 
-  given : both fact (pass seen (this ∷ drop (i + 1) (rows count us))) ≡ whole
-  given = ap (λ (l : List Node). both fact (pass seen l)) (sym (row-from count us i h)) ∙ s
+  given : pass seen (this ∷ drop (i + 1) (rows count us)) ≡ whole
+  given = ap (λ (l : List Node). pass seen l) (sym (row-from count us i h)) ∙ s
 
-  pub pass-group : this .slot ≡ 32 → both fact (pass seen (drop (i + 1) (rows count us))) ≡ whole
+  pub pass-group : this .slot ≡ 32 → pass seen (drop (i + 1) (rows count us)) ≡ whole
   unfolding pass
   pass-group group = rw (eq-eqb (this .slot) 32 group) at given
 
-  -- a row that is none of 256
-  pub pass-past : (this .slot ≡ 32 → ⊥) → mostRows ≤ this .row → both false (pass seen (drop (i + 1) (rows count us))) ≡ whole
-  unfolding pass
-  pass-past synth past = sym (nothing fact) ∙ (rw (ne-eqb (this .slot) 32 synth, le-ltb (this .row) mostRows past) at given)
-    where
-      nothing : (b : Bool) → both b false ≡ false
-      nothing true = refl
-      nothing false = refl
+  module _ (synth : this .slot ≡ 32 → ⊥) where
+    -- a row that is none of 256
+    pub pass-past : mostRows ≤ this .row → false ≡ whole
+    unfolding pass
+    pass-past past = rw (ne-eqb (this .slot) 32 synth, le-ltb (this .row) mostRows past) at given
 
-  -- a row, which is marked
-  pub pass-mark : (this .slot ≡ 32 → ⊥) → this .row < mostRows → both (both fact (pick (getD seen (this .row) false) false true)) (pass (set seen (this .row) true) (drop (i + 1) (rows count us))) ≡ whole
-  unfolding pass
-  pass-mark synth near =
-      group fact (pick (getD seen (this .row) false) false true) (pass (set seen (this .row) true) (drop (i + 1) (rows count us)))
-      ∙ (rw (ne-eqb (this .slot) 32 synth, lt-ltb (this .row) mostRows near) at given)
-    where
-      group : (a b c : Bool) → both (both a b) c ≡ both a (both b c)
-      group true b c = refl
-      group false b c = refl
+    -- a row that another has
+    pub pass-taken : this .row < mostRows → getD seen (this .row) false ≡ true → false ≡ whole
+    unfolding pass
+    pass-taken near marked = rw (ne-eqb (this .slot) 32 synth, lt-ltb (this .row) mostRows near, marked) at given
 
--- what a mark tells
-pub marked : (fact : Bool) → both fact (pick true false true) ≡ false
-marked true = refl
-marked false = refl
+    -- a row, which is marked
+    pub pass-mark : this .row < mostRows → getD seen (this .row) false ≡ false → pass (set seen (this .row) true) (drop (i + 1) (rows count us)) ≡ whole
+    unfolding pass
+    pass-mark near unmarked = rw (ne-eqb (this .slot) 32 synth, lt-ltb (this .row) mostRows near, unmarked) at given
 
-pub unmarked : (fact : Bool) → both fact (pick false false true) ≡ fact
-unmarked fact = both-true-right fact
-
-pub pass-end : (count : ℕ) (us : List ℕ) (i : ℕ) (seen : List Bool) (fact whole : Bool) → count ≤ i → both fact (pass seen (drop i (rows count us))) ≡ whole → fact ≡ whole
+pub pass-end : (count : ℕ) (us : List ℕ) (i : ℕ) (seen : List Bool) (whole : Bool) → count ≤ i → pass seen (drop i (rows count us)) ≡ whole → true ≡ whole
 unfolding pass
-pass-end count us i seen fact whole h s = sym (both-true-right fact) ∙ ap (λ (l : List Node). both fact (pass seen l)) (sym (rows-end count us i h)) ∙ s
+pass-end count us i seen whole h s = ap (λ (l : List Node). pass seen l) (sym (rows-end count us i h)) ∙ s

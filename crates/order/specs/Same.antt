@@ -10,7 +10,7 @@ use lib.Seq.{drop-cons, drop-length, getD-take, length-take-le, take-at}
 use lib.Dec.{leb, eqb}
 use borrow.Author.Tests.{le-leb, lt-leb, eq-eqb, eqb-true}
 use Rattle.words.specs.Choice.{both, both-true}
-use Rattle.synthdef.specs.Reader.{sameName}
+use Rattle.format.specs.Reader.{sameName}
 use Rattle.nodes.specs.declared.Node.{Node}
 use Rattle.nodes.specs.Order.{order}
 use Rattle.order.specs.Pad.{zeros, pad-few}

@@ -1,4 +1,11 @@
 // The running order and the rules of the state on nodes, over the node region in lent words.
+use layout::DEPTH;
+use layout::GROUP;
+use layout::NUMBER;
+use layout::RECORD;
+use layout::ROW;
+use layout::RUN;
+use layout::SLOT;
 ghost use mathlib.Core.Bool.{false};
 ghost use mathlib.Core.Path.{_≡_};
 ghost use Prim.Native.Nat.{_+_, _*_, _≤_, _<_};
@@ -10,52 +17,56 @@ ghost use Rattle.order.specs.Sizes.{TableFits};
 ghost use Rattle.order.specs.Checks.{numberHolds, fieldsHold};
 ghost use Rattle.order.specs.Same.{sameOrder};
 ghost use Rattle.order.specs.Kept.{Kept};
+ghost use Rattle.order.specs.Marks.{rowsHold};
+ghost use Rattle.order.specs.Visits.{marks};
 
-// The running order: its numbers, with zeros past them, and how many they are; and whether each synth has a row
-// of its own among the 256.
+// The running order: its numbers, with zeros past them, and how many they are.
 pub struct Order {
     pub numbers: [u32; 255],
     pub length: usize,
-    pub distinct: bool,
 }
 
-// The running order worked out afresh, in one pass: `limit` is how deep a record may be with every ancestor on.
+// Marks of the nodes that a walk from the root visits: a node is visited where its parent was and it is on.
+// `limit` is how deep a record may be with its parent visited.
+fn visit(nodes: &[u32], count: usize) -> [bool; 256]
+    requires { ⌜ TableFits (now nodes) count ⌝ }
+    ensures { λ r. ⌜ r ≡ marks (rows count (now (nodes .entry))) ⌝ }
+{
+    let mut visited: [bool; 256] = [false; 256];
+    let mut limit: u32 = 0;
+    let mut i = 0;
+    while i < count {
+        let at = RECORD * i;
+        let depth = nodes[at + DEPTH];
+        if depth <= limit {
+            limit = depth;
+            if nodes[at + RUN] == 1 {
+                limit = depth + 1;
+                visited[i] = true;
+            }
+        }
+        i += 1;
+    }
+    visited
+}
+
+// The running order worked out afresh: the synths that are visited, in depth-first order.
 pub fn running_order(nodes: &[u32], count: usize) -> Order
     requires { ⌜ TableFits (now nodes) count ⌝ }
     ensures { λ r. ⌜ Kept (rows count (now (nodes .entry))) r ⌝ }
 {
+    let visited = visit(nodes, count);
     let mut numbers: [u32; 255] = [0; 255];
-    let mut seen: [bool; 256] = [false; 256];
     let mut length = 0;
-    let mut distinct = true;
-    let mut limit: u32 = 0;
     let mut i = 0;
     while i < count {
-        let at = 5 * i;
-        let depth = nodes[at + 1];
-        let run = nodes[at + 2];
-        let slot = nodes[at + 3];
-        if slot != 32 {
-            let row = words::wide(nodes[at + 4]);
-            if row < 256 {
-                if seen[row] {
-                    distinct = false;
+        if visited[i] {
+            let at = RECORD * i;
+            if nodes[at + SLOT] != GROUP {
+                if length < 255 {
+                    numbers[length] = nodes[at];
                 }
-                seen[row] = true;
-            } else {
-                distinct = false;
-            }
-        }
-        if depth <= limit {
-            limit = depth;
-            if run == 1 {
-                limit = depth + 1;
-                if slot != 32 {
-                    if length < 255 {
-                        numbers[length] = nodes[at];
-                    }
-                    length += 1;
-                }
+                length += 1;
             }
         }
         i += 1;
@@ -63,8 +74,31 @@ pub fn running_order(nodes: &[u32], count: usize) -> Order
     Order {
         numbers: numbers,
         length: length,
-        distinct: distinct,
     }
+}
+
+// Each synth has a row of its own among the 256.
+fn rows_apart(nodes: &[u32], count: usize) -> bool
+    requires { ⌜ TableFits (now nodes) count ⌝ }
+    ensures { λ r. ⌜ r ≡ rowsHold (rows count (now (nodes .entry))) ⌝ }
+{
+    let mut seen: [bool; 256] = [false; 256];
+    let mut i = 0;
+    while i < count {
+        let at = RECORD * i;
+        if nodes[at + SLOT] != GROUP {
+            let row = words::wide(nodes[at + ROW]);
+            if 256 <= row {
+                return false;
+            }
+            if seen[row] {
+                return false;
+            }
+            seen[row] = true;
+        }
+        i += 1;
+    }
+    true
 }
 
 // The order region written whole.
@@ -111,8 +145,8 @@ fn steps_hold(nodes: &[u32], count: usize) -> bool
     let mut most: u32 = 1;
     let mut i = 1;
     while i < count {
-        let at = 5 * i;
-        let depth = nodes[at + 1];
+        let at = RECORD * i;
+        let depth = nodes[at + DEPTH];
         if depth == 0 {
             return false;
         }
@@ -120,7 +154,7 @@ fn steps_hold(nodes: &[u32], count: usize) -> bool
             return false;
         }
         most = depth;
-        if nodes[at + 3] == 32 {
+        if nodes[at + SLOT] == GROUP {
             most = depth + 1;
         }
         i += 1;
@@ -135,7 +169,7 @@ fn number_lives(nodes: &[u32], count: usize, from: usize, number: u32) -> bool
 {
     let mut i = from;
     while i < count {
-        if nodes[5 * i] == number {
+        if nodes[RECORD * i] == number {
             return true;
         }
         i += 1;
@@ -165,7 +199,7 @@ fn numbers_apart(nodes: &[u32], count: usize) -> bool
     while 0 < i {
         let next = i;
         i -= 1;
-        let number = nodes[5 * i];
+        let number = nodes[RECORD * i];
         let mark = words::wide(number % 1024);
         if stands_again(nodes, count, next, number, met[mark]) {
             return false;
@@ -182,8 +216,8 @@ fn synth_lives(nodes: &[u32], count: usize, number: u32) -> bool
 {
     let mut i = 0;
     while i < count {
-        let at = 5 * i;
-        if nodes[at + 3] != 32 {
+        let at = RECORD * i;
+        if nodes[at + SLOT] != GROUP {
             if nodes[at] == number {
                 return true;
             }
@@ -206,7 +240,7 @@ fn number_holds(number: u32, slot: u32, next: u32) -> bool
     if number <= next {
         return false;
     }
-    slot != 32
+    slot != GROUP
 }
 
 // A run flag, a slot and a row are in bounds.
@@ -219,7 +253,7 @@ fn fields_hold(run: u32, slot: u32, row: u32) -> bool
     if 32 < slot {
         return false;
     }
-    if slot == 32 {
+    if slot == GROUP {
         return true;
     }
     row < 256
@@ -232,12 +266,12 @@ fn records_hold(nodes: &[u32], count: usize, next: u32) -> bool
 {
     let mut i = 0;
     while i < count {
-        let at = 5 * i;
-        let slot = nodes[at + 3];
+        let at = RECORD * i;
+        let slot = nodes[at + SLOT];
         if !number_holds(nodes[at], slot, next) {
             return false;
         }
-        if !fields_hold(nodes[at + 2], slot, nodes[at + 4]) {
+        if !fields_hold(nodes[at + RUN], slot, nodes[at + ROW]) {
             return false;
         }
         i += 1;
@@ -250,13 +284,13 @@ fn root_holds(nodes: &[u32], count: usize) -> bool
     requires { ⌜ TableFits (now nodes) count × (1 ≤ count) ⌝ }
     ensures { λ r. ⌜ r ≡ rooted (rows count (now (nodes .entry))) ⌝ }
 {
-    if nodes[0] != 0 {
+    if nodes[NUMBER] != 0 {
         return false;
     }
-    if nodes[1] != 0 {
+    if nodes[DEPTH] != 0 {
         return false;
     }
-    if nodes[3] != 32 {
+    if nodes[SLOT] != GROUP {
         return false;
     }
     steps_hold(nodes, count)
@@ -282,8 +316,7 @@ pub fn nodes_formed(nodes: &[u32], count: usize, next: u32, latest: u32) -> bool
     if !records_hold(nodes, count, next) {
         return false;
     }
-    let fresh = running_order(nodes, count);
-    if !fresh.distinct {
+    if !rows_apart(nodes, count) {
         return false;
     }
     if next < 2147483647 {

@@ -7,7 +7,7 @@ use lib.ListN.{length}
 use lib.Dec.{leb, eqb}
 use borrow.Author.Tests.{le-leb, eq-eqb}
 use Rattle.words.specs.Choice.{both}
-use Rattle.synthdef.specs.Reader.{sameName}
+use Rattle.format.specs.Reader.{sameName}
 use Rattle.nodes.specs.declared.Node.{Node}
 use Rattle.nodes.specs.Order.{order}
 use Rattle.nodes.specs.Formed.{mostNodes}

@@ -10,7 +10,7 @@ use lib.Dec.{ltb, leb, eqb}
 use borrow.Author.Tests.{ltb-true, ltb-false, eqb-false}
 use Rattle.words.specs.Choice.{pick, both, both-true, either-false}
 use Rattle.words.specs.Parts.{region, put}
-use Rattle.synthdef.specs.Bounds.{every}
+use Rattle.format.specs.Bounds.{every}
 use Rattle.nodes.specs.declared.Node.{Node}
 use Rattle.nodes.specs.Table.{over}
 use Rattle.nodes.specs.Place.{groupSlot, isGroup}

@@ -5,7 +5,7 @@ use mathlib.Core.Path.{_≡_, refl, ap}
 use mathlib.Core.List.{List, [], _∷_}
 use native.Mathlib.Omega.{arith}
 use Rattle.words.specs.Choice.{both, both-true}
-use Rattle.synthdef.specs.Bounds.{every}
+use Rattle.format.specs.Bounds.{every}
 use Rattle.nodes.specs.declared.Node.{Node}
 use Rattle.nodes.specs.Edit.{withRun, setRun}
 use Rattle.treerefinement.specs.Tally.{IgnoresDepth, one, tally, tally-setRun-same, Within, Grown}

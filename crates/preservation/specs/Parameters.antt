@@ -8,12 +8,12 @@ use lib.ListN.{length}
 use lib.Dec.{leb}
 use borrow.Author.Tests.{leb-true}
 use Rattle.faults.specs.declared.Fault.the-variants.{BadCount}
-use Rattle.synthdef.specs.Read.{Read, got, bad, andThen, repeat}
-use Rattle.synthdef.specs.Fields.{float32, definitionName, integer, countTo, count, shortCountTo, highest16}
-use Rattle.synthdef.specs.Definition.{Front, Definition}
-use Rattle.synthdef.specs.Reader.{mostParameters, parameterName, readFront, readUnits, variant, readDefinition}
-use Rattle.synthdef.specs.FieldLaws.{checked-got}
-use Rattle.synthdef.specs.RepeatLaws.{repeat-length}
+use Rattle.format.specs.Read.{Read, got, bad, andThen, repeat}
+use Rattle.format.specs.Fields.{float32, definitionName, integer, countTo, count, shortCountTo, highest16}
+use Rattle.format.specs.Definition.{Front, Definition}
+use Rattle.format.specs.Reader.{mostParameters, parameterName, readFront, readUnits, variant, readDefinition}
+use Rattle.format.specs.FieldLaws.{checked-got}
+use Rattle.format.specs.RepeatLaws.{repeat-length}
 use Rattle.model.specs.Engine.{Slot, noDefinition, valueOr, definitionIn}
 
 -- of what was read, if anything was

@@ -8,8 +8,8 @@ use lib.ListN.{length, drop, getD}
 use lib.Dec.{leb, eqb}
 use borrow.Author.Tests.{leb-false, eqb-true, not-true}
 use Rattle.words.specs.Choice.{pick, both, both-true, either}
-use Rattle.synthdef.specs.Reader.{readDefinition, sizeLimit, sameName}
-use Rattle.synthdef.specs.Bounds.{every}
+use Rattle.format.specs.Reader.{readDefinition, sizeLimit, sameName}
+use Rattle.format.specs.Bounds.{every}
 use Rattle.nodes.specs.declared.Node.{Node}
 use Rattle.treerefinement.specs.Tally.{Grown}
 use Rattle.model.specs.Layout.{slotCount}

@@ -9,12 +9,12 @@ use lib.ListN.{length, take, drop, getD}
 use lib.Dec.{leb}
 use Rattle.words.specs.Choice.{both, both-true}
 use Rattle.words.specs.Parts.{region}
-use Rattle.synthdef.specs.declared.lookup.Found.the-variants as found
-use Rattle.synthdef.specs.Read.{Read, got, bad}
-use Rattle.synthdef.specs.Definition.{Definition}
-use Rattle.synthdef.specs.Reader.{sizeLimit, readDefinition}
-use Rattle.synthdef.specs.Lookup.{unitsIn, nameIn, nameOfIn, firstName}
-use Rattle.synthdef.specs.LookupOf.{units-of, name-of, first-name-of}
+use Rattle.readable.specs.declared.found.Found.the-variants as found
+use Rattle.format.specs.Read.{Read, got, bad}
+use Rattle.format.specs.Definition.{Definition}
+use Rattle.format.specs.Reader.{sizeLimit, readDefinition}
+use Rattle.readable.specs.Lookup.{unitsIn, nameIn, nameOfIn, firstName}
+use Rattle.readable.specs.LookupOf.{units-of, name-of, first-name-of}
 use Rattle.readable.specs.Readable.{ReadableWhole}
 use Rattle.nodes.specs.Table.{row-from}
 use Rattle.nodes.specs.Place.{groupSlot, isGroup}

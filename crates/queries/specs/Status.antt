@@ -10,7 +10,7 @@ use lib.Dec.{eqb}
 use Rattle.words.specs.Choice.{pick}
 use Rattle.words.specs.Bytes.{bytes32}
 use Rattle.words.specs.Parts.{region}
-use Rattle.synthdef.specs.Lookup.{unitsIn}
+use Rattle.readable.specs.Lookup.{unitsIn}
 use Rattle.osc.specs.Message.{int, message, tags, arguments, padded}
 use Rattle.nodes.specs.declared.Node.{Node}
 use Rattle.nodes.specs.Table.{rows-end, rows-length}

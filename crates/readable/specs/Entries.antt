@@ -10,15 +10,15 @@ use lib.Dec.{ltb}
 use Rattle.words.specs.Choice.{pick}
 use Rattle.words.specs.Parts.{region}
 use Rattle.faults.specs.declared.Fault.the-variants.{BadIndex}
-use Rattle.synthdef.specs.Read.{got, repeat}
-use Rattle.synthdef.specs.Fields.{stringAt, name, integer, indexBelow}
-use Rattle.synthdef.specs.FieldLaws.{word, checked-got}
-use Rattle.synthdef.specs.RepeatLaws.{went-on, got-value, got-place}
-use Rattle.synthdef.specs.Endings.{field-got}
-use Rattle.synthdef.specs.Units.{name-got}
-use Rattle.synthdef.specs.Definition.{ParameterName}
-use Rattle.synthdef.specs.Lookup.{nothing, atNumber, firstOf, firstNamed}
-use Rattle.synthdef.specs.Reader.{mostParameters, parameterName, sameName}
+use Rattle.format.specs.Read.{got, repeat}
+use Rattle.format.specs.Fields.{word, stringAt, name, integer, indexBelow}
+use Rattle.format.specs.FieldLaws.{checked-got}
+use Rattle.format.specs.RepeatLaws.{went-on, got-value, got-place}
+use Rattle.format.specs.Endings.{field-got}
+use Rattle.format.specs.Sizes.{name-got}
+use Rattle.format.specs.Definition.{ParameterName}
+use Rattle.readable.specs.Lookup.{nothing, atNumber, firstOf, firstNamed}
+use Rattle.format.specs.Reader.{mostParameters, parameterName, sameName}
 
 -- "N parameter names (pstring, int32 index)": the place of an entry's index, and the place past the entry
 abbrev pub indexPlace : List ℕ → ℕ → ℕ

@@ -11,14 +11,12 @@ use lib.Seq.{getD-set-same, getD-set-other}
 use lib.Dec.{eqb}
 use borrow.Author.Tests.{ne-eqb, eqb-true, eqb-false}
 use Rattle.words.specs.Choice.{pick}
-use Rattle.synthdef.specs.Fields.{stringAt}
-use Rattle.synthdef.specs.FieldLaws.{word}
-use Rattle.synthdef.specs.Definition.{ParameterName, Front}
-use Rattle.synthdef.specs.Read.{got}
-use Rattle.synthdef.specs.Reader.{mostParameters, readFront}
-use Rattle.synthdef.specs.Front.{namesAt}
-use Rattle.synthdef.specs.Lookup.{firstOf, firstName, nameOfIn, orElse}
-use Rattle.synthdef.specs.LookupLaws.{or-none}
+use Rattle.format.specs.Fields.{word, stringAt}
+use Rattle.format.specs.Definition.{ParameterName, Front}
+use Rattle.format.specs.Read.{got}
+use Rattle.format.specs.Reader.{mostParameters, readFront}
+use Rattle.front.specs.Front.{namesAt}
+use Rattle.readable.specs.Lookup.{firstOf, firstName, nameOfIn, orElse}
 use Rattle.readable.specs.Entries.{indexPlace, entryEnd, entriesFrom, Entries, Turn, entries-turn, entries-none}
 use Rattle.readable.specs.Readable.{parts}
 
@@ -57,6 +55,10 @@ labels-first s first count later known = record {
   same = λ k h. rw (sub-zero, getD-replicate {A = ℕ} mostParameters k 0 0 h);
   within = λ k h l. absurd (let none : getD (replicate mostParameters 0) k 0 ≡ 0 = getD-replicate {A = ℕ} mostParameters k 0 0 h in omega arith);
 }
+
+or-none : (f : Option (List ℕ)) → orElse f none ≡ f
+or-none (some x) = refl
+or-none none = refl
 
 -- what was found before stands
 kept : (s : List ℕ) (place : ℕ) (x y : Option (List ℕ)) → 0 < place → orElse (labelAt s place) x ≡ orElse (labelAt s place) y

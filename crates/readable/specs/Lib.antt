@@ -1,3 +1,5 @@
+pub mod Lookup
+pub mod LookupOf
 pub mod Entries
 pub mod Readable
 pub mod Labels

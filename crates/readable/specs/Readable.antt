@@ -7,18 +7,18 @@ use borrow.Author.Tests.{leb-true}
 use lib.ListN.{length, getD}
 use lib.Dec.{leb}
 use Rattle.faults.specs.declared.Fault.the-variants.{BadName, BadCount}
-use Rattle.synthdef.specs.Read.{got, repeat}
-use Rattle.synthdef.specs.Fields.{float32, stringAt, pstring, definitionName, integer, count, countTo, highest32}
-use Rattle.synthdef.specs.FieldLaws.{word, checked-got, name-length}
-use Rattle.synthdef.specs.NameLaws.{full}
-use Rattle.synthdef.specs.RepeatLaws.{went-on, repeat-length, floats-end, got-value, got-place}
-use Rattle.synthdef.specs.Endings.{field-got}
-use Rattle.synthdef.specs.Units.{string-got}
-use Rattle.synthdef.specs.Definition.{Front, Definition}
-use Rattle.synthdef.specs.Reader.{mostParameters, sizeLimit, parameterName, readFront, readDefinition}
-use Rattle.synthdef.specs.Front.{nameEnd, valuesAt, namesAt, countsOf}
-use Rattle.synthdef.specs.Lookup.{atNumber, nameIn, unitsIn}
-use Rattle.synthdef.specs.FrontLaws.{front-got}
+use Rattle.format.specs.Read.{got, repeat}
+use Rattle.format.specs.Fields.{word, float32, stringAt, pstring, definitionName, integer, count, countTo, highest32}
+use Rattle.format.specs.FieldLaws.{checked-got, name-length}
+use Rattle.format.specs.NameLaws.{full}
+use Rattle.format.specs.RepeatLaws.{went-on, repeat-length, floats-end, got-value, got-place}
+use Rattle.format.specs.Endings.{field-got}
+use Rattle.format.specs.Sizes.{string-got}
+use Rattle.format.specs.Definition.{Front, Definition}
+use Rattle.format.specs.Reader.{mostParameters, sizeLimit, parameterName, readFront, readDefinition}
+use Rattle.front.specs.Front.{nameEnd, valuesAt, namesAt, countsOf}
+use Rattle.readable.specs.Lookup.{atNumber, nameIn, unitsIn}
+use Rattle.front.specs.FrontLaws.{front-got}
 use Rattle.readable.specs.Entries.{entriesFrom, entriesEnd, Entries, entries-got, entries-below}
 
 -- bytes whose front is readable. A definition has at most 2,048 bytes.

@@ -1,10 +1,10 @@
 // Walks along parameter names.
-use crate::places::word_at;
-use synthdef::Found;
-use synthdef::same_name;
+use crate::found::Found;
+use fields::same_name;
+use fields::word_at;
 ghost use mathlib.Core.Path.{_≡_};
-ghost use Rattle.synthdef.specs.Lookup.{firstNamed};
-ghost use Rattle.synthdef.specs.Reader.{mostParameters};
+ghost use Rattle.readable.specs.Lookup.{firstNamed};
+ghost use Rattle.format.specs.Reader.{mostParameters};
 ghost use Rattle.readable.specs.Entries.{Entries, entriesFrom, entriesEnd};
 
 // The index of a name among so many entries: it stops at the first that has it.

@@ -1,9 +1,9 @@
 // The labels of a definition's controls.
 use crate::places::counts;
-use crate::places::word_at;
+use fields::word_at;
 ghost use Prim.Native.Nat.{_≤_, _<_};
 ghost use lib.ListN.{length};
-ghost use Rattle.synthdef.specs.Reader.{mostParameters, sizeLimit};
+ghost use Rattle.format.specs.Reader.{mostParameters, sizeLimit};
 ghost use Rattle.readable.specs.Entries.{Entries};
 ghost use Rattle.readable.specs.Labels.{Labelled, LabelledFrom};
 ghost use Rattle.readable.specs.Readable.{Readable};

@@ -1,9 +1,12 @@
 // Lookups in a definition whose front is known to be readable. They go straight to a place, and validate nothing.
 mod entries;
+mod found;
 mod labelled;
 mod lookups;
 mod places;
 
+pub use found::Found;
+pub use found::ValuesFound;
 pub use labelled::labels;
 pub use lookups::index_of;
 pub use lookups::name;

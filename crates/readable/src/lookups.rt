@@ -1,13 +1,13 @@
 // The lookups.
 use crate::entries::find_entry;
 use crate::entries::skip_entries;
+use crate::found::Found;
+use crate::found::ValuesFound;
 use crate::places::counts;
-use crate::places::word_at;
-use synthdef::Found;
-use synthdef::ValuesFound;
-use synthdef::name_at;
+use fields::name_at;
+use fields::word_at;
 ghost use mathlib.Core.Path.{_≡_};
-ghost use Rattle.synthdef.specs.Lookup.{atNumber, nameIn, parametersIn, unitsIn, valuesIn, indexIn};
+ghost use Rattle.readable.specs.Lookup.{atNumber, nameIn, parametersIn, unitsIn, valuesIn, indexIn};
 ghost use Rattle.readable.specs.Readable.{Readable, ReadableWhole};
 
 // P, the number of parameters.

@@ -7,9 +7,8 @@ use native.Mathlib.Omega.{arith}
 use lib.ListN.{length}
 use Rattle.words.specs.Parts.{region}
 use Rattle.faults.specs.declared.Fault.{Fault}
-use Rattle.synthdef.specs.Read.{Read, got, bad, ending}
-use Rattle.synthdef.specs.Reader.{readDefinition}
-use Rattle.synthdef.specs.Lookup.{onRead}
+use Rattle.format.specs.Read.{Read, got, bad, ending, onRead}
+use Rattle.format.specs.Reader.{readDefinition}
 use Rattle.reader.specs.Places.{placeAfter, bytesAt}
 
 module _ {A B : Type 0} (none : B) (ask : ℕ → B) where

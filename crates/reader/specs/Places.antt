@@ -5,11 +5,12 @@ use mathlib.Core.List.{List, []}
 use lib.ListN.{length}
 use lib.Dec.{leb}
 use Rattle.words.specs.Parts.{region}
-use Rattle.synthdef.specs.declared.file.Checked.{Checked}
-use Rattle.synthdef.specs.declared.file.Checked.the-variants.{Accepted, Refused}
-use Rattle.synthdef.specs.Reader.{readDefinition}
-use Rattle.synthdef.specs.File.{firstPlace}
-use Rattle.synthdef.specs.Lookup.{onRead, nameIn}
+use Rattle.files.specs.declared.file.Checked.{Checked}
+use Rattle.files.specs.declared.file.Checked.the-variants.{Accepted, Refused}
+use Rattle.format.specs.Reader.{readDefinition}
+use Rattle.files.specs.File.{firstPlace}
+use Rattle.format.specs.Read.{onRead}
+
 
 -- where a reader of a file starts: at the first definition, and at the end of a file that is refused
 abbrev pub startOf : List ℕ → Checked → ℕ
@@ -27,7 +28,3 @@ placeAfter s at = onRead (readDefinition s at) (length s) (λ d next. next)
 -- the definition's own bytes, and none where none can be read
 abbrev pub bytesAt : List ℕ → ℕ → List ℕ
 bytesAt s at = onRead (readDefinition s at) [] (λ d next. region at (next - at) s)
-
--- "A definition's name is handed back as a part of the file's own bytes"
-abbrev pub nameFrom : List ℕ → ℕ → List ℕ
-nameFrom s at = nameIn (bytesAt s at)

@@ -6,13 +6,13 @@ use mathlib.Core.List.{List, [], _∷_, _++_}
 use lib.ListN.{length, take}
 use denote.Ref.{RefT, now}
 use Rattle.words.specs.Choice.{pick}
-use Rattle.synthdef.specs.Read.{got}
-use Rattle.synthdef.specs.Definition.{Definition}
-use Rattle.synthdef.specs.Reader.{readDefinition, readFile}
-use Rattle.synthdef.specs.File.{verdict, firstPlace}
+use Rattle.format.specs.Read.{got}
+use Rattle.format.specs.Definition.{Definition}
+use Rattle.format.specs.Reader.{readDefinition, readFile}
+use Rattle.files.specs.File.{verdict, firstPlace}
 use Rattle.reader.specs.declared.reader.Reader.{Reader}
 use Rattle.reader.specs.declared.reader.Opened.{Opened}
-use Rattle.reader.specs.Places.{startOf, endedAt, placeAfter, bytesAt, nameFrom}
+use Rattle.reader.specs.Places.{startOf, endedAt, placeAfter, bytesAt}
 
 -- a reader of a file, and what the check of the whole file said
 abbrev pub opened : RefT (List ℕ) → Opened
@@ -29,33 +29,28 @@ after r = record { file = r .file; place = placeAfter (now (r .file)) (r .place)
 abbrev pub ended : Reader → Bool
 ended r = endedAt (now (r .file)) (r .place)
 
--- what a reader hands out at its place: a definition's bytes and its name
-pub record Handed : Type 0 where
-  pub bytes : List ℕ
-  pub name : List ℕ
-
-abbrev pub handed : Reader → Handed
-handed r = record { bytes = bytesAt (now (r .file)) (r .place); name = nameFrom (now (r .file)) (r .place) }
+-- what a reader hands out at its place: a definition's bytes
+abbrev pub handed : Reader → List ℕ
+handed r = bytesAt (now (r .file)) (r .place)
 
 -- what is handed out on the way to the end, in at most so many steps
-unfoldable pub walk : ℕ → Reader → List Handed
+unfoldable pub walk : ℕ → Reader → List (List ℕ)
 walk zero r = []
 walk (suc n) r = pick (ended r) [] (handed r ∷ walk n (after r))
 
 -- the bytes of what was handed out, one part behind the other
-unfoldable pub bytesOf : List Handed → List ℕ
+unfoldable pub bytesOf : List (List ℕ) → List ℕ
 bytesOf [] = []
-bytesOf (p ∷ ps) = p .bytes ++ bytesOf ps
+bytesOf (p ∷ ps) = p ++ bytesOf ps
 
--- what was handed out is this definition: the bytes by themselves are read as it, to their end, and the name is its name
-pub record Hands (p : Handed) (d : Definition) : Type 0 where
-  pub read : readDefinition (p .bytes) 0 ≡ got d (length (p .bytes))
-  pub named : p .name ≡ d .front .name
+-- what was handed out is this definition: the bytes by themselves are read as it, to their end
+abbrev pub Hands : List ℕ → Definition → Type 0
+Hands p d = readDefinition p 0 ≡ got d (length p)
 
 -- one by one and in order, and no more
-pub data Each : List Handed → List Definition → Type 0 where
+pub data Each : List (List ℕ) → List Definition → Type 0 where
   none : Each [] []
-  more : {p : Handed} {d : Definition} {ps : List Handed} {ds : List Definition} → Hands p d → Each ps ds → Each (p ∷ ps) (d ∷ ds)
+  more : {p : List ℕ} {d : Definition} {ps : List (List ℕ)} {ds : List Definition} → Hands p d → Each ps ds → Each (p ∷ ps) (d ∷ ds)
 
 -- a reader of a file hands out these definitions; the file's head and behind it the parts that were handed out are the file
 pub record Walks (f : RefT (List ℕ)) (n : ℕ) (ds : List Definition) : Type 0 where

@@ -13,15 +13,13 @@ use Rattle.words.specs.Choice.{pick}
 use Rattle.words.specs.Parts.{region, region-length}
 use Rattle.faults.specs.declared.Fault.{Fault}
 use Rattle.faults.specs.declared.Fault.the-variants.{BytesLeft}
-use Rattle.synthdef.specs.Read.{Read, got, bad, andThen}
-use Rattle.synthdef.specs.Definition.{Definition}
-use Rattle.synthdef.specs.Reader.{fits, readDefinition, readDefinitions, readHeader, readFile}
-use Rattle.synthdef.specs.File.{firstPlace}
-use Rattle.synthdef.specs.Lookup.{onRead}
-use Rattle.synthdef.specs.RepeatLaws.{went-on}
-use Rattle.synthdef.specs.FileLaws.{fitting-got, head-few, definitions-length}
-use Rattle.synthdef.specs.Forward.{definition-whole}
-use Rattle.synthdef.specs.LookupOf.{name-of}
+use Rattle.format.specs.Read.{Read, got, bad, andThen, onRead}
+use Rattle.format.specs.Definition.{Definition}
+use Rattle.format.specs.Reader.{fits, readDefinition, readDefinitions, readHeader, readFile}
+use Rattle.files.specs.File.{firstPlace}
+use Rattle.format.specs.RepeatLaws.{went-on}
+use Rattle.files.specs.FileLaws.{fitting-got, head-few, definitions-length}
+use Rattle.files.specs.Forward.{definition-whole}
 use Rattle.roundtrip.specs.Stands.{Bytes}
 use Rattle.roundtrip.specs.Forth.{definition-forth, file-forth}
 use Rattle.roundtrip.specs.Local.{definition-alone}
@@ -58,7 +56,7 @@ module _ (f : RefT (List ℕ)) where
       record { each = rw none-left none; rest = rw (none-left, drop-of-length-le s h) }
 
   module _ (b : Bytes s) (p : ℕ) (d : Definition) (next : ℕ) (e : readDefinition s p ≡ got d next) where
-    bytes-here : handed (at-place p) .bytes ≡ region p (next - p) s
+    bytes-here : handed (at-place p) ≡ region p (next - p) s
     bytes-here = rw e
 
     hands : Hands (handed (at-place p)) d
@@ -68,7 +66,7 @@ module _ (f : RefT (List ℕ)) where
         let inside = w .inside in
         let size : length (region p (next - p) s) ≡ next - p = region-length p (next - p) s (omega arith) in
         let alone = definition-alone s b p d next e in
-        record { read = rw e (alone ∙ ap (λ (m : ℕ). got d m) (sym size)); named = rw e (name-of (region p (next - p) s) alone) }
+        rw e (alone ∙ ap (λ (m : ℕ). got d m) (sym size))
 
     on-walk : (n : ℕ) → walk (suc n) (at-place p) ≡ handed (at-place p) ∷ walk n (at-place next)
     on-walk n =

@@ -1,15 +1,12 @@
 // What a reader meets at a place of a file. These functions take the file and the place apart from each other.
-use synthdef::Checked;
-use synthdef::Cursor;
-use synthdef::Step;
-use synthdef::definition_name_in;
-use synthdef::part;
-use synthdef::read_definition;
+use fields::Cursor;
+use fields::Step;
+use fields::part;
+use files::Checked;
+use files::read_definition;
+use format::FIRST_PLACE;
 ghost use mathlib.Core.Path.{_≡_};
-ghost use Rattle.reader.specs.Places.{endedAt, placeAfter, bytesAt, nameFrom, startOf};
-
-// The first definition starts here.
-const FIRST_PLACE: usize = 10;
+ghost use Rattle.reader.specs.Places.{endedAt, placeAfter, bytesAt, startOf};
 
 // Where a reader of a file starts, by what the check of the whole file said: at its end where it is refused.
 pub fn start_of(s: &[u8], checked: Checked) -> usize
@@ -49,11 +46,4 @@ pub fn bytes_at(s: &[u8], at: usize) -> &[u8]
         }
         Step::Bad(refusal, place) => part(s, 0, 0),
     }
-}
-
-// The name of the definition at a place, a part of the lent file.
-pub fn name_from(s: &[u8], at: usize) -> &[u8]
-    ensures { λ r. ⌜ now r ≡ nameFrom (now (s .entry)) at ⌝ }
-{
-    definition_name_in(bytes_at(s, at))
 }

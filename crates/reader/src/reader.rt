@@ -1,11 +1,10 @@
 // The reader: the lent file, and a place in it. Each function takes it apart and leaves the work to one on the file and the place.
 use crate::places::bytes_at;
 use crate::places::ended_at;
-use crate::places::name_from;
 use crate::places::place_after;
 use crate::places::start_of;
-use synthdef::Checked;
-use synthdef::check_file;
+use files::Checked;
+use files::check_file;
 ghost use mathlib.Core.Path.{_≡_};
 ghost use Rattle.reader.specs.Walk.{opened, ended, handed, after};
 
@@ -46,16 +45,9 @@ impl<'a> Reader<'a> {
 
     // The next definition, a part of the lent file.
     pub fn definition(self) -> &'a [u8]
-        ensures { λ r. ⌜ now r ≡ handed (self .entry) .bytes ⌝ }
+        ensures { λ r. ⌜ now r ≡ handed (self .entry) ⌝ }
     {
         bytes_at(self.file, self.place)
-    }
-
-    // Its name, a part of the lent file.
-    pub fn name(self) -> &'a [u8]
-        ensures { λ r. ⌜ now r ≡ handed (self .entry) .name ⌝ }
-    {
-        name_from(self.file, self.place)
     }
 
     // The reader past the next definition.

@@ -10,7 +10,7 @@ use borrow.Author.Tests.{ltb-true, not-false}
 use Rattle.words.specs.Choice.{pick, both, either, both-true}
 use Rattle.words.specs.Parts.{region, region-length}
 use Rattle.refusals.specs.declared.Refusal.the-variants.{NoNode, NoBus}
-use Rattle.synthdef.specs.Bounds.{every}
+use Rattle.format.specs.Bounds.{every}
 use Rattle.nodes.specs.declared.Node.{Node}
 use Rattle.nodes.specs.Place.{groupSlot}
 use Rattle.nodes.specs.Edit.{runOf}

@@ -10,10 +10,10 @@ use borrow.Author.Tests.{not-true, ltb-false, leb-false, eq-eqb}
 use lib.ListN.{length, drop}
 use lib.Dec.{leb, eqb}
 use Rattle.words.specs.Choice.{pick, both, either, both-true}
-use Rattle.synthdef.specs.Definition.{Definition}
-use Rattle.synthdef.specs.Reader.{sameName, among, sizeLimit}
-use Rattle.synthdef.specs.Writer.{writeDefinition}
-use Rattle.synthdef.specs.Bounds.{isDefinition, areDefinitions}
+use Rattle.format.specs.Definition.{Definition}
+use Rattle.format.specs.Reader.{sameName, among, sizeLimit}
+use Rattle.format.specs.Writer.{writeDefinition}
+use Rattle.format.specs.Bounds.{isDefinition, areDefinitions}
 
 use Rattle.nodes.specs.declared.Node.{Node}
 use Rattle.nodes.specs.Place.{isGroup}

@@ -10,7 +10,7 @@ use lib.Seq.{length-take-le}
 use lib.Dec.{leb, eqb}
 use borrow.Author.Tests.{leb-true, le-leb, eq-eqb}
 use Rattle.words.specs.Choice.{pick, both, either, both-true}
-use Rattle.synthdef.specs.Reader.{readDefinition, sizeLimit, among}
+use Rattle.format.specs.Reader.{readDefinition, sizeLimit, among}
 use Rattle.nodes.specs.declared.Node.{Node}
 use Rattle.nodes.specs.Place.{isGroup}
 use Rattle.model.specs.Layout.{slotRoom, rowWords}

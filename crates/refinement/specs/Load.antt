@@ -9,11 +9,11 @@ use native.Mathlib.Omega.{arith}
 use lib.ListN.{length, set, length-append}
 use lib.Seq.{getD-set-other}
 use Rattle.words.specs.Choice.{pick, both, either, either-false}
-use Rattle.synthdef.specs.Read.{Read, got}
-use Rattle.synthdef.specs.Definition.{Definition}
-use Rattle.synthdef.specs.Reader.{readDefinition, sameName, among}
-use Rattle.synthdef.specs.Writer.{writeDefinition}
-use Rattle.synthdef.specs.Bounds.{isDefinition}
+use Rattle.format.specs.Read.{Read, got}
+use Rattle.format.specs.Definition.{Definition}
+use Rattle.format.specs.Reader.{readDefinition, sameName, among}
+use Rattle.format.specs.Writer.{writeDefinition}
+use Rattle.format.specs.Bounds.{isDefinition}
 use Rattle.roundtrip.specs.Back.{definition-back}
 use Rattle.nodes.specs.declared.Node.{Node}
 use Rattle.model.specs.Engine.{Slot, noDefinition, valueOr, nameIn, definitionIn, slotAt, held, slotTaken, residents}

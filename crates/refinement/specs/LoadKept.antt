@@ -10,11 +10,11 @@ use lib.Dec.{leb}
 use borrow.Author.Tests.{leb-true, ltb-false, eq-eqb}
 use Rattle.words.specs.Choice.{either, both-true}
 use Rattle.refusals.specs.declared.Refusal.the-variants.{NoSlot}
-use Rattle.synthdef.specs.Read.{Read, got, bad}
-use Rattle.synthdef.specs.Definition.{Definition}
-use Rattle.synthdef.specs.Reader.{readDefinition, readFile, sizeLimit, mostDefinitions, sameName, among}
-use Rattle.synthdef.specs.Writer.{writeDefinition}
-use Rattle.synthdef.specs.Bounds.{isDefinition, areDefinitions}
+use Rattle.format.specs.Read.{Read, got, bad}
+use Rattle.format.specs.Definition.{Definition}
+use Rattle.format.specs.Reader.{readDefinition, readFile, sizeLimit, mostDefinitions, sameName, among}
+use Rattle.format.specs.Writer.{writeDefinition}
+use Rattle.format.specs.Bounds.{isDefinition, areDefinitions}
 use Rattle.roundtrip.specs.Stands.{bytes-of-every}
 use Rattle.roundtrip.specs.Forth.{file-forth}
 use Rattle.nodes.specs.declared.Node.{Node}

@@ -10,7 +10,7 @@ use lib.Seq.{length-take-le, getD-append-add, getD-take, getD-drop}
 use lib.Dec.{ltb, leb}
 use borrow.Author.Tests.{ltb-true, ltb-false, le-leb, leb-true}
 use Rattle.words.specs.Choice.{pick, both, both-true}
-use Rattle.synthdef.specs.Bounds.{every}
+use Rattle.format.specs.Bounds.{every}
 use Rattle.nodes.specs.declared.Node.{Node}
 use Rattle.nodes.specs.Place.{isGroup}
 use Rattle.nodes.specs.Formed.{mostRows, rowFormed}

@@ -10,8 +10,8 @@ use lib.ListN.{length}
 use lib.Dec.{eqb, leb·suc-suc}
 use borrow.Author.Tests.{lt-ltb, eq-eqb, eqb-true}
 use Rattle.words.specs.Choice.{pick, both, both-true}
-use Rattle.synthdef.specs.Definition.{Definition}
-use Rattle.synthdef.specs.Reader.{sameName}
+use Rattle.format.specs.Definition.{Definition}
+use Rattle.format.specs.Reader.{sameName}
 use Rattle.model.specs.Engine.{Slot, nameIn, definitionIn, residentFrom, residentOf}
 use Rattle.model.specs.Plain.{Named, meaning, forget}
 use Rattle.model.specs.Demands.{definitionAtSlot}

@@ -9,8 +9,8 @@ use native.Mathlib.Omega.{arith}
 use borrow.Author.Tests.{not-true}
 use lib.ListN.{length, set}
 use Rattle.words.specs.Choice.{pick, both, either, both-true}
-use Rattle.synthdef.specs.Definition.{Definition}
-use Rattle.synthdef.specs.Reader.{sameName, among}
+use Rattle.format.specs.Definition.{Definition}
+use Rattle.format.specs.Reader.{sameName, among}
 use Rattle.model.specs.Engine.{Slot, nameIn, definitionIn, slotAt, residents}
 use Rattle.model.specs.Formed.{nameResident, namesApart}
 use Rattle.model.specs.Effects.{retired}

@@ -7,7 +7,7 @@ use native.Mathlib.Omega.{arith}
 use lib.ListN.{length, set}
 use borrow.Author.Tests.{not-true}
 use Rattle.words.specs.Choice.{pick, both, either, both-true, either-false}
-use Rattle.synthdef.specs.Reader.{readDefinition, sameName, among}
+use Rattle.format.specs.Reader.{readDefinition, sameName, among}
 use Rattle.model.specs.Engine.{Slot, noDefinition, valueOr, nameIn, slotAt}
 use Rattle.model.specs.Effects.{retired}
 use Rattle.model.specs.Formed.{nameResident, namesApart}

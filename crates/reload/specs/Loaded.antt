@@ -9,10 +9,10 @@ use lib.ListN.{length, take, drop, getD, set, length-set, length-take}
 use lib.Dec.{leb}
 use borrow.Author.Tests.{leb-true}
 use Rattle.words.specs.Choice.{both-true}
-use Rattle.synthdef.specs.Definition.{Definition}
-use Rattle.synthdef.specs.Reader.{readFile, sizeLimit, among}
-use Rattle.synthdef.specs.Writer.{writeDefinition}
-use Rattle.synthdef.specs.Bounds.{isDefinition, areDefinitions, isFile}
+use Rattle.format.specs.Definition.{Definition}
+use Rattle.format.specs.Reader.{readFile, sizeLimit, among}
+use Rattle.format.specs.Writer.{writeDefinition}
+use Rattle.format.specs.Bounds.{isDefinition, areDefinitions, isFile}
 use Rattle.nodes.specs.declared.Node.{Node}
 use Rattle.model.specs.Layout.{slotCount, slotRoom, lengthsIn, flagsIn}
 use Rattle.model.specs.Engine.{Slot, Engine, slotsFrom, decode}

@@ -9,13 +9,13 @@ use lib.Dec.{leb, eqb}
 use borrow.Author.Tests.{leb-true, le-ltb, not-true}
 use Rattle.words.specs.Choice.{both-true}
 use Rattle.faults.specs.declared.Fault.the-variants.{NotSynthDef, BadVersion}
-use Rattle.synthdef.specs.Read.{Read, got, andThen, checked}
-use Rattle.synthdef.specs.Definition.{Definition}
-use Rattle.synthdef.specs.Fields.{int32, shortCountTo}
-use Rattle.synthdef.specs.Reader.{mostDefinitions, sizeLimit, fileType, fileVersion, among, fits, readDefinition, readDefinitions, readHeader, readFile}
+use Rattle.format.specs.Read.{Read, got, andThen, checked}
+use Rattle.format.specs.Definition.{Definition}
+use Rattle.format.specs.Fields.{int32, shortCountTo}
+use Rattle.format.specs.Reader.{mostDefinitions, sizeLimit, fileType, fileVersion, among, fits, readDefinition, readDefinitions, readHeader, readFile}
 use Rattle.words.specs.Bytes.{bytes16, bytes32}
-use Rattle.synthdef.specs.Writer.{writeAll, writeDefinition, writeFile}
-use Rattle.synthdef.specs.Bounds.{isDefinition, areDefinitions, isFile}
+use Rattle.format.specs.Writer.{writeAll, writeDefinition, writeFile}
+use Rattle.format.specs.Bounds.{isDefinition, areDefinitions, isFile}
 use Rattle.roundtrip.specs.Stands.{Stands, stands-in, stands-all, stands-left, stands-right}
 use Rattle.roundtrip.specs.Codec.{Reads, Back, then-reads, last-reads, none-reads, checked-reads}
 use Rattle.roundtrip.specs.FieldsBack.{int32-reads, short-count-reads}

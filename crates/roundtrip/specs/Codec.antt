@@ -8,9 +8,9 @@ use native.Mathlib.Omega.{arith}
 use lib.ListN.{length, length-append}
 use Rattle.words.specs.Choice.{both-true}
 use Rattle.faults.specs.declared.Fault.{Fault}
-use Rattle.synthdef.specs.Read.{Read, got, andThen, checked, repeat}
-use Rattle.synthdef.specs.Writer.{writeAll}
-use Rattle.synthdef.specs.Bounds.{every}
+use Rattle.format.specs.Read.{Read, got, andThen, checked, repeat}
+use Rattle.format.specs.Writer.{writeAll}
+use Rattle.format.specs.Bounds.{every}
 use Rattle.roundtrip.specs.Stands.{Stands, stands-left, stands-right}
 
 -- wherever w stands, it is read as x

@@ -9,11 +9,11 @@ use lib.Dec.{ltb, leb}
 use borrow.Author.Tests.{lt-ltb, le-leb, leb-true, ltb-true}
 use Rattle.words.specs.Choice.{both, both-true}
 use Rattle.faults.specs.declared.Fault.the-variants.{BadCount, BadName, BadRate, BadIndex}
-use Rattle.synthdef.specs.Read.{got}
-use Rattle.synthdef.specs.Fields.{whole, int8, int16, int32, float32, nameBytes, pstring, name, definitionName, highestRate, countTo, shortCountTo, rate, indexBelow}
+use Rattle.format.specs.Read.{got}
+use Rattle.format.specs.Fields.{whole, int8, int16, int32, float32, nameBytes, pstring, name, definitionName, highestRate, countTo, shortCountTo, rate, indexBelow}
 use Rattle.words.specs.Bytes.{bytes8, bytes16, bytes32}
-use Rattle.synthdef.specs.Writer.{writeInteger, writeName}
-use Rattle.synthdef.specs.Bounds.{isName, isFloat, isRate}
+use Rattle.format.specs.Writer.{writeInteger, writeName}
+use Rattle.format.specs.Bounds.{isName, isFloat, isRate}
 use Rattle.roundtrip.specs.Stands.{Stands, stands-right, stands-getD}
 use Rattle.roundtrip.specs.BigEndian.{two-of-bytes, four-of-bytes}
 use Rattle.roundtrip.specs.Codec.{Reads, Back, checked-reads}

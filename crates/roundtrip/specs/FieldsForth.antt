@@ -12,11 +12,11 @@ use borrow.Author.Tests.{lt-ltb, le-leb, leb-true, ltb-true}
 use Rattle.words.specs.Choice.{pick, both, both-true}
 use Rattle.words.specs.Parts.{region, region-length}
 use Rattle.faults.specs.declared.Fault.the-variants.{Truncated, BadCount, BadName, BadRate, BadIndex}
-use Rattle.synthdef.specs.Read.{got, bad}
-use Rattle.synthdef.specs.Fields.{whole, int8, int16, int32, float32, nameBytes, stringAt, pstring, name, definitionName, highestRate, countTo, shortCountTo, rate, indexBelow}
+use Rattle.format.specs.Read.{got, bad}
+use Rattle.format.specs.Fields.{whole, int8, int16, int32, float32, nameBytes, stringAt, pstring, name, definitionName, highestRate, countTo, shortCountTo, rate, indexBelow}
 use Rattle.words.specs.Bytes.{bytes8, bytes16, bytes32}
-use Rattle.synthdef.specs.Writer.{writeInteger, writeName}
-use Rattle.synthdef.specs.Bounds.{isName, isFloat, isRate}
+use Rattle.format.specs.Writer.{writeInteger, writeName}
+use Rattle.format.specs.Bounds.{isName, isFloat, isRate}
 use Rattle.roundtrip.specs.Stands.{Bytes}
 use Rattle.roundtrip.specs.BigEndian.{two, four, bytes-of-two, bytes-of-four}
 use Rattle.roundtrip.specs.Sound.{Sound, taken, refused, Forth, weaken, checked-sound}

@@ -11,11 +11,11 @@ use lib.Dec.{ltb, leb, eqb}
 use borrow.Author.Tests.{ltb-true, ltb-false, le-leb, eqb-true}
 use Rattle.words.specs.Choice.{pick}
 use Rattle.faults.specs.declared.Fault.the-variants.{NotSynthDef, BadVersion, TooLong, NameTwice, BytesLeft}
-use Rattle.synthdef.specs.Read.{got, bad, andThen}
-use Rattle.synthdef.specs.Definition.{Definition}
-use Rattle.synthdef.specs.Reader.{mostDefinitions, sizeLimit, fileType, fileVersion, among, fits, readFront, readDefinition, readDefinitions, readHeader, readFile}
-use Rattle.synthdef.specs.Writer.{writeAll, writeDefinition, writeFile}
-use Rattle.synthdef.specs.Bounds.{isDefinition, areDefinitions, isFile}
+use Rattle.format.specs.Read.{got, bad, andThen}
+use Rattle.format.specs.Definition.{Definition}
+use Rattle.format.specs.Reader.{mostDefinitions, sizeLimit, fileType, fileVersion, among, fits, readFront, readDefinition, readDefinitions, readHeader, readFile}
+use Rattle.format.specs.Writer.{writeAll, writeDefinition, writeFile}
+use Rattle.format.specs.Bounds.{isDefinition, areDefinitions, isFile}
 use Rattle.roundtrip.specs.Stands.{Bytes}
 use Rattle.roundtrip.specs.Back.{writeHeader}
 use Rattle.roundtrip.specs.Sound.{Part, Sound, taken, refused, Forth, empty-part, part-length, join, restate, then-sound, extend, checked-sound, part-of}

@@ -6,9 +6,9 @@ use native.Mathlib.Nat.{zero-add}
 use lib.ListN.{length, take, drop}
 use native.Mathlib.Omega.{arith}
 use Rattle.words.specs.Parts.{region-length}
-use Rattle.synthdef.specs.Read.{got}
-use Rattle.synthdef.specs.Definition.{Definition}
-use Rattle.synthdef.specs.Reader.{readDefinition}
+use Rattle.format.specs.Read.{got}
+use Rattle.format.specs.Definition.{Definition}
+use Rattle.format.specs.Reader.{readDefinition}
 use Rattle.roundtrip.specs.Stands.{Bytes, Stands, stands-in, stands-all}
 use Rattle.roundtrip.specs.RecordsBack.{definition-reads}
 use Rattle.roundtrip.specs.Forth.{definition-forth}

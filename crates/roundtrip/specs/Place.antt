@@ -4,8 +4,8 @@ use mathlib.Core.Path.{_≡_}
 use mathlib.Core.List.{List}
 use lib.ListN.{length}
 use Rattle.faults.specs.declared.Fault.{Fault}
-use Rattle.synthdef.specs.Read.{bad}
-use Rattle.synthdef.specs.Reader.{readDefinition, readFile}
+use Rattle.format.specs.Read.{bad}
+use Rattle.format.specs.Reader.{readDefinition, readFile}
 use Rattle.roundtrip.specs.Sound.{place-of}
 use Rattle.roundtrip.specs.RecordsForth.{definition-sound}
 use Rattle.roundtrip.specs.Forth.{file-sound}

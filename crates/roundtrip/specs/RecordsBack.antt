@@ -8,13 +8,13 @@ use lib.ListN.{length, getD, length-append}
 use lib.Dec.{ltb, leb, eqb}
 use borrow.Author.Tests.{leb-true, ltb-true, eqb-true, ne-eqb}
 use Rattle.words.specs.Choice.{both, both-true}
-use Rattle.synthdef.specs.Read.{repeat}
-use Rattle.synthdef.specs.Definition.{constant, output, UnitSpec, Front}
-use Rattle.synthdef.specs.Fields.{float32, rate, highest16, highest32}
-use Rattle.synthdef.specs.Reader.{mostParameters, minusOne, parameterName, readFront, input, readUnit, readUnits, variant, readDefinition}
+use Rattle.format.specs.Read.{repeat}
+use Rattle.format.specs.Definition.{constant, output, UnitSpec, Front}
+use Rattle.format.specs.Fields.{float32, rate, highest16, highest32}
+use Rattle.format.specs.Reader.{mostParameters, minusOne, parameterName, readFront, input, readUnit, readUnits, variant, readDefinition}
 use Rattle.words.specs.Bytes.{bytes8, bytes32}
-use Rattle.synthdef.specs.Writer.{writeAll, writeParameterName, writeInput, writeUnit, writeVariant, writeFront, writeDefinition}
-use Rattle.synthdef.specs.Bounds.{every, isName, isFloat, isRate, isParameterName, isInput, isUnit, areUnits, isVariant, isFront, isDefinition}
+use Rattle.format.specs.Writer.{writeAll, writeParameterName, writeInput, writeUnit, writeVariant, writeFront, writeDefinition}
+use Rattle.format.specs.Bounds.{every, isName, isFloat, isRate, isParameterName, isInput, isUnit, areUnits, isVariant, isFront, isDefinition}
 use Rattle.roundtrip.specs.Codec.{Reads, Back, onward-reads, then-reads, last-reads, none-reads, repeat-reads}
 use Rattle.roundtrip.specs.FieldsBack.{int16-reads, int32-reads, float-reads, name-reads, definition-name-reads, count-reads, short-count-reads, index-reads, rate-reads}
 

@@ -8,13 +8,13 @@ use lib.Dec.{ltb, eqb}
 use borrow.Author.Tests.{eqb-true, eq-eqb, lt-ltb}
 use Rattle.words.specs.Choice.{pick}
 use Rattle.faults.specs.declared.Fault.the-variants.{BadIndex}
-use Rattle.synthdef.specs.Read.{got, bad, andThen, repeat}
-use Rattle.synthdef.specs.Definition.{constant, output}
-use Rattle.synthdef.specs.Fields.{float32, rate, highest16, highest32, indexBelow}
-use Rattle.synthdef.specs.Reader.{mostParameters, minusOne, parameterName, readFront, input, readUnit, readUnits, variant, readDefinition}
+use Rattle.format.specs.Read.{got, bad, andThen, repeat}
+use Rattle.format.specs.Definition.{constant, output}
+use Rattle.format.specs.Fields.{float32, rate, highest16, highest32, indexBelow}
+use Rattle.format.specs.Reader.{mostParameters, minusOne, parameterName, readFront, input, readUnit, readUnits, variant, readDefinition}
 use Rattle.words.specs.Bytes.{bytes8, bytes32}
-use Rattle.synthdef.specs.Writer.{writeInteger, writeAll, writeParameterName, writeInput, writeUnit, writeVariant, writeFront, writeDefinition}
-use Rattle.synthdef.specs.Bounds.{every, isFloat, isRate, isParameterName, isInput, isUnit, areUnits, isVariant, isFront, isDefinition}
+use Rattle.format.specs.Writer.{writeInteger, writeAll, writeParameterName, writeInput, writeUnit, writeVariant, writeFront, writeDefinition}
+use Rattle.format.specs.Bounds.{every, isFloat, isRate, isParameterName, isInput, isUnit, areUnits, isVariant, isFront, isDefinition}
 use Rattle.roundtrip.specs.Sound.{Part, Sound, taken, refused, Forth, empty-part, join, restate, then-sound, repeat-sound}
 use Rattle.roundtrip.specs.FieldsForth.{int16-sound, int32-sound, float-sound, name-sound, definition-name-sound, count-sound, short-count-sound, index-sound, rate-sound}
 

@@ -10,9 +10,9 @@ use lib.Seq.{drop-drop, take-add}
 use Rattle.words.specs.Choice.{pick}
 use Rattle.words.specs.Parts.{region, region-length}
 use Rattle.faults.specs.declared.Fault.{Fault}
-use Rattle.synthdef.specs.Read.{Read, got, bad, andThen, checked, repeat}
-use Rattle.synthdef.specs.Writer.{writeAll}
-use Rattle.synthdef.specs.Bounds.{every}
+use Rattle.format.specs.Read.{Read, got, bad, andThen, checked, repeat}
+use Rattle.format.specs.Writer.{writeAll}
+use Rattle.format.specs.Bounds.{every}
 use Rattle.roundtrip.specs.Stands.{Bytes}
 
 -- the part of s from one place to another; where s holds bytes, it is w, and Q holds

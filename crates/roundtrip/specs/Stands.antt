@@ -10,7 +10,7 @@ use lib.Dec.{ltb}
 use borrow.Author.Tests.{ltb-true}
 use Rattle.words.specs.Choice.{both-true}
 use Rattle.words.specs.Parts.{region}
-use Rattle.synthdef.specs.Bounds.{every}
+use Rattle.format.specs.Bounds.{every}
 
 -- a list of bytes
 abbrev pub Bytes : List ℕ → Type 0

@@ -1,2 +1,1 @@
 // The laws of SynthDef2 files stand in specs/.
-pub fn nothing() {}

@@ -11,8 +11,8 @@ use lib.ListN.{length, take, drop, replicate, length-replicate}
 use lib.Dec.{eqb}
 use lib.Seq.{drop-drop, take-all}
 use Rattle.words.specs.Choice.{pick, both}
-use Rattle.synthdef.specs.Definition.{Definition}
-use Rattle.synthdef.specs.Reader.{sameName}
+use Rattle.format.specs.Definition.{Definition}
+use Rattle.format.specs.Reader.{sameName}
 use Rattle.nodes.specs.Table.{rows, encode}
 use Rattle.nodes.specs.Place.{lives}
 use Rattle.nodes.specs.Forest.{single, flatten, mapForest}

@@ -9,9 +9,9 @@ use lib.Dec.{eqb}
 use borrow.Author.Tests.{ne-eqb, eq-eqb}
 use Rattle.words.specs.Choice.{pick, both, both-true}
 use Rattle.faults.specs.Faults.{faultNumber, fault-low}
-use Rattle.synthdef.specs.Read.{Read, got, bad}
-use Rattle.synthdef.specs.Definition.{Definition}
-use Rattle.synthdef.specs.Reader.{readFile}
+use Rattle.format.specs.Read.{Read, got, bad}
+use Rattle.format.specs.Definition.{Definition}
+use Rattle.format.specs.Reader.{readFile}
 use Rattle.model.specs.declared.DefinitionCommand.the-variants as definitions
 use Rattle.model.specs.declared.TreeCommand.{TreeCommand}
 use Rattle.model.specs.declared.TreeCommand.the-variants as tree
@@ -91,7 +91,7 @@ answers-fair (command.Query q) bytes e room = fair-first (queryChecks q bytes e)
     query-fair query.Status = refl
     query-fair query.Export = refl
 
--- "never refusal 1"
+-- Demand 3: never refusal 1
 pub never-one : (c : Command) (bytes : List ℕ) (e : Engine) (room : ℕ) → refusalIn (answerIn c bytes e room) ≡ 1 → ⊥
 never-one c bytes e room = differs (refusalIn (answerIn c bytes e room)) (answers-fair c bytes e room)
   where

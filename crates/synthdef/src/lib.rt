@@ -1,40 +1,67 @@
-// SynthDef2 files: read, refused, looked up.
-mod cursor;
-mod definition;
-mod exports;
-mod file;
-mod front;
-mod limits;
-mod lookup;
-mod units;
+// SynthDef2 files, for Rust and C.
+use faults::fault_number;
+use files::Checked;
+use files::Span;
+use files::check_file;
+use files::definition_at;
+ghost use mathlib.Core.Path.{_≡_};
+ghost use Rattle.format.specs.Reader.{readFile};
+ghost use Rattle.files.specs.File.{verdict, definitionSpan, refusalNumber, refusalPlace, definitionCount, nameStart, nameEnd};
 
-pub use cursor::Cursor;
-pub use cursor::Number;
-pub use cursor::Step;
-pub use cursor::Text;
-pub use definition::read_definition;
-pub use exports::synthdef_count;
-pub use exports::synthdef_name_end;
-pub use exports::synthdef_name_start;
-pub use exports::synthdef_place;
-pub use exports::synthdef_refusal;
-pub use file::Checked;
-pub use file::Span;
-pub use file::check_file;
-pub use file::definition_at;
-pub use file::name_at;
-pub use front::Counts;
-pub use front::Entry;
-pub use front::FrontRead;
-pub use lookup::Found;
-pub use lookup::NameFound;
-pub use lookup::ValuesFound;
-pub use lookup::definition_name_in;
-pub use lookup::index_of_name;
-pub use lookup::initial_value;
-pub use lookup::name_of_index;
-pub use lookup::parameters_in;
-pub use lookup::part;
-pub use lookup::same_name;
-pub use lookup::units_in;
-pub use lookup::values_in;
+// 0 where the file is accepted, or the refusal's number.
+#[no_mangle]
+pub extern "C" fn synthdef_refusal(file: &[u8]) -> u32
+    ensures { λ r. ⌜ r ≡ refusalNumber (verdict (readFile (now (file .entry)))) ⌝ }
+{
+    match check_file(file) {
+        Checked::Accepted(count) => 0,
+        Checked::Refused(refusal, place) => fault_number(refusal),
+    }
+}
+
+// The refusal's place; 0 where the file is accepted.
+#[no_mangle]
+pub extern "C" fn synthdef_place(file: &[u8]) -> u64
+    ensures { λ r. ⌜ r ≡ refusalPlace (verdict (readFile (now (file .entry)))) ⌝ }
+{
+    match check_file(file) {
+        Checked::Accepted(count) => 0,
+        Checked::Refused(refusal, place) => place as u64,
+    }
+}
+
+// How many definitions an accepted file has; 0 where it is refused.
+#[no_mangle]
+pub extern "C" fn synthdef_count(file: &[u8]) -> u32
+    ensures { λ r. ⌜ r ≡ definitionCount (verdict (readFile (now (file .entry)))) ⌝ }
+{
+    match check_file(file) {
+        Checked::Accepted(count) => count,
+        Checked::Refused(refusal, place) => 0,
+    }
+}
+
+// The place of the first byte of a definition's name; 0 where an accepted file has no such definition.
+#[no_mangle]
+pub extern "C" fn synthdef_name_start(file: &[u8], index: u32) -> u64
+    ensures { λ r. ⌜ r ≡ nameStart (definitionSpan (now (file .entry)) index) ⌝ }
+{
+    match definition_at(file, index) {
+        Span::Between(start, end) => (start + 1) as u64,
+        Span::Nowhere => 0,
+    }
+}
+
+// The place past it.
+#[no_mangle]
+pub extern "C" fn synthdef_name_end(file: &[u8], index: u32) -> u64
+    ensures { λ r. ⌜ r ≡ nameEnd (now (file .entry)) (definitionSpan (now (file .entry)) index) ⌝ }
+{
+    match definition_at(file, index) {
+        Span::Between(start, end) => {
+            let size = file[start] as usize;
+            (start + 1 + size) as u64
+        }
+        Span::Nowhere => 0,
+    }
+}

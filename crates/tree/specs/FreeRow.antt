@@ -1,4 +1,4 @@
--- "A new synth takes the lowest row that no live synth has."
+-- A new synth takes the lowest row that no live synth has.
 use Prim.Native.Nat.{ℕ, zero, suc, _+_, _*_, _≤_, _<_}
 use mathlib.Core.Bool.{Bool, true, false}
 use mathlib.Core.Path.{_≡_, refl, sym, ap, _∙_}

@@ -1,4 +1,4 @@
--- "A move takes A's subtree out and puts it in where fact": each move by the places of both nodes and the ends of their runs.
+-- "A move takes A's subtree out and puts it in where told": each move by the places of both nodes and the ends of their runs.
 use Prim.Native.Nat.{ℕ, suc, _+_, _*_, _-_, _≤_, _<_}
 use mathlib.Core.Bool.{Bool, true, false}
 use mathlib.Core.Path.{_≡_, refl, sym, ap, ap₂, _∙_}

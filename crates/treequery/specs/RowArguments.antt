@@ -11,9 +11,9 @@ use lib.Dec.{leb, eqb}
 use borrow.Author.Tests.{leb-true}
 use Rattle.words.specs.Choice.{pick, both-true}
 use Rattle.words.specs.Parts.{region}
-use Rattle.synthdef.specs.Definition.{ParameterName, Definition}
-use Rattle.synthdef.specs.Lookup.{firstOf}
-use Rattle.synthdef.specs.Lookup as lookup
+use Rattle.format.specs.Definition.{ParameterName, Definition}
+use Rattle.readable.specs.Lookup.{firstOf}
+use Rattle.readable.specs.Lookup as lookup
 use Rattle.nodes.specs.declared.Node.{Node}
 use Rattle.nodes.specs.Table.{rows, row-from, rows-end}
 use Rattle.nodes.specs.Place.{isGroup}

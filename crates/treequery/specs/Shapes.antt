@@ -4,7 +4,7 @@ use mathlib.Core.Bool.{false}
 use mathlib.Core.Path.{_≡_}
 use mathlib.Core.List.{List}
 use lib.ListN.{length, getD}
-use Rattle.synthdef.specs.Lookup.{nameOfIn}
+use Rattle.readable.specs.Lookup.{nameOfIn}
 use Rattle.readable.specs.Labels.{labelAt}
 use Rattle.nodes.specs.Place.{isGroup}
 use Rattle.controls.specs.Encoded.{frontIn}

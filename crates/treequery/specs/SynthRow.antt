@@ -7,8 +7,8 @@ use mathlib.Core.Option.{Option}
 use native.Mathlib.Omega.{arith}
 use lib.ListN.{length, drop, getD, drop-of-length-le}
 use lib.Seq.{drop-cons}
-use Rattle.synthdef.specs.Fields.{stringAt}
-use Rattle.synthdef.specs.Definition.{ParameterName, Front, Definition}
+use Rattle.format.specs.Fields.{stringAt}
+use Rattle.format.specs.Definition.{ParameterName, Front, Definition}
 use Rattle.readable.specs.Readable.{Readable, whole-readable, parts, name-fact}
 use Rattle.readable.specs.Labels.{labelAt}
 use Rattle.nodes.specs.Place.{isGroup}

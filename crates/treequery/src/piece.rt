@@ -6,7 +6,7 @@ use osc::put_decimal;
 use osc::put_int;
 use osc::put_padded;
 use osc::put_zeros;
-use synthdef::part;
+use fields::part;
 ghost use Prim.Native.Nat.{ℕ, _+_, _≤_};
 ghost use mathlib.Core.List.{List};
 ghost use mathlib.Core.Path.{_≡_};

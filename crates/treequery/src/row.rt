@@ -8,7 +8,7 @@ ghost use mathlib.Core.Bool.{true};
 ghost use mathlib.Core.List.{List};
 ghost use mathlib.Core.Path.{_≡_};
 ghost use lib.ListN.{length, getD};
-ghost use Rattle.synthdef.specs.Fields.{stringAt};
+ghost use Rattle.format.specs.Fields.{stringAt};
 ghost use Rattle.readable.specs.Labels.{labelAt};
 ghost use Rattle.osc.specs.Message.{text};
 ghost use Rattle.values.specs.Controls.{seen};

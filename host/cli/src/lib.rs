@@ -2,4 +2,3 @@
 
 pub mod page;
 pub mod play;
-pub mod show;

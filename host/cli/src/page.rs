@@ -8,13 +8,13 @@ mod json;
 
 use crate::play::line::{self, Line};
 use crate::play::{Applies, Player};
-use crate::show;
 use ask::{Answers, Shape};
 use data::Data;
 use html::{List, Verdict};
+use limudvek::show;
 use std::ffi::OsStr;
 use std::fs;
-use std::io::{self, Write};
+use std::io::{self, Read, Write};
 use std::os::unix::ffi::OsStrExt;
 use std::path::Path;
 use std::process::ExitCode;
@@ -23,28 +23,34 @@ use std::process::ExitCode;
 const LINES_UNREADABLE: u8 = 1;
 const UNREADABLE: u8 = 2;
 
-/// Writes a script's page to standard output.
+/// Writes the page of a script, or of standard input where it is named `-`, to standard output.
 pub fn file(name: &OsStr, engine: &mut impl Applies) -> ExitCode {
     let path = Path::new(name);
-    let failed = |what: &str, why: String| {
-        eprintln!("limudvek: {what}: {why}");
+    let failed = |what: &str, error: io::Error| {
+        eprintln!("limudvek: {what}: {error}");
         ExitCode::from(UNREADABLE)
     };
-    let shown = show::path(name.as_bytes());
-    let script = match fs::read(path) {
-        Ok(script) => script,
-        Err(error) => return failed(&shown, error.to_string()),
+    let (title, folder) = match path.file_name() {
+        Some(file) if name != "-" => (show::path(file.as_bytes()), path.parent()),
+        _ => ("standard input".to_string(), None),
     };
-    let title = show::path(path.file_name().unwrap_or(name).as_bytes());
-    let folder = path.parent().unwrap_or(Path::new(""));
-    let page = match page(&script, &title, folder, engine) {
+    let script = if name == "-" {
+        let mut script = Vec::new();
+        let read = io::stdin().lock().read_to_end(&mut script);
+        read.map(|_| script)
+    } else {
+        fs::read(path)
+    };
+    let folder = folder.unwrap_or(Path::new(""));
+    let page = script.and_then(|script| page(&script, &title, folder, engine));
+    let page = match page {
         Ok(page) => page,
-        Err(error) => return failed(&shown, error.to_string()),
+        Err(error) => return failed(&show::path(name.as_bytes()), error),
     };
     match io::stdout().write_all(page.html.as_bytes()) {
         Ok(()) if page.all_read => ExitCode::SUCCESS,
         Ok(()) => ExitCode::from(LINES_UNREADABLE),
-        Err(error) => failed("standard output", error.to_string()),
+        Err(error) => failed("standard output", error),
     }
 }
 
@@ -105,6 +111,7 @@ fn play(
     player: &mut Player<impl Applies>,
 ) -> io::Result<(Verdict, String)> {
     let echo = match &line {
+        Line::Help => String::new(),
         Line::Tree => "tree: ".to_string(),
         Line::Load { text, .. } | Line::Call { text, .. } => format!("{text}: "),
     };

@@ -3,7 +3,7 @@
 use mathlib.Core.Path.{sym, _∙_}
 
 use borrow.Author.Needs.{needs}
-use Rattle.synthdef.specs.Reader.{readFile}
+use Rattle.format.specs.Reader.{readFile}
 use Rattle.definitioncommands.specs.Steps.{verdict-bad, verdict-got, receive-fault}
 use Rattle.definitioncommands.proofs.receive.Statement.{statement}
 use Rattle.definitioncommands.proofs.receive.Tie as tie

@@ -1,8 +1,8 @@
 use Rattle.definitions.specs.Checking.{endsAt, part-read}
 
-use Rattle.synthdef.specs.Reader.{sizeLimit}
-use Rattle.synthdef.specs.Answers.{stepOf}
-use Rattle.synthdef.specs.Read.{Read}
+use Rattle.format.specs.Reader.{sizeLimit}
+use Rattle.fields.specs.Answers.{stepOf}
+use Rattle.format.specs.Read.{Read}
 
 
 use Prim.{Unit, tt}

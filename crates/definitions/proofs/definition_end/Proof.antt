@@ -1,6 +1,6 @@
-use Rattle.synthdef.specs.Definition.{Definition}
-use Rattle.synthdef.specs.Answers.{stepOf}
-use Rattle.synthdef.specs.Read.{Read, got, bad, ending}
+use Rattle.format.specs.Definition.{Definition}
+use Rattle.fields.specs.Answers.{stepOf}
+use Rattle.format.specs.Read.{Read, got, bad, ending}
 use Prim.{tt}
 
 use mathlib.Core.Path.{_≡_, ap, _∙_}

@@ -2,7 +2,7 @@ use Rattle.definitions.specs.Slots.{residentOn, bytesOn}
 use Rattle.model.specs.Formed.{isWhole}
 use Rattle.model.specs.Engine as engine
 use Rattle.model.specs.Layout.{slotRoom}
-use Rattle.synthdef.specs.Reader.{readDefinition, sizeLimit}
+use Rattle.format.specs.Reader.{readDefinition, sizeLimit}
 use Rattle.words.specs.Choice.{pick, both, either}
 use borrow.Author.Tests.{not-true, not-false}
 use mathlib.Core.Logic.{⊎-elim}

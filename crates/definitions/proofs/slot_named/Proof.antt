@@ -1,6 +1,6 @@
 use Rattle.definitions.specs.Names.{nameOn, named-there}
 use Rattle.definitions.specs.Slots.{residentOn}
-use Rattle.synthdef.specs.Reader.{sameName}
+use Rattle.format.specs.Reader.{sameName}
 use Rattle.words.specs.Choice.{both}
 use Prim.Native.Nat.{ℕ, _+_}
 use mathlib.Core.Bool.{Bool, true, false}

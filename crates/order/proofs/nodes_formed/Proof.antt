@@ -67,67 +67,67 @@ returns-5 c =
     sym (c .before .records-hold .ensures) ∙ not-true (c .before .records-hold .result) (c .if5 .taken) in
     sym (rw (root, distinct, fields) at (formed-some (a .next) (a .latest) t (omega arith) (omega arith)))
 
-running-order-requires : tie.Need-running-order-requires
-running-order-requires c κs = search needs
+rows-apart-requires : tie.Need-rows-apart-requires
+rows-apart-requires c κs = search needs
 
 returns-6 : tie.Need-returns-6
 returns-6 c =
-    let a = c .before .before .before .before .before .before .before .before .before .before .before .before .args in
+    let rows-known = c .before in
+    let fields-known = rows-known .before .before in
+    let apart-known = fields-known .before .before in
+    let root-known = apart-known .before .before in
+    let a = root-known .before .before .before .before .args in
     let t = rows (a .count) (a .nodes .now) in
     let size = rows-length (a .count) (a .nodes .now) in
-    let root : rooted t ≡ true =
-    sym (c .before .before .before .before .before .before .before .before .root-holds .ensures) ∙ not-false (c .before .before .before .before .before .before .before .before .root-holds .result) (c .before .before .before .before .before .before .before .if3 .left) in
-    let distinct : apart t ≡ true =
-    sym (c .before .before .before .before .before .before .numbers-apart .ensures) ∙ not-false (c .before .before .before .before .before .before .numbers-apart .result) (c .before .before .before .before .before .if4 .left) in
-    let fields : allFormed (a .next) t ≡ true =
-    sym (c .before .before .before .before .records-hold .ensures) ∙ not-false (c .before .before .before .before .records-hold .result) (c .before .before .before .if5 .left) in
-    let held : rowsHold t ≡ false =
-    sym (c .before .before .running-order .ensures .distinct) ∙ not-true (c .before .before .running-order .result .distinct) (c .if6 .taken) in
+    let root : rooted t ≡ true = sym (root-known .root-holds .ensures) ∙ not-false (root-known .root-holds .result) (apart-known .before .if3 .left) in
+    let distinct : apart t ≡ true = sym (apart-known .numbers-apart .ensures) ∙ not-false (apart-known .numbers-apart .result) (fields-known .before .if4 .left) in
+    let fields : allFormed (a .next) t ≡ true = sym (fields-known .records-hold .ensures) ∙ not-false (fields-known .records-hold .result) (rows-known .before .if5 .left) in
+    let held : rowsHold t ≡ false = sym (rows-known .rows-apart .ensures) ∙ not-true (rows-known .rows-apart .result) (c .if6 .taken) in
     sym (rw (root, distinct, fields, held) at (formed-some (a .next) (a .latest) t (omega arith) (omega arith)))
 
 returns-7 : tie.Need-returns-7
 returns-7 c =
-    let a = c .before .before .before .before .before .before .before .before .before .before .before .before .before .args in
+    let rows-known = c .before .before in
+    let fields-known = rows-known .before .before in
+    let apart-known = fields-known .before .before in
+    let root-known = apart-known .before .before in
+    let a = root-known .before .before .before .before .args in
     let t = rows (a .count) (a .nodes .now) in
     let size = rows-length (a .count) (a .nodes .now) in
-    let root : rooted t ≡ true =
-    sym (c .before .before .before .before .before .before .before .before .before .root-holds .ensures) ∙ not-false (c .before .before .before .before .before .before .before .before .before .root-holds .result) (c .before .before .before .before .before .before .before .before .if3 .left) in
-    let distinct : apart t ≡ true =
-    sym (c .before .before .before .before .before .before .before .numbers-apart .ensures) ∙ not-false (c .before .before .before .before .before .before .before .numbers-apart .result) (c .before .before .before .before .before .before .if4 .left) in
-    let fields : allFormed (a .next) t ≡ true =
-    sym (c .before .before .before .before .before .records-hold .ensures) ∙ not-false (c .before .before .before .before .before .records-hold .result) (c .before .before .before .before .if5 .left) in
-    let held : rowsHold t ≡ true =
-    sym (c .before .before .before .running-order .ensures .distinct) ∙ not-false (c .before .before .before .running-order .result .distinct) (c .before .if6 .left) in
+    let root : rooted t ≡ true = sym (root-known .root-holds .ensures) ∙ not-false (root-known .root-holds .result) (apart-known .before .if3 .left) in
+    let distinct : apart t ≡ true = sym (apart-known .numbers-apart .ensures) ∙ not-false (apart-known .numbers-apart .result) (fields-known .before .if4 .left) in
+    let fields : allFormed (a .next) t ≡ true = sym (fields-known .records-hold .ensures) ∙ not-false (fields-known .records-hold .result) (rows-known .before .if5 .left) in
+    let held : rowsHold t ≡ true = sym (rows-known .rows-apart .ensures) ∙ not-false (rows-known .rows-apart .result) (c .before .if6 .left) in
     sym (rw (root, distinct, fields, held, lt-leb noneLeft (a .next) (c .if7 .taken)) at (formed-some (a .next) (a .latest) t (omega arith) (omega arith)))
 
 returns-8 : tie.Need-returns-8
 returns-8 c =
-    let a = c .before .before .before .before .before .before .before .before .before .before .before .before .before .before .args in
+    let rows-known = c .before .before .before in
+    let fields-known = rows-known .before .before in
+    let apart-known = fields-known .before .before in
+    let root-known = apart-known .before .before in
+    let a = root-known .before .before .before .before .args in
     let t = rows (a .count) (a .nodes .now) in
     let size = rows-length (a .count) (a .nodes .now) in
-    let root : rooted t ≡ true =
-    sym (c .before .before .before .before .before .before .before .before .before .before .root-holds .ensures) ∙ not-false (c .before .before .before .before .before .before .before .before .before .before .root-holds .result) (c .before .before .before .before .before .before .before .before .before .if3 .left) in
-    let distinct : apart t ≡ true =
-    sym (c .before .before .before .before .before .before .before .before .numbers-apart .ensures) ∙ not-false (c .before .before .before .before .before .before .before .before .numbers-apart .result) (c .before .before .before .before .before .before .before .if4 .left) in
-    let fields : allFormed (a .next) t ≡ true =
-    sym (c .before .before .before .before .before .before .records-hold .ensures) ∙ not-false (c .before .before .before .before .before .before .records-hold .result) (c .before .before .before .before .before .if5 .left) in
-    let held : rowsHold t ≡ true =
-    sym (c .before .before .before .before .running-order .ensures .distinct) ∙ not-false (c .before .before .before .before .running-order .result .distinct) (c .before .before .if6 .left) in
+    let root : rooted t ≡ true = sym (root-known .root-holds .ensures) ∙ not-false (root-known .root-holds .result) (apart-known .before .if3 .left) in
+    let distinct : apart t ≡ true = sym (apart-known .numbers-apart .ensures) ∙ not-false (apart-known .numbers-apart .result) (fields-known .before .if4 .left) in
+    let fields : allFormed (a .next) t ≡ true = sym (fields-known .records-hold .ensures) ∙ not-false (fields-known .records-hold .result) (rows-known .before .if5 .left) in
+    let held : rowsHold t ≡ true = sym (rows-known .rows-apart .ensures) ∙ not-false (rows-known .rows-apart .result) (c .before .before .if6 .left) in
     sym (rw (root, distinct, fields, held, le-leb noneLeft (a .next) (omega arith), lt-leb (a .next) firstGiven (c .if8 .taken)) at (formed-some (a .next) (a .latest) t (omega arith) (omega arith)))
 
 returns-9 : tie.Need-returns-9
 returns-9 c =
-    let a = c .before .before .before .before .before .before .before .before .before .before .before .before .before .before .before .args in
+    let rows-known = c .before .before .before .before in
+    let fields-known = rows-known .before .before in
+    let apart-known = fields-known .before .before in
+    let root-known = apart-known .before .before in
+    let a = root-known .before .before .before .before .args in
     let t = rows (a .count) (a .nodes .now) in
     let size = rows-length (a .count) (a .nodes .now) in
-    let root : rooted t ≡ true =
-    sym (c .before .before .before .before .before .before .before .before .before .before .before .root-holds .ensures) ∙ not-false (c .before .before .before .before .before .before .before .before .before .before .before .root-holds .result) (c .before .before .before .before .before .before .before .before .before .before .if3 .left) in
-    let distinct : apart t ≡ true =
-    sym (c .before .before .before .before .before .before .before .before .before .numbers-apart .ensures) ∙ not-false (c .before .before .before .before .before .before .before .before .before .numbers-apart .result) (c .before .before .before .before .before .before .before .before .if4 .left) in
-    let fields : allFormed (a .next) t ≡ true =
-    sym (c .before .before .before .before .before .before .before .records-hold .ensures) ∙ not-false (c .before .before .before .before .before .before .before .records-hold .result) (c .before .before .before .before .before .before .if5 .left) in
-    let held : rowsHold t ≡ true =
-    sym (c .before .before .before .before .before .running-order .ensures .distinct) ∙ not-false (c .before .before .before .before .before .running-order .result .distinct) (c .before .before .before .if6 .left) in
+    let root : rooted t ≡ true = sym (root-known .root-holds .ensures) ∙ not-false (root-known .root-holds .result) (apart-known .before .if3 .left) in
+    let distinct : apart t ≡ true = sym (apart-known .numbers-apart .ensures) ∙ not-false (apart-known .numbers-apart .result) (fields-known .before .if4 .left) in
+    let fields : allFormed (a .next) t ≡ true = sym (fields-known .records-hold .ensures) ∙ not-false (fields-known .records-hold .result) (rows-known .before .if5 .left) in
+    let held : rowsHold t ≡ true = sym (rows-known .rows-apart .ensures) ∙ not-false (rows-known .rows-apart .result) (c .before .before .before .if6 .left) in
     sym (rw (root, distinct, fields, held, le-leb noneLeft (a .next) (omega arith), le-leb (a .next) firstGiven (omega arith), eq-eqb (a .latest) 0 (c .if9 .taken)) at (formed-some (a .next) (a .latest) t (omega arith) (omega arith)))
 
 synth-lives-requires : tie.Need-synth-lives-requires
@@ -135,17 +135,17 @@ synth-lives-requires c κs = search needs
 
 returns-10 : tie.Need-returns-10
 returns-10 c =
-    let a = c .before .before .before .before .before .before .before .before .before .before .before .before .before .before .before .before .args in
+    let rows-known = c .before .before .before .before .before in
+    let fields-known = rows-known .before .before in
+    let apart-known = fields-known .before .before in
+    let root-known = apart-known .before .before in
+    let a = root-known .before .before .before .before .args in
     let t = rows (a .count) (a .nodes .now) in
     let size = rows-length (a .count) (a .nodes .now) in
-    let root : rooted t ≡ true =
-    sym (c .before .before .before .before .before .before .before .before .before .before .before .before .root-holds .ensures) ∙ not-false (c .before .before .before .before .before .before .before .before .before .before .before .before .root-holds .result) (c .before .before .before .before .before .before .before .before .before .before .before .if3 .left) in
-    let distinct : apart t ≡ true =
-    sym (c .before .before .before .before .before .before .before .before .before .before .numbers-apart .ensures) ∙ not-false (c .before .before .before .before .before .before .before .before .before .before .numbers-apart .result) (c .before .before .before .before .before .before .before .before .before .if4 .left) in
-    let fields : allFormed (a .next) t ≡ true =
-    sym (c .before .before .before .before .before .before .before .before .records-hold .ensures) ∙ not-false (c .before .before .before .before .before .before .before .before .records-hold .result) (c .before .before .before .before .before .before .before .if5 .left) in
-    let held : rowsHold t ≡ true =
-    sym (c .before .before .before .before .before .before .running-order .ensures .distinct) ∙ not-false (c .before .before .before .before .before .before .running-order .result .distinct) (c .before .before .before .before .if6 .left) in
+    let root : rooted t ≡ true = sym (root-known .root-holds .ensures) ∙ not-false (root-known .root-holds .result) (apart-known .before .if3 .left) in
+    let distinct : apart t ≡ true = sym (apart-known .numbers-apart .ensures) ∙ not-false (apart-known .numbers-apart .result) (fields-known .before .if4 .left) in
+    let fields : allFormed (a .next) t ≡ true = sym (fields-known .records-hold .ensures) ∙ not-false (fields-known .records-hold .result) (rows-known .before .if5 .left) in
+    let held : rowsHold t ≡ true = sym (rows-known .rows-apart .ensures) ∙ not-false (rows-known .rows-apart .result) (c .before .before .before .before .if6 .left) in
     c .synth-lives .ensures
     ∙ sym (rw (root, distinct, fields, held, le-leb noneLeft (a .next) (omega arith), le-leb (a .next) firstGiven (omega arith), ne-eqb (a .latest) 0 (c .before .if9 .left)) at (formed-some (a .next) (a .latest) t (omega arith) (omega arith)))
 
@@ -161,7 +161,7 @@ nodes-formed-spec =
     returns-4
     records-hold-requires
     returns-5
-    running-order-requires
+    rows-apart-requires
     returns-6
     returns-7
     returns-8

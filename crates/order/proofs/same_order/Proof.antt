@@ -7,7 +7,7 @@ use lib.ListN.{length, take, drop, getD}
 use Rattle.nodes.specs.Table.{rows}
 use Rattle.nodes.specs.Order.{order}
 use Rattle.order.specs.Order.{orderWords}
-use Rattle.synthdef.specs.Reader.{sameName}
+use Rattle.format.specs.Reader.{sameName}
 use Rattle.order.specs.Same.{order-other, order-whole, order-past, order-turn, order-end}
 use Rattle.order.proofs.same_order.Statement.{statement}
 use Rattle.order.proofs.same_order.Tie as tie

@@ -1,12 +1,13 @@
 //! What the engine answers between two commands: its replies to `/g_queryTree 0 1`, `/n_query -1` and
 //! `/status`, its export, and, from the words of its state, what no reply says.
 
-use crate::play::line::{self, quoted, Call};
+use crate::play::line::{self, Call};
 use crate::play::message::{Argument, Message};
 use crate::play::tree::{
     self, Kind, BUS, CONTROL, NODE, ORDER, ORDER_LENGTH, RECORD, RESIDENT, ROW,
 };
 use crate::play::{Applies, Player};
+use limudvek::show::quoted;
 use limudvek::synthdef;
 
 /// Kinds of commands, by their numbers.

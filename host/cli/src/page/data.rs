@@ -20,7 +20,7 @@
 use super::ask::{Answers, Definition, Node, Shape};
 use super::compare::{compare, fate, gone, Change, Changed, Put};
 use super::json::{float, list, or_null, runs, string, Object};
-use crate::play::line::quoted;
+use limudvek::show::quoted;
 use std::collections::HashMap;
 
 /// The shape of a group.

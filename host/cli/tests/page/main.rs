@@ -18,8 +18,9 @@ use replay::{Marks, Replay};
 use script::{quoted, random, Folder};
 use std::collections::HashMap;
 use std::fs;
+use std::io::Write;
 use std::path::{Path, PathBuf};
-use std::process::Command;
+use std::process::{Command, Stdio};
 use std::time::{SystemTime, UNIX_EPOCH};
 
 const PROGRAM: &str = env!("CARGO_BIN_EXE_limudvek");
@@ -352,11 +353,19 @@ fn two_thousand_commands_on_256_nodes_stay_under_5_mb() {
 
 #[test]
 fn the_program_writes_the_page() {
-    let run = |words: &[&str]| {
-        let output = Command::new(PROGRAM)
-            .args(words)
-            .output()
+    let run = |name: &str, input: &[u8]| {
+        let mut program = Command::new(PROGRAM)
+            .args(["page", name])
+            .current_dir(examples())
+            .stdin(Stdio::piped())
+            .stdout(Stdio::piped())
+            .stderr(Stdio::piped())
+            .spawn()
             .expect("the program runs");
+        let mut stdin = program.stdin.take().expect("a pipe");
+        stdin.write_all(input).expect("it reads or is closed");
+        drop(stdin);
+        let output = program.wait_with_output().expect("the program exits");
         let text = |bytes| String::from_utf8(bytes).expect("text");
         (
             output.status.code(),
@@ -364,20 +373,20 @@ fn the_program_writes_the_page() {
             text(output.stderr),
         )
     };
-    let script = examples().join("show.txt");
-    let (status, page, err) = run(&["page", script.to_str().expect("a path")]);
-    assert_eq!((status, err.as_str()), (Some(0), ""));
-    assert_eq!(data(&pieces(&page)).list_at("steps").len(), 57);
-    assert!(page.contains("<title>show.txt</title>"));
-    let folder = Folder::new("program");
-    folder.write("bad.txt", b"/quit\n");
-    let bad = folder.path().join("bad.txt");
-    let (status, page, _) = run(&["page", bad.to_str().expect("a path")]);
+    let script = fs::read(examples().join("show.txt")).expect("the script");
+    for (name, input, title) in [
+        ("../examples/show.txt", &b""[..], "show.txt"),
+        ("-", &script, "standard input"),
+    ] {
+        let (status, page, err) = run(name, input);
+        assert_eq!((status, err.as_str()), (Some(0), ""));
+        assert_eq!(data(&pieces(&page)).list_at("steps").len(), 57);
+        assert!(page.contains(&format!("<title>{title}</title>")));
+    }
+    let (status, page, _) = run("-", b"/quit\n");
     assert_eq!(status, Some(1));
     assert!(page.contains("/quit is no command"));
-    let (status, page, err) = run(&["page", "no such script"]);
+    let (status, page, err) = run("no such script", b"");
     assert_eq!((status, page.as_str()), (Some(2), ""));
     assert!(err.starts_with("limudvek: no such script: "), "{err}");
-    let (status, _, err) = run(&["page"]);
-    assert!(status == Some(2) && err.starts_with("usage: "), "{err}");
 }

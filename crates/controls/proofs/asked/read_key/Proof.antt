@@ -5,7 +5,7 @@ use native.Mathlib.Omega.{arith}
 use borrow.Author.Needs.{needs}
 use lib.ListN.{length}
 use mathlib.Core.Option.{none, some}
-use Rattle.synthdef.specs.declared.lookup.Found.the-variants as found
+use Rattle.readable.specs.declared.found.Found.the-variants as found
 use Rattle.values.specs.Controls.{shownBy}
 use Rattle.model.specs.Layout.{controlsIn, busesIn}
 use Rattle.model.specs.Meaning.{startOf}

@@ -1,6 +1,6 @@
 use mathlib.Core.Path.{sym, ap, _∙_}
 use borrow.Author.Needs.{needs}
-use Rattle.synthdef.specs.Answers.{numberOf}
+use Rattle.fields.specs.Answers.{numberOf}
 use Rattle.model.specs.Engine.{valueOr}
 use Rattle.controls.proofs.definition.float_at.Statement.{statement}
 use Rattle.controls.proofs.definition.float_at.Tie as tie

@@ -5,7 +5,7 @@ use borrow.Author.Needs.{needs}
 use lib.ListN.{length}
 use mathlib.Core.Option.{Option, none, some}
 use lib.Dec.{leb}
-use Rattle.synthdef.specs.declared.lookup.Found.the-variants as found
+use Rattle.readable.specs.declared.found.Found.the-variants as found
 use Rattle.model.specs.Meaning.{startOf, hasControls}
 use Rattle.controls.specs.Encoded.{foundAt, frontOnly, has-past, has-within}
 use Rattle.controls.proofs.definition.has_controls.Statement.{statement}

@@ -3,8 +3,8 @@ use mathlib.Core.Path.{_≡_, sym, ap, ap₂, _∙_}
 use mathlib.Core.List.{List}
 use native.Mathlib.Omega.{arith}
 use borrow.Author.Needs.{needs}
-use Rattle.synthdef.specs.declared.lookup.ValuesFound.the-variants as values
-use Rattle.synthdef.specs.Lookup.{valuesIn}
+use Rattle.readable.specs.declared.found.ValuesFound.the-variants as values
+use Rattle.readable.specs.Lookup.{valuesIn}
 use Rattle.nodes.specs.Table.{over}
 use Rattle.model.specs.Effects.{initialWords}
 use Rattle.controls.specs.Encoded.{frontIn, values-few}

@@ -1,5 +1,5 @@
 use mathlib.Core.Option.{some}
-use Rattle.synthdef.specs.declared.lookup.Found.the-variants as found
+use Rattle.readable.specs.declared.found.Found.the-variants as found
 use Rattle.model.specs.Meaning.{startOf}
 use Rattle.controls.specs.Encoded.{frontOnly, foundAt}
 use Rattle.controls.specs.Reach.{reach-at, reach-none}

@@ -3,7 +3,7 @@ use mathlib.Core.List.{List}
 use Prim.Native.Nat.{ℕ}
 use native.Mathlib.Omega.{arith}
 use borrow.Author.Needs.{needs}
-use Rattle.synthdef.specs.Lookup.{unitsIn}
+use Rattle.readable.specs.Lookup.{unitsIn}
 use Rattle.readable.specs.Readable.{ReadableWhole}
 use Rattle.controls.specs.Encoded.{numberOr}
 use Rattle.controls.specs.Synth.{is-group, is-synth}

@@ -3,8 +3,8 @@ use mathlib.Core.Path.{_≡_, sym, ap, _∙_}
 use native.Mathlib.Omega.{arith}
 use borrow.Author.Needs.{needs}
 use native.Mathlib.Nat.{sub-zero}
-use Rattle.synthdef.specs.Lookup.{atNumber, firstNamed}
-use Rattle.synthdef.specs.Reader.{mostParameters}
+use Rattle.readable.specs.Lookup.{atNumber, firstNamed}
+use Rattle.format.specs.Reader.{mostParameters}
 use Rattle.readable.specs.Entries.{Entries, entriesFrom, entries-turn, named-none, named-here, named-behind}
 use Rattle.readable.proofs.entries.find_entry.Statement.{statement}
 use Rattle.readable.proofs.entries.find_entry.Tie as tie

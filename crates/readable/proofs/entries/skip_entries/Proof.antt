@@ -2,7 +2,7 @@ use Prim.Native.Nat.{_-_, _≤_}
 use mathlib.Core.Path.{_≡_, sym, _∙_}
 use native.Mathlib.Omega.{arith}
 use native.Mathlib.Nat.{sub-zero}
-use Rattle.synthdef.specs.Reader.{mostParameters}
+use Rattle.format.specs.Reader.{mostParameters}
 use Rattle.readable.specs.Entries.{Entries, entriesEnd, entries-turn, entries-last}
 use Rattle.readable.proofs.entries.skip_entries.Statement.{statement}
 use Rattle.readable.proofs.entries.skip_entries.Tie as tie

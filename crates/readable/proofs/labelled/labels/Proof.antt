@@ -1,7 +1,7 @@
 use mathlib.Core.Path.{ap}
 use native.Mathlib.Omega.{arith}
 use borrow.Author.Needs.{needs}
-use Rattle.synthdef.specs.declared.front.Counts.{Counts}
+use Rattle.front.specs.declared.Counts.{Counts}
 use Rattle.readable.specs.Readable.{front-entries}
 use Rattle.readable.specs.Labels.{labels-front}
 use Rattle.readable.proofs.labelled.labels.Statement.{statement}

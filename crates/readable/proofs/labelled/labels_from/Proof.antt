@@ -3,7 +3,7 @@ use Prim.Native.Nat.{_-_, _<_}
 use native.Mathlib.Omega.{arith}
 use Rattle.readable.specs.Entries.{entries-turn}
 use Rattle.readable.specs.Labels.{Labelling, labels-first, label-set, label-skip, labels-last}
-use Rattle.synthdef.specs.Reader.{mostParameters}
+use Rattle.format.specs.Reader.{mostParameters}
 use Rattle.readable.proofs.labelled.labels_from.Statement.{statement}
 use Rattle.readable.proofs.labelled.labels_from.Tie as tie
 

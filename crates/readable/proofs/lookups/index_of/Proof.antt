@@ -1,5 +1,5 @@
-use Rattle.synthdef.specs.declared.front.Counts.{Counts}
-use Rattle.synthdef.specs.Lookup.{firstNamed}
+use Rattle.front.specs.declared.Counts.{Counts}
+use Rattle.readable.specs.Lookup.{firstNamed}
 use Rattle.readable.specs.Readable.{parts, front-entries}
 use mathlib.Core.Path.{sym, ap, _∙_}
 use borrow.Author.Needs.{needs}

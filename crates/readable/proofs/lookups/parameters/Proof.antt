@@ -1,5 +1,5 @@
-use Rattle.synthdef.specs.declared.front.Counts.{Counts}
-use Rattle.synthdef.specs.Lookup.{atNumber}
+use Rattle.front.specs.declared.Counts.{Counts}
+use Rattle.readable.specs.Lookup.{atNumber}
 use mathlib.Core.Path.{ap}
 use borrow.Author.Needs.{needs}
 use Rattle.readable.proofs.lookups.parameters.Statement.{statement}

@@ -1,6 +1,6 @@
-use Rattle.synthdef.specs.declared.front.Counts.{Counts}
-use Rattle.synthdef.specs.FieldLaws.{word}
-use Rattle.synthdef.specs.Lookup.{atNumber}
+use Rattle.front.specs.declared.Counts.{Counts}
+use Rattle.format.specs.Fields.{word}
+use Rattle.readable.specs.Lookup.{atNumber}
 use Rattle.readable.specs.Readable.{whole-readable, parts, front-entries, units-at}
 use mathlib.Core.Path.{sym, ap, _∙_}
 use Rattle.readable.proofs.lookups.units.Statement.{statement}

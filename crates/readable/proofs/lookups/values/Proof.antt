@@ -1,5 +1,5 @@
-use Rattle.synthdef.specs.declared.front.Counts.{Counts}
-use Rattle.synthdef.specs.declared.lookup.ValuesFound.the-variants.{At}
+use Rattle.front.specs.declared.Counts.{Counts}
+use Rattle.readable.specs.declared.found.ValuesFound.the-variants.{At}
 use mathlib.Core.Path.{ap}
 use borrow.Author.Needs.{needs}
 use Rattle.readable.proofs.lookups.values.Statement.{statement}

@@ -40,14 +40,14 @@ use denote.Triple.Table.{entered, cited}
 use denote.Triple.Walked.{says, Stays, stay-none-slice, walkOf, goes-none-slice, Walks, ends-at, walked, walk-meets}
 use denote.Exit.{yes}
 use denote.Triple.Clauses.{ensured, lasts}
-use Rattle.synthdef.specs.Reader.{readFile}
-use Rattle.synthdef.specs.File.{verdict}
-use Rattle.synthdef.specs.declared.file.Checked.{Checked}
-use Rattle.synthdef.proofs.file.Checked as K
-use Rattle.synthdef.proofs.file.Checked.Laws as K′
-use Rattle.synthdef.proofs.check_file as check
-use Rattle.synthdef.proofs.check_file.Symbol as check-def
-use Rattle.synthdef.proofs.check_file.Met as check-thm
+use Rattle.format.specs.Reader.{readFile}
+use Rattle.files.specs.File.{verdict}
+use Rattle.files.specs.declared.file.Checked.{Checked}
+use Rattle.files.proofs.file.Checked as K
+use Rattle.files.proofs.file.Checked.Laws as K′
+use Rattle.files.proofs.check_file as check
+use Rattle.files.proofs.check_file.Symbol as check-def
+use Rattle.files.proofs.check_file.Met as check-thm
 use Rattle.reader.specs.Places.{startOf}
 use Rattle.reader.specs.Walk.{opened}
 use Rattle.reader.specs.declared.reader.Reader.{Reader}
@@ -62,7 +62,7 @@ use Rattle.reader.proofs.places.start_of.Met as start-thm
 use Rattle.reader.proofs.reader.open as open′
 use Rattle.reader.proofs.reader.open.Statement as stated
 use Rattle.reader.proofs.reader.open.Code as code
-use Rattle.synthdef.proofs.check_file.Symbol.{name as #check-file}
+use Rattle.files.proofs.check_file.Symbol.{name as #check-file}
 use Rattle.reader.proofs.places.start_of.Symbol.{name as #start-of}
 use Rattle.reader.proofs.reader.open.Key.{name as #open}
 
@@ -213,5 +213,5 @@ open-spec 𝓤 H 𝓜 𝓖 𝓡 =
     entered 𝓤 H (tripleOf 𝓤 H (𝓖 .A) open′.signature (open′.spec 𝓤 H (𝓖 .A) (𝓜 .mem) (𝓡 .run)))
     (tables 𝓤 H 𝓜 𝓡 code.env .C) (tables 𝓤 H 𝓜 𝓡 code.env .Λ) #open code.function (code.unfolded 𝓤 H 𝓜 𝓡)
     (open-meets 𝓤 H (𝓖 .A) (givenOf 𝓤 H 𝓜 𝓖) (𝓜 .mem) (𝓡 .run) (tablesOf 𝓤 H 𝓜 (tables 𝓤 H 𝓜 𝓡 code.env))
-    (cited 𝓤 H (Check 𝓤 H (𝓖 .A) (𝓜 .mem) (𝓡 .run)) 𝓜 𝓡 code.env #check-file check-def.routine code.calls-synthdef·check-file (check-thm.met 𝓤 H 𝓜 𝓖 𝓡))
+    (cited 𝓤 H (Check 𝓤 H (𝓖 .A) (𝓜 .mem) (𝓡 .run)) 𝓜 𝓡 code.env #check-file check-def.routine code.calls-files·check-file (check-thm.met 𝓤 H 𝓜 𝓖 𝓡))
     (cited 𝓤 H (Start 𝓤 H (𝓖 .A) (𝓜 .mem) (𝓡 .run)) 𝓜 𝓡 code.env #start-of start-def.routine code.calls-reader·places·start-of (start-thm.met 𝓤 H 𝓜 𝓖 𝓡)))

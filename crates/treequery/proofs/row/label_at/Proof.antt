@@ -4,7 +4,7 @@ use native.Mathlib.Omega.{arith}
 use borrow.Author.Needs.{needs}
 use borrow.Author.Tests.{ne-eqb}
 use lib.ListN.{getD}
-use Rattle.synthdef.specs.Fields.{stringAt}
+use Rattle.format.specs.Fields.{stringAt}
 use Rattle.readable.specs.Labels.{labelAt}
 use Rattle.osc.specs.Message.{text}
 use Rattle.model.specs.Replies.{labelArgument}

@@ -4,7 +4,7 @@ use mathlib.Core.Path.{refl, sym, ap, _∙_}
 use mathlib.Core.List.{[], _∷_, append-nil}
 use borrow.Author.Needs.{needs}
 use lib.ListN.{getD}
-use Rattle.synthdef.specs.Fields.{stringAt}
+use Rattle.format.specs.Fields.{stringAt}
 use Rattle.nodes.specs.Structure.{noNode}
 use Rattle.osc.specs.Message.{int, text}
 use Rattle.model.specs.Layout.{nodesPlace}

@@ -1,0 +1,209 @@
+// The place in a file: it goes in and comes back by value. Each method reads one field.
+use crate::name::name_bytes;
+use faults::Fault;
+use format::HIGHEST_RATE;
+ghost use Prim.Native.Nat.{_+_, _*_, _≤_};
+ghost use mathlib.Core.Path.{_≡_};
+ghost use lib.Dec.{leb};
+ghost use lib.ListN.{length};
+ghost use Rattle.fields.specs.Answers.{numberOf, textOf};
+ghost use Rattle.format.specs.Read.{checked};
+ghost use Rattle.format.specs.Fields.{word, int8, int16, int32, float32, pstring, name, definitionName, countTo, shortCountTo, rate, indexBelow};
+
+pub struct Cursor {
+    pub at: usize,
+}
+
+// A number and the next cursor, or the refusal and its place.
+pub enum Number {
+    Value(u32, Cursor),
+    Bad(Fault, usize),
+}
+
+// Where a name's bytes start and the cursor past them, or the refusal and its place.
+pub enum Text {
+    Value(usize, Cursor),
+    Bad(Fault, usize),
+}
+
+// The next cursor, or the refusal and its place.
+pub enum Step {
+    Next(Cursor),
+    Bad(Fault, usize),
+}
+
+// Two bytes as a number, the first one the highest.
+fn number16(a: u8, b: u8) -> u32
+    ensures { λ r. ⌜ r ≡ 256 * a + b ⌝ }
+{
+    let high = a as u32;
+    let low = b as u32;
+    256 * high + low
+}
+
+// Four bytes as a number, the first one the highest.
+fn number32(a: u8, b: u8, c: u8, d: u8) -> u32
+    ensures { λ r. ⌜ r ≡ 16777216 * a + 65536 * b + 256 * c + d ⌝ }
+{
+    let n3 = a as u32;
+    let n2 = b as u32;
+    let n1 = c as u32;
+    let n0 = d as u32;
+    16777216 * n3 + 65536 * n2 + 256 * n1 + n0
+}
+
+// The number of four bytes at a place.
+pub fn word_at(s: &[u8], at: usize) -> u32
+    requires { ⌜ at + 4 ≤ length (now s) ⌝ }
+    ensures { λ r. ⌜ r ≡ word (now (s .entry)) at ⌝ }
+{
+    number32(s[at], s[at + 1], s[at + 2], s[at + 3])
+}
+
+// A number that was read from a place on, if it is at most so many; else a refusal at that place.
+fn at_most(read: Number, most: u32, fault: Fault, at: usize) -> Number
+    ensures { λ r. ⌜ numberOf r ≡ checked fault (λ n. leb n most) at (numberOf read) ⌝ }
+{
+    match read {
+        Number::Value(n, next) => {
+            if n <= most {
+                return Number::Value(n, next);
+            }
+            Number::Bad(fault, at)
+        }
+        Number::Bad(refusal, place) => Number::Bad(refusal, place),
+    }
+}
+
+impl Cursor {
+    pub fn int8(self, s: &[u8]) -> Number
+        ensures { λ r. ⌜ numberOf r ≡ int8 (now (s .entry)) (self .at) ⌝ }
+    {
+        let at = self.at;
+        if s.len() <= at {
+            return Number::Bad(Fault::Truncated, at);
+        }
+        Number::Value(s[at] as u32, Cursor { at: at + 1 })
+    }
+
+    pub fn int16(self, s: &[u8]) -> Number
+        ensures { λ r. ⌜ numberOf r ≡ int16 (now (s .entry)) (self .at) ⌝ }
+    {
+        let at = self.at;
+        if s.len() <= at {
+            return Number::Bad(Fault::Truncated, at);
+        }
+        if s.len() - at < 2 {
+            return Number::Bad(Fault::Truncated, at);
+        }
+        Number::Value(number16(s[at], s[at + 1]), Cursor { at: at + 2 })
+    }
+
+    pub fn int32(self, s: &[u8]) -> Number
+        ensures { λ r. ⌜ numberOf r ≡ int32 (now (s .entry)) (self .at) ⌝ }
+    {
+        let at = self.at;
+        if s.len() <= at {
+            return Number::Bad(Fault::Truncated, at);
+        }
+        if s.len() - at < 4 {
+            return Number::Bad(Fault::Truncated, at);
+        }
+        Number::Value(word_at(s, at), Cursor { at: at + 4 })
+    }
+
+    // A float is its pattern.
+    pub fn float32(self, s: &[u8]) -> Number
+        ensures { λ r. ⌜ numberOf r ≡ float32 (now (s .entry)) (self .at) ⌝ }
+    {
+        self.int32(s)
+    }
+
+    // A count of at most so many.
+    pub fn count_to(self, s: &[u8], most: u32) -> Number
+        ensures { λ r. ⌜ numberOf r ≡ countTo most (now (s .entry)) (self .at) ⌝ }
+    {
+        at_most(self.int32(s), most, Fault::BadCount, self.at)
+    }
+
+    // The same of two bytes.
+    pub fn short_count_to(self, s: &[u8], most: u32) -> Number
+        ensures { λ r. ⌜ numberOf r ≡ shortCountTo most (now (s .entry)) (self .at) ⌝ }
+    {
+        at_most(self.int16(s), most, Fault::BadCount, self.at)
+    }
+
+    pub fn rate(self, s: &[u8]) -> Number
+        ensures { λ r. ⌜ numberOf r ≡ rate (now (s .entry)) (self .at) ⌝ }
+    {
+        at_most(self.int8(s), HIGHEST_RATE, Fault::BadRate, self.at)
+    }
+
+    // An index below a bound.
+    pub fn index_below(self, s: &[u8], bound: u32) -> Number
+        ensures { λ r. ⌜ numberOf r ≡ indexBelow bound (now (s .entry)) (self .at) ⌝ }
+    {
+        let at = self.at;
+        match self.int32(s) {
+            Number::Value(n, next) => {
+                if n < bound {
+                    return Number::Value(n, next);
+                }
+                Number::Bad(Fault::BadIndex, at)
+            }
+            Number::Bad(refusal, place) => Number::Bad(refusal, place),
+        }
+    }
+
+    // A pstring, of bytes of any kind.
+    pub fn pstring(self, s: &[u8]) -> Text
+        ensures { λ r. ⌜ textOf (now (s .entry)) r ≡ pstring (now (s .entry)) (self .at) ⌝ }
+    {
+        let at = self.at;
+        if s.len() <= at {
+            return Text::Bad(Fault::Truncated, at);
+        }
+        let size = s[at] as usize;
+        let start = at + 1;
+        if size <= s.len() - start {
+            return Text::Value(start, Cursor { at: start + size });
+        }
+        Text::Bad(Fault::Truncated, at)
+    }
+
+    pub fn name(self, s: &[u8]) -> Text
+        ensures { λ r. ⌜ textOf (now (s .entry)) r ≡ name (now (s .entry)) (self .at) ⌝ }
+    {
+        let at = self.at;
+        match self.pstring(s) {
+            Text::Value(start, next) => {
+                let end = next.at;
+                if name_bytes(s, start, end) {
+                    return Text::Value(start, next);
+                }
+                Text::Bad(Fault::BadName, at)
+            }
+            Text::Bad(refusal, place) => Text::Bad(refusal, place),
+        }
+    }
+
+    // A name that is not empty.
+    pub fn definition_name(self, s: &[u8]) -> Text
+        ensures { λ r. ⌜ textOf (now (s .entry)) r ≡ definitionName (now (s .entry)) (self .at) ⌝ }
+    {
+        let at = self.at;
+        match self.pstring(s) {
+            Text::Value(start, next) => {
+                let end = next.at;
+                if end <= start {
+                    return Text::Bad(Fault::BadName, at);
+                }
+                if name_bytes(s, start, end) {
+                    return Text::Value(start, next);
+                }
+                Text::Bad(Fault::BadName, at)
+            }
+            Text::Bad(refusal, place) => Text::Bad(refusal, place),
+        }
+    }
+}

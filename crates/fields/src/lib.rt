@@ -1,0 +1,12 @@
+// The fields of a SynthDef2 file, read one by one.
+mod cursor;
+mod name;
+
+pub use cursor::Cursor;
+pub use cursor::Number;
+pub use cursor::Step;
+pub use cursor::Text;
+pub use cursor::word_at;
+pub use name::name_at;
+pub use name::part;
+pub use name::same_name;

@@ -1,0 +1,75 @@
+// Names: the bytes of a pstring.
+ghost use Prim.Native.Nat.{_-_};
+ghost use mathlib.Core.Path.{_≡_};
+ghost use Rattle.words.specs.Parts.{region};
+ghost use Rattle.format.specs.Fields.{nameBytes, stringAt};
+ghost use Rattle.format.specs.Reader.{sameName};
+
+// The bytes from one place to another are bytes of a name.
+pub(crate) fn name_bytes(s: &[u8], from: usize, to: usize) -> bool
+    ensures { λ r. ⌜ r ≡ nameBytes (region from (to - from) (now (s .entry))) ⌝ }
+{
+    let mut i = from;
+    while i < to {
+        if s.len() <= i {
+            return true;
+        }
+        if s[i] < 1 {
+            return false;
+        }
+        if 127 < s[i] {
+            return false;
+        }
+        i += 1;
+    }
+    true
+}
+
+// The bytes of the pstring at a place, a part of the lent bytes.
+pub fn name_at(s: &[u8], at: usize) -> &[u8]
+    ensures { λ r. ⌜ now r ≡ stringAt (now (s .entry)) at ⌝ }
+{
+    if s.len() <= at {
+        return &s[..0];
+    }
+    let size = s[at] as usize;
+    let body = at + 1;
+    let rest = &s[body..];
+    if rest.len() <= size {
+        return rest;
+    }
+    &rest[..size]
+}
+
+// The bytes from one place to another, as far as there are any.
+pub fn part(s: &[u8], from: usize, to: usize) -> &[u8]
+    ensures { λ r. ⌜ now r ≡ region from (to - from) (now (s .entry)) ⌝ }
+{
+    if to <= from {
+        return &s[..0];
+    }
+    if s.len() <= from {
+        return &s[..0];
+    }
+    if s.len() < to {
+        return &s[from..];
+    }
+    &s[from..to]
+}
+
+// Two names are the same.
+pub fn same_name(a: &[u8], b: &[u8]) -> bool
+    ensures { λ r. ⌜ r ≡ sameName (now (a .entry)) (now (b .entry)) ⌝ }
+{
+    if a.len() != b.len() {
+        return false;
+    }
+    let mut i = 0;
+    while i < a.len() {
+        if a[i] != b[i] {
+            return false;
+        }
+        i += 1;
+    }
+    true
+}

@@ -1,0 +1,40 @@
+use mathlib.Core.Path.{sym}
+use borrow.Author.Needs.{needs}
+use Rattle.files.specs.Skips.{skip-variant}
+use Rattle.files.proofs.definition.read_variant.Statement.{statement}
+use Rattle.files.proofs.definition.read_variant.Tie as tie
+
+name-requires : tie.Need-name-requires
+name-requires c κs = search needs
+
+enum-known-next : tie.Need-enum-known-next
+enum-known-next c = search needs
+
+skip-floats-requires : tie.Need-skip-floats-requires
+skip-floats-requires c κs = search needs
+
+enum-known-refusal : tie.Need-enum-known-refusal
+enum-known-refusal c = search needs
+
+returns : tie.Need-returns
+returns c =
+    let a = c .before .before .before .before .before .before .args in
+    let e1 = sym (rw (c .before .before .next .given .1) at (c .before .before .before .before .name .ensures)) in
+    rw (skip-variant (a .parameters) (a .s .now) (a .cursor .at), e1) (c .skip-floats .ensures)
+
+returns-2 : tie.Need-returns-2
+returns-2 c =
+    let a = c .before .before .before .before .before .args in
+    let e1 = sym (rw (c .before .refusal .given .1) at (c .before .before .before .name .ensures)) in
+    rw (skip-variant (a .parameters) (a .s .now) (a .cursor .at), e1)
+
+pub read-variant-spec : {M : Type 1} → statement M
+read-variant-spec =
+    tie.close
+    (tie.spec
+    name-requires
+    enum-known-next
+    skip-floats-requires
+    enum-known-refusal
+    returns
+    returns-2)

@@ -1,0 +1,85 @@
+use Prim.Native.Nat.{_-_, _≤_, _<_}
+use mathlib.Core.Path.{refl, sym}
+use native.Mathlib.Omega.{arith}
+use borrow.Author.Needs.{needs}
+use Rattle.files.specs.FileLaws.{Walked, walked-first, walked-next, walked-bad, walked-done}
+use Rattle.files.proofs.file.read_definitions.Statement.{statement}
+use Rattle.files.proofs.file.read_definitions.Tie as tie
+
+abbrev Inv-loop : tie.InvT-loop
+Inv-loop s count many starts₀ at₀ i₀ starts at i = Walked s at₀ count starts at i
+
+abbrev μ-loop : tie.MeasureT-loop
+μ-loop s count many starts₀ at₀ i₀ starts at i = count - i
+
+wide-requires : tie.Need-wide-requires Inv-loop μ-loop
+wide-requires c κs = tt
+
+loop-holds : tie.Need-loop-holds Inv-loop μ-loop
+loop-holds c =
+    let a = c .before .before .args in
+    walked-first (a .s .now) (a .cursor .at) (a .count) _ (c .before .before .pre) refl
+
+read-fitting-requires : tie.Need-read-fitting-requires Inv-loop μ-loop
+read-fitting-requires c κs =
+    let w = c .before .before .loop .inv in
+    let l = c .before .loop-test .taken in
+    let m = c .before .before .before .wide .ensures in
+    record { few = omega (arith, w .most, w .few); sized = w .sized }
+
+enum-known-next : tie.Need-enum-known-next Inv-loop μ-loop
+enum-known-next c = search needs
+
+mul-starts : tie.Need-mul-starts Inv-loop μ-loop
+mul-starts c = omega arith
+
+array-write-starts : tie.Need-array-write-starts Inv-loop μ-loop
+array-write-starts c = omega (arith, c .before .before .before .before .before .before .loop .inv .few, c .before .before .before .before .before .loop-test .taken, c .before .before .before .before .before .before .before .wide .ensures)
+
+enum-known-refusal : tie.Need-enum-known-refusal Inv-loop μ-loop
+enum-known-refusal c = search needs
+
+returns : tie.Need-returns Inv-loop μ-loop
+returns c =
+    let a = c .before .before .before .before .before .before .before .before .before .args in
+    let found = sym (rw (c .before .refusal .given .1) at (c .before .before .before .read-fitting .ensures)) in
+    let less : c .before .before .before .before .before .before .loop .i < a .count = omega (arith, c .before .before .before .before .before .loop-test .taken, c .before .before .before .before .before .before .before .wide .ensures) in
+    sym (walked-bad (a .s .now) (a .cursor .at) (a .count) (c .before .before .before .before .before .before .loop .inv) less found)
+
+add-i : tie.Need-add-i Inv-loop μ-loop
+add-i c = omega arith
+
+loop-less : tie.Need-loop-less Inv-loop μ-loop
+loop-less c = omega arith
+
+loop-again : tie.Need-loop-again Inv-loop μ-loop
+loop-again c =
+    let a = c .before .before .before .before .before .before .before .before .before .args in
+    let found = sym (rw (c .before .next .given .1) at (c .before .before .before .read-fitting .ensures)) in
+    let less : c .before .before .before .before .before .before .loop .i < a .count = omega (arith, c .before .before .before .before .before .loop-test .taken, c .before .before .before .before .before .before .before .wide .ensures) in
+    walked-next (a .s .now) (a .cursor .at) (a .count) (c .before .before .before .before .before .before .loop .inv) less found
+
+returns-2 : tie.Need-returns-2 Inv-loop μ-loop
+returns-2 c =
+    let a = c .before .before .before .before .args in
+    let done : a .count ≤ c .before .loop .i = omega (arith, c .loop-test .left, c .before .before .wide .ensures) in
+    sym (walked-done (a .s .now) (a .cursor .at) (a .count) (c .before .loop .inv) done)
+
+pub read-definitions-spec : {M : Type 1} → statement M
+read-definitions-spec =
+    tie.close
+    (tie.spec
+    Inv-loop
+    μ-loop
+    wide-requires
+    loop-holds
+    read-fitting-requires
+    enum-known-next
+    mul-starts
+    array-write-starts
+    enum-known-refusal
+    returns
+    add-i
+    loop-less
+    loop-again
+    returns-2)

@@ -1,0 +1,83 @@
+use native.Mathlib.Omega.{arith}
+use mathlib.Core.Path.{sym}
+use borrow.Author.Needs.{needs}
+use borrow.Author.Tests.{eq-eqb, ne-eqb}
+use Rattle.format.specs.Reader.{fileType, fileVersion}
+use Rattle.files.proofs.file.read_header.Statement.{statement}
+use Rattle.files.proofs.file.read_header.Tie as tie
+
+int32-requires : tie.Need-int32-requires
+int32-requires c κs = search needs
+
+enum-known-kind : tie.Need-enum-known-kind
+enum-known-kind c = search needs
+
+returns : tie.Need-returns
+returns c =
+    let e1 = sym (rw (c .before .before .kind .given .1) at (c .before .before .before .before .int32 .ensures)) in
+    let q1 = ne-eqb (c .before .before .kind .given .0 .0) fileType (c .if1 .taken) in
+    rw (e1, q1)
+
+int32-requires-2 : tie.Need-int32-requires-2
+int32-requires-2 c κs = search needs
+
+enum-known-version : tie.Need-enum-known-version
+enum-known-version c = search needs
+
+returns-2 : tie.Need-returns-2
+returns-2 c =
+    let e1 = sym (rw (c .before .before .before .before .before .before .before .kind .given .1) at (c .before .before .before .before .before .before .before .before .before .int32 .ensures)) in
+    let q1 = eq-eqb (c .before .before .before .before .before .before .before .kind .given .0 .0) fileType (c .before .before .before .before .before .if1 .left) in
+    let e2 = sym (rw (c .before .before .version .given .1) at (c .before .before .before .before .int322 .ensures)) in
+    let q2 = ne-eqb (c .before .before .version .given .0 .0) fileVersion (c .if2 .taken) in
+    rw (e1, q1, e2, q2)
+
+cast-short-count-to : tie.Need-cast-short-count-to
+cast-short-count-to c = omega arith
+
+short-count-to-requires : tie.Need-short-count-to-requires
+short-count-to-requires c κs = search needs
+
+enum-known-refusal : tie.Need-enum-known-refusal
+enum-known-refusal c = search needs
+
+enum-known-refusal-2 : tie.Need-enum-known-refusal-2
+enum-known-refusal-2 c = search needs
+
+returns-3 : tie.Need-returns-3
+returns-3 c =
+    let e1 = sym (rw (c .before .before .before .before .before .before .before .before .kind .given .1) at (c .before .before .before .before .before .before .before .before .before .before .int32 .ensures)) in
+    let q1 = eq-eqb (c .before .before .before .before .before .before .before .before .kind .given .0 .0) fileType (c .before .before .before .before .before .before .if1 .left) in
+    let e2 = sym (rw (c .before .before .before .version .given .1) at (c .before .before .before .before .before .int322 .ensures)) in
+    let q2 = eq-eqb (c .before .before .before .version .given .0 .0) fileVersion (c .before .if2 .left) in
+    rw (e1, q1, e2, q2) (c .short-count-to .ensures)
+
+returns-4 : tie.Need-returns-4
+returns-4 c =
+    let e1 = sym (rw (c .before .before .before .before .before .before .kind .given .1) at (c .before .before .before .before .before .before .before .before .int32 .ensures)) in
+    let q1 = eq-eqb (c .before .before .before .before .before .before .kind .given .0 .0) fileType (c .before .before .before .before .if1 .left) in
+    let e2 = sym (rw (c .before .refusal .given .1) at (c .before .before .before .int322 .ensures)) in
+    rw (e1, q1, e2)
+
+returns-5 : tie.Need-returns-5
+returns-5 c =
+    let e1 = sym (rw (c .before .refusal2 .given .1) at (c .before .before .before .int32 .ensures)) in
+    rw e1
+
+pub read-header-spec : {M : Type 1} → statement M
+read-header-spec =
+    tie.close
+    (tie.spec
+    int32-requires
+    enum-known-kind
+    returns
+    int32-requires-2
+    enum-known-version
+    returns-2
+    cast-short-count-to
+    short-count-to-requires
+    enum-known-refusal
+    enum-known-refusal-2
+    returns-3
+    returns-4
+    returns-5)

@@ -1,0 +1,71 @@
+use Prim.Native.Nat.{_-_, _≤_}
+use mathlib.Core.Path.{_≡_, sym, _∙_}
+use native.Mathlib.Omega.{arith}
+use borrow.Author.Needs.{needs}
+use Rattle.format.specs.Endings.{repeat-next, repeat-bad}
+use Rattle.format.specs.RepeatLaws.{ending-none}
+use Rattle.format.specs.Read.{ending, repeat}
+use native.Mathlib.Nat.{sub-zero}
+use Rattle.format.specs.Reader.{readDefinition}
+use Rattle.files.proofs.file.skip_definitions.Statement.{statement}
+use Rattle.files.proofs.file.skip_definitions.Tie as tie
+
+abbrev Inv-loop : tie.InvT-loop
+Inv-loop s count at₀ i₀ at i = (i ≤ count) × (ending (repeat (readDefinition s) (count - i) at) ≡ ending (repeat (readDefinition s) count at₀))
+
+abbrev μ-loop : tie.MeasureT-loop
+μ-loop s count at₀ i₀ at i = count - i
+
+loop-holds : tie.Need-loop-holds Inv-loop μ-loop
+loop-holds c = (omega arith, rw sub-zero)
+
+read-definition-requires : tie.Need-read-definition-requires Inv-loop μ-loop
+read-definition-requires c κs = search needs
+
+enum-known-next : tie.Need-enum-known-next Inv-loop μ-loop
+enum-known-next c = search needs
+
+enum-known-refusal : tie.Need-enum-known-refusal Inv-loop μ-loop
+enum-known-refusal c = search needs
+
+returns : tie.Need-returns Inv-loop μ-loop
+returns c =
+    let a = c .before .before .before .before .before .before .before .args in
+    let l = c .before .before .before .before .before .loop in
+    let found = sym (rw (c .before .refusal .given .1) at (c .before .before .before .read-definition .ensures)) in
+    sym (repeat-bad (readDefinition (a .s .now)) (a .count) (l .i) (l .at) (omega arith) found) ∙ l .inv .1
+
+add-i : tie.Need-add-i Inv-loop μ-loop
+add-i c = omega arith
+
+loop-less : tie.Need-loop-less Inv-loop μ-loop
+loop-less c = omega arith
+
+loop-again : tie.Need-loop-again Inv-loop μ-loop
+loop-again c =
+    let a = c .before .before .before .before .before .before .before .args in
+    let l = c .before .before .before .before .before .loop in
+    let found = sym (rw (c .before .next .given .1) at (c .before .before .before .read-definition .ensures)) in
+    (omega arith, sym (repeat-next (readDefinition (a .s .now)) (a .count) (l .i) (l .at) (omega arith) found) ∙ l .inv .1)
+
+returns-2 : tie.Need-returns-2 Inv-loop μ-loop
+returns-2 c =
+    let a = c .before .before .before .args in
+    let l = c .before .loop in
+    sym (ending-none (readDefinition (a .s .now)) (a .count) (l .i) (l .at) (omega arith)) ∙ l .inv .1
+
+pub skip-definitions-spec : {M : Type 1} → statement M
+skip-definitions-spec =
+    tie.close
+    (tie.spec
+    Inv-loop
+    μ-loop
+    loop-holds
+    read-definition-requires
+    enum-known-next
+    enum-known-refusal
+    returns
+    add-i
+    loop-less
+    loop-again
+    returns-2)

@@ -1,0 +1,81 @@
+-- What the functions on a whole file answer.
+use Prim.{Unit}
+use Prim.Native.Nat.{ℕ, suc, _+_, _≤_}
+use mathlib.Core.Path.{_≡_}
+use mathlib.Core.List.{List, map}
+use lib.ListN.{length, getD}
+use lib.Dec.{ltb}
+use Rattle.words.specs.Choice.{pick}
+use Rattle.faults.specs.Faults as faults
+use Rattle.files.specs.declared.file.Checked.{Checked}
+use Rattle.files.specs.declared.file.Checked.the-variants.{Accepted, Refused}
+use Rattle.files.specs.declared.file.Span.{Span}
+use Rattle.files.specs.declared.file.Span.the-variants.{Between, Nowhere}
+use Rattle.format.specs.Read.{Read, got, bad, andThen, repeat, ending}
+use Rattle.format.specs.Fields.{stringAt}
+use Rattle.format.specs.Definition.{Definition}
+use Rattle.format.specs.Reader.{mostDefinitions, fits, readDefinition, readFile}
+
+-- how many definitions a file has, or why it is refused and at which place
+abbrev pub verdict : Read (List Definition) → Checked
+verdict (got ds end) = Accepted (length ds)
+verdict (bad r at) = Refused r at
+
+-- the names of the definitions that start at some places
+abbrev pub namesFrom : List ℕ → List ℕ → List (List ℕ)
+namesFrom s starts = map (stringAt s) starts
+
+-- a definition behind those of some names, of which only the end is fact
+abbrev pub skipFitting : List ℕ → List (List ℕ) → ℕ → Read (Unit {0})
+skipFitting s names at = ending (andThen (readDefinition s at) (λ d next. fits names at d next))
+
+-- "File: "SCgf", int32 version 2, int16 count D, then D definitions": the first one starts here
+abbrev pub firstPlace : ℕ
+firstPlace = 10
+
+module _ {A : Type 0} where
+  -- where a reading ends
+  abbrev pub endOf : Read A → ℕ
+  endOf (got x next) = next
+  endOf (bad r at) = at
+
+-- where the definition number i of a file starts: past the first i
+abbrev pub definitionStart : List ℕ → ℕ → ℕ
+definitionStart s i = endOf (repeat (readDefinition s) i firstPlace)
+
+-- where the definition number i starts and ends, in a file that is accepted and has as many
+abbrev pub spanIn : List ℕ → ℕ → Read (List Definition) → Span
+spanIn s i (got ds end) = pick (ltb i (length ds)) (Between (definitionStart s i) (definitionStart s (suc i))) Nowhere
+spanIn s i (bad r at) = Nowhere
+
+unfoldable pub definitionSpan : List ℕ → ℕ → Span
+definitionSpan s i = spanIn s i (readFile s)
+
+-- 0, or the refusal's number
+abbrev pub refusalNumber : Checked → ℕ
+refusalNumber (Accepted n) = 0
+refusalNumber (Refused r at) = faults.faultNumber r
+
+-- the refusal's place, or 0
+abbrev pub refusalPlace : Checked → ℕ
+refusalPlace (Accepted n) = 0
+refusalPlace (Refused r at) = at
+
+-- how many definitions are in an accepted file
+abbrev pub definitionCount : Checked → ℕ
+definitionCount (Accepted n) = n
+definitionCount (Refused r at) = 0
+
+-- the place of a definition's name, behind the byte that is its length, and the place past it; or 0
+abbrev pub nameStart : Span → ℕ
+nameStart (Between start end) = start + 1
+nameStart Nowhere = 0
+
+abbrev pub nameEnd : List ℕ → Span → ℕ
+nameEnd s (Between start end) = start + 1 + getD s start 0
+nameEnd s Nowhere = 0
+
+-- where the definitions of a file start, as far as they are known: the first so many of starts
+pub record Begun (starts : List ℕ) (count : ℕ) : Type 0 where
+  pub few : count ≤ mostDefinitions
+  pub sized : length starts ≡ mostDefinitions

@@ -1,0 +1,5 @@
+pub mod Skips
+pub mod Forward
+pub mod File
+pub mod FileLaws
+pub mod Spans

@@ -1,0 +1,74 @@
+// A whole definition, of which only the end is kept.
+use fields::Cursor;
+use fields::Number;
+use fields::Step;
+use fields::Text;
+use format::HIGHEST;
+use format::HIGHEST_SHORT;
+use front::FrontRead;
+use front::read_front;
+use front::skip_floats;
+use units::read_units;
+ghost use mathlib.Core.Path.{_≡_};
+ghost use Rattle.fields.specs.Answers.{stepOf};
+ghost use Rattle.format.specs.Read.{ending, repeat};
+ghost use Rattle.format.specs.Reader.{variant, readDefinition};
+
+// One variant, in a definition of so many parameters.
+pub fn read_variant(s: &[u8], cursor: Cursor, parameters: u32) -> Step
+    ensures { λ r. ⌜ stepOf r ≡ ending (variant parameters (now (s .entry)) (cursor .at)) ⌝ }
+{
+    match cursor.name(s) {
+        Text::Value(_, next) => skip_floats(s, next, parameters),
+        Text::Bad(refusal, place) => Step::Bad(refusal, place),
+    }
+}
+
+// So many variants.
+pub fn read_variants(s: &[u8], cursor: Cursor, parameters: u32, count: u32) -> Step
+    ensures { λ r. ⌜ stepOf r ≡ ending (repeat (variant parameters (now (s .entry))) count (cursor .at)) ⌝ }
+{
+    let mut at = cursor.at;
+    let mut i = 0;
+    while i < count {
+        match read_variant(s, Cursor { at: at }, parameters) {
+            Step::Next(next) => {
+                at = next.at;
+            }
+            Step::Bad(refusal, place) => {
+                return Step::Bad(refusal, place);
+            }
+        }
+        i += 1;
+    }
+    Step::Next(Cursor { at: at })
+}
+
+// The next definition.
+pub fn read_definition(s: &[u8], cursor: Cursor) -> Step
+    ensures { λ r. ⌜ stepOf r ≡ ending (readDefinition (now (s .entry)) (cursor .at)) ⌝ }
+{
+    match read_front(s, cursor) {
+        FrontRead::Value(counts, p1) => match p1.count_to(s, HIGHEST) {
+            Number::Value(units, p2) => {
+                let p3 = match read_units(s, p2, counts.constants, units) {
+                    Step::Next(next) => next,
+                    Step::Bad(refusal, place) => {
+                        return Step::Bad(refusal, place);
+                    }
+                };
+                match p3.short_count_to(s, HIGHEST_SHORT) {
+                    Number::Value(variants, p4) => read_variants(
+                        s,
+                        p4,
+                        counts.parameters,
+                        variants,
+                    ),
+                    Number::Bad(refusal, place) => Step::Bad(refusal, place),
+                }
+            }
+            Number::Bad(refusal, place) => Step::Bad(refusal, place),
+        },
+        FrontRead::Bad(refusal, place) => Step::Bad(refusal, place),
+    }
+}

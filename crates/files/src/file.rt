@@ -1,0 +1,183 @@
+// A whole file: accepted, with the number of its definitions, or refused, with the reason and the place.
+use crate::definition::read_definition;
+use faults::Fault;
+use fields::Cursor;
+use fields::Number;
+use fields::Step;
+use fields::name_at;
+use fields::same_name;
+use format::FILE_TYPE;
+use format::FILE_VERSION;
+use format::FIRST_PLACE;
+use format::MOST_DEFINITIONS;
+use format::SIZE_LIMIT;
+use words::wide;
+ghost use mathlib.Core.Path.{_≡_};
+ghost use Prim.Native.Nat.{_≤_};
+ghost use mathlib.Core.List.{[]};
+ghost use lib.ListN.{take};
+ghost use Rattle.fields.specs.Answers.{numberOf, stepOf};
+ghost use Rattle.format.specs.Fields.{stringAt};
+ghost use Rattle.format.specs.Read.{ending, repeat};
+ghost use Rattle.format.specs.Reader.{mostDefinitions, among, readDefinition, readHeader, readDefinitions, readFile};
+ghost use Rattle.files.specs.File.{Begun, verdict, namesFrom, skipFitting, definitionSpan};
+
+// A file is accepted, and has so many definitions; or it is refused, at a place.
+pub enum Checked {
+    Accepted(u32),
+    Refused(Fault, usize),
+}
+
+// Where a definition starts, and the place past it; or none.
+pub enum Span {
+    Between(usize, usize),
+    Nowhere,
+}
+
+// The file's head: how many definitions there are, and the cursor at the first.
+fn read_header(s: &[u8]) -> Number
+    ensures { λ r. ⌜ numberOf r ≡ readHeader (now (s .entry)) ⌝ }
+{
+    let start = Cursor { at: 0 };
+    match start.int32(s) {
+        Number::Value(kind, p1) => {
+            if kind != FILE_TYPE {
+                return Number::Bad(Fault::NotSynthDef, 0);
+            }
+            let at = p1.at;
+            match p1.int32(s) {
+                Number::Value(version, p2) => {
+                    if version != FILE_VERSION {
+                        return Number::Bad(Fault::BadVersion, at);
+                    }
+                    p2.short_count_to(s, MOST_DEFINITIONS as u32)
+                }
+                Number::Bad(refusal, place) => Number::Bad(refusal, place),
+            }
+        }
+        Number::Bad(refusal, place) => Number::Bad(refusal, place),
+    }
+}
+
+// The name of the definition at a place is that of one of those that start at the first so many of `starts`.
+fn name_among(s: &[u8], at: usize, starts: &[usize; MOST_DEFINITIONS], count: usize) -> bool
+    requires { ⌜ Begun (now starts) count ⌝ }
+    ensures { λ r. ⌜ r ≡ among (stringAt (now (s .entry)) at) (namesFrom (now (s .entry)) (take count (now (starts .entry)))) ⌝ }
+{
+    let mut i = 0;
+    while i < count {
+        if same_name(name_at(s, starts[i]), name_at(s, at)) {
+            return true;
+        }
+        i += 1;
+    }
+    false
+}
+
+// The next definition, no longer than the limit, and named as none of those that start at the first so many of `starts`.
+fn read_fitting(s: &[u8], cursor: Cursor, starts: &[usize; MOST_DEFINITIONS], count: usize) -> Step
+    requires { ⌜ Begun (now starts) count ⌝ }
+    ensures { λ r. ⌜ stepOf r ≡ skipFitting (now (s .entry)) (namesFrom (now (s .entry)) (take count (now (starts .entry)))) (cursor .at) ⌝ }
+{
+    let at = cursor.at;
+    match read_definition(s, cursor) {
+        Step::Next(next) => {
+            let end = next.at;
+            if SIZE_LIMIT < end - at {
+                return Step::Bad(Fault::TooLong, at);
+            }
+            if name_among(s, at, starts, count) {
+                return Step::Bad(Fault::NameTwice, at);
+            }
+            Step::Next(next)
+        }
+        Step::Bad(refusal, place) => Step::Bad(refusal, place),
+    }
+}
+
+// A file's definitions.
+fn read_definitions(s: &[u8], cursor: Cursor, count: u32) -> Step
+    requires { ⌜ count ≤ mostDefinitions ⌝ }
+    ensures { λ r. ⌜ stepOf r ≡ ending (readDefinitions (now (s .entry)) count [] (cursor .at)) ⌝ }
+{
+    let many = wide(count);
+    let mut starts = [0; MOST_DEFINITIONS];
+    let mut at = cursor.at;
+    let mut i = 0;
+    while i < many {
+        match read_fitting(s, Cursor { at: at }, &starts, i) {
+            Step::Next(next) => {
+                starts[i] = at;
+                at = next.at;
+            }
+            Step::Bad(refusal, place) => {
+                return Step::Bad(refusal, place);
+            }
+        }
+        i += 1;
+    }
+    Step::Next(Cursor { at: at })
+}
+
+// Whether a file is accepted.
+pub fn check_file(s: &[u8]) -> Checked
+    ensures { λ r. ⌜ r ≡ verdict (readFile (now (s .entry))) ⌝ }
+{
+    match read_header(s) {
+        Number::Value(count, first) => match read_definitions(s, first, count) {
+            Step::Next(next) => {
+                let end = next.at;
+                if end < s.len() {
+                    return Checked::Refused(Fault::BytesLeft, end);
+                }
+                Checked::Accepted(count)
+            }
+            Step::Bad(refusal, place) => Checked::Refused(refusal, place),
+        },
+        Number::Bad(refusal, place) => Checked::Refused(refusal, place),
+    }
+}
+
+// So many definitions, one after the other, whatever their sizes and names.
+fn skip_definitions(s: &[u8], cursor: Cursor, count: u32) -> Step
+    ensures { λ r. ⌜ stepOf r ≡ ending (repeat (readDefinition (now (s .entry))) count (cursor .at)) ⌝ }
+{
+    let mut at = cursor.at;
+    let mut i = 0;
+    while i < count {
+        match read_definition(s, Cursor { at: at }) {
+            Step::Next(next) => {
+                at = next.at;
+            }
+            Step::Bad(refusal, place) => {
+                return Step::Bad(refusal, place);
+            }
+        }
+        i += 1;
+    }
+    Step::Next(Cursor { at: at })
+}
+
+// Where the definition of a number starts and ends in a file that is accepted and has as many.
+pub fn definition_at(s: &[u8], index: u32) -> Span
+    ensures { λ r. ⌜ r ≡ definitionSpan (now (s .entry)) index ⌝ }
+{
+    match check_file(s) {
+        Checked::Accepted(count) => {
+            if count <= index {
+                return Span::Nowhere;
+            }
+            match skip_definitions(s, Cursor { at: FIRST_PLACE }, index) {
+                Step::Next(here) => {
+                    let start = here.at;
+                    match read_definition(s, here) {
+                        Step::Next(next) => Span::Between(start, next.at),
+                        Step::Bad(refusal, place) => Span::Nowhere,
+                    }
+                }
+                Step::Bad(refusal, place) => Span::Nowhere,
+            }
+        }
+        Checked::Refused(refusal, place) => Span::Nowhere,
+    }
+}

@@ -1,0 +1,9 @@
+// SynthDef2 files: a definition whole, and a file whole.
+mod definition;
+mod file;
+
+pub use definition::read_definition;
+pub use file::Checked;
+pub use file::Span;
+pub use file::check_file;
+pub use file::definition_at;

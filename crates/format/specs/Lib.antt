@@ -1,0 +1,13 @@
+pub mod Read
+pub mod ReadLaws
+pub mod RepeatLaws
+pub mod Fields
+pub mod FieldLaws
+pub mod NameLaws
+pub mod Definition
+pub mod Reader
+pub mod Writer
+pub mod Bounds
+pub mod Endings
+pub mod Sizes
+pub mod Worked

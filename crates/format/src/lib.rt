@@ -1,0 +1,26 @@
+// SynthDef2: the numbers of the format and the bounds of the paper. The format as read and written is in specs/.
+
+// "SCgf" as a number, the version, and where the first definition starts.
+pub const FILE_TYPE: u32 = 0x5343_6766;
+
+pub const FILE_VERSION: u32 = 2;
+
+pub const FIRST_PLACE: usize = 10;
+
+pub const MOST_DEFINITIONS: usize = 32;
+
+// A definition takes at most so many bytes.
+pub const SIZE_LIMIT: usize = 2048;
+
+pub const MOST_PARAMETERS: u32 = 32;
+
+// The highest counts of four bytes and of two.
+pub const HIGHEST: u32 = 0x7FFF_FFFF;
+
+pub const HIGHEST_SHORT: u32 = 0x7FFF;
+
+// The highest rate.
+pub const HIGHEST_RATE: u32 = 2;
+
+// An input's unit where it names a constant.
+pub const MINUS_ONE: u32 = 0xFFFF_FFFF;

@@ -1,0 +1,53 @@
+use mathlib.Core.Path.{sym}
+use borrow.Author.Needs.{needs}
+use Rattle.front.proofs.counted_floats.Statement.{statement}
+use Rattle.front.proofs.counted_floats.Tie as tie
+
+count-to-requires : tie.Need-count-to-requires
+count-to-requires c κs = search needs
+
+enum-known-count : tie.Need-enum-known-count
+enum-known-count c = search needs
+
+skip-floats-requires : tie.Need-skip-floats-requires
+skip-floats-requires c κs = search needs
+
+enum-known-past : tie.Need-enum-known-past
+enum-known-past c = search needs
+
+enum-known-refusal : tie.Need-enum-known-refusal
+enum-known-refusal c = search needs
+
+enum-known-refusal-2 : tie.Need-enum-known-refusal-2
+enum-known-refusal-2 c = search needs
+
+returns : tie.Need-returns
+returns c =
+    let n = rw (c .before .before .before .before .before .count .given .1) at (c .before .before .before .before .before .before .before .count-to .ensures) in
+    let f = rw (c .before .past .given .1) at (c .before .before .before .skip-floats .ensures) in
+    rw (sym n, sym f)
+
+returns-2 : tie.Need-returns-2
+returns-2 c =
+    let n = rw (c .before .before .before .before .before .count .given .1) at (c .before .before .before .before .before .before .before .count-to .ensures) in
+    let f = rw (c .before .refusal .given .1) at (c .before .before .before .skip-floats .ensures) in
+    rw (sym n, sym f)
+
+returns-3 : tie.Need-returns-3
+returns-3 c =
+    let n = rw (c .before .refusal2 .given .1) at (c .before .before .before .count-to .ensures) in
+    rw (sym n)
+
+pub counted-floats-spec : {M : Type 1} → statement M
+counted-floats-spec =
+    tie.close
+    (tie.spec
+    count-to-requires
+    enum-known-count
+    skip-floats-requires
+    enum-known-past
+    enum-known-refusal
+    enum-known-refusal-2
+    returns
+    returns-2
+    returns-3)

@@ -1,0 +1,96 @@
+use mathlib.Core.Path.{sym}
+use borrow.Author.Needs.{needs}
+use Rattle.front.proofs.read_counts.Statement.{statement}
+use Rattle.front.proofs.read_counts.Tie as tie
+
+definition-name-requires : tie.Need-definition-name-requires
+definition-name-requires c κs = search needs
+
+enum-known-start : tie.Need-enum-known-start
+enum-known-start c = search needs
+
+counted-floats-requires : tie.Need-counted-floats-requires
+counted-floats-requires c κs = search needs
+
+enum-known-constants : tie.Need-enum-known-constants
+enum-known-constants c = search needs
+
+counted-floats-requires-2 : tie.Need-counted-floats-requires-2
+counted-floats-requires-2 c κs = search needs
+
+enum-known-values : tie.Need-enum-known-values
+enum-known-values c = search needs
+
+count-to-requires : tie.Need-count-to-requires
+count-to-requires c κs = search needs
+
+enum-known-names : tie.Need-enum-known-names
+enum-known-names c = search needs
+
+enum-known-refusal : tie.Need-enum-known-refusal
+enum-known-refusal c = search needs
+
+enum-known-refusal-2 : tie.Need-enum-known-refusal-2
+enum-known-refusal-2 c = search needs
+
+enum-known-refusal-3 : tie.Need-enum-known-refusal-3
+enum-known-refusal-3 c = search needs
+
+enum-known-refusal-4 : tie.Need-enum-known-refusal-4
+enum-known-refusal-4 c = search needs
+
+returns : tie.Need-returns
+returns c =
+    let n = rw (c .before .before .before .before .before .before .before .before .before .before .before .before .before .start .given .1) at (c .before .before .before .before .before .before .before .before .before .before .before .before .before .before .before .definition-name .ensures) in
+    let k = rw (c .before .before .before .before .before .before .before .before .before .constants .given .1) at (c .before .before .before .before .before .before .before .before .before .before .before .counted-floats .ensures) in
+    let v = rw (c .before .before .before .before .before .values .given .1) at (c .before .before .before .before .before .before .before .counted-floats2 .ensures) in
+    let m = rw (c .before .names .given .1) at (c .before .before .before .count-to .ensures) in
+    rw (sym n, sym k, sym v, sym m)
+
+returns-2 : tie.Need-returns-2
+returns-2 c =
+    let n = rw (c .before .before .before .before .before .before .before .before .before .before .before .before .before .start .given .1) at (c .before .before .before .before .before .before .before .before .before .before .before .before .before .before .before .definition-name .ensures) in
+    let k = rw (c .before .before .before .before .before .before .before .before .before .constants .given .1) at (c .before .before .before .before .before .before .before .before .before .before .before .counted-floats .ensures) in
+    let v = rw (c .before .before .before .before .before .values .given .1) at (c .before .before .before .before .before .before .before .counted-floats2 .ensures) in
+    let m = rw (c .before .refusal .given .1) at (c .before .before .before .count-to .ensures) in
+    rw (sym n, sym k, sym v, sym m)
+
+returns-3 : tie.Need-returns-3
+returns-3 c =
+    let n = rw (c .before .before .before .before .before .before .before .before .before .start .given .1) at (c .before .before .before .before .before .before .before .before .before .before .before .definition-name .ensures) in
+    let k = rw (c .before .before .before .before .before .constants .given .1) at (c .before .before .before .before .before .before .before .counted-floats .ensures) in
+    let v = rw (c .before .refusal2 .given .1) at (c .before .before .before .counted-floats2 .ensures) in
+    rw (sym n, sym k, sym v)
+
+returns-4 : tie.Need-returns-4
+returns-4 c =
+    let n = rw (c .before .before .before .before .before .start .given .1) at (c .before .before .before .before .before .before .before .definition-name .ensures) in
+    let k = rw (c .before .refusal3 .given .1) at (c .before .before .before .counted-floats .ensures) in
+    rw (sym n, sym k)
+
+returns-5 : tie.Need-returns-5
+returns-5 c =
+    let n = rw (c .before .refusal4 .given .1) at (c .before .before .before .definition-name .ensures) in
+    rw (sym n)
+
+pub read-counts-spec : {M : Type 1} → statement M
+read-counts-spec =
+    tie.close
+    (tie.spec
+    definition-name-requires
+    enum-known-start
+    counted-floats-requires
+    enum-known-constants
+    counted-floats-requires-2
+    enum-known-values
+    count-to-requires
+    enum-known-names
+    enum-known-refusal
+    enum-known-refusal-2
+    enum-known-refusal-3
+    enum-known-refusal-4
+    returns
+    returns-2
+    returns-3
+    returns-4
+    returns-5)

@@ -1,0 +1,57 @@
+use mathlib.Core.Path.{sym}
+use borrow.Author.Needs.{needs}
+use Rattle.front.specs.FrontLaws.{front-fact}
+use Rattle.front.proofs.read_front.Statement.{statement}
+use Rattle.front.proofs.read_front.Tie as tie
+
+read-counts-requires : tie.Need-read-counts-requires
+read-counts-requires c κs = search needs
+
+enum-known-counts : tie.Need-enum-known-counts
+enum-known-counts c = search needs
+
+skip-parameter-names-requires : tie.Need-skip-parameter-names-requires
+skip-parameter-names-requires c κs = search needs
+
+enum-known-past : tie.Need-enum-known-past
+enum-known-past c = search needs
+
+enum-known-refusal : tie.Need-enum-known-refusal
+enum-known-refusal c = search needs
+
+enum-known-refusal-2 : tie.Need-enum-known-refusal-2
+enum-known-refusal-2 c = search needs
+
+returns : tie.Need-returns
+returns c =
+    let a = c .before .before .before .before .before .before .before .before .before .args in
+    let k = rw (c .before .before .before .before .before .counts .given .1) at (c .before .before .before .before .before .before .before .read-counts .ensures) in
+    let n = rw (c .before .past .given .1) at (c .before .before .before .skip-parameter-names .ensures) in
+    rw (sym k, sym n) at (front-fact (a .s .now) (a .cursor .at))
+
+returns-2 : tie.Need-returns-2
+returns-2 c =
+    let a = c .before .before .before .before .before .before .before .before .before .args in
+    let k = rw (c .before .before .before .before .before .counts .given .1) at (c .before .before .before .before .before .before .before .read-counts .ensures) in
+    let n = rw (c .before .refusal .given .1) at (c .before .before .before .skip-parameter-names .ensures) in
+    rw (sym k, sym n) at (front-fact (a .s .now) (a .cursor .at))
+
+returns-3 : tie.Need-returns-3
+returns-3 c =
+    let a = c .before .before .before .before .before .args in
+    let k = rw (c .before .refusal2 .given .1) at (c .before .before .before .read-counts .ensures) in
+    rw (sym k) at (front-fact (a .s .now) (a .cursor .at))
+
+pub read-front-spec : {M : Type 1} → statement M
+read-front-spec =
+    tie.close
+    (tie.spec
+    read-counts-requires
+    enum-known-counts
+    skip-parameter-names-requires
+    enum-known-past
+    enum-known-refusal
+    enum-known-refusal-2
+    returns
+    returns-2
+    returns-3)

@@ -1,0 +1,70 @@
+use Prim.Native.Nat.{_-_, _≤_}
+use mathlib.Core.Path.{_≡_, sym, _∙_}
+use native.Mathlib.Omega.{arith}
+use borrow.Author.Needs.{needs}
+use native.Mathlib.Nat.{sub-zero}
+use Rattle.format.specs.Read.{repeat, ending}
+use Rattle.format.specs.Reader.{parameterName}
+use Rattle.format.specs.RepeatLaws.{ending-turn, ending-none}
+use Rattle.front.proofs.skip_parameter_names.Statement.{statement}
+use Rattle.front.proofs.skip_parameter_names.Tie as tie
+
+abbrev Inv-loop : tie.InvT-loop
+Inv-loop s parameters count at₀ i₀ at i = (i ≤ count) × (ending (repeat (parameterName parameters s) (count - i) at) ≡ ending (repeat (parameterName parameters s) count at₀))
+
+abbrev μ-loop : tie.MeasureT-loop
+μ-loop s parameters count at₀ i₀ at i = count - i
+
+loop-holds : tie.Need-loop-holds Inv-loop μ-loop
+loop-holds c = (omega arith, rw sub-zero)
+
+parameter-name-requires : tie.Need-parameter-name-requires Inv-loop μ-loop
+parameter-name-requires c κs = search needs
+
+enum-known-start : tie.Need-enum-known-start Inv-loop μ-loop
+enum-known-start c = search needs
+
+enum-known-refusal : tie.Need-enum-known-refusal Inv-loop μ-loop
+enum-known-refusal c = search needs
+
+returns : tie.Need-returns Inv-loop μ-loop
+returns c =
+    let a = c .before .before .before .before .before .before .before .args in
+    let l = c .before .before .before .before .before .loop in
+    let e = rw (c .before .refusal .given .1) at (c .before .before .before .parameter-name .ensures) in
+    rw (sym e) at (sym (ending-turn (parameterName (a .parameters) (a .s .now)) (a .count) (l .i) (l .at) (omega arith)) ∙ l .inv .1)
+
+add-i : tie.Need-add-i Inv-loop μ-loop
+add-i c = omega arith
+
+loop-less : tie.Need-loop-less Inv-loop μ-loop
+loop-less c = omega arith
+
+loop-again : tie.Need-loop-again Inv-loop μ-loop
+loop-again c =
+    let a = c .before .before .before .before .before .before .before .args in
+    let l = c .before .before .before .before .before .loop in
+    let e = rw (c .before .start .given .1) at (c .before .before .before .parameter-name .ensures) in
+    (omega arith, rw (sym e) at (sym (ending-turn (parameterName (a .parameters) (a .s .now)) (a .count) (l .i) (l .at) (omega arith)) ∙ l .inv .1))
+
+returns-2 : tie.Need-returns-2 Inv-loop μ-loop
+returns-2 c =
+    let a = c .before .before .before .args in
+    let l = c .before .loop in
+    sym (ending-none (parameterName (a .parameters) (a .s .now)) (a .count) (l .i) (l .at) (omega arith)) ∙ l .inv .1
+
+pub skip-parameter-names-spec : {M : Type 1} → statement M
+skip-parameter-names-spec =
+    tie.close
+    (tie.spec
+    Inv-loop
+    μ-loop
+    loop-holds
+    parameter-name-requires
+    enum-known-start
+    enum-known-refusal
+    returns
+    add-i
+    loop-less
+    loop-again
+    returns-2)

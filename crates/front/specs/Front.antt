@@ -1,0 +1,71 @@
+-- What the functions on a definition's front answer, as readings.
+use Prim.Native.Nat.{ℕ, _+_, _*_, _-_}
+use mathlib.Core.List.{List}
+use lib.ListN.{length}
+use Rattle.words.specs.Parts.{region}
+use Rattle.front.specs.declared.Counts.{Counts}
+use Rattle.front.specs.declared.Entry.{Entry}
+use Rattle.front.specs.declared.Entry.the-variants as entry
+use Rattle.front.specs.declared.Floats.{Floats}
+use Rattle.front.specs.declared.FloatsRead.{FloatsRead}
+use Rattle.front.specs.declared.FloatsRead.the-variants as floats
+use Rattle.front.specs.declared.FrontRead.{FrontRead}
+use Rattle.front.specs.declared.FrontRead.the-variants as front
+use Rattle.format.specs.Read.{Read, got, bad, andThen, repeat, ending}
+use Rattle.format.specs.Fields.{float32, definitionName, countTo, count, highest32}
+use Rattle.format.specs.Definition.{ParameterName, Front}
+use Rattle.format.specs.Reader.{mostParameters, parameterName}
+
+-- a parameter name: its bytes from start to end, and its index
+abbrev pub entryOf : List ℕ → Entry → Read ParameterName
+entryOf s (entry.Value start end index next) = got (record { name = region start (end - start) s; index = index }) (next .at)
+entryOf s (entry.Bad r at) = bad r at
+
+abbrev pub floatsOf : FloatsRead → Read Floats
+floatsOf (floats.Value f next) = got f (next .at)
+floatsOf (floats.Bad r at) = bad r at
+
+abbrev pub frontOf : FrontRead → Read Counts
+frontOf (front.Value c next) = got c (next .at)
+frontOf (front.Bad r at) = bad r at
+
+-- a count, and as many floats behind it: how many, and where they start
+abbrev pub countedFloats : ℕ → List ℕ → ℕ → Read Floats
+countedFloats most s at =
+    andThen (countTo most s at) (λ k p.
+    andThen (ending (repeat (float32 s) k p)) (λ t end.
+    got (record { count = k; at = p }) end))
+
+-- the front up to its first parameter name
+abbrev pub readCounts : List ℕ → ℕ → Read Counts
+readCounts s at =
+    andThen (definitionName s at) (λ n p1.
+    andThen (countedFloats highest32 s p1) (λ k p2.
+    andThen (countedFloats mostParameters s p2) (λ v p3.
+    andThen (count s p3) (λ many p4.
+    got (record { past = p1; constants = k .count; values = v .at; parameters = v .count; first = p4; names = many }) p4))))
+
+-- and its parameter names, of which only the end is countsOf
+abbrev pub readNames : List ℕ → Counts → ℕ → Read Counts
+readNames s c at = andThen (ending (repeat (parameterName (c .parameters) s) (c .names) at)) (λ t end. got c end)
+
+-- the places in a front that starts at a place: each count has four bytes, and so has each float
+abbrev pub nameEnd : ℕ → Front → ℕ
+nameEnd at f = at + (1 + length (f .name))
+
+abbrev pub valuesAt : ℕ → Front → ℕ
+valuesAt at f = nameEnd at f + 4 + 4 * length (f .constants) + 4
+
+abbrev pub namesAt : ℕ → Front → ℕ
+namesAt at f = valuesAt at f + 4 * length (f .values) + 4
+
+-- what is countsOf of a front: its counts and places
+abbrev pub countsOf : ℕ → Front → Counts
+countsOf at f = record {
+  past = nameEnd at f;
+  constants = length (f .constants);
+  values = valuesAt at f;
+  parameters = length (f .values);
+  first = namesAt at f;
+  names = length (f .names);
+}

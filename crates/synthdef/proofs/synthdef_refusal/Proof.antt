@@ -1,0 +1,34 @@
+use mathlib.Core.Path.{ap, _∙_}
+use borrow.Author.Needs.{needs}
+use Rattle.files.specs.File.{refusalNumber}
+use Rattle.synthdef.proofs.synthdef_refusal.Statement.{statement}
+use Rattle.synthdef.proofs.synthdef_refusal.Tie as tie
+
+check-file-requires : tie.Need-check-file-requires
+check-file-requires c κs = search needs
+
+enum-known-count : tie.Need-enum-known-count
+enum-known-count c = search needs
+
+enum-known-refusal : tie.Need-enum-known-refusal
+enum-known-refusal c = search needs
+
+fault-number-requires : tie.Need-fault-number-requires
+fault-number-requires c κs = search needs
+
+returns : tie.Need-returns
+returns c = ap refusalNumber (rw (c .before .count .given .1) at (c .before .before .before .check-file .ensures))
+
+returns-2 : tie.Need-returns-2
+returns-2 c = c .fault-number .ensures ∙ ap refusalNumber (rw (c .before .before .refusal .given .1) at (c .before .before .before .before .check-file .ensures))
+
+pub synthdef-refusal-spec : {M : Type 1} → statement M
+synthdef-refusal-spec =
+    tie.close
+    (tie.spec
+    check-file-requires
+    enum-known-count
+    enum-known-refusal
+    fault-number-requires
+    returns
+    returns-2)

@@ -1,0 +1,104 @@
+use Prim.Native.Nat.{ℕ, suc, _<_}
+use mathlib.Core.Path.{sym, ap, _∙_}
+use native.Mathlib.Omega.{arith}
+use borrow.Author.Needs.{needs}
+use Rattle.units.specs.Units.{outsFrom, outs-length, outs-at, place-up, input-cut, input-constant, input-output, input-bad}
+use Rattle.format.specs.Read.{ending}
+use Rattle.format.specs.Fields.{indexBelow}
+use native.Mathlib.Nat.{le-trans}
+use Rattle.units.proofs.read_input.Statement.{statement}
+use Rattle.units.proofs.read_input.Tie as tie
+
+int32-requires : tie.Need-int32-requires
+int32-requires c κs = search needs
+
+enum-known-unit : tie.Need-enum-known-unit
+enum-known-unit c = search needs
+
+read-index-requires : tie.Need-read-index-requires
+read-index-requires c κs = search needs
+
+returns : tie.Need-returns
+returns c =
+    let a = c .before .before .before .before .before .before .before .args in
+    let read = sym (rw (c .before .before .before .unit .given .1) at (c .before .before .before .before .before .int32 .ensures)) in
+    c .read-index .ensures ∙ sym (input-constant (a .constants) (outsFrom (a .s .now) (a .start) (a .units)) (a .s .now) (a .cursor .at) read (c .before .if1 .taken))
+
+returns-2 : tie.Need-returns-2
+returns-2 c =
+    let a = c .before .before .before .before .before .before .before .args in
+    let read = sym (rw (c .before .before .before .unit .given .1) at (c .before .before .before .before .before .int32 .ensures)) in
+    sym (input-bad (a .constants) (outsFrom (a .s .now) (a .start) (a .units)) (a .s .now) (a .cursor .at) read (c .before .if1 .left) (rw outs-length (omega arith)))
+
+cast-index : tie.Need-cast-index
+cast-index c = search needs
+
+mul-read-index : tie.Need-mul-read-index
+mul-read-index c = search needs
+
+element-copy-out-read-index : tie.Need-element-copy-out-read-index
+element-copy-out-read-index c = search needs
+
+read-index-requires-2 : tie.Need-read-index-requires-2
+read-index-requires-2 c κs = search needs
+
+returns-3 : tie.Need-returns-3
+returns-3 c =
+    let a = c .before .before .before .before .before .before .before .before .before .before .args in
+    let u = c .before .before .before .before .before .before .unit .given .0 .0 in
+    let read = sym (rw (c .before .before .before .before .before .before .unit .given .1) at (c .before .before .before .before .before .before .before .before .int32 .ensures)) in
+    let less : u < a .units = omega arith in
+    let known = outs-at (a .s .now) (a .start) (a .units) u less in
+    let fact = c .before .before .before .before .before .before .before .before .before .before .pre .known u less (c .before .before .if3 .taken) in
+    c .read-index2 .ensures
+    ∙ ap (λ (b : ℕ). ending (indexBelow b (a .s .now) (c .before .before .before .before .before .before .unit .given .0 .1 .0 .at))) (fact ∙ sym known)
+    ∙ sym (input-output (a .constants) (outsFrom (a .s .now) (a .start) (a .units)) (a .s .now) (a .cursor .at) read (c .before .before .before .before .if1 .left) (rw outs-length less))
+
+far-outputs-requires : tie.Need-far-outputs-requires
+far-outputs-requires c κs =
+    let a = c .before .before .before .before .before .before .before .before .args in
+    let u = c .before .before .before .before .unit .given .0 .0 in
+    le-trans (place-up (a .s .now) (a .start) (suc u) (a .units) (omega arith)) (c .before .before .before .before .before .before .before .before .pre .within (omega arith))
+
+read-index-requires-3 : tie.Need-read-index-requires-3
+read-index-requires-3 c κs = search needs
+
+enum-known-refusal : tie.Need-enum-known-refusal
+enum-known-refusal c = search needs
+
+returns-4 : tie.Need-returns-4
+returns-4 c =
+    let a = c .before .before .before .before .before .before .before .before .before .before .args in
+    let u = c .before .before .before .before .before .before .unit .given .0 .0 in
+    let read = sym (rw (c .before .before .before .before .before .before .unit .given .1) at (c .before .before .before .before .before .before .before .before .int32 .ensures)) in
+    let less : u < a .units = omega arith in
+    let known = outs-at (a .s .now) (a .start) (a .units) u less in
+    c .read-index3 .ensures
+    ∙ ap (λ (b : ℕ). ending (indexBelow b (a .s .now) (c .before .before .before .before .before .before .unit .given .0 .1 .0 .at))) (c .before .far-outputs .ensures ∙ sym known)
+    ∙ sym (input-output (a .constants) (outsFrom (a .s .now) (a .start) (a .units)) (a .s .now) (a .cursor .at) read (c .before .before .before .before .if1 .left) (rw outs-length less))
+
+returns-5 : tie.Need-returns-5
+returns-5 c =
+    let a = c .before .before .before .before .before .args in
+    let read = sym (rw (c .before .refusal .given .1) at (c .before .before .before .int32 .ensures)) in
+    sym (input-cut (a .constants) (outsFrom (a .s .now) (a .start) (a .units)) (a .s .now) (a .cursor .at) read)
+
+pub read-input-spec : {M : Type 1} → statement M
+read-input-spec =
+    tie.close
+    (tie.spec
+    int32-requires
+    enum-known-unit
+    read-index-requires
+    returns
+    returns-2
+    cast-index
+    mul-read-index
+    element-copy-out-read-index
+    read-index-requires-2
+    returns-3
+    far-outputs-requires
+    read-index-requires-3
+    enum-known-refusal
+    returns-4
+    returns-5)

@@ -1,0 +1,254 @@
+-- Units by their shape: how many outputs a unit has and where it ends, from its counts alone; and the outputs of the units before one.
+use Prim.{tt}
+use Prim.Native.Nat.{ℕ, zero, suc, _+_, _*_, _-_, _/_, _≤_, _<_}
+use mathlib.Core.Bool.{Bool, true, false}
+use mathlib.Core.Path.{_≡_, refl, sym, ap, _∙_}
+use mathlib.Core.List.{List, [], _∷_, _++_}
+use mathlib.Core.Logic.{⊎-elim}
+use native.Mathlib.Omega.{arith}
+use native.Mathlib.Nat.{eq-or-lt-of-le, sub-zero}
+use native.Mathlib.Numerals.{add-one}
+use lib.ListN.{length, getD, set, length-set, length-append, List·getD-append}
+use lib.Seq.{getD-at, getD-set-same, getD-set-other}
+use lib.Dec.{ltb, eqb}
+use borrow.Author.Tests.{eq-eqb, ne-eqb, lt-ltb, le-ltb}
+use Rattle.words.specs.Choice.{pick}
+use Rattle.faults.specs.declared.Fault.{Fault}
+use Rattle.faults.specs.declared.Fault.the-variants.{BadIndex}
+use Rattle.format.specs.Read.{Read, got, bad, andThen, repeat, ending, mapRead}
+use Rattle.format.specs.Fields.{word, int16, name, count, rate, integer, indexBelow}
+use Rattle.format.specs.Definition.{constant, output, UnitSpec}
+use Rattle.format.specs.Reader.{input, readUnit, readUnits, minusOne, sizeLimit}
+use Rattle.format.specs.Endings.{then-got, then-bad, mapped-got, fact-then, fact-ending, ending-fact, ending-keeps, FixedSize, repeat-got, field-got}
+use Rattle.format.specs.RepeatLaws.{went-on}
+use Rattle.format.specs.Sizes.{index-sized, rate-sized, count-got, name-got}
+
+-- behind a unit's class and rate: the counts of its inputs and outputs, the special index, the inputs and the rates
+unfoldable pub unitCounts : List ℕ → ℕ → ℕ
+unitCounts s at = at + 2 + getD s at 0
+
+unfoldable pub unitOutputs : List ℕ → ℕ → ℕ
+unitOutputs s at = word s (unitCounts s at + 4)
+
+unfoldable pub unitEnd : List ℕ → ℕ → ℕ
+unitEnd s at = unitCounts s at + 10 + 8 * word s (unitCounts s at) + unitOutputs s at
+
+-- where the unit number n starts, where the first one starts at a place
+unfoldable pub unitPlace : List ℕ → ℕ → ℕ → ℕ
+unitPlace s start zero = start
+unitPlace s start (suc n) = unitEnd s (unitPlace s start n)
+
+-- how many outputs each of the first n units has
+unfoldable pub outsFrom : List ℕ → ℕ → ℕ → List ℕ
+outsFrom s start zero = []
+outsFrom s start (suc n) = outsFrom s start n ++ (unitOutputs s (unitPlace s start n) ∷ [])
+
+pub outs-length : (s : List ℕ) (start n : ℕ) → length (outsFrom s start n) ≡ n
+unfolding outsFrom
+outs-length s start zero = refl
+outs-length s start (suc n) = length-append (outsFrom s start n) _ ∙ omega (arith, outs-length s start n)
+
+pub outs-at : (s : List ℕ) (start n u : ℕ) → u < n → getD (outsFrom s start n) u 0 ≡ unitOutputs s (unitPlace s start u)
+unfolding outsFrom
+outs-at s start zero u h = absurd (omega arith)
+outs-at s start (suc n) u h =
+    let most : u ≤ n = omega arith in
+    ⊎-elim
+    (λ same. rw same (getD-at (outsFrom s start n) _ [] 0 n (outs-length s start n)))
+    (λ less. List·getD-append (outsFrom s start n) _ 0 u (rw outs-length less) ∙ outs-at s start n u less)
+    (eq-or-lt-of-le most)
+
+pub place-up : (s : List ℕ) (start u n : ℕ) → u ≤ n → unitPlace s start u ≤ unitPlace s start n
+unfolding unitPlace unitEnd unitCounts
+place-up s start u zero h =
+    let e : u ≡ 0 = omega arith in
+    rw e (omega arith)
+place-up s start u (suc n) h =
+    ⊎-elim
+    (λ same. rw same (omega arith))
+    (λ less. omega (arith, place-up s start u n (omega arith)))
+    (eq-or-lt-of-le h)
+
+-- an input takes eight bytes
+pub input-sized : (k : ℕ) (outs s : List ℕ) → FixedSize (input k outs s) 8 (length s)
+input-sized k outs s at x next h =
+    went-on (integer s at) _ h (λ u n e rest.
+    let w = field-got 4 s at _ e in
+    behind (eqb u minusOne) (ltb u (length outs)) u (getD outs u 0) (w .1) rest) where
+      behind : (c d : Bool) (u b : ℕ) {n : ℕ} → n ≡ at + 4
+          → pick c (andThen (indexBelow k s n) (λ i end. got (constant i) end)) (pick d (andThen (indexBelow b s n) (λ o end. got (output u o) end)) (bad BadIndex at)) ≡ got x next
+          → (next ≡ at + 8) × (next ≤ length s)
+      behind true d u b {n = n} e r =
+          went-on (indexBelow k s n) _ r (λ i m f last.
+          let q = index-sized k s n i m f in
+          let g : m ≡ next = cc in (omega arith, omega arith))
+      behind false true u b {n = n} e r =
+          went-on (indexBelow b s n) _ r (λ i m f last.
+          let q = index-sized b s n i m f in
+          let g : m ≡ next = cc in (omega arith, omega arith))
+      behind false false u b e r = absurd (let z : _≡_ {A = ℕ} 0 1 = cc in omega arith)
+
+-- the shape of a unit that was read
+pub record Shaped (s : List ℕ) (at out end : ℕ) : Type 0 where
+  pub outputs : out ≡ unitOutputs s at
+  pub past : end ≡ unitEnd s at
+  pub within : end ≤ length s
+
+pub unit-shape : (k : ℕ) (outs s : List ℕ) (at : ℕ) {out end : ℕ} → mapRead (λ (u : UnitSpec). length (u .outputs)) (readUnit k outs s at) ≡ got out end → Shaped s at out end
+unfolding readUnit unitCounts unitOutputs unitEnd
+unit-shape k outs s at {out} {end} h =
+    let t = mapped-got _ (readUnit k outs s at) h in
+    went-on (name s at) _ (t .read) (λ class p1 e1 r1.
+    went-on (rate s p1) _ r1 (λ r p2 e2 r2.
+    went-on (count s p2) _ r2 (λ many p3 e3 r3.
+    went-on (count s p3) _ r3 (λ o p4 e4 r4.
+    went-on (int16 s p4) _ r4 (λ special p5 e5 r5.
+    went-on (repeat (input k outs s) many p5) _ r5 (λ inputs p6 e6 r6.
+    went-on (repeat (rate s) o p6) _ r6 (λ outputs p7 e7 r7.
+    let a = name-got s at e1 in
+    let b = rate-sized s p1 r p2 e2 in
+    let c = count-got s p2 e3 in
+    let d = count-got s p3 e4 in
+    let e = field-got 2 s p4 _ e5 in
+    let f = repeat-got (input k outs s) 8 (length s) (input-sized k outs s) many p5 e6 in
+    let g = repeat-got (rate s) 1 (length s) (rate-sized s) o p6 e7 in
+    let l : got (length outputs) p7 ≡ got (length (t .value .outputs)) end = ap (mapRead (λ (u : UnitSpec). length (u .outputs))) r7 in
+    let m : length outputs ≡ length (t .value .outputs) = cc in
+    let n : p7 ≡ end = cc in
+    let o1 : out ≡ o = sym (t .same) ∙ sym m ∙ g .many in
+    let q2 : p2 ≡ at + 2 + getD s at 0 = omega arith in
+    let q3 : p3 ≡ at + 2 + getD s at 0 + 4 = omega arith in
+    let ins : many ≡ word s (at + 2 + getD s at 0) = c .0 ∙ ap (λ (p : ℕ). word s p) q2 in
+    let out1 : o ≡ word s (at + 2 + getD s at 0 + 4) = d .0 ∙ ap (λ (p : ℕ). word s p) q3 in
+    record { outputs = o1 ∙ out1; past = omega (arith, f .past, g .past); within = omega (arith, g .within (f .within (e .2))) })))))))
+
+-- a unit of which the outputs are fact, field by field
+unfoldable pub skipUnit : ℕ → List ℕ → List ℕ → ℕ → Read ℕ
+skipUnit k outs s at =
+    andThen (name s at) (λ class p1.
+    andThen (rate s p1) (λ r p2.
+    andThen (count s p2) (λ many p3.
+    andThen (count s p3) (λ out p4.
+    andThen (int16 s p4) (λ special p5.
+    andThen (ending (repeat (input k outs s) many p5)) (λ u p6.
+    andThen (ending (repeat (rate s) out p6)) (λ v end.
+    got out end)))))))
+
+pub skip-unit : (k : ℕ) (outs s : List ℕ) (at : ℕ) → mapRead (λ (u : UnitSpec). length (u .outputs)) (readUnit k outs s at) ≡ skipUnit k outs s at
+unfolding readUnit skipUnit
+skip-unit k outs s at =
+    fact-then _ (name s at) _ _ (λ class p1.
+    fact-then _ (rate s p1) _ _ (λ r p2.
+    fact-then _ (count s p2) _ _ (λ many p3.
+    fact-then _ (count s p3) _ _ (λ out p4.
+    fact-then _ (int16 s p4) _ _ (λ special p5.
+    fact-ending _ (repeat (input k outs s) many p5) _ _ (λ inputs p6 e6.
+    fact-ending _ (repeat (rate s) out p6) _ (λ end. got out end) (λ outputs end e7.
+    let many = repeat-got (rate s) 1 (length s) (rate-sized s) out p6 e7 .many in
+    ap (λ (n : ℕ). got n end) many)))))))
+
+-- one unit of several
+pub skip-units : (k : ℕ) (s : List ℕ) (n : ℕ) (outs : List ℕ) (at : ℕ)
+    → ending (readUnits k s (suc n) outs at) ≡ andThen (mapRead (λ (u : UnitSpec). length (u .outputs)) (readUnit k outs s at)) (λ o next. ending (readUnits k s n (outs ++ (o ∷ [])) next))
+unfolding readUnits
+skip-units k s n outs at =
+    ending-fact _ (readUnit k outs s at) _ _ (λ u next. ending-keeps (readUnits k s n (outs ++ (length (u .outputs) ∷ [])) next) (λ us. u ∷ us))
+
+-- How many units' outputs are remembered while a definition is read. A unit takes at least 12 bytes, and a definition 20 besides: a name of one byte, four
+-- counts of four bytes and one of two. So a definition within the size limit has fewer units than this (`units-remembered` of Forward).
+abbrev pub remembered : ℕ
+remembered = (sizeLimit - 20) / 12 + 1
+
+-- what is known of the units before one: they lie in the file, and the outputs of the first of them are in outs
+pub record Remembered (s : List ℕ) (start units : ℕ) (outs : List ℕ) : Type 0 where
+  pub within : 0 < units → unitPlace s start units ≤ length s
+  pub known : (u : ℕ) → u < units → u < remembered → getD outs u 0 ≡ unitOutputs s (unitPlace s start u)
+
+-- the ways through an input
+pub input-cut : (k : ℕ) (outs s : List ℕ) (at : ℕ) {q : Fault} {place : ℕ} → integer s at ≡ bad q place → ending (input k outs s at) ≡ bad q place
+input-cut k outs s at e = ap ending (then-bad _ e)
+
+pub input-constant : (k : ℕ) (outs s : List ℕ) (at : ℕ) {u next : ℕ} → integer s at ≡ got u next → u ≡ minusOne
+    → ending (input k outs s at) ≡ ending (indexBelow k s next)
+input-constant k outs s at {u} {next} e h = rw (e, eq-eqb u minusOne h) (ending-keeps (indexBelow k s next) constant)
+
+pub input-output : (k : ℕ) (outs s : List ℕ) (at : ℕ) {u next : ℕ} → integer s at ≡ got u next → (u ≡ minusOne → ⊥) → u < length outs
+    → ending (input k outs s at) ≡ ending (indexBelow (getD outs u 0) s next)
+input-output k outs s at {u} {next} e h l =
+    rw (e, ne-eqb u minusOne h, lt-ltb u (length outs) l) (ending-keeps (indexBelow (getD outs u 0) s next) (output u))
+
+pub input-bad : (k : ℕ) (outs s : List ℕ) (at : ℕ) {u next : ℕ} → integer s at ≡ got u next → (u ≡ minusOne → ⊥) → length outs ≤ u
+    → ending (input k outs s at) ≡ bad BadIndex at
+input-bad k outs s at {u} {next} e h l = rw (e, ne-eqb u minusOne h, le-ltb u (length outs) l)
+
+-- The turns of a loop that reads units one by one, behind i of them: what is left to read, from the present place, reads as the whole does from the first.
+pub record Standing (k : ℕ) (s : List ℕ) (start count : ℕ) (outs : List ℕ) (at i : ℕ) : Type 0 where
+  pub most : i ≤ count
+  pub here : at ≡ unitPlace s start i
+  pub sized : length outs ≡ remembered
+  pub known : Remembered s start i outs
+  pub left : ending (readUnits k s (count - i) (outsFrom s start i) at) ≡ ending (readUnits k s count [] start)
+
+pub stands-first : (k : ℕ) (s : List ℕ) (start count : ℕ) (outs : List ℕ) → length outs ≡ remembered → Standing k s start count outs start 0
+unfolding unitPlace outsFrom
+stands-first k s start count outs h = record {
+  most = omega arith;
+  here = refl;
+  sized = h;
+  known = record { within = λ l. absurd (omega arith); known = λ u l m. absurd (omega arith) };
+  left = rw sub-zero;
+}
+
+module _ (k : ℕ) (s : List ℕ) (start count : ℕ) {outs : List ℕ} {at i : ℕ} (st : Standing k s start count outs at i) where
+  pub stands-shaped : {o next : ℕ} → skipUnit k (outsFrom s start i) s at ≡ got o next → Shaped s (unitPlace s start i) o next
+  stands-shaped {o} {next} e = rw (st .here) at (unit-shape k (outsFrom s start i) s at (skip-unit k (outsFrom s start i) s at ∙ e))
+
+  pub stands-turn : i < count → ending (readUnits k s (count - i) (outsFrom s start i) at)
+      ≡ andThen (skipUnit k (outsFrom s start i) s at) (λ o next. ending (readUnits k s (count - suc i) (outsFrom s start i ++ (o ∷ [])) next))
+  stands-turn l =
+      let more : count - i ≡ suc (count - suc i) = omega arith in
+      rw more (skip-units k s (count - suc i) (outsFrom s start i) at
+      ∙ ap (λ (r : Read ℕ). andThen r (λ o next. ending (readUnits k s (count - suc i) (outsFrom s start i ++ (o ∷ [])) next))) (skip-unit k (outsFrom s start i) s at))
+
+  pub stands-next : {o next : ℕ} (outs' : List ℕ) → i < count → skipUnit k (outsFrom s start i) s at ≡ got o next
+      → length outs' ≡ remembered → ((u : ℕ) → u < i → getD outs' u 0 ≡ getD outs u 0) → (i < remembered → getD outs' i 0 ≡ o)
+      → Standing k s start count outs' next (i + 1)
+  unfolding unitPlace outsFrom
+  stands-next {o} {next} outs' l e h same new =
+      let shape = stands-shaped e in
+      rw add-one record {
+        most = omega arith;
+        here = shape .past;
+        sized = h;
+        known = record {
+          within = λ m. omega (arith, shape .past, shape .within);
+          known = λ u m n.
+              let upto : u ≤ i = omega arith in
+              ⊎-elim
+              (λ last. rw last (new (omega arith) ∙ shape .outputs))
+              (λ less. same u less ∙ st .known .known u less n)
+              (eq-or-lt-of-le upto);
+        };
+        left = ap (λ (x : ℕ). ending (readUnits k s (count - suc i) (outsFrom s start i ++ (x ∷ [])) next)) (sym (shape .outputs))
+            ∙ sym (stands-turn l ∙ then-got (λ o next. ending (readUnits k s (count - suc i) (outsFrom s start i ++ (o ∷ [])) next)) e)
+            ∙ st .left;
+      }
+
+  -- a unit whose outputs are remembered, and one past those
+  pub stands-set : {o next : ℕ} → i < count → i < remembered → skipUnit k (outsFrom s start i) s at ≡ got o next → Standing k s start count (set outs i o) next (i + 1)
+  stands-set {o} l m e =
+      stands-next (set outs i o) l e (length-set outs i o ∙ st .sized) (λ u h. getD-set-other outs i u o 0 (λ same. omega arith))
+      (λ h. getD-set-same outs i o 0 (rw (st .sized) m))
+
+  pub stands-past : {o next : ℕ} → i < count → remembered ≤ i → skipUnit k (outsFrom s start i) s at ≡ got o next → Standing k s start count outs next (i + 1)
+  stands-past l m e = stands-next outs l e (st .sized) (λ u h. refl) (λ h. absurd (omega arith))
+
+  pub stands-bad : {q : Fault} {place : ℕ} → i < count → skipUnit k (outsFrom s start i) s at ≡ bad q place → ending (readUnits k s count [] start) ≡ bad q place
+  stands-bad l e =
+      sym (st .left) ∙ stands-turn l ∙ then-bad (λ o next. ending (readUnits k s (count - suc i) (outsFrom s start i ++ (o ∷ [])) next)) e
+
+  pub stands-done : count ≤ i → ending (readUnits k s count [] start) ≡ got tt at
+  unfolding readUnits
+  stands-done l =
+      let none : count - i ≡ 0 = omega arith in
+      sym (st .left) ∙ rw none
