@@ -96,7 +96,7 @@ module _ {A : Type 0} (key : A → ℕ) where
   abbrev pub putOver : Forest A → ℕ → Forest A → Forest A
   putOver g n f = edit n (λ x b a. beside g a) f
 
-  -- "A move takes A's subtree out and puts it in where fact."
+  -- "A move takes A's subtree out and puts it in where told."
   abbrev pub placeBefore : ℕ → ℕ → Forest A → Forest A
   placeBefore m n f = putBefore (subtree m f) n (free m f)
 

@@ -14,7 +14,7 @@ use Rattle.nodes.specs.Table.{width, nodeFrom, wordsOf, rows, row-from, rows-en
 use Rattle.nodes.specs.Place.{isGroup, deeper, deeper-turn, deeper-end, nested, end-most}
 use Rattle.nodes.specs.Edit.{takeDeeper, dropDeeper, onlyGroups}
 use Rattle.nodes.specs.Split.{dropDeeper-at}
-use Rattle.deep.specs.Over.{over-length, over-rows, over-more, over-none}
+use Rattle.tree.specs.Over.{over-length, over-rows, over-more, over-none}
 
 -- the groups among the records deeper than d
 abbrev pub groupsBelow : ℕ → List Node → List Node

@@ -1,15 +1,15 @@
--- `deep::deep_free` meets its contract: what the sweep leaves, then what the removal leaves of it.
+-- `tree::deep::deep_free` meets its contract: what the sweep leaves, then what the removal leaves of it.
 use Prim.Native.Nat.{_+_, _*_}
 use mathlib.Core.Path.{refl}
 use native.Mathlib.Omega.{arith}
 use borrow.Author.Needs.{needs}
 use lib.ListN.{getD}
 use Rattle.nodes.specs.Table.{rows}
-use Rattle.nodes.specs.Edit.{deepFree}
-use Rattle.deep.specs.Sweep.{Ends, swept-ends}
-use Rattle.deep.specs.Deep.{left-leaves, deep-at}
-use Rattle.deep.proofs.deep_free.Statement.{statement}
-use Rattle.deep.proofs.deep_free.Tie as tie
+use Rattle.nodes.specs.Edit.{editAt, deepFreeHere}
+use Rattle.tree.specs.Sweep.{Ends, swept-ends}
+use Rattle.tree.specs.Deep.{left-leaves, deep-at}
+use Rattle.tree.proofs.deep.deep_free.Statement.{statement}
+use Rattle.tree.proofs.deep.deep_free.Tie as tie
 
 mul-depth : tie.Need-mul-depth
 mul-depth c = omega arith
@@ -54,8 +54,8 @@ returns c =
     let read = b .sweep .result .read in
     let write = b .sweep .result .write in
     let s = b .sweep .ensures in
-    λ k here. left-leaves us (b .sweep .last .0) n (a .at + 1) depth read write (omega arith) (omega arith) s (deepFree k (rows n us)) (d .remove .last .0) (d .remove .result)
-    (deep-at us n k (a .at) depth read here (omega arith) refl (s .past)) (d .remove .ensures)
+    left-leaves us (b .sweep .last .0) n (a .at + 1) depth read write (omega arith) (omega arith) s (editAt (a .at) deepFreeHere (rows n us)) (d .remove .last .0) (d .remove .result)
+    (deep-at us n (a .at) read (omega arith) (s .past)) (d .remove .ensures)
 
 pub deep-free-spec : {M : Type 1} → statement M
 deep-free-spec =

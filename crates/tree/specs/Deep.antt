@@ -1,17 +1,17 @@
 -- A deep free in words: what the sweep leaves, with the records behind the run moved down to it.
 use Prim.Native.Nat.{ℕ, _+_, _*_, _≤_, _<_}
-use mathlib.Core.Path.{_≡_, sym, ap, ap₂, _∙_}
+use mathlib.Core.Path.{_≡_, refl, sym, ap, ap₂, _∙_}
 use mathlib.Core.List.{List, _++_, append-assoc}
 use native.Mathlib.Omega.{arith}
 use lib.ListN.{length, take, drop, getD, length-append, length-take}
 use Rattle.nodes.specs.declared.Node.{Node}
 use Rattle.nodes.specs.Table.{width, rows, rows-length, rows-take, encode, encode-rows, encode-length, encode-append, rows-encode, fill}
-use Rattle.nodes.specs.Place.{place, deeper}
-use Rattle.nodes.specs.Edit.{onlyGroups, deepFree}
+use Rattle.nodes.specs.Sizes.{depthAt, endAt}
+use Rattle.nodes.specs.Edit.{onlyGroups, editAt, deepFreeHere}
 use Rattle.nodes.specs.Split.{takeDeeper-at, deepFree-at}
 use Rattle.tree.specs.Sizes.{Leaves}
-use Rattle.deep.specs.Over.{over-past, over-rows}
-use Rattle.deep.specs.Sweep.{groupsBelow, Swept, Ends, swept-ends}
+use Rattle.tree.specs.Over.{over-past, over-rows}
+use Rattle.tree.specs.Sweep.{groupsBelow, Swept, Ends, swept-ends}
 
 module _ (us ws : List ℕ) (count from d read write : ℕ) (inside : from ≤ count) (room : width * count ≤ length us) (s : Swept us count from from d ws read write) where
   abbrev kept : List Node
@@ -73,9 +73,9 @@ module _ (us ws : List ℕ) (count from d read write : ℕ) (inside : from ≤ c
         size = h .size ∙ ap (λ (t : List Node). length t) same;
       }
 
--- the node n, found at the place at
-pub deep-at : (us : List ℕ) (count n at d read : ℕ) → at ≡ place n (rows count us) → at < count → d ≡ getD us (width * at + 1) 0 → read ≡ at + 1 + deeper d (drop (at + 1) (rows count us))
-    → deepFree n (rows count us) ≡ take (at + 1) (rows count us) ++ (groupsBelow d (drop (at + 1) (rows count us)) ++ drop read (rows count us))
-deep-at us count n at d read here live deep end =
-    deepFree-at count us n at here live d read deep end
-    ∙ ap (λ (l : List Node). take (at + 1) (rows count us) ++ (onlyGroups l ++ drop read (rows count us))) (sym (takeDeeper-at d (drop (at + 1) (rows count us))))
+-- the record at a place
+pub deep-at : (us : List ℕ) (count at read : ℕ) → at < count → read ≡ endAt count us at
+    → editAt at deepFreeHere (rows count us) ≡ take (at + 1) (rows count us) ++ (groupsBelow (depthAt us at) (drop (at + 1) (rows count us)) ++ drop read (rows count us))
+deep-at us count at read live end =
+    deepFree-at count us at live (depthAt us at) read refl end
+    ∙ ap (λ (l : List Node). take (at + 1) (rows count us) ++ (onlyGroups l ++ drop read (rows count us))) (sym (takeDeeper-at (depthAt us at) (drop (at + 1) (rows count us))))

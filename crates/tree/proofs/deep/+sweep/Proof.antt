@@ -1,4 +1,4 @@
--- `deep::sweep` meets its contract: a cycle of one, whose measure is the number of nodes still allowed. The invariant: a sweep of the rest, from the present places and words, leaves what the whole sweep leaves.
+-- `tree::deep::sweep` meets its contract: a cycle of one, whose measure is the number of nodes still allowed. The invariant: a sweep of the rest, from the present places and words, leaves what the whole sweep leaves.
 use Prim.Native.Nat.{ℕ, _+_, _*_, _-_, _≤_, _<_}
 use mathlib.Core.Path.{_≡_, refl}
 use mathlib.Core.List.{List}
@@ -7,14 +7,14 @@ use borrow.Author.Needs.{needs}
 use lib.ListN.{length, getD}
 use borrow.Fn.Kinds.{In}
 use borrow.Fn.PlainCycle.{Measures, is, falls, and}
-use Rattle.deep.specs.Sweep.{Swept, swept-end, swept-stop, swept-synth, swept-group, Ends, swept-ends, copied-length}
+use Rattle.tree.specs.Sweep.{Swept, swept-end, swept-stop, swept-synth, swept-group, Ends, swept-ends, copied-length}
 use Rattle.nodes.specs.Table.{nodeFrom}
-use Rattle.deep.proofs.sweep.Reads as sweep
-use Rattle.deep.proofs.sweep.Kinds as sweep-kinds
-use Rattle.deep.proofs.+sweep.Lts-sweep as sweep-lts
-use Rattle.deep.proofs.copy_record.Reads as copy-record-reads
-use Rattle.deep.proofs.+sweep.{statement}
-use Rattle.deep.proofs.+sweep.Tie.{close}
+use Rattle.tree.proofs.deep.sweep.Reads as sweep
+use Rattle.tree.proofs.deep.sweep.Kinds as sweep-kinds
+use Rattle.tree.proofs.deep.+sweep.Lts-sweep as sweep-lts
+use Rattle.tree.proofs.deep.copy_record.Reads as copy-record-reads
+use Rattle.tree.proofs.deep.+sweep.{statement}
+use Rattle.tree.proofs.deep.+sweep.Tie.{close}
 
 abbrev μ-sweep : Measures 1 sweep-kinds.ps ℕ
 μ-sweep κs a = a .1 .1 .1 .1 .1 .0
