@@ -1,5 +1,4 @@
 -- `tree::add::add_node` meets its contract: a record put in at the position's place, or over the target.
-use Prim.Native.Nat.{_≤_}
 use mathlib.Core.Path.{_≡_, sym, ap, _∙_}
 use mathlib.Core.List.{List, [], _∷_, _++_}
 use native.Mathlib.Omega.{arith}

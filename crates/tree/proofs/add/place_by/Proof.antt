@@ -1,5 +1,4 @@
 -- `tree::add::place_by` meets its contract: each case is the definition's.
-use native.Mathlib.Omega.{arith}
 use mathlib.Core.Path.{_≡_, ap}
 use Prim.Native.Nat.{ℕ, _+_}
 use Rattle.nodes.specs.Sizes.{depthAt}

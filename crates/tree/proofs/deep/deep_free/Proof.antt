@@ -1,6 +1,5 @@
 -- `tree::deep::deep_free` meets its contract: what the sweep leaves, then what the removal leaves of it.
 use Prim.Native.Nat.{_+_, _*_}
-use mathlib.Core.Path.{refl}
 use native.Mathlib.Omega.{arith}
 use borrow.Author.Needs.{needs}
 use lib.ListN.{getD}
