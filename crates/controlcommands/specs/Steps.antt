@@ -13,6 +13,7 @@ use Rattle.refusals.specs.declared.Refusal.the-variants.{NoNode, NoControl, NoB
 use Rattle.nodes.specs.declared.Node.{Node}
 use Rattle.nodes.specs.Place.{end-most}
 use Rattle.values.specs.declared.Key.{Key}
+use Rattle.values.specs.declared.NodeArgument.{NodeArgument}
 use Rattle.values.specs.declared.Value.{Value}
 use Rattle.values.specs.declared.ValuePattern.the-variants.{Pattern}
 use Rattle.values.specs.Controls.{ControlValue, setTo, mapTo}
@@ -93,7 +94,7 @@ unfolding threeChecks firstOf
 third r a q b c h g = rw (h, g)
 
 -- the node that an argument names, at its place
-module _ (n : ℕ) (ws bs : List ℕ) (at : ℕ) (named : Named n ws at) where
+module _ (n : NodeArgument) (ws bs : List ℕ) (at : ℕ) (named : Named n ws at) where
   pub no-node : (c : ControlCommand) (bytes : List ℕ) (q : Refusal) (b d : Bool) → answerIn (command.Controls c) bytes (decode ws bs) 0 ≡ threeChecks NoNode (not (known n (decode ws bs))) q b d
       → countIn ws ≤ at → Steps c bytes ws bs (Refused NoNode) ws
   unfolding threeChecks firstOf
@@ -134,7 +135,7 @@ module _ (n : ℕ) (ws bs : List ℕ) (at : ℕ) (named : Named n ws at) where
     }
 
 -- the rows of the table
-module _ (n : ℕ) (key : Key) (bytes ws bs : List ℕ) where
+module _ (n : NodeArgument) (key : Key) (bytes ws bs : List ℕ) where
   pub set-row : (value : Value)
       → answerIn (command.Controls (controls.Set n key value)) bytes (decode ws bs) 0
       ≡ threeChecks NoNode (not (known n (decode ws bs))) BadValue (not (inBounds value)) (noControls key 1 bytes n (decode ws bs))
@@ -154,7 +155,7 @@ module _ (n : ℕ) (key : Key) (bytes ws bs : List ℕ) where
   map-row bus = refl
 
 -- what each command comes to once its node is found and its value or bus is one
-module _ (n : ℕ) (key : Key) (bytes ws bs : List ℕ) (at : ℕ) (named : Named n ws at) (live : at < countIn ws) (a : Answer) (ws′ : List ℕ) where
+module _ (n : NodeArgument) (key : Key) (bytes ws bs : List ℕ) (at : ℕ) (named : Named n ws at) (live : at < countIn ws) (a : Answer) (ws′ : List ℕ) where
   pub set-ran : (value : Value) (p : ℕ) → patternOf value ≡ Pattern p → Changed (change.Set p) key 1 bytes at ws bs a ws′ → Steps (controls.Set n key value) bytes ws bs a ws′
   set-ran value p fact changes =
       let t = pattern-fact value p fact in

@@ -10,6 +10,7 @@ use refusals::Refusal;
 use tree::subtree_end;
 use values::Key;
 use values::Mapping;
+use values::NodeArgument;
 use values::Value;
 use values::ValuePattern;
 use values::value_pattern;
@@ -48,7 +49,7 @@ fn change_run(
 
 // /n_set
 fn set_control(
-    node: u32,
+    node: NodeArgument,
     key: Key,
     value: Value,
     bytes: &[u8],
@@ -73,7 +74,7 @@ fn set_control(
 
 // /n_fill
 fn fill_controls(
-    node: u32,
+    node: NodeArgument,
     key: Key,
     count: u32,
     value: Value,
@@ -119,7 +120,7 @@ fn mapping_to(bus: u32) -> Mapping
 
 // /n_map
 fn map_control(
-    node: u32,
+    node: NodeArgument,
     key: Key,
     bus: u32,
     bytes: &[u8],

@@ -15,10 +15,8 @@ use Rattle.nodes.specs.Place.{isGroup}
 use Rattle.values.specs.declared.Key.{Key}
 use Rattle.values.specs.Controls.{ControlValue, controlAt, shownBy}
 use Rattle.model.specs.Layout.{rowWords, countIn, controlsIn, busesIn}
-use Rattle.model.specs.Engine.{Slot, Engine, decode, definitionOf, controlsFrom, controlsOf}
+use Rattle.model.specs.Engine.{Slot, decode, definitionOf, controlsFrom, controlsOf}
 use Rattle.model.specs.Meaning.{isNegative, negativeKey, startOf, hasControls}
-use Rattle.model.specs.Checks.{noControls}
-use Rattle.model.specs.Meaning as meaning
 use Rattle.model.specs.Replies.{noControl, readAt}
 use Rattle.controls.specs.Encoded.{frontIn, frontOnly, start-front}
 use Rattle.controls.specs.Ready.{Ready, nodeIn, slotBytes, synth-ready}
@@ -28,9 +26,6 @@ abbrev pub controlsMissing : Key → ℕ → List ℕ → List Slot → Node →
 controlsMissing key count name slots r =
     either (either (negativeKey key) (isNegative count))
     (pick (isGroup r) false (not (hasControls (startOf key name (definitionOf slots r)) count (definitionOf slots r))))
-
-pub missing-known : (key : Key) (count : ℕ) (name : List ℕ) (target : ℕ) (e : Engine) → noControls key count name target e ≡ controlsMissing key count name (e .slots) (meaning.node target e)
-missing-known key count name target e = refl
 
 -- the control of a row at an index
 abbrev pub controlIn : List ℕ → ℕ → ℕ → ControlValue

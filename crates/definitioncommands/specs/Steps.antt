@@ -49,7 +49,7 @@ unfolding decode
 slots-many ws bs = slots-length slotCount (lengthsIn ws) (flagsIn ws) bs
 
 -- what the check of a file tells
-pub verdict-bad : (r : Read (List Definition)) {q : Refusal} {at : ℕ} → verdict r ≡ checked.Refused q at → r ≡ bad q at
+pub verdict-bad : (r : Read (List Definition)) {q : Fault} {at : ℕ} → verdict r ≡ checked.Refused q at → r ≡ bad q at
 verdict-bad (got ds end) h = absurd (let z : _≡_ {A = ℕ} 0 1 = cc in omega arith)
 verdict-bad (bad p place) h = cc
 

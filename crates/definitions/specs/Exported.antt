@@ -105,7 +105,7 @@ unfolding among
 residents-file slots many fine apart =
     rw (le-leb (length (definitionsIn (residents slots))) mostDefinitions (omega (arith, residents-fewer slots))) (fine-definitions slots [] fine apart (λ k h r. refl))
 
--- "an export loaded into a fresh one gives the same definitions": an export is read as the residents' definitions, in slot order
+-- Demand 2, an export loaded into a fresh engine gives the same definitions: an export is read as the residents' definitions, in slot order
 pub export-read : (slots : List Slot) → length slots ≡ slotCount → AllFine slots → namesApart slots ≡ true
     → readFile (exportFile slots) ≡ got (definitionsIn (residents slots)) (length (exportFile slots))
 export-read slots many fine apart = file-back (definitionsIn (residents slots)) (residents-file slots many fine apart)
@@ -214,7 +214,7 @@ fresh-residents ds file slots t many out idle =
     ap definitionsIn (loaded-behind ds [] (retired (namesOf ds) slots) t refl (retired-out (namesOf ds) slots out) (omega arith) (λ k l. idle k (omega arith)))
     ∙ new-definitions ds [] (c .1)
 
--- "What a fresh engine accepts is exported byte for byte": a file loaded where no slot is taken
+-- Demand 2, what a fresh engine accepts is exported byte for byte: a file loaded where no slot is taken
 pub fresh-export : (file : List ℕ) → Bytes file → (ds : List Definition) (end : ℕ) → readFile file ≡ got ds end
     → (slots : List Slot) (t : List Node) → length slots ≡ slotCount → AllOut slots → ((k : ℕ) → k < slotCount → held k t ≡ false)
     → exportFile (loaded ds (retired (namesOf ds) slots) t) ≡ file

@@ -14,7 +14,7 @@ use Rattle.ops.specs.declared.Parsed.{Parsed}
 use Rattle.ops.specs.declared.Parsed.the-variants.{Call, Nothing}
 use Rattle.ops.specs.Numbers.{callNumber}
 
--- a fresh engine: "0 or the refusal"
+-- a fresh engine: 0 or the refusal's number
 pub record Made (ws bs : List ℕ) (r : ℕ) (ws′ bs′ : List ℕ) : Type 0 where
   pub number : r ≡ answerNumber (freshAnswer ws bs)
   pub words : ws′ ≡ freshWords ws bs
@@ -26,7 +26,7 @@ pub record Answered (c : Command) (bytes ws bs out : List ℕ) (r : ℕ) (ws′ 
   pub number : r ≡ callNumber answer
   pub does : Does c bytes ws bs out answer ws′ bs′ out′
 
--- "An `op` that is none of these answers 255 and changes nothing."
+-- an `op` that is no command's answers 255 and changes nothing
 pub record Unknown (ws bs out : List ℕ) (r : ℕ) (ws′ bs′ out′ : List ℕ) : Type 0 where
   pub number : r ≡ 255
   pub words : ws′ ≡ ws

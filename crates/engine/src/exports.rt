@@ -1,5 +1,5 @@
 // What Rust and C call: slices as a pointer and a length, integers and floats as their 32-bit patterns.
-use crate::apply::apply;
+use crate::commands::apply;
 use ops::Parsed;
 use ops::call_number;
 use ops::command_of;

@@ -1,10 +1,10 @@
-// The engine: the one door for commands, and what other languages call. Nothing here asks anything of what it is lent.
-mod apply;
+// The engine: `apply`, which every command goes through, and what other languages call. Nothing here asks anything of what it is lent.
+mod commands;
 mod exports;
 mod query;
 
-pub use apply::apply;
-pub use apply::step;
+pub use commands::apply;
+pub use commands::step;
 pub use exports::engine_apply;
 pub use exports::engine_fresh;
 pub use exports::engine_arena;

@@ -1,4 +1,4 @@
--- Demand 3, of one accepted command: "nodes that it neither adds, moves nor frees keep their order among themselves".
+-- Demand 3, of one accepted command: nodes that it neither adds, moves nor frees keep their order among themselves.
 use Prim.Native.Nat.{ℕ}
 use mathlib.Core.Bool.{Bool, true, false}
 use mathlib.Core.Path.{_≡_, refl, sym, ap, _∙_}

@@ -1,4 +1,4 @@
--- Demand 3: "numbers are distinct, every node descends from the root by one parent", of every well-formed state.
+-- Demand 3: numbers are distinct, and every node descends from the root by one parent, of every well-formed state.
 use Prim.Native.Nat.{ℕ}
 use mathlib.Core.Bool.{Bool, true}
 use mathlib.Core.Path.{_≡_, refl, sym, ap, _∙_}

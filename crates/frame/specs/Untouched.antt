@@ -1,4 +1,4 @@
--- Demand 3, of one accepted command: "a node outside the subtrees that it adds, moves, sets, maps, turns on or off, or frees keeps its kind, parent, definition, run flag and controls".
+-- Demand 3, of one accepted command: a node outside the subtrees that it adds, moves, sets, maps, turns on or off, or frees keeps its kind, parent, definition, run flag and controls.
 use Prim.Native.Nat.{ℕ, _<_}
 use mathlib.Core.Bool.{Bool, true, false, not}
 use mathlib.Core.Path.{_≡_, refl, subst}
@@ -16,6 +16,7 @@ use Rattle.treerefinement.specs.Keep.{within-formed}
 use Rattle.treerefinement.specs.Left.{left, left-cut}
 use Rattle.treerefinement.specs.Untouched.{Untouched}
 use Rattle.values.specs.declared.Mapping.the-variants.{Unmapped, Bus}
+use Rattle.values.specs.declared.NodeArgument.{NodeArgument}
 use Rattle.values.specs.Controls.{mappingWord, setTo, mapTo}
 use Rattle.values.specs.Values.{pattern}
 use Rattle.model.specs.declared.DefinitionCommand.{DefinitionCommand}
@@ -67,7 +68,7 @@ module _ (bytes sizes : List ℕ) (e : Engine) (k : Sound sizes e) where
   plain c s q h = tree-entries c h (all-of (λ r. rw (s, q)) (left (touched (command.Tree c) e) (e .nodes)))
 
   -- the new synth, which has a row of its own
-  module _ (number action target : ℕ) (h : firstOf (treeChecks (tree.NewSynth number action target) bytes e) Done ≡ Done) where
+  module _ (number action : ℕ) (target : NodeArgument) (h : firstOf (treeChecks (tree.NewSynth number action target) bytes e) Done ≡ Done) where
     abbrev made : TreeCommand
     made = tree.NewSynth number action target
 

@@ -12,6 +12,7 @@ use Rattle.refusals.specs.declared.Refusal.the-variants.{BadFlag, BadNumber, Nu
 use Rattle.nodes.specs.Table.{rows, rows-length}
 use Rattle.nodes.specs.Place.{lives, place, lives-place}
 use Rattle.nodes.specs.Formed.{noneLeft}
+use Rattle.values.specs.declared.NodeArgument.{NodeArgument}
 use Rattle.model.specs.declared.TreeCommand.the-variants as tree
 use Rattle.model.specs.declared.Answer.the-variants.{Done, Refused}
 use Rattle.model.specs.Layout.{slotCount, countIn, nextIn, lengthsIn, flagsIn, nodesIn}
@@ -51,14 +52,14 @@ unfolding decode
 absent slot bytes ws bs h = ap₂ leb (slots-many slotCount (lengthsIn ws) (flagsIn ws) bs) (sym h)
 
 -- no check fires, and the target stands at its place, with room
-pub record Clear (number action target slot : ℕ) (ws : List ℕ) (at : ℕ) : Type 0 where
+pub record Clear (number action : ℕ) (target : NodeArgument) (slot : ℕ) (ws : List ℕ) (at : ℕ) : Type 0 where
   pub passed : (bytes bs : List ℕ) → Meant slot bytes ws bs → firstOf (treeChecks (tree.NewSynth number action target) bytes (decode ws bs)) Done ≡ Done
   pub low : action ≤ 4
   pub there : slot < slotCount
   pub spot : NodeFound target ws at
   pub room : Room (nodeWords ws) (countIn ws) action at
 
-module _ (number action target slot : ℕ) (ws : List ℕ) where
+module _ (number action : ℕ) (target : NodeArgument) (slot : ℕ) (ws : List ℕ) where
   abbrev pub Answers : Refusal → Type 0
   Answers r = (bytes bs : List ℕ) → Meant slot bytes ws bs → firstOf (treeChecks (tree.NewSynth number action target) bytes (decode ws bs)) Done ≡ Refused r
 

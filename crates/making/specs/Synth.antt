@@ -19,6 +19,7 @@ use Rattle.nodes.specs.Table.{rows, over}
 use Rattle.nodes.specs.Place.{lives, place}
 use Rattle.nodes.specs.Order.{order}
 use Rattle.nodes.specs.Formed.{mostNodes, mostRows, noneLeft, firstGiven}
+use Rattle.values.specs.declared.NodeArgument.{NodeArgument}
 use Rattle.model.specs.declared.TreeCommand.the-variants as tree
 use Rattle.model.specs.declared.Command.the-variants as command
 use Rattle.model.specs.declared.Answer.the-variants.{Done, Refused}
@@ -54,13 +55,13 @@ use Rattle.making.specs.Rows.{Standing}
 use Rattle.making.specs.Parts.{put-again, header-put}
 
 -- no check fires on the name in the bytes
-pub record Ground (number action target at slot : ℕ) (bytes ws bs : List ℕ) : Type 0 where
+pub record Ground (number action : ℕ) (target : NodeArgument) (at slot : ℕ) (bytes ws bs : List ℕ) : Type 0 where
   pub known : Known ws bs
   pub meant : Meant slot bytes ws bs
   pub clear : Clear number action target slot ws at
 
 pub record Fit (number action at slot : ℕ) (ws bs : List ℕ) : Type 0 where
-  pub target : ℕ
+  pub target : NodeArgument
   pub bytes : List ℕ
   pub ground : Ground number action target at slot bytes ws bs
 
@@ -92,7 +93,7 @@ module _ (ws bs : List ℕ) (k : Known ws bs) (slot : ℕ) (low : slot < slotCou
       (whole-readable (slotOn (tableIn ws) bs slot .bytes)
       (record { definition = whole .definition; past = getD (tableIn ws) slot 0; reads = whole .read; short = rw lent-bytes (simp length-take (omega arith)) }))
 
-module _ (number action target at slot : ℕ) (bytes ws bs : List ℕ) (g : Ground number action target at slot bytes ws bs) where
+module _ (number action : ℕ) (target : NodeArgument) (at slot : ℕ) (bytes ws bs : List ℕ) (g : Ground number action target at slot bytes ws bs) where
   k : Known ws bs
   k = g .known
 
@@ -245,7 +246,7 @@ module _ (number action target at slot : ℕ) (bytes ws bs : List ℕ) (g : Grou
             (made-left ∙ ap (λ (s : ℕ). putTree (synthMade number action n s (decode ws bs)) ws) (g .meant))
 
 -- a refusal, and the ground for the rest
-module _ (number action target slot : ℕ) (bytes ws bs : List ℕ) (m : Meant slot bytes ws bs) where
+module _ (number action : ℕ) (target : NodeArgument) (slot : ℕ) (bytes ws bs : List ℕ) (m : Meant slot bytes ws bs) where
   pub synth-refused : (r : Refusal) → Answers number action target slot ws r → WordsStep (command.Tree (tree.NewSynth number action target)) bytes ws bs (Refused r) ws
   unfolding answerIn
   synth-refused r h = step-refused (command.Tree (tree.NewSynth number action target)) bytes ws bs r (h bytes bs m)

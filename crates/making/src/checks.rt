@@ -7,12 +7,13 @@ use refusals::Refusal;
 use treecommands::Spot;
 use treecommands::bad_target;
 use treecommands::is_full;
+use values::NodeArgument;
 use words::wide;
 ghost use Rattle.treecommands.specs.Ready.{Ready};
 ghost use Rattle.making.specs.Checks.{SynthPlaced};
 
 // The place of a new synth's target, or the first refusal; the slot is that of the name's resident, 32 where there is none.
-pub fn synth_spot(number: u32, action: u32, target: u32, slot: u32, words: &[u32]) -> Spot
+pub fn synth_spot(number: u32, action: u32, target: NodeArgument, slot: u32, words: &[u32]) -> Spot
     requires { ⌜ Ready (now words) ⌝ }
     ensures { λ r. ⌜ SynthPlaced number action target slot (now (words .entry)) r ⌝ }
 {

@@ -7,9 +7,11 @@ use model::Answer;
 use nodes::Node;
 use treecommands::Spot;
 use treecommands::settle;
+use values::NodeArgument;
 use words::wide;
 ghost use Prim.Native.Nat.{ℕ};
 ghost use mathlib.Core.List.{List};
+ghost use Rattle.values.specs.declared.NodeArgument.{NodeArgument};
 ghost use Rattle.model.specs.declared.TreeCommand.the-variants as tree;
 ghost use Rattle.model.specs.declared.Command.the-variants as command;
 ghost use Rattle.model.specs.declared.Answer.the-variants.{Done};
@@ -20,7 +22,7 @@ ghost use Rattle.making.specs.Synth.{Ground, Fit};
 // A new synth, which runs, put in by the add action, with its definition's initial values.
 fn put_synth(number: u32, action: u32, at: usize, slot: u32, words: &mut [u32], arena: &[u8])
     requires { ⌜ Fit number action at slot (now words) (now arena) ⌝ }
-    ensures { λ r. ⌜ ((target : ℕ) (bytes : List ℕ) → Ground number action target at slot bytes (now (words .entry)) (now (arena .entry)) → WordsStep (command.Tree (tree.NewSynth number action target)) bytes (now (words .entry)) (now (arena .entry)) Done (now (words .exit))) ⌝ }
+    ensures { λ r. ⌜ ((target : NodeArgument) (bytes : List ℕ) → Ground number action target at slot bytes (now (words .entry)) (now (arena .entry)) → WordsStep (command.Tree (tree.NewSynth number action target)) bytes (now (words .entry)) (now (arena .entry)) Done (now (words .exit))) ⌝ }
 {
     let count = wide(words[0]);
     let next = words[2];
@@ -45,7 +47,7 @@ fn put_synth(number: u32, action: u32, at: usize, slot: u32, words: &mut [u32], 
 pub fn new_synth(
     number: u32,
     action: u32,
-    target: u32,
+    target: NodeArgument,
     bytes: &[u8],
     words: &mut [u32],
     arena: &[u8],

@@ -56,7 +56,7 @@ arenaAfter (command.Query q) bytes ws arena = arena
 abbrev pub root : Node
 root = record { number = 0; depth = 0; run = 1; slot = groupSlot; row = 0 }
 
--- a fresh engine's words: the root alone, -8 next, no latest, and zeros; "`fresh` writes every word and byte"
+-- a fresh engine's words: the root alone, -8 next, no latest, and zeros: `fresh` writes every word and byte
 abbrev pub freshState : List ℕ
 freshState =
     1 ∷ (0 ∷ (firstGiven ∷ (0 ∷ (replicate 64 0 ++ (encode (root ∷ []) ++ replicate 22010 0)))))

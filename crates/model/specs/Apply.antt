@@ -1,4 +1,4 @@
--- What every call answers and leaves, for every input: the engine's one door.
+-- What every call answers and leaves, for every input: the one function that commands go through.
 use Prim.Native.Nat.{ℕ, _*_, _+_}
 use mathlib.Core.Bool.{Bool, true, false}
 use mathlib.Core.Path.{_≡_}
@@ -77,7 +77,7 @@ freshWords ws arena = pick (sized ws arena) freshState ws
 unfoldable pub freshArenas : List ℕ → List ℕ → List ℕ
 freshArenas ws arena = pick (sized ws arena) freshArena arena
 
--- an answer as one number: "the refusal's number (0 accepted) plus 256 times the place (refusals 2 to 11) or the length written"
+-- an answer as one number: the refusal's number (0 accepted) plus 256 times the place (refusals 2 to 11) or the length written
 abbrev pub answerNumber : Answer → ℕ
 answerNumber Done = 0
 answerNumber (Replied n) = 256 * n

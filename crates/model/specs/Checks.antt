@@ -15,6 +15,7 @@ use Rattle.nodes.specs.Place.{isGroup, lives}
 use Rattle.nodes.specs.Edit.{isBelow}
 use Rattle.nodes.specs.Formed.{mostNodes, noneLeft}
 use Rattle.values.specs.declared.Key.{Key}
+use Rattle.values.specs.declared.NodeArgument.{NodeArgument}
 use Rattle.values.specs.Values.{inBounds}
 use Rattle.model.specs.declared.DefinitionCommand.{DefinitionCommand}
 use Rattle.model.specs.declared.DefinitionCommand.the-variants as definitions
@@ -78,11 +79,11 @@ badAction action = ltb 4 action
 abbrev pub isRoot : ℕ → Bool
 isRoot n = eqb n 0
 
-abbrev pub notGroup : ℕ → Engine → Bool
+abbrev pub notGroup : NodeArgument → Engine → Bool
 notGroup a e = not (isGroup (node a e))
 
 -- "group or synth needed and it isn't; or the root, where it can't be .. replaced or given a sibling": 0 and 1 go into a group, 2 to 4 beside or over a node
-abbrev pub badTarget : ℕ → ℕ → Engine → Bool
+abbrev pub badTarget : ℕ → NodeArgument → Engine → Bool
 badTarget action target e = pick (ltb action 2) (notGroup target e) (isRoot (meant target e))
 
 -- "256 nodes live (never for action 4)"
@@ -90,7 +91,7 @@ abbrev pub full : ℕ → Engine → Bool
 full action e = both (not (eqb action 4)) (leb mostNodes (length (e .nodes)))
 
 -- "no such control": a negative index or count always; on a synth, controls that it lacks; on a group no more is asked
-abbrev pub noControls : Key → ℕ → List ℕ → ℕ → Engine → Bool
+abbrev pub noControls : Key → ℕ → List ℕ → NodeArgument → Engine → Bool
 noControls key count bytes target e =
     either (either (negativeKey key) (isNegative count))
     (pick (isGroup (node target e)) false (not (hasControls (startOf key bytes (definitionOf (e .slots) (node target e))) count (definitionOf (e .slots) (node target e)))))
@@ -101,7 +102,7 @@ definitionChecks definitions.Receive bytes e = faultOf (readFile bytes) ∷ (che
 definitionChecks definitions.Free bytes e = check NoDefinition (noResident bytes e) ∷ []
 
 -- "place named for a move is the moved node or below it"
-abbrev pub inside : ℕ → ℕ → Engine → Bool
+abbrev pub inside : NodeArgument → NodeArgument → Engine → Bool
 inside place moved e = isBelow (meant place e) (meant moved e) (e .nodes)
 
 -- "`/s_new`: 13, 14, 15, 16, 17, 18, 25, 20. `/g_new`: 13, 14, 15, 17, 18, 20. Moves: 17 and then 18, each by argument order, then 19. `/n_run`: 13, 17."

@@ -17,6 +17,7 @@ use Rattle.nodes.specs.Place.{isGroup, lives}
 use Rattle.nodes.specs.Edit.{isBelow}
 use Rattle.nodes.specs.Structure.{parentOf, childrenOf}
 use Rattle.nodes.specs.Formed.{apart}
+use Rattle.values.specs.declared.NodeArgument.{NodeArgument}
 use Rattle.model.specs.declared.DefinitionCommand.the-variants as definitions
 use Rattle.model.specs.declared.TreeCommand.{TreeCommand}
 use Rattle.model.specs.declared.TreeCommand.the-variants as tree
@@ -56,8 +57,8 @@ refusalIn (Replied n) = 0
 refusalIn (Refused r) = numberOf r
 refusalIn (RefusedAt r at) = faultNumber r
 
--- of what a call does: "Any bytes and any command, in any lent state, end in the effect asked for or in one numbered refusal, by the table's order of checks. A refusal
--- changes nothing in the state or the reply buffer". A command that is accepted was given in a well-formed state, and leaves one.
+-- of what a call does: any bytes and any command, in any lent state, end in the effect asked for or in one numbered refusal, by the table's order of checks. A refusal
+-- changes nothing in the state or the reply buffer. A command that is accepted was given in a well-formed state, and leaves one.
 pub record Ends (c : Command) (bytes ws bs out : List ℕ) (a : Answer) (ws′ bs′ out′ : List ℕ) : Type 0 where
   pub table : a ≡ answer c bytes ws bs out
   pub effected : isAccepted a ≡ true → decode ws′ bs′ ≡ effect c bytes (decode ws bs)
@@ -74,7 +75,7 @@ Demand1 =
 abbrev pub receive : Command
 receive = command.Definitions definitions.Receive
 
--- Demand 2: "What a fresh engine accepts is exported byte for byte; an export loaded into a fresh one gives the same definitions."
+-- Demand 2: what a fresh engine accepts is exported byte for byte; an export loaded into a fresh one gives the same definitions.
 pub record Demand2 : Type 0 where
   pub exported : (file : List ℕ) → AreBytes file → answerIn receive file (decode freshState freshArena) 0 ≡ Done
       → reply query.Export [] (decode (wordsAfter receive file freshState freshArena) (arenaAfter receive file freshState freshArena)) ≡ file
@@ -111,7 +112,7 @@ after c s = record {
   arena = pick (acceptedIn c s) (arenaAfter (c .command) (c .bytes) (s .words) (s .arena)) (s .arena);
 }
 
--- "one claim about every sequence of loads and commands from a fresh engine"
+-- one claim about every sequence of loads and commands from a fresh engine
 abbrev pub freshEngine : State
 freshEngine = record { words = freshState; arena = freshArena }
 
@@ -196,7 +197,7 @@ turnedBy (tree.Head g a) e n = false
 turnedBy (tree.Tail g a) e n = false
 turnedBy (tree.Run a flag) e n = isBelow n (meant a e) (e .nodes)
 
-abbrev pub controlNode : ControlCommand → ℕ
+abbrev pub controlNode : ControlCommand → NodeArgument
 controlNode (controls.Set n key value) = n
 controlNode (controls.Fill n key count value) = n
 controlNode (controls.Map n key bus) = n
@@ -224,7 +225,7 @@ entriesLeft test t [] = []
 entriesLeft test t (r ∷ l) =
     pick (test (r .node .number)) (entriesLeft test t l) (record { node = r .node; parent = parentOf (r .node .number) t } ∷ entriesLeft test t l)
 
--- of one call between the state before it and the state after it: "never refusal 1, each answer as the table says"; "what a command doesn't touch stays as it was": nodes that
+-- of one call between the state before it and the state after it: never refusal 1, each answer as the table says; what a command doesn't touch stays as it was: nodes that
 -- it neither adds, moves nor frees keep their order among themselves; a node outside the subtrees that it adds, moves, sets, maps, turns on or off, or frees keeps its
 -- kind, parent, definition, run flag and controls
 pub record StepHolds (c : Call) (s : State) : Type 0 where
@@ -239,7 +240,7 @@ unfoldable pub EachHolds : List Call → State → Type 0
 EachHolds [] s = Unit {0}
 EachHolds (c ∷ cs) s = StepHolds c s × EachHolds cs (after c s)
 
--- of a tree: "numbers are distinct, every node descends from the root by one parent"
+-- of a tree: numbers are distinct, every node descends from the root by one parent
 pub record TreeHolds (t : List Node) : Type 0 where
   pub distinct : apart t ≡ true
   pub descends : (n : ℕ) → lives n t ≡ true → isBelow n 0 t ≡ true
@@ -259,8 +260,8 @@ isExport (query.Tree g flag) = false
 isExport query.Status = false
 isExport query.Export = true
 
--- of the state after a sequence and the plain tree that was fed the same: "afterwards everything equals paper 01's plain tree, the kept running order equals the one worked
--- out afresh". "All that the plain tree holds is compared: definitions, each synth's and each name's, as read, not by slot; controls by own float and mapping; every float by its bits."
+-- of the state after a sequence and the plain tree that was fed the same: everything equals paper 01's plain tree, the kept running order equals the one worked
+-- out afresh. "All that the plain tree holds is compared: definitions, each synth's and each name's, as read, not by slot; controls by own float and mapping; every float by its bits."
 pub record Same (e : Engine) (p : Plain) : Type 0 where
   pub nodes : view e ≡ plainRows 0 (p .tree)
   pub names : (name : List ℕ) → meaningIn name e ≡ meaning name (p .names)
@@ -281,5 +282,5 @@ pub record Demand3 (cs : List Call) : Type 0 where
   pub each : EachHolds cs freshEngine
   pub same : Same (engineIn (run cs freshEngine)) (replay cs freshEngine atFirst)
   pub tree : TreeHolds (engineIn (run cs freshEngine) .nodes)
-  -- "each synth has the definition its name meant when it was made"
+  -- each synth has the definition its name meant when it was made
   pub synths : (n : ℕ) (d : Definition) → definitionOfSynth n (view (engineIn (run cs freshEngine))) ≡ some d → made cs freshEngine n none ≡ some d

@@ -17,6 +17,7 @@ use Rattle.nodes.specs.Edit.{runOf, cut, cutBelow, deepFree, setRun, addHead, a
 use Rattle.nodes.specs.Order.{order}
 use Rattle.nodes.specs.Formed.{mostRows, rowTaken}
 use Rattle.values.specs.declared.Key.{Key}
+use Rattle.values.specs.declared.NodeArgument.{NodeArgument}
 use Rattle.values.specs.Controls.{ControlValue, controlAt, mappingWord, setTo, mapTo}
 use Rattle.values.specs.Values.{pattern}
 use Rattle.model.specs.declared.DefinitionCommand.{DefinitionCommand}
@@ -167,7 +168,7 @@ abbrev pub withControls : List ℕ → Engine → Engine
 withControls cs e = record { slots = e .slots; nodes = e .nodes; order = e .order; controls = cs; buses = e .buses; next = e .next; latest = e .latest }
 
 -- the node and all below it, reached by a change of controls
-abbrev pub changed : (ControlValue → ControlValue) → ℕ → Key → ℕ → List ℕ → Engine → Engine
+abbrev pub changed : (ControlValue → ControlValue) → NodeArgument → Key → ℕ → List ℕ → Engine → Engine
 changed f n key count bytes e = withControls (changeAll f key bytes count (e .slots) (runOf (meant n e) (e .nodes)) (e .controls)) e
 
 -- "`/n_set`, `/n_fill` store the own float and unmap. `/n_map` to -1 unmaps and the own float returns (H)."

@@ -15,7 +15,7 @@ use Rattle.nodes.specs.Formed.{rowTaken}
 use Rattle.osc.specs.Message.{tags, arguments}
 use Rattle.values.specs.declared.Key.the-variants.{Name}
 use Rattle.values.specs.declared.Value.the-variants.{Float}
-use Rattle.values.specs.Targets.{targetOf}
+use Rattle.values.specs.Targets.{argument, targetOf}
 use Rattle.values.specs.Values.{inBounds, pattern}
 use Rattle.model.specs.declared.DefinitionCommand.the-variants as definitions
 use Rattle.model.specs.declared.TreeCommand.the-variants.{NewSynth, NewGroup, Free, Before, Head, Run}
@@ -45,11 +45,11 @@ abbrev fileOf : ℕ → List ℕ → List ℕ → List ℕ
 fileOf parameters names units =
     header 1 ++ (1 ∷ 97 ∷ []) ++ int 0 ++ int parameters ++ replicate (4 * parameters) 0 ++ names ++ units ++ (0 ∷ 0 ∷ [])
 
--- one parameter name, "x", of the index i
+-- one parameter name, `x`, of the index i
 abbrev oneName : ℕ → List ℕ
 oneName i = int 1 ++ (1 ∷ 120 ∷ []) ++ int i
 
--- one unit, "U", whose one input is output 0 of the unit u
+-- one unit, `U`, whose one input is output 0 of the unit u
 abbrev oneUnit : ℕ → List ℕ
 oneUnit u = int 1 ++ (1 ∷ 85 ∷ 0 ∷ []) ++ int 1 ++ int 1 ++ (0 ∷ 0 ∷ []) ++ int u ++ int 0 ++ (0 ∷ [])
 
@@ -68,9 +68,9 @@ freqName = 102 ∷ 114 ∷ 101 ∷ 113 ∷ []
 abbrev show : List Line
 show =
     line (Definitions definitions.Receive) ping
-    ∷ line (Tree (NewGroup 1 1 0)) []
-    ∷ line (Tree (NewSynth 1000 1 1)) pingName
-    ∷ line (Tree (NewSynth 1001 2 1000)) pingName
+    ∷ line (Tree (NewGroup 1 1 (argument 0))) []
+    ∷ line (Tree (NewSynth 1000 1 (argument 1))) pingName
+    ∷ line (Tree (NewSynth 1001 2 (argument 1000))) pingName
     ∷ []
 
 -- 440.0 and 2.0
@@ -82,14 +82,14 @@ float2 = 1073741824
 
 -- bus 7 at 2.0, the control mapped to it, and then to -1
 abbrev mapped : List Line
-mapped = line (Buses (buses.Set 7 (Float float2))) [] ∷ line (Controls (Map 1000 Name 7)) freqName ∷ []
+mapped = line (Buses (buses.Set 7 (Float float2))) [] ∷ line (Controls (Map (argument 1000) Name 7)) freqName ∷ []
 
 abbrev unmapped : List Line
-unmapped = line (Controls (Map 1000 Name minusOne)) freqName ∷ []
+unmapped = line (Controls (Map (argument 1000) Name minusOne)) freqName ∷ []
 
 -- the last four bytes of a reply to `/s_get` 1000 freq: the value read
 abbrev valueRead : List Line → List ℕ
-valueRead ls = drop 28 (replied ls (line (Query (query.Control 1000 Name)) freqName))
+valueRead ls = drop 28 (replied ls (line (Query (query.Control (argument 1000) Name)) freqName))
 
 abbrev pub table : List Example
 table =
@@ -110,9 +110,9 @@ table =
     -- "running order 1001, 1000. Then run 1 off: empty."
     ∷ example (answersOf show) (0 ∷ 0 ∷ 0 ∷ 0 ∷ [])
     ∷ example (orderAfter show) (1001 ∷ 1000 ∷ [])
-    ∷ example (orderAfter (show ++ (line (Tree (Run 1 0)) [] ∷ []))) []
+    ∷ example (orderAfter (show ++ (line (Tree (Run (argument 1) 0)) [] ∷ []))) []
     -- "`/g_head` 1 with node 1 is 19; `/n_before` 1000 1000 is 19; `/n_free` 0 is 18."
-    ∷ example (answersOf (show ++ (line (Tree (Head 1 1)) [] ∷ line (Tree (Before 1000 1000)) [] ∷ line (Tree (Free 0)) [] ∷ [])))
+    ∷ example (answersOf (show ++ (line (Tree (Head (argument 1) (argument 1))) [] ∷ line (Tree (Before (argument 1000) (argument 1000))) [] ∷ line (Tree (Free (argument 0))) [] ∷ [])))
     (0 ∷ 0 ∷ 0 ∷ 0 ∷ 19 ∷ 19 ∷ 18 ∷ [])
     -- "own 440.0, mapped to bus 7 at 2.0, reads 2.0; mapped to -1, reads 440.0."
     ∷ example (valueRead show) (67 ∷ 220 ∷ 0 ∷ 0 ∷ [])

@@ -9,6 +9,7 @@ use Rattle.words.specs.Choice.{pick, both}
 use Rattle.synthdef.specs.Definition.{Definition}
 use Rattle.nodes.specs.declared.Node.{Node}
 use Rattle.nodes.specs.Place.{lives}
+use Rattle.values.specs.declared.NodeArgument.{NodeArgument}
 use Rattle.values.specs.declared.Target.{Target}
 use Rattle.values.specs.declared.Target.the-variants.{Latest, Number, Reserved}
 use Rattle.values.specs.declared.Key.{Key}
@@ -41,11 +42,11 @@ knownBy (Number n) latest t = lives n t
 knownBy Reserved latest t = false
 
 -- the number of the node that an argument names, and whether there is such a node
-abbrev pub meant : ℕ → Engine → ℕ
-meant a e = meantBy (targetOf a) (e .latest)
+abbrev pub meant : NodeArgument → Engine → ℕ
+meant a e = meantBy (targetOf (a .number)) (e .latest)
 
-abbrev pub known : ℕ → Engine → Bool
-known a e = knownBy (targetOf a) (e .latest) (e .nodes)
+abbrev pub known : NodeArgument → Engine → Bool
+known a e = knownBy (targetOf (a .number)) (e .latest) (e .nodes)
 
 -- a node of the table by its number
 abbrev pub noRecord : Node
@@ -55,7 +56,7 @@ unfoldable pub nodeNamed : ℕ → List Node → Node
 nodeNamed n [] = noRecord
 nodeNamed n (r ∷ l) = pick (eqb (r .number) n) r (nodeNamed n l)
 
-abbrev pub node : ℕ → Engine → Node
+abbrev pub node : NodeArgument → Engine → Node
 node a e = nodeNamed (meant a e) (e .nodes)
 
 -- the control where a key starts, in a definition: an index as it stands, a name by its first entry

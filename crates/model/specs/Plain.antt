@@ -14,6 +14,7 @@ use Rattle.nodes.specs.Forest as forest
 use Rattle.nodes.specs.Order.{orderTree}
 use Rattle.nodes.specs.Formed.{firstGiven}
 use Rattle.values.specs.declared.Key.{Key}
+use Rattle.values.specs.declared.NodeArgument.{NodeArgument}
 use Rattle.values.specs.declared.Mapping.the-variants.{Unmapped}
 use Rattle.values.specs.Controls.{ControlValue, setTo, mapTo}
 use Rattle.values.specs.Targets.{targetOf}
@@ -121,8 +122,8 @@ growSynth number action target d p = record {
 }
 
 -- "A node named -1 is the latest."
-abbrev pub meantIn : ℕ → Plain → ℕ
-meantIn a p = meantBy (targetOf a) (p .latest)
+abbrev pub meantIn : NodeArgument → Plain → ℕ
+meantIn a p = meantBy (targetOf (a .number)) (p .latest)
 
 abbrev pub turned : ℕ → PlainNode → PlainNode
 turned flag x = record { number = x .number; run = flag; kind = x .kind }
@@ -155,7 +156,7 @@ abbrev pub changeNode : (ControlValue → ControlValue) → Key → List ℕ →
 changeNode f key bytes count x = record { number = x .number; run = x .run; kind = changeKind f key bytes count (x .kind) }
 
 -- "On a group these reach every synth at any depth that has the control, and skip the others."
-abbrev pub growChanged : (ControlValue → ControlValue) → ℕ → Key → ℕ → List ℕ → Plain → Plain
+abbrev pub growChanged : (ControlValue → ControlValue) → NodeArgument → Key → ℕ → List ℕ → Plain → Plain
 growChanged f n key count bytes p =
     let g : PlainNode → PlainNode = changeNode f key bytes count in
     record {

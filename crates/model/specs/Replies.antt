@@ -12,6 +12,7 @@ use Rattle.nodes.specs.Structure.{noNode, childCount, headOf, tailOf, parentOf,
 use Rattle.osc.specs.Message.{Argument, int, float, text, message, decimal}
 use Rattle.values.specs.declared.Key.{Key}
 use Rattle.values.specs.declared.Key.the-variants.{Index, Name}
+use Rattle.values.specs.declared.NodeArgument.{NodeArgument}
 use Rattle.values.specs.declared.Mapping.{Mapping}
 use Rattle.values.specs.declared.Mapping.the-variants.{Unmapped, Bus}
 use Rattle.values.specs.Controls.{ControlValue, shownBy}
@@ -105,8 +106,8 @@ controlArguments i names [] = []
 controlArguments i names (c ∷ cs) =
     labelArgument (firstName i names) i ∷ (mappingArgument (c .mapping) (c .own) ∷ controlArguments (i + 1) names cs)
 
--- "`/g_queryTree` as in 000": "node ID; number of child nodes contained within this node. If -1 this is a synth, if >=0 it's a group; then, if this node is a synth: the
--- SynthDef name for this node; then, if flag (see above) is true: numControls for this synth (M)", and for each control its name or index and its value or mapping
+-- "`/g_queryTree` as in 000": "node ID .. number of child nodes contained within this node. If -1 this is a synth, if >=0 it's a group .. then, if this node is a synth: .. the
+-- SynthDef name for this node. .. then, if flag (see above) is true: .. numControls for this synth (M)", and for each control its name or index and its value or mapping
 abbrev pub flagged : Bool → Definition → List ControlValue → List Argument
 flagged true d cs = int (length cs) ∷ controlArguments 0 (d .front .names) cs
 flagged false d cs = []
@@ -134,7 +135,7 @@ unfoldable pub subtreeRows : ℕ → List Row → List Row
 subtreeRows n [] = []
 subtreeRows n (r ∷ l) = pick (eqb (r .node .number) n) (rowsBelow (r .depth) l) (subtreeRows n l)
 
--- "flag: if synth control values are included 1, else 0; node ID of the requested group; number of child nodes contained within the requested group"; "Any nonzero flag is 1."
+-- "flag: if synth control values are included 1, else 0 .. node ID of the requested group .. number of child nodes contained within the requested group"; "Any nonzero flag is 1."
 abbrev pub flagNumber : Bool → ℕ
 flagNumber true = 1
 flagNumber false = 0
@@ -172,7 +173,7 @@ abbrev pub exportFile : List Slot → List ℕ
 exportFile slots = writeFile (definitionsIn (residents slots))
 
 -- the reply to a query about the node that its argument means
-unfoldable pub replyTo : Query → (ℕ → ℕ) → List ℕ → List Row → List ℕ → ℕ → List ℕ → List ℕ
+unfoldable pub replyTo : Query → (NodeArgument → ℕ) → List ℕ → List Row → List ℕ → ℕ → List ℕ → List ℕ
 replyTo (query.Node n) means bytes rows buses names file = infoReply (means n) rows
 replyTo (query.Control n key) means bytes rows buses names file = controlReply (means n) key bytes rows buses
 replyTo (query.Bus bus) means bytes rows buses names file = busReply bus buses

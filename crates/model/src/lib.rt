@@ -1,8 +1,9 @@
 // The values that travel: commands and answers. What they mean stands in specs/.
-use values::Key;
-use values::Value;
 use faults::Fault;
 use refusals::Refusal;
+use values::Key;
+use values::NodeArgument;
+use values::Value;
 
 // Of the definitions; the file or the name is in the bytes lent beside the command.
 pub enum DefinitionCommand {
@@ -18,49 +19,49 @@ pub enum TreeCommand {
     NewSynth {
         number: u32,
         action: u32,
-        target: u32,
+        target: NodeArgument,
     },
     // /g_new
     NewGroup {
         number: u32,
         action: u32,
-        target: u32,
+        target: NodeArgument,
     },
     // /n_free
     Free {
-        node: u32,
+        node: NodeArgument,
     },
     // /g_freeAll
     FreeAll {
-        group: u32,
+        group: NodeArgument,
     },
     // /g_deepFree
     DeepFree {
-        group: u32,
+        group: NodeArgument,
     },
     // /n_before
     Before {
-        node: u32,
-        place: u32,
+        node: NodeArgument,
+        place: NodeArgument,
     },
     // /n_after
     After {
-        node: u32,
-        place: u32,
+        node: NodeArgument,
+        place: NodeArgument,
     },
     // /g_head
     Head {
-        group: u32,
-        node: u32,
+        group: NodeArgument,
+        node: NodeArgument,
     },
     // /g_tail
     Tail {
-        group: u32,
-        node: u32,
+        group: NodeArgument,
+        node: NodeArgument,
     },
     // /n_run
     Run {
-        node: u32,
+        node: NodeArgument,
         flag: u32,
     },
 }
@@ -69,20 +70,20 @@ pub enum TreeCommand {
 pub enum ControlCommand {
     // /n_set
     Set {
-        node: u32,
+        node: NodeArgument,
         key: Key,
         value: Value,
     },
     // /n_fill
     Fill {
-        node: u32,
+        node: NodeArgument,
         key: Key,
         count: u32,
         value: Value,
     },
     // /n_map
     Map {
-        node: u32,
+        node: NodeArgument,
         key: Key,
         bus: u32,
     },
@@ -106,13 +107,13 @@ pub enum BusCommand {
 // Questions, which change nothing.
 pub enum Query {
     // /n_query
-    Node { node: u32 },
+    Node { node: NodeArgument },
     // /s_get
-    Control { node: u32, key: Key },
+    Control { node: NodeArgument, key: Key },
     // /c_get
     Bus { bus: u32 },
     // /g_queryTree
-    Tree { group: u32, flag: u32 },
+    Tree { group: NodeArgument, flag: u32 },
     // /status
     Status,
     // export

@@ -10,6 +10,7 @@ use Rattle.words.specs.Parts.{region}
 use Rattle.nodes.specs.declared.Node.{Node}
 use Rattle.nodes.specs.Table.{width, nodeFrom, row-from}
 use Rattle.nodes.specs.Place.{place}
+use Rattle.values.specs.declared.NodeArgument.{NodeArgument}
 use Rattle.model.specs.Layout.{nodesPlace, nodesWords, countIn, nodesIn}
 use Rattle.model.specs.Engine.{decode}
 use Rattle.model.specs.Meaning.{nodeNamed, meant, node}
@@ -25,7 +26,7 @@ named-record n (x ∷ l) r rest h = go (named-record n l r rest) (eqb (x .number
     go ih true e = head-eq-of-cons-eq e
     go ih false e = ih e
 
-pub named-here : (argument : ℕ) (ws bs : List ℕ) (at : ℕ) → Named argument ws at → at < countIn ws → node argument (decode ws bs) ≡ nodeFrom (region nodesPlace nodesWords ws) (width * at)
+pub named-here : (argument : NodeArgument) (ws bs : List ℕ) (at : ℕ) → Named argument ws at → at < countIn ws → node argument (decode ws bs) ≡ nodeFrom (region nodesPlace nodesWords ws) (width * at)
 unfolding decode
 named-here argument ws bs at n live =
     named-record (meant argument (decode ws bs)) (nodesIn ws) (nodeFrom (region nodesPlace nodesWords ws) (width * at)) (drop (at + 1) (nodesIn ws))

@@ -10,6 +10,7 @@ use lib.Dec.{ltb}
 use Rattle.words.specs.Parts.{region}
 use Rattle.nodes.specs.Table.{rows-length}
 use Rattle.nodes.specs.Place.{place, lives, lives-place, place-most}
+use Rattle.values.specs.declared.NodeArgument.{NodeArgument}
 use Rattle.values.specs.declared.Target.the-variants.{Latest, Number, Reserved}
 use Rattle.values.specs.Targets.{targetOf}
 use Rattle.model.specs.Layout.{wordsLength, countIn, latestIn, nodesIn, nodesPlace, nodesWords}
@@ -26,13 +27,13 @@ pub findable : (ws bs : List ℕ) → Known ws bs → Findable ws
 findable ws bs k = record { size = k .size; few = k .few }
 
 -- a place in the table: below the count exactly where the argument names a node, and then that node's; else the count
-pub record Named (argument : ℕ) (ws : List ℕ) (at : ℕ) : Type 0 where
+pub record Named (argument : NodeArgument) (ws : List ℕ) (at : ℕ) : Type 0 where
   pub most : at ≤ countIn ws
-  pub live : knownBy (targetOf argument) (latestIn ws) (nodesIn ws) ≡ ltb at (countIn ws)
-  pub here : at < countIn ws → at ≡ place (meantBy (targetOf argument) (latestIn ws)) (nodesIn ws)
+  pub live : knownBy (targetOf (argument .number)) (latestIn ws) (nodesIn ws) ≡ ltb at (countIn ws)
+  pub here : at < countIn ws → at ≡ place (meantBy (targetOf (argument .number)) (latestIn ws)) (nodesIn ws)
 
 -- what it says of the engine
-module _ (argument : ℕ) (ws bs : List ℕ) (at : ℕ) (n : Named argument ws at) where
+module _ (argument : NodeArgument) (ws bs : List ℕ) (at : ℕ) (n : Named argument ws at) where
   pub named-known : at < countIn ws → known argument (decode ws bs) ≡ true
   unfolding decode
   named-known h = n .live ∙ lt-ltb at (countIn ws) h
@@ -46,35 +47,35 @@ module _ (argument : ℕ) (ws bs : List ℕ) (at : ℕ) (n : Named argument ws a
   named-place h = n .here h
 
 -- by what an argument is
-module _ (argument : ℕ) (ws : List ℕ) where
+module _ (argument : NodeArgument) (ws : List ℕ) where
   found-live : (m : ℕ) → lives m (nodesIn ws) ≡ ltb (place m (nodesIn ws)) (countIn ws)
   found-live m = lives-place m (nodesIn ws) ∙ ap (λ (k : ℕ). ltb (place m (nodesIn ws)) k) (rows-length (countIn ws) (region nodesPlace nodesWords ws))
 
   found-most : (m : ℕ) → place m (nodesIn ws) ≤ countIn ws
   found-most m = rw rows-length at (place-most m (nodesIn ws))
 
-  pub named-number : (m at : ℕ) → targetOf argument ≡ Number m → at ≡ place m (nodesIn ws) → Named argument ws at
+  pub named-number : (m at : ℕ) → targetOf (argument .number) ≡ Number m → at ≡ place m (nodesIn ws) → Named argument ws at
   named-number m at e h = record {
     most = rw h (found-most m);
     live = rw (e, h) (found-live m);
     here = λ l. rw e h;
   }
 
-  pub named-latest : (at : ℕ) → targetOf argument ≡ Latest → (latestIn ws ≡ 0 → ⊥) → at ≡ place (latestIn ws) (nodesIn ws) → Named argument ws at
+  pub named-latest : (at : ℕ) → targetOf (argument .number) ≡ Latest → (latestIn ws ≡ 0 → ⊥) → at ≡ place (latestIn ws) (nodesIn ws) → Named argument ws at
   named-latest at e some h = record {
     most = rw h (found-most (latestIn ws));
     live = rw (e, h, ne-eqb (latestIn ws) 0 some) (found-live (latestIn ws));
     here = λ l. rw e h;
   }
 
-  pub named-none : targetOf argument ≡ Latest → latestIn ws ≡ 0 → Named argument ws (countIn ws)
+  pub named-none : targetOf (argument .number) ≡ Latest → latestIn ws ≡ 0 → Named argument ws (countIn ws)
   named-none e none = record {
     most = omega arith;
     live = rw (e, eq-eqb (latestIn ws) 0 none) (sym (le-ltb (countIn ws) (countIn ws) (omega arith)));
     here = λ l. absurd (omega arith);
   }
 
-  pub named-reserved : targetOf argument ≡ Reserved → Named argument ws (countIn ws)
+  pub named-reserved : targetOf (argument .number) ≡ Reserved → Named argument ws (countIn ws)
   named-reserved e = record {
     most = omega arith;
     live = rw e (sym (le-ltb (countIn ws) (countIn ws) (omega arith)));

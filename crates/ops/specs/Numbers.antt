@@ -12,7 +12,7 @@ use Rattle.model.specs.Apply.{answerNumber}
 abbrev pub room : ℕ
 room = 72057594037927936
 
--- "the refusal's number (0 accepted) plus 256 times the place (refusals 2 to 11) or the length written": of a number past the room its remainder
+-- the refusal's number (0 accepted) plus 256 times the place (refusals 2 to 11) or the length written: of a number past the room its remainder
 abbrev pub callNumber : Answer → ℕ
 callNumber Done = 0
 callNumber (Replied n) = 256 * (n % room)

@@ -10,8 +10,10 @@ use borrow.Author.Tests.{eq-eqb, ne-eqb}
 use Rattle.words.specs.Choice.{pick}
 use Rattle.values.specs.declared.Key.{Key}
 use Rattle.values.specs.declared.Key.the-variants.{Index, Name}
+use Rattle.values.specs.declared.NodeArgument.{NodeArgument}
 use Rattle.values.specs.declared.Value.{Value}
 use Rattle.values.specs.declared.Value.the-variants.{Float, Integer}
+use Rattle.values.specs.Targets.{argument}
 use Rattle.model.specs.declared.DefinitionCommand.the-variants as definitions
 use Rattle.model.specs.declared.TreeCommand.the-variants as tree
 use Rattle.model.specs.declared.ControlCommand.the-variants as controls
@@ -22,14 +24,14 @@ use Rattle.model.specs.declared.Command.the-variants as command
 use Rattle.ops.specs.declared.Parsed.{Parsed}
 use Rattle.ops.specs.declared.Parsed.the-variants.{Call, Nothing}
 
--- "In a value d is 0 for a float's pattern in e, 1 for an integer in e."
+-- in a value d is 0 for a float's pattern in e, 1 for an integer in e
 abbrev pub valued : ℕ → ℕ → (Value → Command) → Parsed
 valued d e make = pick (eqb d 0) (Call (make (Float e))) (pick (eqb d 1) (Call (make (Integer e))) Nothing)
 
-abbrev pub setting : ℕ → Key → Value → Command
+abbrev pub setting : NodeArgument → Key → Value → Command
 setting node key value = command.Controls (controls.Set node key value)
 
-abbrev pub filling : ℕ → Key → ℕ → Value → Command
+abbrev pub filling : NodeArgument → Key → ℕ → Value → Command
 filling node key count value = command.Controls (controls.Fill node key count value)
 
 abbrev pub busSetting : ℕ → Value → Command
@@ -46,44 +48,44 @@ ops a b c d e =
     ∷ (Call (command.Definitions definitions.Receive)
     ∷ (Call (command.Definitions definitions.Free)
     -- 3 /s_new, 4 /g_new
-    ∷ (Call (command.Tree (tree.NewSynth a b c))
-    ∷ (Call (command.Tree (tree.NewGroup a b c))
+    ∷ (Call (command.Tree (tree.NewSynth a b (argument c)))
+    ∷ (Call (command.Tree (tree.NewGroup a b (argument c)))
     -- 5 /n_free, 6 /g_freeAll, 7 /g_deepFree
-    ∷ (Call (command.Tree (tree.Free a))
-    ∷ (Call (command.Tree (tree.FreeAll a))
-    ∷ (Call (command.Tree (tree.DeepFree a))
+    ∷ (Call (command.Tree (tree.Free (argument a)))
+    ∷ (Call (command.Tree (tree.FreeAll (argument a)))
+    ∷ (Call (command.Tree (tree.DeepFree (argument a)))
     -- 8 /n_before, 9 /n_after, 10 /g_head, 11 /g_tail
-    ∷ (Call (command.Tree (tree.Before a b))
-    ∷ (Call (command.Tree (tree.After a b))
-    ∷ (Call (command.Tree (tree.Head a b))
-    ∷ (Call (command.Tree (tree.Tail a b))
+    ∷ (Call (command.Tree (tree.Before (argument a) (argument b)))
+    ∷ (Call (command.Tree (tree.After (argument a) (argument b)))
+    ∷ (Call (command.Tree (tree.Head (argument a) (argument b)))
+    ∷ (Call (command.Tree (tree.Tail (argument a) (argument b)))
     -- 12 /n_run
-    ∷ (Call (command.Tree (tree.Run a b))
+    ∷ (Call (command.Tree (tree.Run (argument a) b))
     -- 13 /n_set by index, 14 by name
-    ∷ (valued d e (setting a (Index b))
-    ∷ (valued d e (setting a Name)
+    ∷ (valued d e (setting (argument a) (Index b))
+    ∷ (valued d e (setting (argument a) Name)
     -- 15 /n_fill by index, 16 by name
-    ∷ (valued d e (filling a (Index b) c)
-    ∷ (valued d e (filling a Name c)
+    ∷ (valued d e (filling (argument a) (Index b) c)
+    ∷ (valued d e (filling (argument a) Name c)
     -- 17 /n_map by index, 18 by name
-    ∷ (Call (command.Controls (controls.Map a (Index b) c))
-    ∷ (Call (command.Controls (controls.Map a Name c))
+    ∷ (Call (command.Controls (controls.Map (argument a) (Index b) c))
+    ∷ (Call (command.Controls (controls.Map (argument a) Name c))
     -- 19 /c_set, 20 /c_fill
     ∷ (valued d e (busSetting a)
     ∷ (valued d e (busFilling a c)
     -- 21 /s_get by index, 22 by name
-    ∷ (Call (command.Query (query.Control a (Index b)))
-    ∷ (Call (command.Query (query.Control a Name))
+    ∷ (Call (command.Query (query.Control (argument a) (Index b)))
+    ∷ (Call (command.Query (query.Control (argument a) Name))
     -- 23 /c_get, 24 /n_query
     ∷ (Call (command.Query (query.Bus a))
-    ∷ (Call (command.Query (query.Node a))
+    ∷ (Call (command.Query (query.Node (argument a)))
     -- 25 /g_queryTree, 26 /status, 27 export
-    ∷ (Call (command.Query (query.Tree a b))
+    ∷ (Call (command.Query (query.Tree (argument a) b))
     ∷ (Call (command.Query query.Status)
     ∷ (Call (command.Query query.Export)
     ∷ [])))))))))))))))))))))))))))
 
--- "An `op` that is none of these answers 255 and changes nothing."
+-- an `op` that is none of these is no command
 unfoldable pub commandOf : ℕ → ℕ → ℕ → ℕ → ℕ → ℕ → Parsed
 commandOf op a b c d e = getD (ops a b c d e) op Nothing
 

@@ -9,6 +9,7 @@ use model::Query;
 use model::TreeCommand;
 use refusals::refusal_number;
 use values::Key;
+use values::NodeArgument;
 use values::Value;
 ghost use mathlib.Core.Path.{_≡_};
 ghost use Prim.Native.Nat.{_<_, _+_, _*_, _%_};
@@ -23,7 +24,7 @@ pub enum Parsed {
 }
 
 // /n_set
-fn set_control(node: u32, key: Key, kind: u32, value: u32) -> Parsed
+fn set_control(node: NodeArgument, key: Key, kind: u32, value: u32) -> Parsed
     ensures { λ r. ⌜ r ≡ valued kind value (setting node key) ⌝ }
 {
     if kind == 0 {
@@ -44,7 +45,7 @@ fn set_control(node: u32, key: Key, kind: u32, value: u32) -> Parsed
 }
 
 // /n_fill
-fn fill_controls(node: u32, key: Key, count: u32, kind: u32, value: u32) -> Parsed
+fn fill_controls(node: NodeArgument, key: Key, count: u32, kind: u32, value: u32) -> Parsed
     ensures { λ r. ⌜ r ≡ valued kind value (filling node key count) ⌝ }
 {
     if kind == 0 {
@@ -110,6 +111,10 @@ fn fill_buses(start: u32, count: u32, kind: u32, value: u32) -> Parsed
 pub fn command_of(op: u32, a: u32, b: u32, c: u32, d: u32, e: u32) -> Parsed
     ensures { λ r. ⌜ r ≡ commandOf op a b c d e ⌝ }
 {
+    // The nodes that the first three numbers name, where they name nodes.
+    let first = NodeArgument { number: a };
+    let second = NodeArgument { number: b };
+    let third = NodeArgument { number: c };
     match op {
         0 => Parsed::Nothing,
         1 => Parsed::Call(Command::Definitions(DefinitionCommand::Receive)),
@@ -117,48 +122,66 @@ pub fn command_of(op: u32, a: u32, b: u32, c: u32, d: u32, e: u32) -> Parsed
         3 => Parsed::Call(Command::Tree(TreeCommand::NewSynth {
             number: a,
             action: b,
-            target: c,
+            target: third,
         })),
         4 => Parsed::Call(Command::Tree(TreeCommand::NewGroup {
             number: a,
             action: b,
-            target: c,
+            target: third,
         })),
-        5 => Parsed::Call(Command::Tree(TreeCommand::Free { node: a })),
-        6 => Parsed::Call(Command::Tree(TreeCommand::FreeAll { group: a })),
-        7 => Parsed::Call(Command::Tree(TreeCommand::DeepFree { group: a })),
-        8 => Parsed::Call(Command::Tree(TreeCommand::Before { node: a, place: b })),
-        9 => Parsed::Call(Command::Tree(TreeCommand::After { node: a, place: b })),
-        10 => Parsed::Call(Command::Tree(TreeCommand::Head { group: a, node: b })),
-        11 => Parsed::Call(Command::Tree(TreeCommand::Tail { group: a, node: b })),
-        12 => Parsed::Call(Command::Tree(TreeCommand::Run { node: a, flag: b })),
-        13 => set_control(a, Key::Index(b), d, e),
-        14 => set_control(a, Key::Name, d, e),
-        15 => fill_controls(a, Key::Index(b), c, d, e),
-        16 => fill_controls(a, Key::Name, c, d, e),
+        5 => Parsed::Call(Command::Tree(TreeCommand::Free { node: first })),
+        6 => Parsed::Call(Command::Tree(TreeCommand::FreeAll { group: first })),
+        7 => Parsed::Call(Command::Tree(TreeCommand::DeepFree { group: first })),
+        8 => Parsed::Call(Command::Tree(TreeCommand::Before {
+            node: first,
+            place: second,
+        })),
+        9 => Parsed::Call(Command::Tree(TreeCommand::After {
+            node: first,
+            place: second,
+        })),
+        10 => Parsed::Call(Command::Tree(TreeCommand::Head {
+            group: first,
+            node: second,
+        })),
+        11 => Parsed::Call(Command::Tree(TreeCommand::Tail {
+            group: first,
+            node: second,
+        })),
+        12 => Parsed::Call(Command::Tree(TreeCommand::Run {
+            node: first,
+            flag: b,
+        })),
+        13 => set_control(first, Key::Index(b), d, e),
+        14 => set_control(first, Key::Name, d, e),
+        15 => fill_controls(first, Key::Index(b), c, d, e),
+        16 => fill_controls(first, Key::Name, c, d, e),
         17 => Parsed::Call(Command::Controls(ControlCommand::Map {
-            node: a,
+            node: first,
             key: Key::Index(b),
             bus: c,
         })),
         18 => Parsed::Call(Command::Controls(ControlCommand::Map {
-            node: a,
+            node: first,
             key: Key::Name,
             bus: c,
         })),
         19 => set_bus(a, d, e),
         20 => fill_buses(a, c, d, e),
         21 => Parsed::Call(Command::Query(Query::Control {
-            node: a,
+            node: first,
             key: Key::Index(b),
         })),
         22 => Parsed::Call(Command::Query(Query::Control {
-            node: a,
+            node: first,
             key: Key::Name,
         })),
         23 => Parsed::Call(Command::Query(Query::Bus { bus: a })),
-        24 => Parsed::Call(Command::Query(Query::Node { node: a })),
-        25 => Parsed::Call(Command::Query(Query::Tree { group: a, flag: b })),
+        24 => Parsed::Call(Command::Query(Query::Node { node: first })),
+        25 => Parsed::Call(Command::Query(Query::Tree {
+            group: first,
+            flag: b,
+        })),
         26 => Parsed::Call(Command::Query(Query::Status)),
         27 => Parsed::Call(Command::Query(Query::Export)),
         _ => Parsed::Nothing,

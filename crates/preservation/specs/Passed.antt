@@ -11,6 +11,7 @@ use Rattle.nodes.specs.declared.Node.{Node}
 use Rattle.nodes.specs.Place.{isGroup, lives}
 use Rattle.nodes.specs.Formed.{apart, synthLives}
 use Rattle.treerefinement.specs.Latest.{groupNamed, group-nosynth}
+use Rattle.values.specs.declared.NodeArgument.{NodeArgument}
 use Rattle.values.specs.declared.Target.{Target}
 use Rattle.values.specs.declared.Target.the-variants.{Latest, Number, Reserved}
 use Rattle.values.specs.Targets.{targetOf}
@@ -31,8 +32,8 @@ named-lives Latest latest t h = both-true (not (eqb latest 0)) (lives latest t) 
 named-lives (Number n) latest t h = h
 named-lives Reserved latest t h = cc
 
-pub known-lives : (a : ℕ) (e : Engine) → not (known a e) ≡ false → lives (meant a e) (e .nodes) ≡ true
-known-lives a e h = named-lives (targetOf a) (e .latest) (e .nodes) (not-false (known a e) h)
+pub known-lives : (a : NodeArgument) (e : Engine) → not (known a e) ≡ false → lives (meant a e) (e .nodes) ≡ true
+known-lives a e h = named-lives (targetOf (a .number)) (e .latest) (e .nodes) (not-false (known a e) h)
 
 -- a node that is a group: no synth has its number
 pub group-named : (n : ℕ) (t : List Node) → groupNamed n t ≡ isGroup (nodeNamed n t)
@@ -44,5 +45,5 @@ group-named n (r ∷ l) = go (group-named n l) (eqb (r .number) n)
     go ih true = refl
     go ih false = ih
 
-pub group-only : (a : ℕ) (e : Engine) → apart (e .nodes) ≡ true → notGroup a e ≡ false → synthLives (meant a e) (e .nodes) ≡ false
+pub group-only : (a : NodeArgument) (e : Engine) → apart (e .nodes) ≡ true → notGroup a e ≡ false → synthLives (meant a e) (e .nodes) ≡ false
 group-only a e d h = group-nosynth (meant a e) (e .nodes) d (group-named (meant a e) (e .nodes) ∙ not-false (isGroup (node a e)) h)

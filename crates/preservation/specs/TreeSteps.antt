@@ -16,6 +16,7 @@ use Rattle.nodes.specs.Formed.{mostRows, noneLeft, rooted, rowTaken}
 use Rattle.treerefinement.specs.Tally.{tally, tally-cut, Within, same-within, cut-within, cutBelow-within, deepFree-within, moveHead-same, moveTail-same, moveBefore-same, moveAfter-same}
 use Rattle.treerefinement.specs.Keep.{numbered, lives-some, within-formed}
 use Rattle.treerefinement.specs.Rooted.{rooted-cut, rooted-cutBelow, rooted-deepFree, rooted-moveHead, rooted-moveTail, rooted-moveBefore, rooted-moveAfter}
+use Rattle.values.specs.declared.NodeArgument.{NodeArgument}
 use Rattle.model.specs.declared.TreeCommand.{TreeCommand}
 use Rattle.model.specs.declared.TreeCommand.the-variants as tree
 use Rattle.model.specs.declared.Answer.the-variants.{Done}
@@ -67,7 +68,7 @@ module _ (sizes : List ℕ) (e : Engine) (k : Sound sizes e) where
   sound-run n flag low = sound-fewer (setRun n flag (e .nodes)) (tree-run (e .next) (e .latest) (e .nodes) (k .tree) n flag low) (run-fewer n flag (e .nodes))
 
   -- a new node goes in
-  module _ (action target : ℕ) (act : badAction action ≡ false) (there : not (known target e) ≡ false) (kind : badTarget action target e ≡ false) (room : full action e ≡ false) where
+  module _ (action : ℕ) (target : NodeArgument) (act : badAction action ≡ false) (there : not (known target e) ≡ false) (kind : badTarget action target e ≡ false) (room : full action e ≡ false) where
     pub comes : (x : Node) → x .depth ≡ 0 → Added x (addBy action x (meant target e) (e .nodes)) (stayingNodes action (meant target e) (e .nodes)) (e .nodes)
     comes x flat =
         added x flat (meant target e) (e .nodes) (known-lives target e there) (k .tree .root) (k .tree .few) action act room
@@ -123,7 +124,7 @@ module _ (sizes : List ℕ) (e : Engine) (k : Sound sizes e) where
 
 -- from the checks that passed to the rules after
 module _ (bytes sizes : List ℕ) (e : Engine) (k : Sound sizes e) where
-  sound-made : (number action target : ℕ) → firstOf (treeChecks (tree.NewSynth number action target) bytes e) Done ≡ Done → Sound sizes (treeEffect (tree.NewSynth number action target) bytes e)
+  sound-made : (number action : ℕ) (target : NodeArgument) → firstOf (treeChecks (tree.NewSynth number action target) bytes e) Done ≡ Done → Sound sizes (treeEffect (tree.NewSynth number action target) bytes e)
   sound-made number action target h =
       let p0 = passed BadFlag (badAction action) _ h in
       let p1 = passed BadNumber (both (isNegative number) (not (eqb number minusOne))) _ (p0 .1) in
@@ -138,7 +139,7 @@ module _ (bytes sizes : List ℕ) (e : Engine) (k : Sound sizes e) where
       (omega (arith, leb-false (length (e .slots)) (residentOf bytes (e .slots)) (p3 .0), k .many))
       (resident-found bytes (e .slots) (p3 .0))
 
-  sound-new : (number action target : ℕ) → firstOf (treeChecks (tree.NewGroup number action target) bytes e) Done ≡ Done → Sound sizes (treeEffect (tree.NewGroup number action target) bytes e)
+  sound-new : (number action : ℕ) (target : NodeArgument) → firstOf (treeChecks (tree.NewGroup number action target) bytes e) Done ≡ Done → Sound sizes (treeEffect (tree.NewGroup number action target) bytes e)
   sound-new number action target h =
       let p0 = passed BadFlag (badAction action) _ h in
       let p1 = passed BadNumber (isNegative number) _ (p0 .1) in
@@ -149,7 +150,7 @@ module _ (bytes sizes : List ℕ) (e : Engine) (k : Sound sizes e) where
       sound-group sizes e k action target (p0 .0) (p3 .0) (p4 .0) (p5 .0) number (p1 .0) (p2 .0)
 
   -- moves: the two nodes live, the moved one is not the root, and the place is not inside it
-  module _ (place moved : ℕ) (there : not (known place e) ≡ false) (out : inside place moved e ≡ false) where
+  module _ (place moved : NodeArgument) (there : not (known place e) ≡ false) (out : inside place moved e ≡ false) where
     stays : lives (meant place e) (cut (meant moved e) (e .nodes)) ≡ true
     stays = still-lives (meant moved e) (meant place e) (e .nodes) (known-lives place e there) out
 

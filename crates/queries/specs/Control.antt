@@ -10,6 +10,7 @@ use Rattle.nodes.specs.Place.{isGroup}
 use Rattle.osc.specs.Message.{int, float, message, tags, arguments}
 use Rattle.values.specs.declared.Key.{Key}
 use Rattle.values.specs.declared.Key.the-variants.{Index, Name}
+use Rattle.values.specs.declared.NodeArgument.{NodeArgument}
 use Rattle.model.specs.declared.Query.the-variants as query
 use Rattle.model.specs.declared.Answer.{Answer}
 use Rattle.model.specs.declared.Answer.the-variants.{Refused}
@@ -29,7 +30,7 @@ use Rattle.queries.specs.Found.{plain-found}
 use Rattle.queries.specs.Info.{here, number-here, node-here}
 use Rattle.queries.specs.Status.{viewFrom}
 
-module _ (argument : ℕ) (key : Key) (bytes ws bs : List ℕ) (at : ℕ) (n : Named argument ws at) where
+module _ (argument : NodeArgument) (key : Key) (bytes ws bs : List ℕ) (at : ℕ) (n : Named argument ws at) where
   pub control-unknown : countIn ws ≤ at → (b : Answer) → firstOf (queryChecks (query.Control argument key) bytes (decode ws bs)) b ≡ Refused NoNode
   unfolding firstOf
   control-unknown h b = rw (named-unknown argument ws bs at n h)

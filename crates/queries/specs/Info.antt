@@ -9,6 +9,7 @@ use Rattle.nodes.specs.declared.Node.{Node}
 use Rattle.nodes.specs.Place.{place, isGroup}
 use Rattle.nodes.specs.Structure.{headOf, tailOf, parentOf, previousOf, nextOf}
 use Rattle.osc.specs.Message.{int, message, tags, arguments}
+use Rattle.values.specs.declared.NodeArgument.{NodeArgument}
 use Rattle.model.specs.declared.Query.the-variants as query
 use Rattle.model.specs.declared.Answer.{Answer}
 use Rattle.model.specs.declared.Answer.the-variants.{Refused}
@@ -34,7 +35,7 @@ abbrev pub synthTags : List ℕ
 synthTags = 44 ∷ (105 ∷ (105 ∷ (105 ∷ (105 ∷ (105 ∷ [])))))
 
 -- the node that a query names, at its place
-module _ (argument : ℕ) (ws bs : List ℕ) (at : ℕ) (n : Named argument ws at) (a : At ws bs at) where
+module _ (argument : NodeArgument) (ws bs : List ℕ) (at : ℕ) (n : Named argument ws at) (a : At ws bs at) where
   pub here : drop (place (meant argument (decode ws bs)) (nodesIn ws)) (nodesIn ws) ≡ nodeIn ws at ∷ drop (at + 1) (nodesIn ws)
   here = ap (λ (k : ℕ). drop k (nodesIn ws)) (sym (named-place argument ws bs at n (a .live))) ∙ node-there ws bs at a
 
@@ -67,7 +68,7 @@ info-from n ws bs b parent previous next w e =
     ap (infoReply n) (view-from ws bs)
     ∙ rw (e, parent-same slots cs n (nodesIn ws), previous-same slots cs n (nodesIn ws), next-same slots cs n (nodesIn ws), w .isParent, w .isPrevious, w .isNext)
 
-pub group-info : (argument : ℕ) (bytes ws bs : List ℕ) (at : ℕ) → Named argument ws at → At ws bs at → isGroup (nodeIn ws at) ≡ true
+pub group-info : (argument : NodeArgument) (bytes ws bs : List ℕ) (at : ℕ) → Named argument ws at → At ws bs at → isGroup (nodeIn ws at) ≡ true
     → (parent previous next head tail : ℕ) → Around (nodeIn ws at .number) (nodesIn ws) parent previous next → head ≡ headOf (nodeIn ws at .number) (nodesIn ws) → tail ≡ tailOf (nodeIn ws at .number) (nodesIn ws)
     → wordMessage infoAddress groupTags (nodeIn ws at .number ∷ (parent ∷ (previous ∷ (next ∷ (1 ∷ (head ∷ (tail ∷ []))))))) ≡ reply (query.Node argument) bytes (decode ws bs)
 unfolding wordBytes tags arguments replyTo
@@ -80,7 +81,7 @@ group-info argument bytes ws bs at n a isGroup parent previous next head tail w 
     ∙ info-from m ws bs true parent previous next w kind
     ∙ rw (head-same (decode ws bs .slots) (controlsIn ws) m (nodesIn ws), tail-same (decode ws bs .slots) (controlsIn ws) m (nodesIn ws), sym h, sym t))
 
-pub synth-info : (argument : ℕ) (bytes ws bs : List ℕ) (at : ℕ) → Named argument ws at → At ws bs at → isGroup (nodeIn ws at) ≡ false
+pub synth-info : (argument : NodeArgument) (bytes ws bs : List ℕ) (at : ℕ) → Named argument ws at → At ws bs at → isGroup (nodeIn ws at) ≡ false
     → (parent previous next : ℕ) → Around (nodeIn ws at .number) (nodesIn ws) parent previous next
     → wordMessage infoAddress synthTags (nodeIn ws at .number ∷ (parent ∷ (previous ∷ (next ∷ (0 ∷ []))))) ≡ reply (query.Node argument) bytes (decode ws bs)
 unfolding wordBytes tags arguments replyTo
@@ -91,10 +92,10 @@ synth-info argument bytes ws bs at n a single parent previous next w =
     ap (λ (k : ℕ). isGroupKind (plainNamed k (viewFrom ws bs 0) .kind)) same ∙ plain-kind argument ws bs at n a ∙ single in
     sym (ap (λ (k : ℕ). infoReply k (view (decode ws bs))) (sym same) ∙ info-from m ws bs false parent previous next w kind)
 
-pub node-fires : (argument : ℕ) (bytes ws bs : List ℕ) (at : ℕ) → Named argument ws at → countIn ws ≤ at → (b : Answer) → firstOf (queryChecks (query.Node argument) bytes (decode ws bs)) b ≡ Refused NoNode
+pub node-fires : (argument : NodeArgument) (bytes ws bs : List ℕ) (at : ℕ) → Named argument ws at → countIn ws ≤ at → (b : Answer) → firstOf (queryChecks (query.Node argument) bytes (decode ws bs)) b ≡ Refused NoNode
 unfolding firstOf
 node-fires argument bytes ws bs at n h b = rw (named-unknown argument ws bs at n h)
 
-pub node-passes : (argument : ℕ) (bytes ws bs : List ℕ) (at : ℕ) → Named argument ws at → at < countIn ws → (b : Answer) → firstOf (queryChecks (query.Node argument) bytes (decode ws bs)) b ≡ b
+pub node-passes : (argument : NodeArgument) (bytes ws bs : List ℕ) (at : ℕ) → Named argument ws at → at < countIn ws → (b : Answer) → firstOf (queryChecks (query.Node argument) bytes (decode ws bs)) b ≡ b
 unfolding firstOf
 node-passes argument bytes ws bs at n h b = rw (named-known argument ws bs at n h)

@@ -8,6 +8,7 @@ use refusals::Refusal;
 use replies::send_named;
 use replies::send_words;
 use values::Key;
+use values::NodeArgument;
 use words::wide;
 ghost use mathlib.Core.List.{[], _∷_};
 ghost use Rattle.osc.specs.Message.{int, float, message};
@@ -41,7 +42,7 @@ pub fn control_query(
     arena: &[u8],
     bytes: &[u8],
     out: &mut [u8],
-    node: u32,
+    node: NodeArgument,
     key: Key,
 ) -> Answer
     requires { ⌜ Known (now words) (now arena) ⌝ }

@@ -8,13 +8,20 @@ use tree::next_of;
 use tree::parent_of;
 use tree::previous_of;
 use tree::tail_of;
+use values::NodeArgument;
 use words::wide;
 ghost use Rattle.model.specs.declared.Query.the-variants as query;
 ghost use Rattle.state.specs.Known.{Known};
 ghost use Rattle.state.specs.Does.{Reply};
 
 // Where a node stands, as /n_info.
-pub fn node_query(words: &[u32], arena: &[u8], bytes: &[u8], out: &mut [u8], node: u32) -> Answer
+pub fn node_query(
+    words: &[u32],
+    arena: &[u8],
+    bytes: &[u8],
+    out: &mut [u8],
+    node: NodeArgument,
+) -> Answer
     requires { ⌜ Known (now words) (now arena) ⌝ }
     ensures { λ r. ⌜ Reply (query.Node node) (now (bytes .entry)) (now (words .entry)) (now (arena .entry)) (now (out .entry)) r (now (out .exit)) ⌝ }
 {

@@ -104,6 +104,6 @@ pub fn status_query(words: &[u32], arena: &[u8], bytes: &[u8], out: &mut [u8]) -
     let groups = group_count(words, arena);
     let synths = words[0] - groups;
     let names = resident_count(words);
-    let known = [(units % 4294967296) as u32, synths, groups, names];
-    send_words(out, b"/status.reply", b",iiii", &known)
+    let arguments = [(units % 4294967296) as u32, synths, groups, names];
+    send_words(out, b"/status.reply", b",iiii", &arguments)
 }

@@ -17,6 +17,7 @@ use Rattle.model.specs.declared.Query.{Query}
 use Rattle.model.specs.declared.Query.the-variants as query
 use Rattle.model.specs.Engine.{Slot, Engine, definitionOf, controlsOf, residents}
 use Rattle.model.specs.View.{group, synth, PlainNode, Row, isGroupKind, kindIn, viewOf, viewRows, view}
+use Rattle.values.specs.declared.NodeArgument.{NodeArgument}
 use Rattle.values.specs.Targets.{targetOf}
 use Rattle.model.specs.Meaning.{meantBy, meant}
 use Rattle.model.specs.Replies.{replyTo}
@@ -63,8 +64,8 @@ group-kind slots controls x = go (isGroup x)
     go false = refl
 
 -- the reply to a query, of equal parts
-reply-by : (q : Query) (bytes : List ℕ) (m m′ : ℕ → ℕ) (rows rows′ : List Row) (buses buses′ : List ℕ) (n n′ : ℕ) (file : List ℕ) → isExport q ≡ false
-    → ((a : ℕ) → m a ≡ m′ a) → rows ≡ rows′ → buses ≡ buses′ → n ≡ n′ → replyTo q m bytes rows buses n file ≡ replyTo q m′ bytes rows′ buses′ n′ []
+reply-by : (q : Query) (bytes : List ℕ) (m m′ : NodeArgument → ℕ) (rows rows′ : List Row) (buses buses′ : List ℕ) (n n′ : ℕ) (file : List ℕ) → isExport q ≡ false
+    → ((a : NodeArgument) → m a ≡ m′ a) → rows ≡ rows′ → buses ≡ buses′ → n ≡ n′ → replyTo q m bytes rows buses n file ≡ replyTo q m′ bytes rows′ buses′ n′ []
 unfolding replyTo
 reply-by (query.Node a) bytes m m′ rows rows′ buses buses′ n n′ file x h r b k = rw (h a, r)
 reply-by (query.Control a key) bytes m m′ rows rows′ buses buses′ n n′ file x h r b k = rw (h a, r, b)
@@ -92,5 +93,5 @@ kept-same e p k =
           ∙ order-tree (k .forest)
           ∙ sym (ap (λ (f : Forest PlainNode). orderTree numberIn isGroupNode isOnNode f) (k .tree)
           ∙ map-order (viewOf (e .slots) (e .controls)) key numberIn (λ x. refl) isGroup isOn isGroupNode isOnNode (λ x. group-kind (e .slots) (e .controls) x) (λ x. refl) (k .forest));
-      replies = λ q bytes x. reply-by q bytes (λ a. meant a e) (λ a. meantIn a p) (view e) (plainRows 0 (p .tree)) (e .buses) (p .buses) (length (residents (e .slots))) (length (p .names)) _ x (λ a. ap (λ (l : ℕ). meantBy (targetOf a) l) (k .latest)) rows (k .buses) (k .nameCount);
+      replies = λ q bytes x. reply-by q bytes (λ a. meant a e) (λ a. meantIn a p) (view e) (plainRows 0 (p .tree)) (e .buses) (p .buses) (length (residents (e .slots))) (length (p .names)) _ x (λ a. ap (λ (l : ℕ). meantBy (targetOf (a .number)) l) (k .latest)) rows (k .buses) (k .nameCount);
     }

@@ -31,8 +31,8 @@ use Rattle.preservation.specs.Rows.{free-row}
 use Rattle.preservation.specs.TreeSteps.{Sound}
 use Rattle.preservation.specs.TreeKept.{known-sound}
 use Rattle.state.specs.Known.{Known}
-
 use Rattle.values.specs.declared.Mapping.the-variants.{Unmapped, Bus}
+use Rattle.values.specs.declared.NodeArgument.{NodeArgument}
 use Rattle.values.specs.Controls.{mappingWord, setTo, mapTo}
 use Rattle.values.specs.Values.{pattern}
 use Rattle.model.specs.declared.DefinitionCommand.{DefinitionCommand}
@@ -67,20 +67,20 @@ use Rattle.model.specs.Meaning.{known as knownIn}
 -- commands of the tree
 module _ (bytes sizes : List ℕ) (e : Engine) (p : Plain) (s : Sound sizes e) (k : Kept e p) where
   -- a group that is named is no synth of the tree
-  group-nosynth : (a : ℕ) → notGroup a e ≡ false → NoSynth (meant a e) (k .forest)
+  group-nosynth : (a : NodeArgument) → notGroup a e ≡ false → NoSynth (meant a e) (k .forest)
   group-nosynth a h =
       nosynth-tree (meant a e) (k .forest) (ap (λ (l : List Node). synthLives (meant a e) l) (sym (k .laid)) ∙ group-only a e (s .tree .distinct) h)
 
   -- the target of the actions 0 and 1
-  into : (action target : ℕ) → badTarget action target e ≡ false → (i : ℕ) → i < 2 → eqb action i ≡ true → NoSynth (meant target e) (k .forest)
+  into : (action : ℕ) (target : NodeArgument) → badTarget action target e ≡ false → (i : ℕ) → i < 2 → eqb action i ≡ true → NoSynth (meant target e) (k .forest)
   into action target h i low q =
       let same : action ≡ i = eqb-true action i q in
       group-nosynth target (sym (ap (λ (b : Bool). pick b (notGroup target e) (isRoot (meant target e))) (lt-ltb action 2 (omega arith))) ∙ h)
 
-  as-meant : (a : ℕ) → meant a e ≡ meantIn a p
+  as-meant : (a : NodeArgument) → meant a e ≡ meantIn a p
   as-meant a = same-meant a e p k
 
-  pub made-replayed : (number action target : ℕ) → firstOf (treeChecks (tree.NewSynth number action target) bytes e) Done ≡ Done
+  pub made-replayed : (number action : ℕ) (target : NodeArgument) → firstOf (treeChecks (tree.NewSynth number action target) bytes e) Done ≡ Done
       → Kept (treeEffect (tree.NewSynth number action target) bytes e) (growTree (tree.NewSynth number action target) bytes p)
   made-replayed number action target h =
       let p0 = passed BadFlag (badAction action) _ h in

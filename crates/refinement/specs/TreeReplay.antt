@@ -13,6 +13,7 @@ use Rattle.treerefinement.specs.Flatten.{key, lives-has}
 use Rattle.treerefinement.specs.Leaves.{Leaves, NoSynth, leaves-free, leaves-freeBelow, leaves-freeDeep, leaves-run, leaves-subtree, leaves-single, leaves-putBefore, leaves-putAfter, leaves-putOver, leaves-putHead, leaves-putTail, nosynth-free}
 use Rattle.treerefinement.specs.Edits.{cut-tree, cutBelow-tree, deepFree-tree, setRun-tree, addHead-tree, addTail-tree, addBefore-tree, addAfter-tree, addOver-tree, moveBefore-tree, moveAfter-tree, moveHead-tree, moveTail-tree}
 use Rattle.treerefinement.specs.MapForest.{map-has, map-free, map-freeBelow, map-freeDeep, map-change, map-putHead, map-putTail, map-putBefore, map-putAfter, map-putOver, map-placeHead, map-placeTail, map-placeBefore, map-placeAfter}
+use Rattle.values.specs.declared.NodeArgument.{NodeArgument}
 use Rattle.values.specs.Targets.{targetOf}
 use Rattle.model.specs.Engine.{Engine}
 use Rattle.model.specs.View.{group, PlainNode, viewOf}
@@ -22,8 +23,8 @@ use Rattle.model.specs.Plain.{Plain, meantIn, numberIn, isGroupNode, withTree, 
 use Rattle.refinement.specs.Kept.{Kept, seenTree, group-kind}
 
 -- a node argument means the same
-pub same-meant : (a : ℕ) (e : Engine) (p : Plain) → Kept e p → meant a e ≡ meantIn a p
-same-meant a e p k = ap (λ (l : ℕ). meantBy (targetOf a) l) (k .latest)
+pub same-meant : (a : NodeArgument) (e : Engine) (p : Plain) → Kept e p → meant a e ≡ meantIn a p
+same-meant a e p k = ap (λ (l : ℕ). meantBy (targetOf (a .number)) l) (k .latest)
 
 -- other nodes, laid out from a tree that is seen as the other plain tree
 module _ (e : Engine) (p : Plain) (k : Kept e p) where

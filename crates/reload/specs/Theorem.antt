@@ -1,4 +1,4 @@
--- Demand 2: "What a fresh engine accepts is exported byte for byte; an export loaded into a fresh one gives the same definitions."
+-- Demand 2: what a fresh engine accepts is exported byte for byte; an export loaded into a fresh one gives the same definitions.
 use Prim.Native.Nat.{ℕ}
 use mathlib.Core.Bool.{true}
 use mathlib.Core.Path.{_≡_, refl, sym, ap, _∙_}
@@ -22,7 +22,7 @@ use Rattle.model.specs.Checks.{firstOf, check, faultOf, definitionsOf, namesOf,
 use Rattle.model.specs.Replies.{definitionsIn, exportFile, replyTo, reply}
 use Rattle.model.specs.After.{wordsAfter, arenaAfter, freshState, freshArena}
 use Rattle.model.specs.Apply.{answerIn}
-use Rattle.model.specs.Demands.{AreBytes, receive, meaningIn, Demand2}
+use Rattle.model.specs.Demands.{AreBytes, receive, meaningIn, Demand2, definitionAtSlot as residentDefinition}
 use Rattle.roundtrip.specs.Stands.{Bytes, bytes-of-every}
 use Rattle.roundtrip.specs.Forth.{file-forth}
 use Rattle.state.specs.Known.{Known, known}

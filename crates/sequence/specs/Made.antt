@@ -1,4 +1,4 @@
--- "each synth has the definition its name meant when it was made": of one accepted command.
+-- Demand 3, each synth has the definition its name meant when it was made: of one accepted command.
 use Prim.Native.Nat.{ℕ, _<_}
 use mathlib.Core.Bool.{Bool, true, false, not}
 use mathlib.Core.Path.{_≡_, refl, sym, ap, _∙_}
@@ -22,6 +22,7 @@ use Rattle.preservation.specs.Nodes.{Added}
 use Rattle.preservation.specs.Adds.{added}
 use Rattle.preservation.specs.Every.{Fewer, within-fewer, run-fewer}
 use Rattle.preservation.specs.TreeSteps.{Sound, still-lives}
+use Rattle.values.specs.declared.NodeArgument.{NodeArgument}
 use Rattle.model.specs.declared.TreeCommand.{TreeCommand}
 use Rattle.model.specs.declared.TreeCommand.the-variants as tree
 use Rattle.model.specs.declared.ControlCommand.{ControlCommand}
@@ -49,11 +50,11 @@ module _ (bytes sizes : List ℕ) (e : Engine) (s : Sound sizes e) (n : ℕ) (d 
       definition-view (e .slots) (e .controls) n (e .nodes)
       ∙ fewer-definition (e .slots) n d f (s .tree .distinct) (sym (definition-view (e .slots) (e .controls) n t) ∙ v)
 
-  stays : (place moved : ℕ) → not (known place e) ≡ false → inside place moved e ≡ false → lives (meant place e) (cut (meant moved e) (e .nodes)) ≡ true
+  stays : (place moved : NodeArgument) → not (known place e) ≡ false → inside place moved e ≡ false → lives (meant place e) (cut (meant moved e) (e .nodes)) ≡ true
   stays place moved there out = still-lives (meant moved e) (meant place e) (e .nodes) (known-lives place e there) out
 
   -- what came in by an add action
-  comes : (action target : ℕ) (x : Node) → x .depth ≡ 0 → badAction action ≡ false → not (known target e) ≡ false → badTarget action target e ≡ false → full action e ≡ false
+  comes : (action : ℕ) (target : NodeArgument) (x : Node) → x .depth ≡ 0 → badAction action ≡ false → not (known target e) ≡ false → badTarget action target e ≡ false → full action e ≡ false
       → Added x (addBy action x (meant target e) (e .nodes)) (stayingNodes action (meant target e) (e .nodes)) (e .nodes)
   comes action target x flat a0 a1 a2 a3 =
       added x flat (meant target e) (e .nodes) (known-lives target e a1) (s .tree .root) (s .tree .few) action a0 a3

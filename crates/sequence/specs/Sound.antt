@@ -91,7 +91,7 @@ answers-fair (command.Query q) bytes e room = fair-first (queryChecks q bytes e)
     query-fair query.Status = refl
     query-fair query.Export = refl
 
--- "never refusal 1"
+-- Demand 3: never refusal 1
 pub never-one : (c : Command) (bytes : List ℕ) (e : Engine) (room : ℕ) → refusalIn (answerIn c bytes e room) ≡ 1 → ⊥
 never-one c bytes e room = differs (refusalIn (answerIn c bytes e room)) (answers-fair c bytes e room)
   where

@@ -147,7 +147,7 @@ ends (c ∷ cs) b s p madeFrom g =
 fresh-going : Going freshEngine atFirst (λ n. none)
 fresh-going = record { whole = fresh-formed; same = fresh-kept; synths = fresh-synths }
 
--- "one claim about every sequence of loads and commands from a fresh engine"
+-- Demand 3: one claim about every sequence of loads and commands from a fresh engine
 pub demand3 : (cs : List Call) → AllBytes cs → Demand3 cs
 demand3 cs b =
     let g = ends cs b freshEngine atFirst (λ n. none) fresh-going .going in

@@ -1,4 +1,4 @@
--- What the functions behind the state check do, by what they may touch; and that it is what `Does` asks of the door.
+-- What the functions behind the state check do, by what they may touch; and that it is what `Does` asks of `apply`.
 use Prim.{Unit, tt}
 use Prim.Native.Nat.{ℕ}
 use mathlib.Core.Bool.{Bool, true, false}
@@ -64,7 +64,7 @@ answered : (c : Command) (bytes ws bs out : List ℕ) → formed ws bs ≡ true 
 unfolding answer
 answered c bytes ws bs out h = rw h
 
--- a step behind the check is what the door asks
+-- a step behind the check is what `Does` asks
 does-by : (c : Command) (bytes ws bs out : List ℕ) (a : Answer) (ws′ bs′ out′ : List ℕ) → formed ws bs ≡ true
     → a ≡ answerIn c bytes (decode ws bs) (length out)
     → ws′ ≡ pick (isAccepted a) (wordsAfter c bytes ws bs) ws
@@ -132,7 +132,7 @@ unfolding Silent
 silent-buses (buses.Set bus value) e out = (refl, (refl, tt))
 silent-buses (buses.Fill start count value) e out = (refl, (refl, tt))
 
--- each kind of step is what the door asks
+-- each kind of step is what `Does` asks
 module _ (bytes ws bs out : List ℕ) (a : Answer) where
   pub definitions-do : (c : DefinitionCommand) (ws′ bs′ : List ℕ) → formed ws bs ≡ true → Step (command.Definitions c) bytes ws bs a ws′ bs′
       → Does (command.Definitions c) bytes ws bs out a ws′ bs′ out

@@ -12,6 +12,7 @@ use Rattle.nodes.specs.declared.Node.{Node}
 use Rattle.nodes.specs.Table.{width, rows-length}
 use Rattle.nodes.specs.Place.{isGroup}
 use Rattle.nodes.specs.Formed.{mostNodes}
+use Rattle.values.specs.declared.NodeArgument.{NodeArgument}
 use Rattle.model.specs.declared.TreeCommand.{TreeCommand}
 use Rattle.model.specs.declared.Command.the-variants as command
 use Rattle.model.specs.declared.Answer.the-variants.{Done}
@@ -36,7 +37,7 @@ badAt action ws at = pick (ltb action 2) (not (isGroup (nodeIn ws at))) (eqb at 
 abbrev pub fullAt : ℕ → ℕ → Bool
 fullAt action count = both (not (eqb action 4)) (leb mostNodes count)
 
-module _ (action target : ℕ) (ws : List ℕ) (k : Ready ws) (at : ℕ) (f : NodeFound target ws at) where
+module _ (action : ℕ) (target : NodeArgument) (ws : List ℕ) (k : Ready ws) (at : ℕ) (f : NodeFound target ws at) where
   pub bad-target : (bs : List ℕ) → badTarget action target (decode ws bs) ≡ badAt action ws at
   unfolding decode
   bad-target bs =

@@ -12,6 +12,7 @@ use Rattle.nodes.specs.Place.{isGroup, place}
 use Rattle.nodes.specs.Edit.{cutBelow, deepFree}
 use Rattle.nodes.specs.Formed.{mostNodes}
 use Rattle.treerefinement.specs.Tally.{cutBelow-within, deepFree-within}
+use Rattle.values.specs.declared.NodeArgument.{NodeArgument}
 use Rattle.model.specs.declared.TreeCommand.the-variants as tree
 use Rattle.model.specs.declared.Command.the-variants as command
 use Rattle.model.specs.declared.Answer.{Answer}
@@ -31,7 +32,7 @@ use Rattle.treecommands.specs.Finding.{meantIn, NodeFound, found, missin
 use Rattle.treecommands.specs.Settle.{renewed}
 use Rattle.treecommands.specs.Steps.{Steps, left-few, edited-ready, edited-left}
 
-module _ (g : ℕ) (ws : List ℕ) (k : Ready ws) (count : ℕ) (same : count ≡ countIn ws) (at : ℕ) (fact : Named g ws at) where
+module _ (g : NodeArgument) (ws : List ℕ) (k : Ready ws) (count : ℕ) (same : count ≡ countIn ws) (at : ℕ) (fact : Named g ws at) where
   -- the answer by their checks, which are the same
   abbrev groupAnswer : List ℕ → Answer
   groupAnswer bs = firstOf (check NoNode (not (known g (decode ws bs))) ∷ (check WrongKind (notGroup g (decode ws bs)) ∷ [])) Done

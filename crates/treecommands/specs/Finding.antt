@@ -12,6 +12,7 @@ use Rattle.nodes.specs.declared.Node.{Node}
 use Rattle.nodes.specs.Table.{row-from}
 use Rattle.nodes.specs.Place.{place}
 use Rattle.nodes.specs.Formed.{rooted}
+use Rattle.values.specs.declared.NodeArgument.{NodeArgument}
 use Rattle.values.specs.Targets.{targetOf}
 use Rattle.model.specs.Layout.{countIn, latestIn, nodesIn}
 use Rattle.model.specs.Meaning.{meantBy, knownBy, nodeNamed}
@@ -20,19 +21,19 @@ use Rattle.names.specs.Here.{named-record}
 use Rattle.treecommands.specs.Ready.{Ready, nodeWords, nodeIn}
 
 -- the number that an argument means, and whether such a node lives
-abbrev pub meantIn : ℕ → List ℕ → ℕ
-meantIn a ws = meantBy (targetOf a) (latestIn ws)
+abbrev pub meantIn : NodeArgument → List ℕ → ℕ
+meantIn a ws = meantBy (targetOf (a .number)) (latestIn ws)
 
-abbrev pub knownIn : ℕ → List ℕ → Bool
-knownIn a ws = knownBy (targetOf a) (latestIn ws) (nodesIn ws)
+abbrev pub knownIn : NodeArgument → List ℕ → Bool
+knownIn a ws = knownBy (targetOf (a .number)) (latestIn ws) (nodesIn ws)
 
 -- the node that an argument names stands at a place of the table
-pub record NodeFound (a : ℕ) (ws : List ℕ) (at : ℕ) : Type 0 where
+pub record NodeFound (a : NodeArgument) (ws : List ℕ) (at : ℕ) : Type 0 where
   pub known : knownIn a ws ≡ true
   pub here : at ≡ place (meantIn a ws) (nodesIn ws)
   pub live : at < countIn ws
 
-module _ (a : ℕ) (ws : List ℕ) (at : ℕ) (fact : Named a ws at) where
+module _ (a : NodeArgument) (ws : List ℕ) (at : ℕ) (fact : Named a ws at) where
   pub found : at < countIn ws → NodeFound a ws at
   found h = record { known = fact .live ∙ lt-ltb at (countIn ws) h; here = fact .here h; live = h }
 
@@ -52,7 +53,7 @@ root-first n (r ∷ l) h = go (eqb (r .number) n) refl
     go true e = eq-eqb n 0 (sym (eqb-true (r .number) n e) ∙ zero)
     go false e = ne-eqb n 0 (λ q. eqb-false (r .number) n e (zero ∙ sym q)) ∙ sym (ne-eqb (suc (place n l)) 0 (λ q. omega arith))
 
-module _ (a : ℕ) (ws : List ℕ) (at : ℕ) (f : NodeFound a ws at) where
+module _ (a : NodeArgument) (ws : List ℕ) (at : ℕ) (f : NodeFound a ws at) where
   pub is-root : Ready ws → at ≡ 0 → eqb (meantIn a ws) 0 ≡ true
   is-root k h = root-first (meantIn a ws) (nodesIn ws) (k .tree .root) ∙ eq-eqb (place (meantIn a ws) (nodesIn ws)) 0 (omega (arith, f .here))
 

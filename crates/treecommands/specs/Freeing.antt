@@ -13,6 +13,7 @@ use Rattle.nodes.specs.Edit.{cut, setRun}
 use Rattle.nodes.specs.Formed.{mostNodes}
 use Rattle.treerefinement.specs.Tally.{cut-within}
 use Rattle.treerefinement.specs.Keep.{setRun-length}
+use Rattle.values.specs.declared.NodeArgument.{NodeArgument}
 use Rattle.model.specs.declared.TreeCommand.the-variants as tree
 use Rattle.model.specs.declared.Command.the-variants as command
 use Rattle.model.specs.declared.Answer.the-variants.{Done, Refused}
@@ -32,7 +33,7 @@ use Rattle.treecommands.specs.Settle.{renewed}
 use Rattle.treecommands.specs.Steps.{Steps, left-few, edited-ready, edited-left}
 
 -- /n_run
-module _ (n flag : ℕ) (ws : List ℕ) where
+module _ (n : NodeArgument) (flag : ℕ) (ws : List ℕ) where
   pub run-flag : 1 < flag → Steps (tree.Run n flag) ws (Refused BadFlag) ws
   unfolding answerIn firstOf
   run-flag h bytes bs = step-refused (command.Tree (tree.Run n flag)) bytes ws bs BadFlag (rw (lt-ltb 1 flag h))
@@ -61,7 +62,7 @@ module _ (n flag : ℕ) (ws : List ℕ) where
           step-done (command.Tree (tree.Run n flag)) bytes ws bs out (rw (le-ltb 1 flag low, run-at .known)) (edited-left n ws k count same at run-at (λ m t. setRun m flag t) run-few us count left out o bs)
 
 -- /n_free
-module _ (n : ℕ) (ws : List ℕ) (k : Ready ws) (count : ℕ) (same : count ≡ countIn ws) (at : ℕ) (fact : Named n ws at) where
+module _ (n : NodeArgument) (ws : List ℕ) (k : Ready ws) (count : ℕ) (same : count ≡ countIn ws) (at : ℕ) (fact : Named n ws at) where
   pub free-unknown : count ≤ at → Steps (tree.Free n) ws (Refused NoNode) ws
   unfolding answerIn firstOf decode
   free-unknown h bytes bs = step-refused (command.Tree (tree.Free n)) bytes ws bs NoNode (rw (missing n ws at fact (omega arith)))

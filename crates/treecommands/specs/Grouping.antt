@@ -14,6 +14,7 @@ use Rattle.nodes.specs.Table.{rows}
 use Rattle.nodes.specs.Place.{lives, place}
 use Rattle.nodes.specs.Place as nodes
 use Rattle.nodes.specs.Formed.{mostNodes}
+use Rattle.values.specs.declared.NodeArgument.{NodeArgument}
 use Rattle.model.specs.declared.TreeCommand.the-variants as tree
 use Rattle.model.specs.declared.Command.the-variants as command
 use Rattle.model.specs.declared.Answer.the-variants.{Done, Refused}
@@ -38,18 +39,18 @@ use Rattle.treecommands.specs.Steps.{Steps, edited-ready, edited-left}
 use Rattle.treecommands.specs.Adding.{badAt, fullAt, bad-target, is-full, room, same-add, after-few}
 
 -- no check fires, and the target stands at its place, with room
-pub record GroupGround (number action target : ℕ) (ws : List ℕ) (at : ℕ) : Type 0 where
+pub record GroupGround (number action : ℕ) (target : NodeArgument) (ws : List ℕ) (at : ℕ) : Type 0 where
   pub passed : (bytes bs : List ℕ) → firstOf (treeChecks (tree.NewGroup number action target) bytes (decode ws bs)) Done ≡ Done
   pub low : action ≤ 4
   pub spot : NodeFound target ws at
   pub room : Room (nodeWords ws) (countIn ws) action at
 
-abbrev pub GroupPlaced : ℕ → ℕ → ℕ → List ℕ → Spot → Type 0
+abbrev pub GroupPlaced : ℕ → ℕ → NodeArgument → List ℕ → Spot → Type 0
 GroupPlaced number action target ws (spot.At at) = GroupGround number action target ws at
 GroupPlaced number action target ws (spot.Refused r) = (bytes bs : List ℕ) → firstOf (treeChecks (tree.NewGroup number action target) bytes (decode ws bs)) Done ≡ Refused r
 
 -- its checks, one after the other
-module _ (number action target : ℕ) (ws : List ℕ) where
+module _ (number action : ℕ) (target : NodeArgument) (ws : List ℕ) where
   abbrev pub Answers : Refusal → Type 0
   Answers r = (bytes bs : List ℕ) → firstOf (treeChecks (tree.NewGroup number action target) bytes (decode ws bs)) Done ≡ Refused r
 
@@ -101,7 +102,7 @@ module _ (number action target : ℕ) (ws : List ℕ) where
             group-ground h = record { passed = group-passes h; low = low; spot = f; room = room action ws k at (f .live) (rw same at h) }
 
 -- the words after it
-module _ (number action target : ℕ) (ws : List ℕ) where
+module _ (number action : ℕ) (target : NodeArgument) (ws : List ℕ) where
   pub group-refused : (r : Refusal) → Answers number action target ws r → Steps (tree.NewGroup number action target) ws (Refused r) ws
   unfolding answerIn
   group-refused r h bytes bs = step-refused (command.Tree (tree.NewGroup number action target)) bytes ws bs r (h bytes bs)

@@ -13,6 +13,7 @@ use Rattle.nodes.specs.Place.{lives, place, found}
 use Rattle.nodes.specs.Edit.{cut, moveBefore, moveAfter, moveHead, moveTail}
 use Rattle.nodes.specs.Formed.{mostNodes}
 use Rattle.treerefinement.specs.Tally.{Same, tally-length, moveHead-same, moveTail-same, moveBefore-same, moveAfter-same}
+use Rattle.values.specs.declared.NodeArgument.{NodeArgument}
 use Rattle.model.specs.declared.TreeCommand.the-variants as tree
 use Rattle.model.specs.declared.Command.the-variants as command
 use Rattle.model.specs.declared.Answer.the-variants.{Done, Refused}
@@ -35,7 +36,7 @@ same-length : {after before : List Node} → Same after before → length after 
 same-length {after} {before} s = sym (tally-length after) ∙ s .sum (λ r. true) (λ d r. refl) ∙ tally-length before
 
 -- by the move e, which keeps every node
-module _ (checks : Engine → List Check) (moved to : ℕ) (ws : List ℕ) (k : Ready ws) (count : ℕ) (same : count ≡ countIn ws) (i j : ℕ) (c : Clear checks moved to ws i j) where
+module _ (checks : Engine → List Check) (moved to : NodeArgument) (ws : List ℕ) (k : Ready ws) (count : ℕ) (same : count ≡ countIn ws) (i j : ℕ) (c : Clear checks moved to ws i j) where
   pub place-lives : lives (meantIn to ws) (cut (meantIn moved ws) (nodesIn ws)) ≡ true
   place-lives =
       still-lives (meantIn moved ws) (meantIn to ws) (nodesIn ws)
@@ -59,7 +60,7 @@ module _ (checks : Engine → List Check) (moved to : ℕ) (ws : List ℕ) (k : 
     moved-left out o bs = o ∙ renewed-left ws (k .size) t few bs us count left
 
 -- each move
-module _ (a b : ℕ) (ws : List ℕ) where
+module _ (a b : NodeArgument) (ws : List ℕ) where
   pub before-refused : (r : Refusal) → Answers (besideChecks a b) ws r → Steps (tree.Before a b) ws (Refused r) ws
   unfolding answerIn
   before-refused r h bytes bs = step-refused (command.Tree (tree.Before a b)) bytes ws bs r (h bs)

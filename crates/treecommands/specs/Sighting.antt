@@ -7,6 +7,7 @@ use native.Mathlib.Omega.{arith}
 use Rattle.refusals.specs.declared.Refusal.{Refusal}
 use Rattle.refusals.specs.declared.Refusal.the-variants.{NoNode, WrongKind, InsideItself}
 use Rattle.nodes.specs.Edit.{isBelow}
+use Rattle.values.specs.declared.NodeArgument.{NodeArgument}
 use Rattle.model.specs.declared.Answer.the-variants.{Done, Refused}
 use Rattle.model.specs.Layout.{countIn, nodesIn}
 use Rattle.model.specs.Engine.{Engine, decode}
@@ -22,7 +23,7 @@ use Rattle.treecommands.specs.Ready.{Ready, nodeWords, words-long}
 use Rattle.treecommands.specs.Finding.{meantIn, NodeFound, found, missing, is-root, not-root}
 
 -- "Moves: 17 and then 18, each by argument order, then 19."
-abbrev pub besideChecks : ℕ → ℕ → Engine → List Check
+abbrev pub besideChecks : NodeArgument → NodeArgument → Engine → List Check
 besideChecks a b e =
     check NoNode (not (known a e))
     ∷ (check NoNode (not (known b e))
@@ -31,7 +32,7 @@ besideChecks a b e =
     ∷ (check InsideItself (inside b a e)
     ∷ []))))
 
-abbrev pub intoChecks : ℕ → ℕ → Engine → List Check
+abbrev pub intoChecks : NodeArgument → NodeArgument → Engine → List Check
 intoChecks g a e =
     check NoNode (not (known g e))
     ∷ (check NoNode (not (known a e))
@@ -45,19 +46,19 @@ abbrev pub Answers : (Engine → List Check) → List ℕ → Refusal → Type 0
 Answers checks ws r = (bs : List ℕ) → firstOf (checks (decode ws bs)) Done ≡ Refused r
 
 -- no check fires, and both nodes stand at their places, the second not in the run of the first
-pub record Clear (checks : Engine → List Check) (moved to : ℕ) (ws : List ℕ) (a b : ℕ) : Type 0 where
+pub record Clear (checks : Engine → List Check) (moved to : NodeArgument) (ws : List ℕ) (a b : ℕ) : Type 0 where
   pub passed : (bs : List ℕ) → firstOf (checks (decode ws bs)) Done ≡ Done
   pub first : NodeFound moved ws a
   pub second : NodeFound to ws b
   pub apart : isBelow (meantIn to ws) (meantIn moved ws) (nodesIn ws) ≡ false
   pub moving : Moving (nodeWords ws) (countIn ws) a b
 
-abbrev pub PairFound : (Engine → List Check) → ℕ → ℕ → List ℕ → Pair → Type 0
+abbrev pub PairFound : (Engine → List Check) → NodeArgument → NodeArgument → List ℕ → Pair → Type 0
 PairFound checks moved to ws (pair.At a b) = Clear checks moved to ws a b
 PairFound checks moved to ws (pair.Refused r) = Answers checks ws r
 
 -- whether the place named lies inside the moved node, as it was fact
-module _ (moved to : ℕ) (ws : List ℕ) (k : Ready ws) (count : ℕ) (same : count ≡ countIn ws) (a b : ℕ) (f : NodeFound moved ws a) (g : NodeFound to ws b) (r : Bool) (fact : LiesBelow (nodeWords ws) count b a r) where
+module _ (moved to : NodeArgument) (ws : List ℕ) (k : Ready ws) (count : ℕ) (same : count ≡ countIn ws) (a b : ℕ) (f : NodeFound moved ws a) (g : NodeFound to ws b) (r : Bool) (fact : LiesBelow (nodeWords ws) count b a r) where
   pub fact-inside : r ≡ isBelow (meantIn to ws) (meantIn moved ws) (nodesIn ws)
   fact-inside = (rw same at (fact .numbers)) (meantIn to ws) (meantIn moved ws) (g .here) (f .here) (k .tree .distinct)
 
@@ -71,7 +72,7 @@ module _ (moved to : ℕ) (ws : List ℕ) (k : Ready ws) (count : ℕ) (same : c
   }
 
 -- /n_before and /n_after
-module _ (a b : ℕ) (ws : List ℕ) (k : Ready ws) (count : ℕ) (same : count ≡ countIn ws) (i : ℕ) (at-a : Named a ws i) where
+module _ (a b : NodeArgument) (ws : List ℕ) (k : Ready ws) (count : ℕ) (same : count ≡ countIn ws) (i : ℕ) (at-a : Named a ws i) where
   pub beside-first : count ≤ i → Answers (besideChecks a b) ws NoNode
   unfolding firstOf decode
   beside-first h bs = rw (missing a ws i at-a (omega arith))

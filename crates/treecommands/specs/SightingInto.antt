@@ -6,6 +6,7 @@ use mathlib.Core.List.{List}
 use native.Mathlib.Omega.{arith}
 use Rattle.refusals.specs.declared.Refusal.the-variants.{NoNode, WrongKind, InsideItself}
 use Rattle.nodes.specs.Place.{isGroup}
+use Rattle.values.specs.declared.NodeArgument.{NodeArgument}
 use Rattle.model.specs.declared.Answer.the-variants.{Done}
 use Rattle.model.specs.Layout.{countIn}
 use Rattle.model.specs.Engine.{decode}
@@ -16,7 +17,7 @@ use Rattle.treecommands.specs.Ready.{Ready, nodeWords, nodeIn}
 use Rattle.treecommands.specs.Finding.{NodeFound, found, missing, is-root, not-root, named-here}
 use Rattle.treecommands.specs.Sighting.{intoChecks, Answers, Clear, fact-inside, clear}
 
-module _ (b a : ℕ) (ws : List ℕ) (k : Ready ws) (count : ℕ) (same : count ≡ countIn ws) (j : ℕ) (at-b : Named b ws j) where
+module _ (b a : NodeArgument) (ws : List ℕ) (k : Ready ws) (count : ℕ) (same : count ≡ countIn ws) (j : ℕ) (at-b : Named b ws j) where
   pub into-first : count ≤ j → Answers (intoChecks b a) ws NoNode
   unfolding firstOf decode
   into-first h bs = rw (missing b ws j at-b (omega arith))

@@ -11,6 +11,7 @@ use Rattle.nodes.specs.Place.{place}
 use Rattle.nodes.specs.Formed.{mostNodes}
 use Rattle.treerefinement.specs.Tally.{Within}
 use Rattle.treerefinement.specs.Keep.{within-length}
+use Rattle.values.specs.declared.NodeArgument.{NodeArgument}
 use Rattle.model.specs.declared.TreeCommand.{TreeCommand}
 use Rattle.model.specs.declared.Command.the-variants as command
 use Rattle.model.specs.declared.Answer.{Answer}
@@ -32,7 +33,7 @@ pub left-few : (ws : List ℕ) (t : List Node) → Ready ws → Within t (nodesI
 left-few ws t k w = omega (arith, within-length w, k .few, rows-length (countIn ws) (nodeWords ws))
 
 -- the node that an argument names, found at a place, and the node region edited there: what the rest asks, and what it leaves
-module _ (a : ℕ) (ws : List ℕ) (k : Ready ws) (count : ℕ) (same : count ≡ countIn ws) (at : ℕ) (f : NodeFound a ws at)
+module _ (a : NodeArgument) (ws : List ℕ) (k : Ready ws) (count : ℕ) (same : count ≡ countIn ws) (at : ℕ) (f : NodeFound a ws at)
     (e : ℕ → List Node → List Node) (few : length (e (meantIn a ws) (nodesIn ws)) ≤ mostNodes) (us : List ℕ) (many : ℕ)
     (does : (m : ℕ) → at ≡ place m (rows count (nodeWords ws)) → Leaves (nodeWords ws) (e m (rows count (nodeWords ws))) us many) where
   left : Leaves (nodeWords ws) (e (meantIn a ws) (nodesIn ws)) us many

@@ -4,13 +4,14 @@ use crate::place::is_synth;
 use model::Answer;
 use names::node_place;
 use refusals::Refusal;
+use values::NodeArgument;
 use words::wide;
 ghost use Rattle.model.specs.declared.TreeCommand.{TreeCommand};
 ghost use Rattle.treecommands.specs.Ready.{Ready};
 ghost use Rattle.treecommands.specs.Steps.{Steps};
 
 // /n_run
-pub fn run_node(node: u32, flag: u32, words: &mut [u32]) -> Answer
+pub fn run_node(node: NodeArgument, flag: u32, words: &mut [u32]) -> Answer
     requires { ⌜ Ready (now words) ⌝ }
     ensures { λ r. ⌜ Steps (TreeCommand.Run node flag) (now (words .entry)) r (now (words .exit)) ⌝ }
 {
@@ -28,7 +29,7 @@ pub fn run_node(node: u32, flag: u32, words: &mut [u32]) -> Answer
 }
 
 // /n_free
-pub fn free_node(node: u32, words: &mut [u32]) -> Answer
+pub fn free_node(node: NodeArgument, words: &mut [u32]) -> Answer
     requires { ⌜ Ready (now words) ⌝ }
     ensures { λ r. ⌜ Steps (TreeCommand.Free node) (now (words .entry)) r (now (words .exit)) ⌝ }
 {
@@ -46,7 +47,7 @@ pub fn free_node(node: u32, words: &mut [u32]) -> Answer
 }
 
 // /g_freeAll
-pub fn free_all(group: u32, words: &mut [u32]) -> Answer
+pub fn free_all(group: NodeArgument, words: &mut [u32]) -> Answer
     requires { ⌜ Ready (now words) ⌝ }
     ensures { λ r. ⌜ Steps (TreeCommand.FreeAll group) (now (words .entry)) r (now (words .exit)) ⌝ }
 {
@@ -64,7 +65,7 @@ pub fn free_all(group: u32, words: &mut [u32]) -> Answer
 }
 
 // /g_deepFree
-pub fn deep_free(group: u32, words: &mut [u32]) -> Answer
+pub fn deep_free(group: NodeArgument, words: &mut [u32]) -> Answer
     requires { ⌜ Ready (now words) ⌝ }
     ensures { λ r. ⌜ Steps (TreeCommand.DeepFree group) (now (words .entry)) r (now (words .exit)) ⌝ }
 {

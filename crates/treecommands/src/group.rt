@@ -6,6 +6,7 @@ use model::Answer;
 use names::node_place;
 use nodes::Node;
 use refusals::Refusal;
+use values::NodeArgument;
 use words::wide;
 ghost use Rattle.model.specs.declared.TreeCommand.{TreeCommand};
 ghost use Rattle.treecommands.specs.Ready.{Ready};
@@ -19,7 +20,7 @@ pub enum Spot {
 }
 
 // The checks of /g_new.
-fn group_spot(number: u32, action: u32, target: u32, words: &[u32]) -> Spot
+fn group_spot(number: u32, action: u32, target: NodeArgument, words: &[u32]) -> Spot
     requires { ⌜ Ready (now words) ⌝ }
     ensures { λ r. ⌜ GroupPlaced number action target (now (words .entry)) r ⌝ }
 {
@@ -47,7 +48,7 @@ fn group_spot(number: u32, action: u32, target: u32, words: &[u32]) -> Spot
 }
 
 // /g_new
-pub fn new_group(number: u32, action: u32, target: u32, words: &mut [u32]) -> Answer
+pub fn new_group(number: u32, action: u32, target: NodeArgument, words: &mut [u32]) -> Answer
     requires { ⌜ Ready (now words) ⌝ }
     ensures { λ r. ⌜ Steps (TreeCommand.NewGroup number action target) (now (words .entry)) r (now (words .exit)) ⌝ }
 {

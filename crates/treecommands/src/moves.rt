@@ -4,6 +4,7 @@ use crate::place::is_synth;
 use model::Answer;
 use names::node_place;
 use refusals::Refusal;
+use values::NodeArgument;
 use words::wide;
 ghost use Rattle.model.specs.declared.TreeCommand.{TreeCommand};
 ghost use Rattle.treecommands.specs.Ready.{Ready};
@@ -17,7 +18,7 @@ pub enum Pair {
 }
 
 // The checks of /n_before and /n_after.
-fn beside(node: u32, place: u32, words: &[u32]) -> Pair
+fn beside(node: NodeArgument, place: NodeArgument, words: &[u32]) -> Pair
     requires { ⌜ Ready (now words) ⌝ }
     ensures { λ r. ⌜ PairFound (besideChecks node place) node place (now (words .entry)) r ⌝ }
 {
@@ -43,7 +44,7 @@ fn beside(node: u32, place: u32, words: &[u32]) -> Pair
 }
 
 // The checks of /g_head and /g_tail.
-fn into(group: u32, node: u32, words: &[u32]) -> Pair
+fn into(group: NodeArgument, node: NodeArgument, words: &[u32]) -> Pair
     requires { ⌜ Ready (now words) ⌝ }
     ensures { λ r. ⌜ PairFound (intoChecks group node) node group (now (words .entry)) r ⌝ }
 {
@@ -69,7 +70,7 @@ fn into(group: u32, node: u32, words: &[u32]) -> Pair
 }
 
 // /n_before
-pub fn move_before(node: u32, place: u32, words: &mut [u32]) -> Answer
+pub fn move_before(node: NodeArgument, place: NodeArgument, words: &mut [u32]) -> Answer
     requires { ⌜ Ready (now words) ⌝ }
     ensures { λ r. ⌜ Steps (TreeCommand.Before node place) (now (words .entry)) r (now (words .exit)) ⌝ }
 {
@@ -86,7 +87,7 @@ pub fn move_before(node: u32, place: u32, words: &mut [u32]) -> Answer
 }
 
 // /n_after
-pub fn move_after(node: u32, place: u32, words: &mut [u32]) -> Answer
+pub fn move_after(node: NodeArgument, place: NodeArgument, words: &mut [u32]) -> Answer
     requires { ⌜ Ready (now words) ⌝ }
     ensures { λ r. ⌜ Steps (TreeCommand.After node place) (now (words .entry)) r (now (words .exit)) ⌝ }
 {
@@ -103,7 +104,7 @@ pub fn move_after(node: u32, place: u32, words: &mut [u32]) -> Answer
 }
 
 // /g_head
-pub fn move_head(group: u32, node: u32, words: &mut [u32]) -> Answer
+pub fn move_head(group: NodeArgument, node: NodeArgument, words: &mut [u32]) -> Answer
     requires { ⌜ Ready (now words) ⌝ }
     ensures { λ r. ⌜ Steps (TreeCommand.Head group node) (now (words .entry)) r (now (words .exit)) ⌝ }
 {
@@ -120,7 +121,7 @@ pub fn move_head(group: u32, node: u32, words: &mut [u32]) -> Answer
 }
 
 // /g_tail
-pub fn move_tail(group: u32, node: u32, words: &mut [u32]) -> Answer
+pub fn move_tail(group: NodeArgument, node: NodeArgument, words: &mut [u32]) -> Answer
     requires { ⌜ Ready (now words) ⌝ }
     ensures { λ r. ⌜ Steps (TreeCommand.Tail group node) (now (words .entry)) r (now (words .exit)) ⌝ }
 {

@@ -16,6 +16,7 @@ use Rattle.nodes.specs.Place.{deeper, deeper-most, isGroup}
 use Rattle.nodes.specs.Structure.{childCount}
 use Rattle.tree.specs.Sizes.{endAt}
 use Rattle.osc.specs.Message.{int, message}
+use Rattle.values.specs.declared.NodeArgument.{NodeArgument}
 use Rattle.model.specs.declared.Query.the-variants as query
 use Rattle.model.specs.declared.Answer.{Answer}
 use Rattle.model.specs.declared.Answer.the-variants.{Refused}
@@ -62,7 +63,7 @@ end-most n at us h =
     let size : length (drop (at + 1) (rows n us)) ≡ n - (at + 1) = length-drop (at + 1) (rows n us) ∙ ap (λ (k : ℕ). k - (at + 1)) (rows-length n us) in
     omega arith
 
-module _ (argument : ℕ) (bytes ws bs : List ℕ) (at : ℕ) (n : Named argument ws at) where
+module _ (argument : NodeArgument) (bytes ws bs : List ℕ) (at : ℕ) (n : Named argument ws at) where
   pub tree-unknown : (flag : ℕ) → countIn ws ≤ at → (b : Answer) → firstOf (queryChecks (query.Tree argument flag) bytes (decode ws bs)) b ≡ Refused NoNode
   unfolding firstOf
   tree-unknown flag h b = rw (named-unknown argument ws bs at n h)

@@ -1,9 +1,9 @@
 // The whole reply.
-use controls::node_is_group;
 use crate::count::count_tree;
 use crate::places::Places;
 use crate::shapes::tree_shapes;
 use crate::write::put_tree;
+use controls::node_is_group;
 use model::Answer;
 use names::node_place;
 use osc::padded_length;
@@ -14,6 +14,7 @@ use refusals::Refusal;
 use replies::put_words;
 use tree::child_count;
 use tree::subtree_end;
+use values::NodeArgument;
 use words::wide;
 ghost use mathlib.Core.Bool.{not};
 ghost use mathlib.Core.List.{_∷_};
@@ -93,7 +94,7 @@ pub fn tree_query(
     arena: &[u8],
     bytes: &[u8],
     out: &mut [u8],
-    group: u32,
+    group: NodeArgument,
     flag: u32,
 ) -> Answer
     requires { ⌜ Known (now words) (now arena) ⌝ }

@@ -6,8 +6,13 @@ use borrow.Author.Tests.{lt-ltb, le-ltb}
 use lib.IntN.{ℤ, pos, negsuc}
 use mir.Syntax.{w32}
 use mir.Val.{toZ}
+use Rattle.values.specs.declared.NodeArgument.{NodeArgument}
 use Rattle.values.specs.declared.Target.{Target}
 use Rattle.values.specs.declared.Target.the-variants.{Latest, Number, Reserved}
+
+-- the argument of a number
+abbrev pub argument : ℕ → NodeArgument
+argument n = record { number = n }
 
 -- the signed number of a 32-bit pattern, as the machine reads it
 abbrev pub signed : ℕ → ℤ

@@ -37,6 +37,11 @@ pub enum Key {
     Name,
 }
 
+// A node as a command names it: by the pattern of its signed number.
+pub struct NodeArgument {
+    pub number: u32,
+}
+
 // What a node argument names.
 pub enum Target {
     Latest,
@@ -155,14 +160,14 @@ impl Control {
     }
 }
 
-// What a node argument, the pattern of a signed number, names.
-pub fn target_of(argument: u32) -> Target
-    ensures { λ r. ⌜ r ≡ targetOf argument ⌝ }
+// What a node argument names, by its number.
+pub fn target_of(number: u32) -> Target
+    ensures { λ r. ⌜ r ≡ targetOf number ⌝ }
 {
-    if argument < 2147483648 {
-        return Target::Number(argument);
+    if number < 2147483648 {
+        return Target::Number(number);
     }
-    if argument == 4294967295 {
+    if number == 4294967295 {
         return Target::Latest;
     }
     Target::Reserved

@@ -1,4 +1,3 @@
 //! The parts of the program `limudvek` that are tested apart from it.
 
 pub mod play;
-pub mod show;

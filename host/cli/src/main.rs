@@ -1,14 +1,10 @@
-//! The program `limudvek`.
-
-mod check;
+//! The program `limudvek`: the commands that need the engine.
 
 use cli::play;
 use std::env;
 use std::process::ExitCode;
 
-const USAGE: &str = "usage: limudvek check FILE...\n       limudvek play FILE";
-
-/// The exit status where a file can't be read, where none is named, and for a bad command.
+/// The exit status for a bad command.
 const UNREADABLE: u8 = 2;
 
 fn main() -> ExitCode {
@@ -16,10 +12,9 @@ fn main() -> ExitCode {
     let command = words.next();
     let rest: Vec<_> = words.collect();
     match command.as_ref().and_then(|word| word.to_str()) {
-        Some("check") if !rest.is_empty() => check::run(&rest),
         Some("play") if rest.len() == 1 => play::file(&rest[0], &mut engine::Engine::new()),
         _ => {
-            eprintln!("{USAGE}");
+            eprintln!("usage: limudvek play FILE");
             ExitCode::from(UNREADABLE)
         }
     }

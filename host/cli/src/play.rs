@@ -4,16 +4,18 @@ mod line;
 mod message;
 mod tree;
 
-use crate::show;
-use limudvek::{refusal, synthdef};
+use limudvek::{refusal, show};
 use line::{Call, Line};
 use message::Message;
 use std::ffi::OsStr;
-use std::fs;
-use std::io::{self, BufWriter, Write};
+use std::fs::{self, File};
+use std::io::{self, BufRead, BufReader, BufWriter, IsTerminal, Write};
 use std::os::unix::ffi::OsStrExt;
 use std::path::Path;
 use std::process::ExitCode;
+
+/// What `limudvek help` prints: the usage, an empty line, and what a script can hold.
+const HELP: &str = include_str!("../../help.txt");
 
 /// Longer than any reply or export.
 const REPLY: usize = 1 << 20;
@@ -44,25 +46,45 @@ impl Applies for engine::Engine {
     }
 }
 
-/// Plays a file to standard output.
+/// Why playing stopped before the script's end.
+#[derive(Debug)]
+pub enum Stopped {
+    Input(io::Error),
+    Output(io::Error),
+}
+
+/// The errors that are not of the script's own reading.
+impl From<io::Error> for Stopped {
+    fn from(error: io::Error) -> Stopped {
+        Stopped::Output(error)
+    }
+}
+
+/// Plays a file, or standard input where it is named `-`, to standard output.
 pub fn file(name: &OsStr, engine: &mut impl Applies) -> ExitCode {
-    let script = match fs::read(name) {
-        Ok(script) => script,
-        Err(error) => {
-            eprintln!("limudvek: {}: {error}", show::path(name.as_bytes()));
-            return ExitCode::from(UNREADABLE);
+    let played = if name == "-" {
+        let (input, mut out) = (io::stdin().lock(), io::stdout().lock());
+        let folder = Path::new("");
+        if input.is_terminal() {
+            prompt(input, folder, engine, &mut out)
+        } else {
+            play(input, folder, engine, &mut out)
         }
+    } else {
+        let folder = Path::new(name).parent().unwrap_or(Path::new(""));
+        let mut out = BufWriter::new(io::stdout().lock());
+        File::open(name)
+            .map_err(Stopped::Input)
+            .and_then(|script| play(BufReader::new(script), folder, engine, &mut out))
     };
-    let folder = Path::new(name).parent().unwrap_or(Path::new(""));
-    let mut out = BufWriter::new(io::stdout().lock());
-    let played = play(&script, folder, engine, &mut out).and_then(|read| {
-        out.flush()?;
-        Ok(read)
-    });
     match played {
         Ok(true) => ExitCode::SUCCESS,
         Ok(false) => ExitCode::from(LINES_UNREADABLE),
-        Err(error) => {
+        Err(Stopped::Input(error)) => {
+            eprintln!("limudvek: {}: {error}", show::path(name.as_bytes()));
+            ExitCode::from(UNREADABLE)
+        }
+        Err(Stopped::Output(error)) => {
             eprintln!("limudvek: standard output: {error}");
             ExitCode::from(UNREADABLE)
         }
@@ -72,28 +94,60 @@ pub fn file(name: &OsStr, engine: &mut impl Applies) -> ExitCode {
 /// Plays a script. Files of `/d_recv` are named from the folder. Answers whether each line could be
 /// read.
 pub fn play(
-    script: &[u8],
+    mut script: impl BufRead,
     folder: &Path,
     engine: &mut impl Applies,
     out: &mut impl Write,
-) -> io::Result<bool> {
-    let mut player = Player {
-        engine,
-        reply: vec![0; REPLY],
-    };
+) -> Result<bool, Stopped> {
+    let mut player = Player::new(engine);
     let mut all_read = true;
-    for (place, text) in script.split(|&byte| byte == b'\n').enumerate() {
-        let unread = match line::read(text) {
-            Ok(None) => continue,
-            Ok(Some(line)) => player.line(line, folder, out)?,
-            Err(why) => Some(why),
-        };
-        if let Some(why) = unread {
+    let mut place = 0;
+    while let Some(text) = next_line(&mut script)? {
+        place += 1;
+        if let Some(why) = player.text(&text, folder, out)? {
             all_read = false;
-            writeln!(out, "line {}: {why}", place + 1)?;
+            writeln!(out, "line {place}: {why}")?;
         }
     }
+    out.flush()?;
     Ok(all_read)
+}
+
+/// Asks for a line and plays it, until the input ends.
+pub fn prompt(
+    mut input: impl BufRead,
+    folder: &Path,
+    engine: &mut impl Applies,
+    out: &mut impl Write,
+) -> Result<bool, Stopped> {
+    let mut player = Player::new(engine);
+    writeln!(out, "A command a line; help lists them, Ctrl-D ends.")?;
+    loop {
+        write!(out, "> ")?;
+        out.flush()?;
+        let Some(text) = next_line(&mut input)? else {
+            writeln!(out)?;
+            return Ok(true);
+        };
+        if let Some(why) = player.text(&text, folder, out)? {
+            writeln!(out, "{why}")?;
+        }
+    }
+}
+
+/// The next line without its end, none where nothing is left.
+fn next_line(input: &mut impl BufRead) -> Result<Option<Vec<u8>>, Stopped> {
+    let mut text = Vec::new();
+    match input.read_until(b'\n', &mut text) {
+        Ok(0) => Ok(None),
+        Ok(_) => {
+            if text.ends_with(b"\n") {
+                text.pop();
+            }
+            Ok(Some(text))
+        }
+        Err(error) => Err(Stopped::Input(error)),
+    }
 }
 
 struct Player<'a, D> {
@@ -102,7 +156,27 @@ struct Player<'a, D> {
 }
 
 impl<D: Applies> Player<'_, D> {
+    fn new(engine: &mut D) -> Player<'_, D> {
+        Player {
+            engine,
+            reply: vec![0; REPLY],
+        }
+    }
+
     /// Does what a line says and prints it. Answers why it can't be read, if so.
+    fn text(
+        &mut self,
+        text: &[u8],
+        folder: &Path,
+        out: &mut impl Write,
+    ) -> io::Result<Option<String>> {
+        match line::read(text) {
+            Ok(None) => Ok(None),
+            Ok(Some(line)) => self.line(line, folder, out),
+            Err(why) => Ok(Some(why)),
+        }
+    }
+
     fn line(
         &mut self,
         line: Line,
@@ -110,6 +184,10 @@ impl<D: Applies> Player<'_, D> {
         out: &mut impl Write,
     ) -> io::Result<Option<String>> {
         match line {
+            Line::Help => {
+                let (_, script) = HELP.split_once("\n\n").unwrap_or_default();
+                write!(out, "{script}")?;
+            }
             Line::Tree => {
                 writeln!(out, "tree: ok")?;
                 self.tree(out)?;
@@ -157,16 +235,7 @@ impl<D: Applies> Player<'_, D> {
         let reply = &self.reply[..length];
         match op {
             line::EXPORT => {
-                write!(
-                    out,
-                    "  {length} bytes, {} definitions",
-                    synthdef::count(reply)
-                )?;
-                for (place, name) in synthdef::names(reply).enumerate() {
-                    let between = if place == 0 { ": " } else { " " };
-                    write!(out, "{between}{}", line::quoted(name))?;
-                }
-                writeln!(out)
+                writeln!(out, "  {length} bytes, {}", show::definitions(reply))
             }
             _ if length > 0 => match Message::read(reply) {
                 Some(message) if op == line::QUERY_TREE => tree::reply(&message, out),

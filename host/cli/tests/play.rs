@@ -1,11 +1,14 @@
 //! `play` on the independent engine and, as the built program, on the proved one.
 
-use cli::play::{play, Applies};
+use cli::play::{play, prompt, Applies};
 use independent::engine::packed;
 use independent::{layout, Call, Engine};
+use std::cell::RefCell;
+use std::collections::BTreeSet;
 use std::fs;
+use std::io::{self, BufReader, BufWriter, Read, Write};
 use std::path::Path;
-use std::process::Command;
+use std::process::{Command, Stdio};
 
 const PROGRAM: &str = env!("CARGO_BIN_EXE_limudvek");
 
@@ -130,10 +133,10 @@ fn values_are_integers_or_floats() {
 fn lines_that_cannot_be_read() {
     unread("/quit", "/quit is no command");
     unread("status", "status is no command");
-    unread("/n_free", "/n_free takes 1 arguments, and here are 0");
-    unread("/n_free 5 6", "/n_free takes 1 arguments, and here are 2");
-    unread("tree 0", "tree takes 0 arguments, and here are 1");
-    unread("/d_recv", "/d_recv takes 1 arguments, and here are 0");
+    unread("/n_free", "/n_free takes 1 argument, not 0");
+    unread("/n_free 5 6", "/n_free takes 1 argument, not 2");
+    unread("tree 0", "tree takes 0 arguments, not 1");
+    unread("/d_recv", "/d_recv takes 1 argument, not 0");
     unread("/n_free five", "five is no integer of 32 bits");
     unread("/n_free 1.0", "1.0 is no integer of 32 bits");
     unread("/n_free \"5\"", "5 is no integer of 32 bits");
@@ -153,10 +156,7 @@ fn lines_that_cannot_be_read() {
     unread("\x1b[2J 5", "\\x1b[2J is no command");
     let (text, read) = played(b"/d_recv no/such file\n/d_recv \"no such file\"\n/d_free \xff\n");
     let lines: Vec<&str> = text.lines().collect();
-    assert_eq!(
-        lines[0],
-        "line 1: /d_recv takes 1 arguments, and here are 2"
-    );
+    assert_eq!(lines[0], "line 1: /d_recv takes 1 argument, not 2");
     assert!(lines[1].starts_with("line 2: no such file: "), "{text}");
     assert_eq!(
         lines[2],
@@ -175,15 +175,18 @@ fn a_refused_file_has_its_place() {
     );
 }
 
+/// A line for every command, each accepted.
+const EVERY: &str = "/d_recv ping.scsyndef\n/g_new 1 0 0\n/g_new 2 1 0\n/s_new ping 10 0 1\n\
+    /s_new ping 11 1 1\n/n_before 11 10\n/n_after 11 10\n/g_head 2 11\n/g_tail 2 10\n\
+    /n_run 11 0\n/n_set 10 0 1\n/n_set 10 freq 2\n/n_fill 10 0 1 3\n\
+    /n_fill 10 freq 1 4\n/n_map 11 0 5\n/n_map 11 freq 6\n/c_set 6 0.5\n\
+    /c_fill 7 2 0.25\n/c_get 8\n/s_get 11 0\n/s_get 11 freq\n/n_query 2\n\
+    /g_queryTree 2 1\n/g_queryTree 2 0\ntree\nexport\n/n_free 10\n/g_deepFree 0\n/g_freeAll 0\n\
+    /d_free ping\n/status\ntree\n";
+
 #[test]
 fn every_command_has_its_kind() {
-    let script = "/d_recv ping.scsyndef\n/g_new 1 0 0\n/g_new 2 1 0\n/s_new ping 10 0 1\n\
-                  /s_new ping 11 1 1\n/n_before 11 10\n/n_after 11 10\n/g_head 2 11\n/g_tail 2 10\n\
-                  /n_run 11 0\n/n_set 10 0 1\n/n_set 10 freq 2\n/n_fill 10 0 1 3\n\
-                  /n_fill 10 freq 1 4\n/n_map 11 0 5\n/n_map 11 freq 6\n/c_set 6 0.5\n\
-                  /c_fill 7 2 0.25\n/c_get 8\n/s_get 11 0\n/s_get 11 freq\n/n_query 2\n\
-                  /g_queryTree 2 1\n/g_queryTree 2 0\ntree\nexport\n/g_deepFree 0\n/g_freeAll 0\n\
-                  /d_free ping\n/status\ntree\n";
+    let script = EVERY;
     let (text, read) = played(script.as_bytes());
     assert!(read && !text.contains("refused"), "{text}");
     let commands: Vec<&str> = text.lines().filter(|line| !line.starts_with(' ')).collect();
@@ -197,11 +200,105 @@ fn every_command_has_its_kind() {
         "/g_queryTree 2 0: ok\n  /g_queryTree.reply\n  2 group of 2\n    11 ping\n    10 ping\n",
         "tree: ok\n  0 group\n    1 group\n    2 group\n      11 ping, off\n\
          \x20       freq 0.5 from bus 6, own 440.0\n      10 ping\n        freq 4.0\n  running: 10\n",
-        "export: ok\n  46 bytes, 1 definitions: ping\n",
+        "export: ok\n  46 bytes, 1 definition: ping\n",
         "/status: ok\n  /status.reply 0 0 1 0\ntree: ok\n  0 group\n  running:\n",
     ] {
         assert!(text.contains(replies), "{replies}\nis not in\n{text}");
     }
+}
+
+/// The lines of the help that are commands: the command with what it takes, and what it does.
+fn listed(help: &str) -> Vec<(Vec<&str>, &str)> {
+    let rows = help.lines().filter_map(|line| line.strip_prefix("  "));
+    rows.map(|row| {
+        let (command, does) = row.split_once("  ").expect("what it does");
+        (command.split(' ').collect(), does.trim())
+    })
+    .collect()
+}
+
+#[test]
+fn help_lists_the_commands_with_their_arguments() {
+    let (help, read) = played(b"help");
+    assert!(read);
+    let whole = fs::read_to_string(examples().join("../host/help.txt")).expect("the help");
+    assert_eq!(
+        whole.split_once("\n\n").map(|(_, script)| script),
+        Some(&*help)
+    );
+    let listed = listed(&help);
+    for (words, does) in &listed {
+        let (name, takes) = (words[0], words.len() - 1);
+        assert!(!does.is_empty(), "{name}");
+        for count in [takes + 1, takes + 2] {
+            let thing = if takes == 1 { "argument" } else { "arguments" };
+            let why = format!("{name} takes {takes} {thing}, not {count}");
+            unread(&format!("{name}{}", " 0".repeat(count)), &why);
+        }
+    }
+    let names: BTreeSet<&str> = listed.iter().map(|(words, _)| words[0]).collect();
+    let every = EVERY
+        .lines()
+        .map(|line| line.split(' ').next().unwrap_or(""));
+    assert_eq!(names, every.chain(["help"]).collect());
+    assert_eq!(names.len(), listed.len());
+}
+
+#[test]
+fn a_prompt_asks_line_by_line() {
+    let mut out = Vec::new();
+    let input = b"/g_new 1 0 0\n\n/quit\n/n_query 1";
+    let read = prompt(&input[..], &examples(), &mut Independent::new(), &mut out);
+    assert!(matches!(read, Ok(true)));
+    assert_eq!(
+        String::from_utf8(out).expect("it prints text"),
+        "A command a line; help lists them, Ctrl-D ends.\n\
+         > /g_new 1 0 0: ok\n> > /quit is no command\n\
+         > /n_query 1: ok\n  /n_info 1 0 -1 -1 1 -1 -1\n> \n"
+    );
+}
+
+#[test]
+fn a_prompt_shows_each_answer_before_the_next_line_is_read() {
+    /// Lines that a reader gets one at a time, each with what must stand in `out` by then.
+    struct Typed<'a> {
+        lines: Vec<(&'static str, &'static str)>,
+        out: &'a RefCell<Vec<u8>>,
+    }
+    impl Read for Typed<'_> {
+        fn read(&mut self, into: &mut [u8]) -> io::Result<usize> {
+            if self.lines.is_empty() {
+                return Ok(0);
+            }
+            let (line, shown) = self.lines.remove(0);
+            let out = String::from_utf8(self.out.borrow().clone()).expect("it prints text");
+            assert!(out.ends_with(shown), "{out}");
+            into[..line.len()].copy_from_slice(line.as_bytes());
+            Ok(line.len())
+        }
+    }
+    struct Shown<'a>(&'a RefCell<Vec<u8>>);
+    impl Write for Shown<'_> {
+        fn write(&mut self, bytes: &[u8]) -> io::Result<usize> {
+            self.0.borrow_mut().write(bytes)
+        }
+        fn flush(&mut self) -> io::Result<()> {
+            Ok(())
+        }
+    }
+    let out = RefCell::new(Vec::new());
+    let typed = Typed {
+        lines: vec![
+            ("/g_new 1 0 0\n", "ends.\n> "),
+            ("/n_free 2\n", "ok\n> "),
+            ("/status\n", "no such node\n> "),
+        ],
+        out: &out,
+    };
+    let mut shown = BufWriter::new(Shown(&out));
+    let input = BufReader::new(typed);
+    let read = prompt(input, &examples(), &mut Independent::new(), &mut shown);
+    assert!(matches!(read, Ok(true)));
 }
 
 /// Runs the program from another folder. Answers the exit status and both outputs.
@@ -248,4 +345,29 @@ fn the_program_says_what_it_cannot_read() {
         assert_eq!((status, out.as_str()), (2, ""));
         assert!(err.starts_with("usage: "), "{err}");
     }
+}
+
+#[test]
+fn the_program_plays_standard_input() {
+    let play = |script: &[u8]| {
+        let mut child = Command::new(PROGRAM)
+            .args(["play", "-"])
+            .current_dir(examples())
+            .stdin(Stdio::piped())
+            .stdout(Stdio::piped())
+            .stderr(Stdio::piped())
+            .spawn()
+            .expect("the program runs");
+        let mut input = child.stdin.take().expect("it has one");
+        input.write_all(script).expect("it reads");
+        drop(input);
+        let output = child.wait_with_output().expect("the program ends");
+        let out = String::from_utf8(output.stdout).expect("it prints text");
+        (output.status.code(), out, output.stderr)
+    };
+    let kept = fs::read_to_string(examples().join("show.out")).expect("its output");
+    let script = fs::read(examples().join("show.txt")).expect("the script");
+    assert_eq!(play(&script), (Some(0), kept, Vec::new()));
+    let (status, out, _) = play(b"/quit\n");
+    assert_eq!((status, &*out), (Some(1), "line 1: /quit is no command\n"));
 }

@@ -32,7 +32,7 @@ const ENDS: [i32; 16] = [
     i32::MAX,
 ];
 
-/// The names "c0", "c1" and so on.
+/// The names `c0`, `c1` and so on.
 fn numbered(count: usize) -> Vec<String> {
     (0..count).map(|index| format!("c{index}")).collect()
 }

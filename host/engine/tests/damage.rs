@@ -7,8 +7,8 @@ use common::pair::Pair;
 use common::{say, seed, spread};
 use independent::engine::{Commands, Theme, BUSES, MOST_NODES, SLOTS};
 use independent::layout::{self, record, row_words, Record};
+use independent::layout::{ARENA, RECORD, RESIDENT, ROW, WORDS};
 use independent::layout::{BUS, CONTROL, COUNT, LATEST, LENGTH, NEXT, NODE, ORDER, ORDER_LENGTH};
-use independent::layout::{RECORD, RESIDENT, ROW, ARENA, WORDS};
 use independent::{running, well_formed, Engine, Random, MOST_BYTES, MOST_PARAMETERS};
 
 const STATES: usize = 420;

@@ -21,7 +21,7 @@ const NEW_FADE: u32 = 0x4040_0000;
 const NEW_AMP: u32 = 0x3e80_0000;
 const SET: u32 = 0x4110_0000;
 
-/// "rain" as the old synth has it, and with its controls in another order.
+/// `rain` as the old synth has it, and with its controls in another order.
 fn rains() -> [Definition; 2] {
     [
         definition("rain", &["amp", "fade"], &[RAIN_AMP, RAIN_FADE]),

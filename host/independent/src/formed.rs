@@ -2,8 +2,8 @@
 
 use crate::engine::{BUSES, FIRST_GENERATED, MOST_NODES, SLOTS};
 use crate::layout::{record, row_words, slot_bytes, Record};
+use crate::layout::{ARENA, MOST_ORDER, WORDS};
 use crate::layout::{COUNT, GROUP, LATEST, LENGTH, NEXT, NONE_LEFT, ORDER, ORDER_LENGTH, RESIDENT};
-use crate::layout::{MOST_ORDER, ARENA, WORDS};
 use crate::{read_definition, Definition, MOST_BYTES};
 use std::collections::HashSet;
 

@@ -499,7 +499,7 @@ fn an_export_is_the_file() {
     ];
     desk.load(&definitions);
     assert_eq!(desk.reply(Command::Export), write(&definitions).bytes);
-    // By slot, not by load: "b" goes to the slot that "a" left.
+    // By slot, not by load: `b` goes to the slot that `a` left.
     let [a, b, c] = definitions;
     desk.done(Command::Delete(b"a"));
     desk.load(std::slice::from_ref(&b));

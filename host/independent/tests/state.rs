@@ -2,8 +2,8 @@
 
 use independent::engine::{Commands, Theme};
 use independent::layout::{self, record, row_words};
+use independent::layout::{ARENA, ORDER, ORDER_LENGTH, RECORD, RESIDENT, ROW, WORDS};
 use independent::layout::{BUS, CONTROL, COUNT, GROUP, LATEST, LENGTH, NEXT, NODE, NONE_LEFT};
-use independent::layout::{ORDER, ORDER_LENGTH, RECORD, RESIDENT, ROW, ARENA, WORDS};
 use independent::{leave, well_formed, write, Call, Definition, Engine, Random, MOST_BYTES};
 
 /// Sends random commands and looks at some of the states.
@@ -54,8 +54,8 @@ fn the_parts_lie_where_the_page_says() {
     assert!(arena.iter().all(|&byte| byte == 0));
 }
 
-/// A state with groups 1 and 2, synths 10 (off), 11 and -8, and the definitions "a" and "b", of
-/// which "a" is retired: 0 [1 [10 2 [11]] -8].
+/// A state with groups 1 and 2, synths 10 (off), 11 and -8, and the definitions `a` and `b`, of
+/// which `a` is retired: 0 [1 [10 2 [11]] -8].
 fn example() -> (Vec<u32>, Vec<u8>) {
     let mut engine = Engine::new();
     let definition = |name: &[u8], initial: usize| Definition {

@@ -1,5 +1,5 @@
-//! Safe functions over the proved static library, a module for each of its crates, and the refusals
-//! in plain words.
+//! Safe functions over the proved library of files, the refusals in plain words, and bytes as text.
 
 pub mod refusal;
+pub mod show;
 pub mod synthdef;

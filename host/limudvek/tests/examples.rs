@@ -8,7 +8,7 @@ fn header(count: u8) -> Vec<u8> {
     [b"SCgf\0\0\0\x02\0".as_slice(), &[count]].concat()
 }
 
-/// A file of one definition "a" with these fields after its name, which stands at 10.
+/// A file of one definition `a` with these fields after its name, which stands at 10.
 fn one(fields: &[&[u8]]) -> Vec<u8> {
     [header(1).as_slice(), b"\x01a", &fields.concat()].concat()
 }
@@ -21,7 +21,7 @@ fn int(number: i32) -> [u8; 4] {
 const NONE: &[u8] = &[0, 0, 0, 0];
 const NO_VARIANTS: &[u8] = &[0, 0];
 
-/// Neither inputs nor outputs, class "U", rate 2, special index 0.
+/// Neither inputs nor outputs, class `U`, rate 2, special index 0.
 const UNIT: &[u8] = b"\x01U\x02\0\0\0\0\0\0\0\0\0\0";
 
 fn answers(file: &[u8], expected: Result<(), (u32, u64)>) {
@@ -267,7 +267,7 @@ fn inputs_from_constants() {
     refused(&file(-1), 8, 53);
 }
 
-/// A definition "a" of so many bytes.
+/// A definition `a` of so many bytes.
 fn long(bytes: usize) -> Vec<u8> {
     let name = vec![b'a'; 1 + bytes % 4];
     let constants = (bytes - 19 - name.len()) / 4;

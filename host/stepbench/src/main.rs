@@ -1,7 +1,7 @@
 //! The proved engine's time as a multiple of the independent Rust engine's, for the same commands in
 //! one run: whole, with its state check (`apply`), and without it (`step`).
 //!
-//! Run it from `host/`, after `./archives stepcalls`, by `cargo run --release -p stepbench`.
+//! Run it from `host/`, after `./archives stepbench`, by `cargo run --release -p stepbench`.
 
 mod clock;
 mod commands;

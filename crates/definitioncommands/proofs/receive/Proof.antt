@@ -19,8 +19,8 @@ load-file-requires c κs =
     let s = c .before .before .before .before .before .before .before .before .before in
     (s .pre, verdict-got (readFile (s .args .bytes .now)) (sym (c .before .before .before .before .before .check-file .ensures) ∙ c .before .before .before .count .given .1))
 
-enum-known-refusal : tie.Need-enum-known-refusal
-enum-known-refusal c = search needs
+enum-known-fault : tie.Need-enum-known-fault
+enum-known-fault c = search needs
 
 same-length : tie.Need-same-length
 same-length c = search needs
@@ -34,7 +34,7 @@ returns c = search needs
 returns-2 : tie.Need-returns-2
 returns-2 c =
     let a = c .before .before .before .before .before .before .before .args in
-    receive-fault (a .bytes .now) (a .words .now) (a .arena .now) _ _ (verdict-bad (readFile (a .bytes .now)) (sym (c .before .before .before .check-file .ensures) ∙ c .before .refusal .given .1))
+    receive-fault (a .bytes .now) (a .words .now) (a .arena .now) _ _ (verdict-bad (readFile (a .bytes .now)) (sym (c .before .before .before .check-file .ensures) ∙ c .before .fault .given .1))
 
 pub receive-spec : {M : Type 1} → statement M
 receive-spec =
@@ -43,7 +43,7 @@ receive-spec =
     check-file-requires
     enum-known-count
     load-file-requires
-    enum-known-refusal
+    enum-known-fault
     same-length
     same-length-2
     returns

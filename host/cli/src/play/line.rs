@@ -1,6 +1,6 @@
 //! A line of a script: a command in the reference's notation, a comment, or nothing.
 
-use crate::show;
+use limudvek::show::{self, in_quotes, looks_integer};
 
 /// The kinds of commands that the player looks at, by their numbers.
 pub const D_RECV: u32 = 1;
@@ -28,6 +28,7 @@ impl Call {
 /// `text` is the line as it is shown.
 #[derive(Debug, PartialEq, Eq)]
 pub enum Line {
+    Help,
     Tree,
     Load { text: String, file: Vec<u8> },
     Call { text: String, call: Call },
@@ -97,12 +98,15 @@ pub fn read(text: &[u8]) -> Result<Option<Line>, String> {
             Ok(())
         } else {
             let (shown, given) = (show::path(address), arguments.len());
-            Err(format!(
-                "{shown} takes {count} arguments, and here are {given}"
-            ))
+            let takes = show::counted(count, "argument");
+            Err(format!("{shown} takes {takes}, not {given}"))
         }
     };
     match address {
+        b"help" => {
+            expect(0)?;
+            return Ok(Some(Line::Help));
+        }
         b"tree" => {
             expect(0)?;
             return Ok(Some(Line::Tree));
@@ -152,13 +156,8 @@ impl Word {
         }
     }
 
-    /// Digits, maybe after a sign, and not in quotes.
     fn looks_integer(&self) -> bool {
-        let digits = match self.bytes.split_first() {
-            Some((b'-' | b'+', digits)) => digits,
-            _ => &self.bytes,
-        };
-        !self.quoted && !digits.is_empty() && digits.iter().all(u8::is_ascii_digit)
+        !self.quoted && looks_integer(&self.bytes)
     }
 
     fn parsed<T: std::str::FromStr>(&self, what: &str) -> Result<T, String> {
@@ -234,22 +233,4 @@ fn until_quote(text: &[u8], start: usize) -> Result<(Vec<u8>, usize), String> {
 
 fn digit(byte: u8) -> Option<u8> {
     char::from(byte).to_digit(16).map(|digit| digit as u8)
-}
-
-/// A name as a script can hold it: in quotes unless it reads as a name without.
-pub fn quoted(name: &[u8]) -> String {
-    let plain = |byte: &u8| byte.is_ascii_graphic() && !matches!(byte, b'"' | b'#' | b'\\');
-    let word = Word {
-        bytes: name.to_vec(),
-        quoted: false,
-    };
-    if !name.is_empty() && name.iter().all(plain) && !word.looks_integer() {
-        String::from_utf8_lossy(name).into_owned()
-    } else {
-        in_quotes(name)
-    }
-}
-
-fn in_quotes(name: &[u8]) -> String {
-    format!("\"{}\"", show::name(name).replace('"', "\\\""))
 }

@@ -1,6 +1,6 @@
 //! OSC messages, as replies are.
 
-use super::line::quoted;
+use limudvek::show::quoted;
 use std::fmt;
 
 #[derive(Clone, Debug, PartialEq)]

@@ -1,7 +1,7 @@
 //! The tree of nodes, indented: as `/g_queryTree` replies, and with what the state knows besides.
 
-use super::line::quoted;
 use super::message::{Argument, Message};
+use limudvek::show::quoted;
 use std::io::{self, Write};
 use std::slice::Iter;
 

@@ -184,7 +184,7 @@ loop-again c =
     ∙ ap (λ (n : ℕ). mappingsFormed n (drop (64 * getD ws (68 + 5 * l .i + 4) 0) (controlsIn ws))) (sym (w .2 .ensures))
     ∙ sym (w .5 .ensures)
     ∙ not-false (w .5 .result) (w .6 .left) in
-    let fact = noted-more _ _ (l .fact) (l .inv .1) (w .1 .result) (w .2 .result) (omega (arith, h .low, w .1 .ensures)) (w .2 .ensures ∙ ap (controlsOn ws arena) (sym (w .1 .ensures))) in
+    let fact = noted-more _ _ (l .known) (l .inv .1) (w .1 .result) (w .2 .result) (omega (arith, h .low, w .1 .ensures)) (w .2 .ensures ∙ ap (controlsOn ws arena) (sym (w .1 .ensures))) in
     (sym (rw more at turn) ∙ l .inv .0, rw (w .7) fact))
     (λ w.
     let more : nodeFormed ws arena (l .i) ≡ true = formed-group ws arena (l .i) (bounds-ready ws arena (s .pre) (l .i) (omega arith) .place) (w .0 .left) in

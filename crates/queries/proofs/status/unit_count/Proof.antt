@@ -74,7 +74,7 @@ units-known-requires c κs =
     let same = c .wide2 .ensures in
     let other : c .wide2 .result ≡ 32 → ⊥ = λ e. c .before .if1 .taken (sym same ∙ e) in
     let there = slot-there (s .args .words .now) (s .args .arena .now) (l .i) a (c .wide2 .result) same other in
-    (a, units-fact (s .args .words .now) (s .args .arena .now) (l .i) a (c .wide2 .result) same other (l .fact) (l .inv .3))
+    (a, units-fact (s .args .words .now) (s .args .arena .now) (l .i) a (c .wide2 .result) same other (l .known) (l .inv .3))
 
 mul-known : tie.Need-mul-known Inv-loop μ-loop
 mul-known c =
@@ -117,7 +117,7 @@ loop-again c =
     ⊎-elim
     (λ w.
     let other : w .1 .result ≡ 32 → ⊥ = λ e. w .0 .taken (sym (w .1 .ensures) ∙ e) in
-    let more = fact-more (s .args .words .now) (s .args .arena .now) (l .i) a (w .1 .result) (w .1 .ensures) other (l .fact) (l .inv .3) (w .2 .result) (w .2 .ensures) in
+    let more = fact-more (s .args .words .now) (s .args .arena .now) (l .i) a (w .1 .result) (w .1 .ensures) other (l .known) (l .inv .3) (w .2 .result) (w .2 .ensures) in
     (omega arith, omega (arith, w .5, w .3 .ensures), omega (arith, w .5, w .3 .ensures, w .2 .ensures), rw (w .4) more))
     (λ w.
     let none = units-none (s .args .words .now) (s .args .arena .now) (l .i) a (getD (s .args .words .now) (nodesPlace + 5 * l .i + 3) 0) refl (w .0 .left) in

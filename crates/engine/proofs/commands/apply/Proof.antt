@@ -1,10 +1,10 @@
--- `engine::apply::apply` meets its contract: the check, and then the step.
+-- `engine::commands::apply` meets its contract: the check, and then the step.
 use mathlib.Core.Path.{sym, _∙_}
 use borrow.Author.Needs.{needs}
 use borrow.Author.Tests.{not-true, not-false}
 use Rattle.state.specs.Does.{does-bad}
-use Rattle.engine.proofs.apply.apply.Statement.{statement}
-use Rattle.engine.proofs.apply.apply.Tie as tie
+use Rattle.engine.proofs.commands.apply.Statement.{statement}
+use Rattle.engine.proofs.commands.apply.Tie as tie
 
 well-formed-requires : tie.Need-well-formed-requires
 well-formed-requires c κs = search needs

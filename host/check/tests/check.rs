@@ -6,7 +6,7 @@ use std::os::unix::ffi::OsStrExt;
 use std::path::{Path, PathBuf};
 use std::process::{Command, Stdio};
 
-const PROGRAM: &str = env!("CARGO_BIN_EXE_limudvek");
+const PROGRAM: &str = env!("CARGO_BIN_EXE_limudvek-check");
 
 const EMPTY_FILE: &[u8] = b"SCgf\0\0\0\x02\0\0";
 
@@ -39,13 +39,9 @@ impl Folder {
         )
     }
 
-    /// `limudvek check` on these files, with nothing on standard error.
+    /// Runs the program on these files, with nothing on standard error.
     fn check<S: AsRef<OsStr>>(&self, files: &[S]) -> (i32, String) {
-        let words: Vec<&OsStr> = [OsStr::new("check")]
-            .into_iter()
-            .chain(files.iter().map(AsRef::as_ref))
-            .collect();
-        let (status, out, err) = self.run(&words);
+        let (status, out, err) = self.run(files);
         assert_eq!(err, "");
         (status, out)
     }
@@ -77,9 +73,9 @@ fn accepted_files_list_their_names() {
     let (status, out) = folder.check(&["two", "none", "one"]);
     assert_eq!(
         out,
-        "two: accepted, 2 definitions: kick long pad\n\
+        "two: accepted, 2 definitions: kick \"long pad\"\n\
          none: accepted, 0 definitions\n\
-         one: accepted, 1 definitions: ping\n"
+         one: accepted, 1 definition: ping\n"
     );
     assert_eq!(status, 0);
 }
@@ -93,11 +89,29 @@ fn as_many_and_as_long_names_as_there_can_be() {
     let (status, out) = folder.check(&["many"]);
     let shown: Vec<String> = names
         .iter()
-        .map(|name| String::from_utf8_lossy(name).replace('\\', "\\\\"))
+        .map(|name| match name[0] {
+            b'\\' => format!("\"{}\"", "\\\\".repeat(255)),
+            letter => char::from(letter).to_string().repeat(255),
+        })
         .collect();
     assert_eq!(
         out,
         format!("many: accepted, 32 definitions: {}\n", shown.join(" "))
+    );
+    assert_eq!(status, 0);
+}
+
+#[test]
+fn a_name_that_could_be_misread_stands_in_quotes() {
+    let folder = Folder::new("quotes");
+    folder.write(
+        "a",
+        &file(&[b"great hall", b"a\"b", b"#1", b"440", b"-8", b"4a"]),
+    );
+    let (status, out) = folder.check(&["a"]);
+    assert_eq!(
+        out,
+        "a: accepted, 6 definitions: \"great hall\" \"a\\\"b\" \"#1\" \"440\" \"-8\" 4a\n"
     );
     assert_eq!(status, 0);
 }
@@ -115,10 +129,10 @@ fn a_name_cannot_steer_the_terminal() {
     let (first, second) = out.split_once('\n').expect("two lines");
     assert_eq!(
         first,
-        r"a: accepted, 4 definitions: \x1b[2J a\x0ab\x0d c:\\d \x01\x7f~ "
+        r#"a: accepted, 4 definitions: "\x1b[2J" "a\x0ab\x0d" "c:\\d" "\x01\x7f~ ""#
     );
-    assert!(second.starts_with(r"b: accepted, 1 definitions: \x01\x02"));
-    assert!(second.ends_with("}~\\x7f\n"));
+    assert!(second.starts_with(r#"b: accepted, 1 definition: "\x01\x02"#));
+    assert!(second.ends_with("}~\\x7f\"\n"));
     assert!(second
         .trim_end()
         .bytes()
@@ -238,28 +252,11 @@ fn the_worst_file_gives_the_status() {
 }
 
 #[test]
-fn other_words_get_the_usage() {
-    let folder = Folder::new("usage");
-    folder.write("check", EMPTY_FILE);
-    let commands: [&[&str]; 5] = [
-        &[],
-        &["check"],
-        &["listen"],
-        &["listen", "check"],
-        &["--help"],
-    ];
-    for words in commands {
-        let (status, out, err) = folder.run(words);
-        assert_eq!(status, 2, "{words:?}");
-        assert_eq!(out, "");
-        assert_eq!(
-            err,
-            "usage: limudvek check FILE...\n       limudvek play FILE\n"
-        );
-    }
-    let (status, out) = folder.check(&["check"]);
-    assert_eq!(out, "check: accepted, 0 definitions\n");
-    assert_eq!(status, 0);
+fn without_a_file_it_gives_the_usage() {
+    let (status, out, err) = Folder::new("usage").run::<&str>(&[]);
+    assert_eq!(status, 2);
+    assert_eq!(out, "");
+    assert_eq!(err, "usage: limudvek check FILE...\n");
 }
 
 #[test]
@@ -288,7 +285,7 @@ fn closed_standard_output_is_no_panic() {
     let folder = Folder::new("closed");
     folder.write("good", EMPTY_FILE);
     let mut child = Command::new(PROGRAM)
-        .args(std::iter::once("check").chain(std::iter::repeat_n("good", 20_000)))
+        .args(std::iter::repeat_n("good", 20_000))
         .current_dir(&folder.0)
         .stdout(Stdio::piped())
         .stderr(Stdio::piped())
