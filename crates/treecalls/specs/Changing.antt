@@ -1,19 +1,17 @@
 -- Calls that change the table at one node: one law for all changes, and adding.
 use Prim.Native.Nat.{ℕ, _+_, _*_, _≤_, _<_}
 use mathlib.Core.Bool.{Bool, true, false}
-use mathlib.Core.Path.{_≡_, refl, sym, ap, _∙_}
+use mathlib.Core.Path.{_≡_, refl, sym, _∙_}
 use mathlib.Core.List.{List, [], _∷_}
-use native.Mathlib.Omega.{arith}
-use lib.ListN.{length, length-append, length-take, length-drop}
+use lib.ListN.{length}
 use lib.Dec.{leb, ltb, eqb}
 use borrow.Author.Tests.{lt-ltb, le-ltb, le-leb, lt-leb, leb-true}
 use Rattle.words.specs.Choice.{pick, both}
 use Rattle.nodes.specs.declared.Node.{Node}
-use Rattle.nodes.specs.Table.{width, rows, fill, rows-length}
+use Rattle.nodes.specs.Table.{width, rows, fill}
 use Rattle.nodes.specs.Place.{place}
 use Rattle.nodes.specs.Sizes.{depthAt}
 use Rattle.nodes.specs.Edit.{level, editRows, editAt, addBy, freeHere, freeAllHere, deepFreeHere, setRunHere}
-use Rattle.nodes.specs.Split.{setRun-at}
 use Rattle.tree.specs.declared.action.Action.{Action}
 use Rattle.tree.specs.declared.action.Action.the-variants.{Put, Replace}
 use Rattle.tree.specs.declared.action.Position.the-variants.{Head, Tail, Before, After}
@@ -39,11 +37,6 @@ changeHere Free r l = freeHere r l
 changeHere FreeAll r l = freeAllHere r l
 changeHere DeepFree r l = deepFreeHere r l
 changeHere (Run flag) r l = setRunHere flag r l
-
--- a run flag that is set leaves as many records
-pub run-leaves : (us : List ℕ) (count at flag : ℕ) → at < count → (after : List ℕ) → after ≡ fill us (editAt at (setRunHere flag) (rows count us)) → Leaves us (editAt at (setRunHere flag) (rows count us)) after count
-run-leaves us count at flag live after e =
-    record { words = e; size = sym (ap length (setRun-at count us at live flag) ∙ simp (length-append, length-take, length-drop, rows-length) (omega arith)) }
 
 -- of the node n, found at a place
 module _ (us : List ℕ) (count n at : ℕ) where

@@ -2,7 +2,7 @@
 use mathlib.Core.Path.{_≡_}
 use native.Mathlib.Omega.{arith}
 use Rattle.treecalls.specs.declared.changing.Change.the-variants.{Free, FreeAll, DeepFree, Run}
-use Rattle.treecalls.specs.Changing.{run-leaves}
+use Rattle.tree.specs.Words.{run-leaves}
 use borrow.Author.Needs.{needs}
 use Rattle.treecalls.proofs.changing.change_at.Statement.{statement}
 use Rattle.treecalls.proofs.changing.change_at.Tie as tie
