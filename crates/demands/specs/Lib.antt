@@ -1,4 +1,3 @@
 pub mod Loads
 pub mod Theorems
 pub mod Played
-pub mod Calls
