@@ -15,9 +15,10 @@ use Rattle.model.specs.Layout.{slotCount, slotRoom, controlsPlace, controlsWord
 use Rattle.model.specs.Engine.{Engine, slotsFrom, decode}
 use Rattle.model.specs.Effects.{treeEffect, effect}
 use Rattle.model.specs.After.{putTree, wordsAfter}
-use Rattle.model.specs.Apply.{answerIn}
+use Rattle.model.specs.Apply.{answerIn, isAccepted}
 use Rattle.model.specs.Formed.{formed, flagsFormed, slotsFormed, namesApart}
 use Rattle.state.specs.Known.{Known, known}
+use Rattle.state.specs.Accepted.{tree-accepted}
 use Rattle.state.specs.Decoded.{tree-size, tree-lengths, tree-flags, tree-decoded}
 use Rattle.preservation.specs.Assemble.{Whole, tree-formed, whole-formed}
 use Rattle.preservation.specs.Rows.{order-short}
@@ -82,7 +83,7 @@ module _ (ws bs : List ℕ) (k : Known ws bs) (e : Engine) (s : Sound (lengthsIn
 module _ (c : TreeCommand) (bytes ws bs : List ℕ) (h : formed ws bs ≡ true) (a : answerIn (command.Tree c) bytes (decode ws bs) 0 ≡ Done) where
   after : Sound (lengthsIn ws) (treeEffect c bytes (decode ws bs))
   unfolding answerIn
-  after = sound-step bytes (lengthsIn ws) (decode ws bs) (known-sound ws bs (known ws bs h)) c a
+  after = sound-step (lengthsIn ws) (decode ws bs) (known-sound ws bs (known ws bs h)) c bytes (tree-accepted bytes (decode ws bs) c (ap isAccepted a))
 
   buses : treeEffect c bytes (decode ws bs) .buses ≡ busesIn ws
   unfolding decode
