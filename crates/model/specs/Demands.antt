@@ -1,13 +1,13 @@
 -- The three demands, each as a statement over the definitions that the contracts cite.
 use Prim.{Unit}
 use Prim.Native.Nat.{ℕ}
-use mathlib.Core.Bool.{Bool, true, false, not}
+use mathlib.Core.Bool.{Bool, true, false}
 use mathlib.Core.Path.{_≡_}
 use mathlib.Core.List.{List, [], _∷_}
 use mathlib.Core.Option.{Option, none, some}
 use lib.ListN.{length}
 use lib.Dec.{ltb, eqb}
-use Rattle.words.specs.Choice.{pick, both, either}
+use Rattle.words.specs.Choice.{pick, either}
 use Rattle.faults.specs.Faults.{faultNumber}
 use Rattle.refusals.specs.Refusals.{numberOf}
 use Rattle.format.specs.Definition.{Definition}
@@ -15,14 +15,11 @@ use Rattle.format.specs.Bounds.{every}
 use Rattle.nodes.specs.declared.Node.{Node}
 use Rattle.nodes.specs.Place.{isGroup, lives}
 use Rattle.nodes.specs.Edit.{isBelow}
-use Rattle.nodes.specs.Structure.{parentOf, childrenOf}
+use Rattle.nodes.specs.Structure.{parentOf, childrenOf, parent, children}
 use Rattle.nodes.specs.Formed.{apart}
-use Rattle.values.specs.declared.NodeArgument.{NodeArgument}
 use Rattle.model.specs.declared.DefinitionCommand.the-variants as definitions
 use Rattle.model.specs.declared.TreeCommand.{TreeCommand}
 use Rattle.model.specs.declared.TreeCommand.the-variants as tree
-use Rattle.model.specs.declared.ControlCommand.{ControlCommand}
-use Rattle.model.specs.declared.ControlCommand.the-variants as controls
 use Rattle.model.specs.declared.Query.{Query}
 use Rattle.model.specs.declared.Query.the-variants as query
 use Rattle.model.specs.declared.Command.{Command}
@@ -31,13 +28,15 @@ use Rattle.model.specs.declared.Answer.{Answer}
 use Rattle.model.specs.declared.Answer.the-variants.{Done, Replied, Refused, RefusedAt}
 use Rattle.model.specs.Engine.{Slot, Engine, decode, slotAt, definitionIn, residentOf, residents}
 use Rattle.model.specs.Formed.{formed}
-use Rattle.model.specs.View.{Kind, group, synth, PlainNode, Row, view}
-use Rattle.model.specs.Meaning.{meant, nodeNamed}
+use Rattle.model.specs.View.{Kind, group, synth, Row, view}
+use Rattle.model.specs.Meaning.{nodeNamed}
 use Rattle.model.specs.Effects.{numberFor, effect}
-use Rattle.model.specs.Replies.{replyTo, reply}
+use Rattle.model.specs.Replies.{reply}
 use Rattle.model.specs.After.{wordsAfter, arenaAfter, freshState, freshArena}
-use Rattle.model.specs.Apply.{answerIn, answer, isAccepted, written, replyOf, Does}
-use Rattle.model.specs.Plain.{Plain, atFirst, meaning, meantIn, fed, plainRows, plainOrder}
+use Rattle.model.specs.Apply.{queryAnswer, answerIn, answer, isAccepted, written, replyOf, Does}
+use Rattle.model.specs.Plain.{Plain, atFirst, meaning, numberIn, fed, plainRows, plainOrder}
+use Rattle.model.specs.PlainReplies.{plainReply, isExport}
+use Rattle.model.specs.Frame.{displaced, touched, numbersLeft, entriesLeft}
 
 -- the definition that a name means in the engine: its resident's
 abbrev pub definitionAtSlot : List Slot → ℕ → Option Definition
@@ -163,78 +162,16 @@ unfoldable pub holds : ℕ → List ℕ → Bool
 holds n [] = false
 holds n (m ∷ ms) = either (eqb m n) (holds n ms)
 
--- the node n is in a subtree that the command adds, moves or frees
-abbrev pub displacedBy : TreeCommand → Engine → ℕ → Bool
-displacedBy (tree.NewSynth number action target) e n =
-    either (eqb (numberFor number (e .next)) n) (both (eqb action 4) (isBelow n (meant target e) (e .nodes)))
-displacedBy (tree.NewGroup number action target) e n = either (eqb number n) (both (eqb action 4) (isBelow n (meant target e) (e .nodes)))
-displacedBy (tree.Free a) e n = isBelow n (meant a e) (e .nodes)
-displacedBy (tree.FreeAll g) e n = both (isBelow n (meant g e) (e .nodes)) (not (eqb n (meant g e)))
-displacedBy (tree.DeepFree g) e n = both (isBelow n (meant g e) (e .nodes)) (not (isGroup (nodeNamed n (e .nodes))))
-displacedBy (tree.Before a b) e n = isBelow n (meant a e) (e .nodes)
-displacedBy (tree.After a b) e n = isBelow n (meant a e) (e .nodes)
-displacedBy (tree.Head g a) e n = isBelow n (meant a e) (e .nodes)
-displacedBy (tree.Tail g a) e n = isBelow n (meant a e) (e .nodes)
-displacedBy (tree.Run a flag) e n = false
-
-abbrev pub displaced : Command → Engine → ℕ → Bool
-displaced (command.Definitions c) e n = false
-displaced (command.Tree c) e n = displacedBy c e n
-displaced (command.Controls c) e n = false
-displaced (command.Buses c) e n = false
-displaced (command.Query q) e n = false
-
--- .. or that it turns on or off, sets or maps
-abbrev pub turnedBy : TreeCommand → Engine → ℕ → Bool
-turnedBy (tree.NewSynth number action target) e n = false
-turnedBy (tree.NewGroup number action target) e n = false
-turnedBy (tree.Free a) e n = false
-turnedBy (tree.FreeAll g) e n = false
-turnedBy (tree.DeepFree g) e n = false
-turnedBy (tree.Before a b) e n = false
-turnedBy (tree.After a b) e n = false
-turnedBy (tree.Head g a) e n = false
-turnedBy (tree.Tail g a) e n = false
-turnedBy (tree.Run a flag) e n = isBelow n (meant a e) (e .nodes)
-
-abbrev pub controlNode : ControlCommand → NodeArgument
-controlNode (controls.Set n key value) = n
-controlNode (controls.Fill n key count value) = n
-controlNode (controls.Map n key bus) = n
-
-abbrev pub touched : Command → Engine → ℕ → Bool
-touched (command.Definitions c) e n = false
-touched (command.Tree c) e n = either (displacedBy c e n) (turnedBy c e n)
-touched (command.Controls c) e n = isBelow n (meant (controlNode c) e) (e .nodes)
-touched (command.Buses c) e n = false
-touched (command.Query q) e n = false
-
--- the numbers of rows that fail a test
-unfoldable pub numbersLeft : (ℕ → Bool) → List Row → List ℕ
-numbersLeft test [] = []
-numbersLeft test (r ∷ l) = pick (test (r .node .number)) (numbersLeft test l) (r .node .number ∷ numbersLeft test l)
-
--- a node with its parent
-pub record Entry : Type 0 where
-  pub node : PlainNode
-  pub parent : ℕ
-
--- the nodes whose numbers fail a test, each with its parent in the tree t
-unfoldable pub entriesLeft : (ℕ → Bool) → List Node → List Row → List Entry
-entriesLeft test t [] = []
-entriesLeft test t (r ∷ l) =
-    pick (test (r .node .number)) (entriesLeft test t l) (record { node = r .node; parent = parentOf (r .node .number) t } ∷ entriesLeft test t l)
-
 -- of one call between the state before it and the state after it: never refusal 1, each answer as the table says; what a command doesn't touch stays as it was: nodes that
 -- it neither adds, moves nor frees keep their order among themselves; a node outside the subtrees that it adds, moves, sets, maps, turns on or off, or frees keeps its
 -- kind, parent, definition, run flag and controls
 pub record StepHolds (c : Call) (s : State) : Type 0 where
   pub sound : refusalIn (answerTo c s) ≡ 1 → ⊥
   pub table : answerTo c s ≡ answerIn (c .command) (c .bytes) (engineIn s) (length (c .out))
-  pub ordered : numbersLeft (displaced (c .command) (engineIn s)) (view (engineIn s))
-      ≡ numbersLeft (displaced (c .command) (engineIn s)) (view (engineIn (after c s)))
-  pub untouched : entriesLeft (touched (c .command) (engineIn s)) (engineIn s .nodes) (view (engineIn s))
-      ≡ entriesLeft (touched (c .command) (engineIn s)) (engineIn (after c s) .nodes) (view (engineIn (after c s)))
+  pub ordered : numbersLeft (displaced (acceptedIn c s) (c .command) (engineIn s)) (view (engineIn s))
+      ≡ numbersLeft (displaced (acceptedIn c s) (c .command) (engineIn s)) (view (engineIn (after c s)))
+  pub untouched : entriesLeft (touched (acceptedIn c s) (c .command) (engineIn s)) (engineIn s .nodes) (view (engineIn s))
+      ≡ entriesLeft (touched (acceptedIn c s) (c .command) (engineIn s)) (engineIn (after c s) .nodes) (view (engineIn (after c s)))
 
 unfoldable pub EachHolds : List Call → State → Type 0
 EachHolds [] s = Unit {0}
@@ -248,29 +185,25 @@ pub record TreeHolds (t : List Node) : Type 0 where
       → (lives (parentOf n t) t ≡ true) × ((isGroup (nodeNamed (parentOf n t) t) ≡ true) × (holds n (childrenOf (parentOf n t) t) ≡ true))
   pub oneParent : (n g : ℕ) → lives n t ≡ true → holds n (childrenOf g t) ≡ true → g ≡ parentOf n t
 
--- "One reply for all queries breaks it by the replay model": the reply to a query, of what the plain tree holds; all but export's
-abbrev pub plainReply : Query → List ℕ → Plain → List ℕ
-plainReply q bytes p = replyTo q (λ a. meantIn a p) bytes (plainRows 0 (p .tree)) (p .buses) (length (p .names)) []
-
-abbrev pub isExport : Query → Bool
-isExport (query.Node n) = false
-isExport (query.Control n key) = false
-isExport (query.Bus b) = false
-isExport (query.Tree g flag) = false
-isExport query.Status = false
-isExport query.Export = true
+-- the latest synth or none: its number in the state, or 0
+abbrev pub latestSynth : ℕ → Option ℕ
+latestSynth latest = pick (eqb latest 0) none (some latest)
 
 -- of the state after a sequence and the plain tree that was fed the same: everything equals paper 01's plain tree, the kept running order equals the one worked
 -- out afresh. "All that the plain tree holds is compared: definitions, each synth's and each name's, as read, not by slot; controls by own float and mapping; every float by its bits."
+-- "One reply for all queries breaks it by the replay model": each reply but export's is the plain tree's own.
 pub record Same (e : Engine) (p : Plain) : Type 0 where
   pub nodes : view e ≡ plainRows 0 (p .tree)
+  pub parents : (n : ℕ) → parentOf n (e .nodes) ≡ parent numberIn n (p .tree)
+  -- "each group's children from head to tail"
+  pub headToTail : (n : ℕ) → childrenOf n (e .nodes) ≡ children numberIn n (p .tree)
   pub names : (name : List ℕ) → meaningIn name e ≡ meaning name (p .names)
   pub nameCount : length (residents (e .slots)) ≡ length (p .names)
   pub next : e .next ≡ p .next
-  pub latest : e .latest ≡ p .latest
+  pub latest : latestSynth (e .latest) ≡ p .latest
   pub buses : e .buses ≡ p .buses
   pub order : e .order ≡ plainOrder p
-  pub replies : (q : Query) (bytes : List ℕ) → isExport q ≡ false → reply q bytes e ≡ plainReply q bytes p
+  pub replies : (q : Query) (bytes : List ℕ) (room : ℕ) → isExport q ≡ false → isAccepted (queryAnswer q bytes e room) ≡ true → plainReply q bytes p ≡ some (reply q bytes e)
 
 -- every call's bytes are bytes
 unfoldable pub AllBytes : List Call → Type 0

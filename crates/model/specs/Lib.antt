@@ -9,6 +9,8 @@ pub mod Replies
 pub mod After
 pub mod Apply
 pub mod Plain
+pub mod PlainReplies
+pub mod Frame
 pub mod Demands
 pub mod Script
 pub mod Examples

@@ -21,8 +21,10 @@ use Rattle.model.specs.Effects.{effect}
 use Rattle.model.specs.After.{wordsAfter, arenaAfter}
 use Rattle.model.specs.Apply.{answerIn, answer, isAccepted}
 use Rattle.model.specs.Plain.{Plain, atFirst, grow, fed}
-use Rattle.model.specs.Demands.{AreBytes, refusalIn, Call, State, engineIn, answerTo, acceptedIn, after, freshEngine, run, replay, madeIn, made, definitionOfSynth, displaced, touched, numbersLeft, entriesLeft, StepHolds, EachHolds, AllBytes, Demand3}
-use Rattle.refinement.specs.Kept.{Kept, kept-same}
+use Rattle.model.specs.Frame.{displaced, touched, numbersLeft, entriesLeft}
+use Rattle.model.specs.Demands.{AreBytes, refusalIn, Call, State, engineIn, answerTo, acceptedIn, after, freshEngine, run, replay, madeIn, made, definitionOfSynth, StepHolds, EachHolds, AllBytes, Demand3}
+use Rattle.refinement.specs.Kept.{Kept}
+use Rattle.refinement.specs.Same.{kept-same}
 use Rattle.refinement.specs.Replay.{isDone, replayed}
 use Rattle.refinement.specs.Stepped.{kept, effected, accepted-is-done}
 use Rattle.sequence.specs.Sound.{never-one}
@@ -118,13 +120,13 @@ module _ (c : Call) (clean : AreBytes (c .bytes)) (s : State) (p : Plain) (madeF
     untouched = still (acceptedIn c s) refl;
   }
     where
-      go : (b : Bool) → acceptedIn c s ≡ b → numbersLeft (displaced (c .command) e) (view e) ≡ numbersLeft (displaced (c .command) e) (view (engineIn (after c s)))
-      go true h = ordered-step (c .command) (c .bytes) (s .words) (s .arena) room clean (g .whole) (yes h) ∙ sym (ap (λ (x : Engine). numbersLeft (displaced (c .command) e) (view x)) (effect-after h))
-      go false h = sym (ap (λ (x : State). numbersLeft (displaced (c .command) e) (view (engineIn x))) (refused-words c s h))
+      go : (b : Bool) → acceptedIn c s ≡ b → numbersLeft (displaced b (c .command) e) (view e) ≡ numbersLeft (displaced b (c .command) e) (view (engineIn (after c s)))
+      go true h = ordered-step (c .command) (c .bytes) (s .words) (s .arena) room clean (g .whole) (yes h) ∙ sym (ap (λ (x : Engine). numbersLeft (displaced true (c .command) e) (view x)) (effect-after h))
+      go false h = sym (ap (λ (x : State). numbersLeft (displaced false (c .command) e) (view (engineIn x))) (refused-words c s h))
 
-      still : (b : Bool) → acceptedIn c s ≡ b → entriesLeft (touched (c .command) e) (e .nodes) (view e) ≡ entriesLeft (touched (c .command) e) (engineIn (after c s) .nodes) (view (engineIn (after c s)))
-      still true h = untouched-step (c .command) (c .bytes) (s .words) (s .arena) room clean (g .whole) (yes h) ∙ sym (ap (λ (x : Engine). entriesLeft (touched (c .command) e) (x .nodes) (view x)) (effect-after h))
-      still false h = sym (ap (λ (x : State). entriesLeft (touched (c .command) e) (engineIn x .nodes) (view (engineIn x))) (refused-words c s h))
+      still : (b : Bool) → acceptedIn c s ≡ b → entriesLeft (touched b (c .command) e) (e .nodes) (view e) ≡ entriesLeft (touched b (c .command) e) (engineIn (after c s) .nodes) (view (engineIn (after c s)))
+      still true h = untouched-step (c .command) (c .bytes) (s .words) (s .arena) room clean (g .whole) (yes h) ∙ sym (ap (λ (x : Engine). entriesLeft (touched true (c .command) e) (x .nodes) (view x)) (effect-after h))
+      still false h = sym (ap (λ (x : State). entriesLeft (touched false (c .command) e) (engineIn x .nodes) (view (engineIn x))) (refused-words c s h))
 
 -- every call of a sequence, and what is kept at its end
 each-holds : (cs : List Call) → AllBytes cs → (s : State) (p : Plain) (madeFrom : ℕ → Option Definition) → Going s p madeFrom → EachHolds cs s
