@@ -1,22 +1,21 @@
 -- /s_new: the words after it.
 use Prim.Native.Nat.{ℕ, _+_, _*_, _≤_, _<_}
-use mathlib.Core.Bool.{true, not}
-use mathlib.Core.Path.{_≡_, refl, sym, ap, ap₂, _∙_, subst}
+use mathlib.Core.Bool.{true}
+use mathlib.Core.Path.{_≡_, sym, ap, ap₂, _∙_, subst}
 use mathlib.Core.List.{List, [], _∷_}
 use native.Mathlib.Omega.{arith}
 use lib.ListN.{length, take, drop, getD, length-take}
-use lib.Dec.{leb, eqb}
+use lib.Dec.{leb}
 use borrow.Author.Tests.{leb-true}
-use Rattle.words.specs.Choice.{both, both-true}
+use Rattle.words.specs.Choice.{both-true}
 use Rattle.words.specs.Parts.{region, put, region-length}
 use Rattle.refusals.specs.declared.Refusal.{Refusal}
-use Rattle.refusals.specs.declared.Refusal.the-variants.{BadFlag, BadNumber, NumberLive, NoDefinition, NoNode, WrongKind, NodesFull, NoNumber}
 use Rattle.format.specs.Read.{Read}
 use Rattle.format.specs.Definition.{Front, Definition}
 use Rattle.readable.specs.Readable.{Readable, whole-readable}
 use Rattle.nodes.specs.declared.Node.{Node}
 use Rattle.nodes.specs.Table.{rows, over}
-use Rattle.nodes.specs.Place.{lives, place}
+use Rattle.nodes.specs.Place.{place}
 use Rattle.nodes.specs.Order.{order}
 use Rattle.nodes.specs.Formed.{mostNodes, mostRows, noneLeft, firstGiven}
 use Rattle.values.specs.declared.NodeArgument.{NodeArgument}
@@ -25,19 +24,18 @@ use Rattle.model.specs.declared.Command.the-variants as command
 use Rattle.model.specs.declared.Answer.the-variants.{Done, Refused}
 use Rattle.model.specs.Layout.{slotCount, slotRoom, rowWords, wordsLength, lengthsPlace, nodesPlace, nodesWords, controlsPlace, controlsWords, countIn, nextIn, lengthsIn, nodesIn, controlsIn, putHeader, putControls, putOrder, putNodes, orderPlace, orderWords, orderRegion}
 use Rattle.model.specs.Engine.{Engine, decode, definitionIn, noDefinition, valueOr, definitionOf, residentOf, slotAt}
-use Rattle.model.specs.Meaning.{minusOne, isNegative, meant, known}
-use Rattle.model.specs.Checks.{firstOf, treeChecks, noResident, badAction, badTarget, full}
+use Rattle.model.specs.Meaning.{meant, known}
+use Rattle.model.specs.Checks.{firstOf, treeChecks}
 use Rattle.model.specs.Effects.{addBy, stayingNodes, freeRow, newSynth, numberFor, nextAfter, initialWords, synthMade, effect}
 use Rattle.model.specs.After.{putTree, wordsAfter}
-use Rattle.model.specs.Apply.{answerIn}
+use Rattle.model.specs.Apply.{answerIn, isAccepted}
 use Rattle.state.specs.Known.{Known}
+use Rattle.state.specs.Accepted.{tree-accepted}
 use Rattle.state.specs.Does.{WordsStep, step-refused, step-done}
 use Rattle.state.specs.Decoded.{tree-size, tree-controls, order-region-length}
 use Rattle.state.specs.Regions.{put-size}
-use Rattle.preservation.specs.Passed.{passed}
-use Rattle.preservation.specs.Rows.{free-row}
-use Rattle.preservation.specs.Slots.{resident-found}
-use Rattle.preservation.specs.TreeSteps.{comes}
+
+use Rattle.preservation.specs.TreeSteps.{NewSynthComes, synth-comes}
 use Rattle.preservation.specs.TreeKept.{known-sound}
 use Rattle.tree.specs.Sizes.{Leaves}
 use Rattle.tree.specs.Add as table
@@ -122,31 +120,16 @@ module _ (number action : ℕ) (target : NodeArgument) (at slot : ℕ) (bytes ws
       let w = both-true (leb noneLeft (nextIn ws)) (leb (nextIn ws) firstGiven) (k .tree .nextRight) in
       omega (arith, leb-true noneLeft (nextIn ws) (w .0))
 
-  -- a row is free
+  -- the new synth has a free row, and its slot a resident
+  comes : NewSynthComes number action target bytes (decode ws bs)
+  comes = synth-comes (lengthsIn ws) (decode ws bs) (known-sound ws bs k) number action target bytes (tree-accepted bytes (decode ws bs) (tree.NewSynth number action target) (ap isAccepted accepted))
+
   pub row-low : row < mostRows
   unfolding decode
-  row-low =
-      let e = decode ws bs in
-      let p0 = passed BadFlag (badAction action) _ accepted in
-      let p1 = passed BadNumber (both (isNegative number) (not (eqb number minusOne))) _ (p0 .1) in
-      let p2 = passed NumberLive (both (not (eqb number minusOne)) (lives number (e .nodes))) _ (p1 .1) in
-      let p3 = passed NoDefinition (noResident bytes e) _ (p2 .1) in
-      let p4 = passed NoNode (not (known target e)) _ (p3 .1) in
-      let p5 = passed WrongKind (badTarget action target e) _ (p4 .1) in
-      let p6 = passed NoNumber (both (eqb number minusOne) (eqb (e .next) noneLeft)) _ (p5 .1) in
-      let p7 = passed NodesFull (full action e) _ (p6 .1) in
-      free-row (stayingNodes action n (nodesIn ws))
-      (comes (lengthsIn ws) e (known-sound ws bs k) action target (p0 .0) (p4 .0) (p5 .0) (p7 .0) made refl .room)
-      .0
+  row-low = comes .rowLow
 
   resident : slotAt (decode ws bs .slots) slot .resident ≡ true
-  resident =
-      let e = decode ws bs in
-      let p0 = passed BadFlag (badAction action) _ accepted in
-      let p1 = passed BadNumber (both (isNegative number) (not (eqb number minusOne))) _ (p0 .1) in
-      let p2 = passed NumberLive (both (not (eqb number minusOne)) (lives number (e .nodes))) _ (p1 .1) in
-      let p3 = passed NoDefinition (noResident bytes e) _ (p2 .1) in
-      rw (g .meant) (resident-found bytes (e .slots) (p3 .0))
+  resident = rw (g .meant) (comes .resident)
 
   pub definition-readable : (size : ℕ) → size ≡ getD ws (lengthsPlace + slot) 0 → Readable (lentBytes slot size bs)
   definition-readable size same = resident-readable ws bs k slot (g .clear .there) resident size same

@@ -1,12 +1,12 @@
 -- What acceptance gives, for each command: its checks, by name.
-use Prim.Native.Nat.{ℕ}
+use Prim.Native.Nat.{ℕ, _+_, _≤_}
 use mathlib.Core.Bool.{Bool, true, false, not}
 use mathlib.Core.Path.{_≡_, refl}
 use mathlib.Core.List.{List}
 use native.Mathlib.Omega.{arith}
 use lib.Dec.{ltb, eqb}
-use borrow.Author.Tests.{not-false}
-use Rattle.words.specs.Choice.{both, both-true, either}
+use borrow.Author.Tests.{ltb-true, leb-true, not-false}
+use Rattle.words.specs.Choice.{pick, both, both-true, either}
 use Rattle.format.specs.Read.{Read, got, bad}
 use Rattle.format.specs.Definition.{Definition}
 use Rattle.format.specs.Reader.{readFile}
@@ -19,7 +19,9 @@ use Rattle.values.specs.declared.NodeArgument.{NodeArgument}
 use Rattle.values.specs.declared.Target.{Target}
 use Rattle.values.specs.declared.Target.the-variants.{Latest, Number, Reserved}
 use Rattle.values.specs.Targets.{targetOf}
-use Rattle.values.specs.Values.{inBounds}
+use Rattle.values.specs.declared.Mapping.the-variants.{Unmapped, Bus}
+use Rattle.values.specs.Controls.{ControlValue, mappingWord, setTo, mapTo}
+use Rattle.values.specs.Values.{inBounds, pattern}
 use Rattle.model.specs.declared.DefinitionCommand.{DefinitionCommand}
 use Rattle.model.specs.declared.DefinitionCommand.the-variants as definitions
 use Rattle.model.specs.declared.TreeCommand.{TreeCommand}
@@ -30,8 +32,9 @@ use Rattle.model.specs.declared.BusCommand.{BusCommand}
 use Rattle.model.specs.declared.BusCommand.the-variants as buses
 use Rattle.model.specs.declared.Command.the-variants as command
 use Rattle.model.specs.declared.Answer.the-variants.{Done}
+use Rattle.model.specs.Layout.{busCount}
 use Rattle.model.specs.Engine.{Engine}
-use Rattle.model.specs.Meaning.{minusOne, isNegative, meantBy, knownBy, meant, known, isBus, isBusRange}
+use Rattle.model.specs.Meaning.{minusOne, isNegative, meantBy, knownBy, meant, known, isBus, mappingTo}
 use Rattle.model.specs.Checks.{firstOf, faultOf, definitionsOf, noSlot, noResident, badAction, isRoot, notGroup, badTarget, full, noControls, definitionChecks, inside, treeChecks, controlChecks, busChecks}
 use Rattle.model.specs.Apply.{isAccepted}
 use Rattle.state.specs.Refusing.{Passed, all-passed}
@@ -84,25 +87,26 @@ TreeAccepted (tree.Head g a) bytes e = MoveAccepted a g (notGroup g e) e
 TreeAccepted (tree.Tail g a) bytes e = MoveAccepted a g (notGroup g e) e
 TreeAccepted (tree.Run n flag) bytes e = RunAccepted n flag e
 
--- /n_set, /n_fill and /n_map
-pub record ControlsAccepted (n : NodeArgument) (key : Key) (count : ℕ) (wrong : Bool) (bytes : List ℕ) (e : Engine) : Type 0 where
+-- /n_set, /n_fill and /n_map: the change maps to a bus or to none
+pub record ChangeAccepted (f : ControlValue → ControlValue) (n : NodeArgument) (key : Key) (count : ℕ) (badValue : Bool) (bytes : List ℕ) (e : Engine) : Type 0 where
   pub nodeKnown : known n e ≡ true
-  pub goodValue : wrong ≡ false
+  pub goodValue : badValue ≡ false
+  pub busLow : (v : ControlValue) → mappingWord (f v .mapping) ≤ busCount
   pub controls : noControls key count bytes n e ≡ false
 
 abbrev pub ControlAccepted : ControlCommand → List ℕ → Engine → Type 0
-ControlAccepted (controls.Set n key value) bytes e = ControlsAccepted n key 1 (not (inBounds value)) bytes e
-ControlAccepted (controls.Fill n key count value) bytes e = ControlsAccepted n key count (not (inBounds value)) bytes e
-ControlAccepted (controls.Map n key bus) bytes e = ControlsAccepted n key 1 (not (either (eqb bus minusOne) (isBus bus))) bytes e
+ControlAccepted (controls.Set n key value) bytes e = ChangeAccepted (setTo (pattern value)) n key 1 (not (inBounds value)) bytes e
+ControlAccepted (controls.Fill n key count value) bytes e = ChangeAccepted (setTo (pattern value)) n key count (not (inBounds value)) bytes e
+ControlAccepted (controls.Map n key bus) bytes e = ChangeAccepted (mapTo (mappingTo bus)) n key 1 (not (either (eqb bus minusOne) (isBus bus))) bytes e
 
--- /c_set and /c_fill
-pub record BusesAccepted (areBuses : Bool) (value : Value) : Type 0 where
-  pub there : areBuses ≡ true
+-- /c_set, of one bus, and /c_fill
+pub record BusesAccepted (start count : ℕ) (value : Value) : Type 0 where
+  pub low : start + count ≤ busCount
   pub goodValue : inBounds value ≡ true
 
 abbrev pub BusAccepted : BusCommand → Type 0
-BusAccepted (buses.Set bus value) = BusesAccepted (isBus bus) value
-BusAccepted (buses.Fill start count value) = BusesAccepted (isBusRange start count) value
+BusAccepted (buses.Set bus value) = BusesAccepted bus 1 value
+BusAccepted (buses.Fill start count value) = BusesAccepted start count value
 
 -- /d_recv: the file reads, and its definitions have slots
 pub record FileAccepted (r : Read (List Definition)) (e : Engine) : Type 0 where
@@ -136,17 +140,22 @@ module _ (bytes : List ℕ) (e : Engine) where
 
   control-facts : (c : ControlCommand) → Passed (controlChecks c bytes e) → ControlAccepted c bytes e
   unfolding Passed
-  control-facts (controls.Set n key value) (k, (v, (c, end))) = record { nodeKnown = not-false _ k; goodValue = v; controls = c }
-  control-facts (controls.Fill n key count value) (k, (v, (c, end))) = record { nodeKnown = not-false _ k; goodValue = v; controls = c }
-  control-facts (controls.Map n key bus) (k, (v, (c, end))) = record { nodeKnown = not-false _ k; goodValue = v; controls = c }
+  control-facts (controls.Set n key value) (k, (v, (c, end))) = record { nodeKnown = not-false _ k; goodValue = v; busLow = λ x. omega arith; controls = c }
+  control-facts (controls.Fill n key count value) (k, (v, (c, end))) = record { nodeKnown = not-false _ k; goodValue = v; busLow = λ x. omega arith; controls = c }
+  control-facts (controls.Map n key bus) (k, (v, (c, end))) = record { nodeKnown = not-false _ k; goodValue = v; busLow = λ x. low (eqb bus minusOne) (not-false _ v); controls = c }
+    where
+      low : (b : Bool) → either b (isBus bus) ≡ true → mappingWord (pick b Unmapped (Bus bus)) ≤ busCount
+      low true q = omega arith
+      low false q = omega (arith, ltb-true bus busCount q)
 
   pub control-accepted : (c : ControlCommand) → isAccepted (firstOf (controlChecks c bytes e) Done) ≡ true → ControlAccepted c bytes e
   control-accepted c h = control-facts c (all-passed (command.Controls c) bytes e Done h)
 
   bus-facts : (c : BusCommand) → Passed (busChecks c e) → BusAccepted c
   unfolding Passed
-  bus-facts (buses.Set bus value) (b, (v, end)) = record { there = not-false _ b; goodValue = not-false _ v }
-  bus-facts (buses.Fill start count value) (b, (v, end)) = record { there = not-false _ b; goodValue = not-false _ v }
+  bus-facts (buses.Set bus value) (b, (v, end)) = record { low = omega (arith, ltb-true bus busCount (not-false _ b)); goodValue = not-false _ v }
+  bus-facts (buses.Fill start count value) (b, (v, end)) =
+      record { low = leb-true (start + count) busCount (both-true (not (isNegative count)) _ (not-false _ b) .1); goodValue = not-false _ v }
 
   pub bus-accepted : (c : BusCommand) → isAccepted (firstOf (busChecks c e) Done) ≡ true → BusAccepted c
   bus-accepted c h = bus-facts c (all-passed (command.Buses c) bytes e Done h)
