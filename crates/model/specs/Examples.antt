@@ -23,7 +23,8 @@ use Rattle.model.specs.declared.ControlCommand.the-variants.{Set, Map}
 use Rattle.model.specs.declared.BusCommand.the-variants as buses
 use Rattle.model.specs.declared.Query.the-variants as query
 use Rattle.model.specs.declared.Command.the-variants.{Definitions, Tree, Controls, Buses, Query}
-use Rattle.model.specs.Engine.{held, residentFrom, controlsFrom, firstIndex}
+use Rattle.format.specs.Names.{firstIndex}
+use Rattle.model.specs.Engine.{held, residentFrom, controlsFrom}
 use Rattle.model.specs.View.{viewRows}
 use Rattle.model.specs.Meaning.{minusOne, nodeNamed}
 use Rattle.model.specs.Checks.{firstOf, namesOf, staying}

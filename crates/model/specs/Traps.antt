@@ -26,7 +26,8 @@ use Rattle.model.specs.declared.BusCommand.the-variants as buses
 use Rattle.model.specs.declared.Query.the-variants as query
 use Rattle.model.specs.declared.Command.the-variants.{Definitions, Tree, Controls, Buses, Query}
 use Rattle.nodes.specs.Structure.{firstOr, lastOr, atDepth, depthOf, lastAbove, lastBeside, firstBeside, nextOf}
-use Rattle.model.specs.Engine.{held, residents, residentFrom, controlsFrom, firstIndex, firstName}
+use Rattle.format.specs.Names.{firstIndex, firstName}
+use Rattle.model.specs.Engine.{held, residents, residentFrom, controlsFrom}
 use Rattle.model.specs.View.{viewRows, shape}
 use Rattle.model.specs.Meaning.{minusOne, nodeNamed}
 use Rattle.model.specs.Checks.{firstOf, namesOf, staying}

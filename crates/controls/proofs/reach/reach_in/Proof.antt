@@ -1,7 +1,8 @@
 use mathlib.Core.Option.{some}
 use Rattle.readable.specs.declared.found.Found.the-variants as found
 use Rattle.model.specs.Meaning.{startOf}
-use Rattle.controls.specs.Encoded.{frontOnly, foundAt}
+use Rattle.readable.specs.Lookup.{foundAt}
+use Rattle.controls.specs.Encoded.{frontOnly}
 use Rattle.controls.specs.Reach.{reach-at, reach-none}
 use mathlib.Core.Path.{_≡_, sym, ap, _∙_}
 use borrow.Author.Needs.{needs}
