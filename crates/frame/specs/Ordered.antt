@@ -4,6 +4,7 @@ use mathlib.Core.Bool.{Bool, true, false}
 use mathlib.Core.Path.{_≡_, refl, sym, ap, _∙_}
 use mathlib.Core.List.{List}
 use Rattle.words.specs.Choice.{either}
+use Rattle.words.specs.Bytes.{AreBytes}
 use Rattle.nodes.specs.declared.Node.{Node}
 use Rattle.nodes.specs.Formed.{rooted, apart}
 use Rattle.treerefinement.specs.Left.{left, numbers, numbers-setRun}
@@ -24,7 +25,6 @@ use Rattle.model.specs.Effects.{definitionEffect, treeEffect, controlEffect, ef
 use Rattle.model.specs.Formed.{formed}
 use Rattle.model.specs.Apply.{answerIn, isAccepted}
 use Rattle.model.specs.Frame.{displacedBy, turnedBy, displaced, numbersLeft}
-use Rattle.model.specs.Demands.{AreBytes}
 use Rattle.state.specs.Known.{known}
 use Rattle.preservation.specs.TreeKept.{known-sound}
 use Rattle.frame.specs.Accepted.{tree-done}

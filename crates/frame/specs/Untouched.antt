@@ -7,6 +7,7 @@ use native.Mathlib.Omega.{arith}
 use lib.Dec.{eqb}
 use borrow.Author.Tests.{ltb-true, not-false}
 use Rattle.words.specs.Choice.{pick, both, either}
+use Rattle.words.specs.Bytes.{AreBytes}
 use Rattle.refusals.specs.declared.Refusal.the-variants.{BadFlag, BadNumber, NumberLive, NoDefinition, NoNode, WrongKind, NodesFull, NoBus, NoNumber}
 use Rattle.nodes.specs.declared.Node.{Node}
 use Rattle.nodes.specs.Place.{lives}
@@ -37,7 +38,6 @@ use Rattle.model.specs.Effects.{stayingNodes, freeRow, newSynth, numberFor, def
 use Rattle.model.specs.Formed.{formed}
 use Rattle.model.specs.Apply.{answerIn, isAccepted}
 use Rattle.model.specs.Frame.{touched, entriesLeft}
-use Rattle.model.specs.Demands.{AreBytes}
 use Rattle.state.specs.Known as state
 use Rattle.preservation.specs.Passed.{passed}
 use Rattle.preservation.specs.Rows.{free-row}

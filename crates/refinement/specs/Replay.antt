@@ -10,12 +10,12 @@ use lib.ListN.{length, take, drop, set, replicate, length-drop}
 use lib.Dec.{ltb, leb, eqb}
 use Rattle.words.specs.Choice.{pick, both, either, both-true}
 use Rattle.words.specs.Parts.{region-length}
+use Rattle.words.specs.Bytes.{AreBytes}
 use Rattle.refusals.specs.declared.Refusal.the-variants.{NoSlot, BadFlag, BadNumber, NumberLive, NoDefinition, NoNode, WrongKind, NodesFull, NoBus, NoNumber}
 use Rattle.format.specs.Read.{Read, got, bad}
 use Rattle.format.specs.Definition.{Definition}
 use Rattle.format.specs.Reader.{readFile, mostDefinitions}
 use Rattle.format.specs.Bounds.{areDefinitions}
-use Rattle.roundtrip.specs.Stands.{bytes-of-every}
 use Rattle.roundtrip.specs.Forth.{file-forth}
 use Rattle.nodes.specs.declared.Node.{Node}
 use Rattle.nodes.specs.Place.{groupSlot, lives}
@@ -57,7 +57,6 @@ use Rattle.model.specs.Checks.{check, firstOf, faultOf, definitionsOf, namesOf,
 use Rattle.model.specs.Effects.{stayingNodes, newSynth, numberFor, freeRow, addBy, retired, loaded, withSlots, withBuses, definitionEffect, treeEffect, controlEffect, busEffect, effect}
 use Rattle.model.specs.Plain.{Plain, ifSome, meaning, numberIn, isGroupNode, turned, learnFile, withNames, withTree, withPlainBuses, meantIn, growGroup, growSynth, growDefinitions, growTree, changeFrom, changeNode, changeBelow, stored, mappedTo, growControls, growBuses, grow}
 use Rattle.model.specs.Apply.{answerIn, isAccepted}
-use Rattle.model.specs.Demands.{AreBytes}
 use Rattle.refinement.specs.Kept.{Kept, same-meant}
 use Rattle.refinement.specs.TreeReplay.{cut-replayed, cutBelow-replayed, deepFree-replayed, run-replayed, before-replayed, after-replayed, head-replayed, tail-replayed, group-replayed}
 use Rattle.refinement.specs.SynthReplay.{synth-replayed}
@@ -173,7 +172,7 @@ received : (bytes : List ℕ) → AreBytes bytes → (e : Engine) (p : Plain) (k
 unfolding firstOf
 received bytes clean e p k apart many (bad r at) q h = let z : _≡_ {A = ℕ} 0 1 = cc in absurd (omega arith)
 received bytes clean e p k apart many (got ds end) q h =
-    let w = file-forth bytes (bytes-of-every bytes clean) ds end q in
+    let w = file-forth bytes clean ds end q in
     let t = both-true (leb (length ds) mostDefinitions) (areDefinitions [] ds) (w .bounded) in
     let p0 = passed NoSlot (noSlot ds e) [] h in
     load-replayed e p k apart ds (t .1) (p0 .0) many

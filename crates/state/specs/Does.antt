@@ -5,6 +5,7 @@ use mathlib.Core.Path.{_≡_, refl, sym, ap, _∙_}
 use mathlib.Core.List.{List, []}
 use lib.ListN.{length}
 use Rattle.words.specs.Choice.{pick}
+use Rattle.words.specs.Bytes.{AreBytes}
 use Rattle.refusals.specs.declared.Refusal.{Refusal}
 use Rattle.refusals.specs.declared.Refusal.the-variants.{BadState}
 use Rattle.model.specs.declared.DefinitionCommand.{DefinitionCommand}
@@ -49,28 +50,30 @@ module _ (c : Command) (bytes ws bs : List ℕ) where
   step-done out e o = record { answers = sym e; words = o }
 
 -- the state check failed
-pub does-bad : (c : Command) (bytes ws bs out : List ℕ) → formed ws bs ≡ false → Does c bytes ws bs out (Refused BadState) ws bs out
+pub does-bad : (c : Command) (bytes ws bs out : List ℕ) → AreBytes bytes → AreBytes bs → formed ws bs ≡ false → Does c bytes ws bs out (Refused BadState) ws bs out
 unfolding answer
-does-bad c bytes ws bs out h = record { answers = rw h; words = rw h; arena = rw h; reply = rw h }
+does-bad c bytes ws bs out lent kept h = record { answers = rw h; words = rw h; arena = rw h; reply = rw h; lentBytes = lent; lentArena = kept }
 
 answered : (c : Command) (bytes ws bs out : List ℕ) → formed ws bs ≡ true → answer c bytes ws bs out ≡ answerIn c bytes (decode ws bs) (length out)
 unfolding answer
 answered c bytes ws bs out h = rw h
 
 -- a step behind the check is what `Does` asks
-does-by : (c : Command) (bytes ws bs out : List ℕ) (a : Answer) (ws′ bs′ out′ : List ℕ) → formed ws bs ≡ true
+does-by : (c : Command) (bytes ws bs out : List ℕ) (a : Answer) (ws′ bs′ out′ : List ℕ) → AreBytes bytes → AreBytes bs → formed ws bs ≡ true
     → a ≡ answerIn c bytes (decode ws bs) (length out)
     → ws′ ≡ pick (isAccepted a) (wordsAfter c bytes ws bs) ws
     → bs′ ≡ pick (isAccepted a) (arenaAfter c bytes ws bs) bs
     → out′ ≡ written a (replyOf c bytes (decode ws bs)) out
     → Does c bytes ws bs out a ws′ bs′ out′
-does-by c bytes ws bs out a ws′ bs′ out′ h e w b o =
+does-by c bytes ws bs out a ws′ bs′ out′ lent kept h e w b o =
     let fact : a ≡ answer c bytes ws bs out = e ∙ sym (answered c bytes ws bs out h) in
     record {
       answers = fact;
       words = w ∙ ap (λ (x : Answer). pick (isAccepted x) (wordsAfter c bytes ws bs) ws) fact;
       arena = b ∙ ap (λ (x : Answer). pick (isAccepted x) (arenaAfter c bytes ws bs) bs) fact;
       reply = o ∙ ap (λ (x : Answer). written x (replyOf c bytes (decode ws bs)) out) fact;
+      lentBytes = lent;
+      lentArena = kept;
     }
 
 -- a choice between the same
@@ -89,34 +92,34 @@ silent c bytes e out = by-checks (λ a. written a [] out ≡ out) refused c byte
     refused (RefusedAt r at) h = refl
 
 -- each kind of step is what `Does` asks
-module _ (bytes ws bs out : List ℕ) (a : Answer) where
+module _ (bytes ws bs out : List ℕ) (a : Answer) (lent : AreBytes bytes) (kept : AreBytes bs) where
   pub definitions-do : (c : DefinitionCommand) (ws′ bs′ : List ℕ) → formed ws bs ≡ true → Step (command.Definitions c) bytes ws bs a ws′ bs′
       → Does (command.Definitions c) bytes ws bs out a ws′ bs′ out
   unfolding answerIn
   definitions-do c ws′ bs′ h s =
-      does-by (command.Definitions c) bytes ws bs out a ws′ bs′ out h (s .answers) (s .words) (s .arena)
+      does-by (command.Definitions c) bytes ws bs out a ws′ bs′ out lent kept h (s .answers) (s .words) (s .arena)
       (rw (s .answers) (sym (silent (command.Definitions c) bytes (decode ws bs) out)))
 
   pub tree-does : (c : TreeCommand) (ws′ : List ℕ) → formed ws bs ≡ true → WordsStep (command.Tree c) bytes ws bs a ws′ → Does (command.Tree c) bytes ws bs out a ws′ bs out
   unfolding answerIn arenaAfter
   tree-does c ws′ h s =
-      does-by (command.Tree c) bytes ws bs out a ws′ bs out h (s .answers) (s .words) (either-way (isAccepted a) bs)
+      does-by (command.Tree c) bytes ws bs out a ws′ bs out lent kept h (s .answers) (s .words) (either-way (isAccepted a) bs)
       (rw (s .answers) (sym (silent (command.Tree c) bytes (decode ws bs) out)))
 
   pub controls-do : (c : ControlCommand) (ws′ : List ℕ) → formed ws bs ≡ true → WordsStep (command.Controls c) bytes ws bs a ws′
       → Does (command.Controls c) bytes ws bs out a ws′ bs out
   unfolding answerIn arenaAfter
   controls-do c ws′ h s =
-      does-by (command.Controls c) bytes ws bs out a ws′ bs out h (s .answers) (s .words) (either-way (isAccepted a) bs)
+      does-by (command.Controls c) bytes ws bs out a ws′ bs out lent kept h (s .answers) (s .words) (either-way (isAccepted a) bs)
       (rw (s .answers) (sym (silent (command.Controls c) bytes (decode ws bs) out)))
 
   pub buses-do : (c : BusCommand) (ws′ : List ℕ) → formed ws bs ≡ true → WordsStep (command.Buses c) bytes ws bs a ws′ → Does (command.Buses c) bytes ws bs out a ws′ bs out
   unfolding answerIn arenaAfter
   buses-do c ws′ h s =
-      does-by (command.Buses c) bytes ws bs out a ws′ bs out h (s .answers) (s .words) (either-way (isAccepted a) bs)
+      does-by (command.Buses c) bytes ws bs out a ws′ bs out lent kept h (s .answers) (s .words) (either-way (isAccepted a) bs)
       (rw (s .answers) (sym (silent (command.Buses c) bytes (decode ws bs) out)))
 
   pub query-does : (q : Query) (out′ : List ℕ) → formed ws bs ≡ true → Reply q bytes ws bs out a out′ → Does (command.Query q) bytes ws bs out a ws bs out′
   unfolding answerIn wordsAfter arenaAfter
   query-does q out′ h s =
-      does-by (command.Query q) bytes ws bs out a ws bs out′ h (s .answers) (either-way (isAccepted a) ws) (either-way (isAccepted a) bs) (s .reply)
+      does-by (command.Query q) bytes ws bs out a ws bs out′ lent kept h (s .answers) (either-way (isAccepted a) ws) (either-way (isAccepted a) bs) (s .reply)
