@@ -30,7 +30,7 @@ use Rattle.model.specs.Effects.{addBy, stayingNodes, freeRow, newSynth, numberF
 use Rattle.model.specs.After.{putTree, wordsAfter}
 use Rattle.model.specs.Apply.{answerIn, isAccepted}
 use Rattle.state.specs.Known.{Known}
-use Rattle.state.specs.Accepted.{tree-accepted}
+use Rattle.state.specs.Accepted.{accepted}
 use Rattle.state.specs.Does.{WordsStep, step-refused, step-done}
 use Rattle.state.specs.Decoded.{tree-size, tree-controls, order-region-length}
 use Rattle.state.specs.Regions.{put-size}
@@ -108,12 +108,12 @@ module _ (number action : ℕ) (target : NodeArgument) (at slot : ℕ) (bytes ws
   abbrev after : List Node
   after = addBy action made n (nodesIn ws)
 
-  accepted : firstOf (treeChecks (tree.NewSynth number action target) bytes (decode ws bs)) Done ≡ Done
-  accepted = g .clear .passed bytes bs (g .meant)
+  done : firstOf (treeChecks (tree.NewSynth number action target) bytes (decode ws bs)) Done ≡ Done
+  done = g .clear .passed bytes bs (g .meant)
 
   few : length after ≤ mostNodes
   unfolding answerIn decode
-  few = rw (g .meant) (after-few (tree.NewSynth number action target) bytes ws bs k accepted)
+  few = rw (g .meant) (after-few (tree.NewSynth number action target) bytes ws bs k done)
 
   pub next-some : 1 ≤ nextIn ws
   next-some =
@@ -122,7 +122,8 @@ module _ (number action : ℕ) (target : NodeArgument) (at slot : ℕ) (bytes ws
 
   -- the new synth has a free row, and its slot a resident
   comes : NewSynthComes number action target bytes (decode ws bs)
-  comes = synth-comes (lengthsIn ws) (decode ws bs) (known-sound ws bs k) number action target bytes (tree-accepted bytes (decode ws bs) (tree.NewSynth number action target) (ap isAccepted accepted))
+  unfolding answerIn
+  comes = synth-comes (lengthsIn ws) (decode ws bs) (known-sound ws bs k) number action target bytes (accepted bytes (decode ws bs) (command.Tree (tree.NewSynth number action target)) 0 (ap isAccepted done))
 
   pub row-low : row < mostRows
   unfolding decode
@@ -225,7 +226,7 @@ module _ (number action : ℕ) (target : NodeArgument) (at slot : ℕ) (bytes ws
         pub synth-done : WordsStep (command.Tree (tree.NewSynth number action target)) bytes ws bs Done out
         unfolding answerIn decode wordsAfter effect
         synth-done =
-            step-done (command.Tree (tree.NewSynth number action target)) bytes ws bs out accepted
+            step-done (command.Tree (tree.NewSynth number action target)) bytes ws bs out done
             (made-left ∙ ap (λ (s : ℕ). putTree (synthMade number action n s (decode ws bs)) ws) (g .meant))
 
 -- a refusal, and the ground for the rest

@@ -14,7 +14,7 @@ use Rattle.nodes.specs.declared.Node.{Node}
 use Rattle.nodes.specs.Edit.{cut, cutBelow, deepFree, setRun, moveBefore, moveAfter, moveHead, moveTail}
 use Rattle.treerefinement.specs.Tally.{same-within, cut-within, cutBelow-within, deepFree-within, moveBefore-same, moveAfter-same, moveHead-same, moveTail-same}
 use Rattle.treerefinement.specs.Keep.{within-lives, within-apart}
-use Rattle.state.specs.Accepted.{TreeAccepted, tree-accepted}
+use Rattle.state.specs.Accepted.{TreeAccepted}
 use Rattle.preservation.specs.Numbers.{given}
 use Rattle.preservation.specs.Adds.{added}
 use Rattle.preservation.specs.Every.{Fewer, within-fewer, run-fewer}
@@ -23,13 +23,10 @@ use Rattle.model.specs.declared.TreeCommand.{TreeCommand}
 use Rattle.model.specs.declared.TreeCommand.the-variants as tree
 use Rattle.model.specs.declared.ControlCommand.{ControlCommand}
 use Rattle.model.specs.declared.ControlCommand.the-variants as controls
-use Rattle.model.specs.declared.Answer.the-variants.{Done}
 use Rattle.model.specs.Engine.{Engine, definitionIn, slotAt, residentOf}
 use Rattle.model.specs.View.{viewRows, view}
 use Rattle.model.specs.Meaning.{meant}
-use Rattle.model.specs.Checks.{firstOf, treeChecks}
 use Rattle.model.specs.Effects.{newGroup, numberFor, addBy, treeEffect, controlEffect}
-use Rattle.model.specs.Apply.{isAccepted}
 use Rattle.model.specs.Demands.{meaningIn, madeBy, definitionOfSynth}
 use Rattle.refinement.specs.SynthDefinitions.{definitionAt, definition-view, fewer-definition, grown-definition, group-definition, new-definition}
 
@@ -47,9 +44,9 @@ module _ (bytes sizes : List ℕ) (e : Engine) (s : Sound sizes e) (n : ℕ) (d 
       definition-view (e .slots) (e .controls) n (e .nodes)
       ∙ fewer-definition (e .slots) n d f (s .tree .distinct) (sym (definition-view (e .slots) (e .controls) n t) ∙ v)
 
-  made : (c : TreeCommand) (before : Option Definition) → TreeAccepted c bytes e → (definitionOfSynth n (view e) ≡ some d → before ≡ some d)
+  pub tree-made : (c : TreeCommand) (before : Option Definition) → TreeAccepted c bytes e → (definitionOfSynth n (view e) ≡ some d → before ≡ some d)
       → definitionOfSynth n (view (treeEffect c bytes e)) ≡ some d → madeBy c bytes e n before ≡ some d
-  made (tree.NewSynth number action target) before h old v =
+  tree-made (tree.NewSynth number action target) before h old v =
       let c = synth-comes sizes e s number action target bytes h in
       let a = c .added in
       let slot = residentOf bytes (e .slots) in
@@ -66,25 +63,21 @@ module _ (bytes sizes : List ℕ) (e : Engine) (s : Sound sizes e) (n : ℕ) (d 
       go : (fresh : ℕ) (b : Bool) → eqb fresh n ≡ b → (eqb fresh n ≡ true → meaningIn bytes e ≡ some d) → (eqb fresh n ≡ false → before ≡ some d) → pick b (meaningIn bytes e) before ≡ some d
       go fresh true q new same = new q
       go fresh false q new same = same q
-  made (tree.NewGroup number action target) before h old v =
+  tree-made (tree.NewGroup number action target) before h old v =
       let a = comes sizes e s action target (h .place) (newGroup number) refl in
       let after = addBy action (newGroup number) (meant target e) (e .nodes) in
       old (definition-view (e .slots) (e .controls) n (e .nodes)
       ∙ fewer-definition (e .slots) n d (within-fewer (a .within)) (s .tree .distinct)
       (group-definition (e .slots) n d (newGroup number) (a .grown) refl (within-apart (a .within) (s .tree .distinct)) (sym (definition-view (e .slots) (e .controls) n after) ∙ v)))
-  made (tree.Free a) before h old v = old (was (cut (meant a e) (e .nodes)) (within-fewer (cut-within (meant a e) (e .nodes))) v)
-  made (tree.FreeAll g) before h old v = old (was (cutBelow (meant g e) (e .nodes)) (within-fewer (cutBelow-within (meant g e) (e .nodes))) v)
-  made (tree.DeepFree g) before h old v = old (was (deepFree (meant g e) (e .nodes)) (within-fewer (deepFree-within (meant g e) (e .nodes))) v)
-  made (tree.Before a b) before h old v =
+  tree-made (tree.Free a) before h old v = old (was (cut (meant a e) (e .nodes)) (within-fewer (cut-within (meant a e) (e .nodes))) v)
+  tree-made (tree.FreeAll g) before h old v = old (was (cutBelow (meant g e) (e .nodes)) (within-fewer (cutBelow-within (meant g e) (e .nodes))) v)
+  tree-made (tree.DeepFree g) before h old v = old (was (deepFree (meant g e) (e .nodes)) (within-fewer (deepFree-within (meant g e) (e .nodes))) v)
+  tree-made (tree.Before a b) before h old v =
       old (was (moveBefore (meant a e) (meant b e) (e .nodes)) (within-fewer (same-within (moveBefore-same (meant a e) (meant b e) (e .nodes) (place-stays h)))) v)
-  made (tree.After a b) before h old v =
+  tree-made (tree.After a b) before h old v =
       old (was (moveAfter (meant a e) (meant b e) (e .nodes)) (within-fewer (same-within (moveAfter-same (meant a e) (meant b e) (e .nodes) (place-stays h)))) v)
-  made (tree.Head g a) before h old v =
+  tree-made (tree.Head g a) before h old v =
       old (was (moveHead (meant a e) (meant g e) (e .nodes)) (within-fewer (same-within (moveHead-same (meant a e) (meant g e) (e .nodes) (place-stays h)))) v)
-  made (tree.Tail g a) before h old v =
+  tree-made (tree.Tail g a) before h old v =
       old (was (moveTail (meant a e) (meant g e) (e .nodes)) (within-fewer (same-within (moveTail-same (meant a e) (meant g e) (e .nodes) (place-stays h)))) v)
-  made (tree.Run a flag) before h old v = old (was (setRun (meant a e) flag (e .nodes)) (run-fewer (meant a e) flag (e .nodes)) v)
-
-  pub tree-made : (c : TreeCommand) (before : Option Definition) → firstOf (treeChecks c bytes e) Done ≡ Done → (definitionOfSynth n (view e) ≡ some d → before ≡ some d)
-      → definitionOfSynth n (view (treeEffect c bytes e)) ≡ some d → madeBy c bytes e n before ≡ some d
-  tree-made c before h old v = made c before (tree-accepted bytes e c (ap isAccepted h)) old v
+  tree-made (tree.Run a flag) before h old v = old (was (setRun (meant a e) flag (e .nodes)) (run-fewer (meant a e) flag (e .nodes)) v)

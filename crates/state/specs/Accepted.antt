@@ -1,4 +1,5 @@
 -- What acceptance gives, for each command: its checks, by name.
+use Prim.{Unit, tt}
 use Prim.Native.Nat.{ℕ, _+_, _≤_}
 use mathlib.Core.Bool.{Bool, true, false, not}
 use mathlib.Core.Path.{_≡_, refl}
@@ -11,7 +12,7 @@ use Rattle.format.specs.Read.{Read, got, bad}
 use Rattle.format.specs.Definition.{Definition}
 use Rattle.format.specs.Reader.{readFile}
 use Rattle.nodes.specs.declared.Node.{Node}
-use Rattle.nodes.specs.Place.{lives}
+use Rattle.nodes.specs.Place.{isGroup, lives}
 use Rattle.nodes.specs.Formed.{noneLeft}
 use Rattle.values.specs.declared.Key.{Key}
 use Rattle.values.specs.declared.Value.{Value}
@@ -30,13 +31,16 @@ use Rattle.model.specs.declared.ControlCommand.{ControlCommand}
 use Rattle.model.specs.declared.ControlCommand.the-variants as controls
 use Rattle.model.specs.declared.BusCommand.{BusCommand}
 use Rattle.model.specs.declared.BusCommand.the-variants as buses
+use Rattle.model.specs.declared.Query.{Query}
+use Rattle.model.specs.declared.Query.the-variants as query
+use Rattle.model.specs.declared.Command.{Command}
 use Rattle.model.specs.declared.Command.the-variants as command
 use Rattle.model.specs.declared.Answer.the-variants.{Done}
 use Rattle.model.specs.Layout.{busCount}
 use Rattle.model.specs.Engine.{Engine}
-use Rattle.model.specs.Meaning.{minusOne, isNegative, meantBy, knownBy, meant, known, isBus, mappingTo}
-use Rattle.model.specs.Checks.{firstOf, faultOf, definitionsOf, noSlot, noResident, badAction, isRoot, notGroup, badTarget, full, noControls, definitionChecks, inside, treeChecks, controlChecks, busChecks}
-use Rattle.model.specs.Apply.{isAccepted}
+use Rattle.model.specs.Meaning.{minusOne, isNegative, meantBy, knownBy, meant, known, node, isBus, mappingTo}
+use Rattle.model.specs.Checks.{faultOf, definitionsOf, noSlot, noResident, badAction, isRoot, notGroup, badTarget, full, noControls, definitionChecks, inside, treeChecks, controlChecks, busChecks, queryChecks}
+use Rattle.model.specs.Apply.{queryAnswer, answerIn, isAccepted}
 use Rattle.state.specs.Refusing.{Passed, all-passed}
 
 -- /s_new and /g_new: where the new node goes
@@ -58,8 +62,8 @@ pub record NewGroupAccepted (number action : ℕ) (target : NodeArgument) (e : E
   pub goodNumber : isNegative number ≡ false
   pub freeNumber : lives number (e .nodes) ≡ false
 
--- /n_free, /g_freeAll and /g_deepFree: of a node of the right kind
-pub record FreeAccepted (n : NodeArgument) (wrongKind : Bool) (e : Engine) : Type 0 where
+-- /n_free, /g_freeAll, /g_deepFree and /g_queryTree: of a node of the right kind
+pub record NodeAccepted (n : NodeArgument) (wrongKind : Bool) (e : Engine) : Type 0 where
   pub nodeKnown : known n e ≡ true
   pub nodeKind : wrongKind ≡ false
 
@@ -78,9 +82,9 @@ pub record RunAccepted (n : NodeArgument) (flag : ℕ) (e : Engine) : Type 0 whe
 abbrev pub TreeAccepted : TreeCommand → List ℕ → Engine → Type 0
 TreeAccepted (tree.NewSynth number action target) bytes e = NewSynthAccepted number action target bytes e
 TreeAccepted (tree.NewGroup number action target) bytes e = NewGroupAccepted number action target e
-TreeAccepted (tree.Free n) bytes e = FreeAccepted n (isRoot (meant n e)) e
-TreeAccepted (tree.FreeAll g) bytes e = FreeAccepted g (notGroup g e) e
-TreeAccepted (tree.DeepFree g) bytes e = FreeAccepted g (notGroup g e) e
+TreeAccepted (tree.Free n) bytes e = NodeAccepted n (isRoot (meant n e)) e
+TreeAccepted (tree.FreeAll g) bytes e = NodeAccepted g (notGroup g e) e
+TreeAccepted (tree.DeepFree g) bytes e = NodeAccepted g (notGroup g e) e
 TreeAccepted (tree.Before a b) bytes e = MoveAccepted a b (isRoot (meant b e)) e
 TreeAccepted (tree.After a b) bytes e = MoveAccepted a b (isRoot (meant b e)) e
 TreeAccepted (tree.Head g a) bytes e = MoveAccepted a g (notGroup g e) e
@@ -118,6 +122,27 @@ abbrev pub DefinitionAccepted : DefinitionCommand → List ℕ → Engine → Ty
 DefinitionAccepted definitions.Receive bytes e = FileAccepted (readFile bytes) e
 DefinitionAccepted definitions.Free bytes e = noResident bytes e ≡ false
 
+-- /s_get: of a synth
+pub record ControlAsked (n : NodeArgument) (key : Key) (bytes : List ℕ) (e : Engine) : Type 0 where
+  pub nodeKnown : known n e ≡ true
+  pub nodeKind : isGroup (node n e) ≡ false
+  pub controls : noControls key 1 bytes n e ≡ false
+
+abbrev pub QueryAccepted : Query → List ℕ → Engine → Type 0
+QueryAccepted (query.Node n) bytes e = known n e ≡ true
+QueryAccepted (query.Control n key) bytes e = ControlAsked n key bytes e
+QueryAccepted (query.Bus bus) bytes e = isBus bus ≡ true
+QueryAccepted (query.Tree g flag) bytes e = NodeAccepted g (notGroup g e) e
+QueryAccepted query.Status bytes e = Unit {0}
+QueryAccepted query.Export bytes e = Unit {0}
+
+abbrev pub Accepted : Command → List ℕ → Engine → Type 0
+Accepted (command.Definitions c) bytes e = DefinitionAccepted c bytes e
+Accepted (command.Tree c) bytes e = TreeAccepted c bytes e
+Accepted (command.Controls c) bytes e = ControlAccepted c bytes e
+Accepted (command.Buses c) bytes e = BusAccepted c
+Accepted (command.Query q) bytes e = QueryAccepted q bytes e
+
 -- each from the checks that passed
 module _ (bytes : List ℕ) (e : Engine) where
   tree-facts : (c : TreeCommand) → Passed (treeChecks c bytes e) → TreeAccepted c bytes e
@@ -135,9 +160,6 @@ module _ (bytes : List ℕ) (e : Engine) where
   tree-facts (tree.Tail g a) (l, (k, (p, (m, (i, end))))) = record { movedKnown = not-false _ k; placeKnown = not-false _ l; movedKind = m; placeKind = p; outside = i }
   tree-facts (tree.Run n flag) (f, (k, end)) = record { goodFlag = f; nodeKnown = not-false _ k }
 
-  pub tree-accepted : (c : TreeCommand) → isAccepted (firstOf (treeChecks c bytes e) Done) ≡ true → TreeAccepted c bytes e
-  tree-accepted c h = tree-facts c (all-passed (command.Tree c) bytes e Done h)
-
   control-facts : (c : ControlCommand) → Passed (controlChecks c bytes e) → ControlAccepted c bytes e
   unfolding Passed
   control-facts (controls.Set n key value) (k, (v, (c, end))) = record { nodeKnown = not-false _ k; goodValue = v; busLow = λ x. omega arith; controls = c }
@@ -148,17 +170,11 @@ module _ (bytes : List ℕ) (e : Engine) where
       low true q = omega arith
       low false q = omega (arith, ltb-true bus busCount q)
 
-  pub control-accepted : (c : ControlCommand) → isAccepted (firstOf (controlChecks c bytes e) Done) ≡ true → ControlAccepted c bytes e
-  control-accepted c h = control-facts c (all-passed (command.Controls c) bytes e Done h)
-
   bus-facts : (c : BusCommand) → Passed (busChecks c e) → BusAccepted c
   unfolding Passed
   bus-facts (buses.Set bus value) (b, (v, end)) = record { low = omega (arith, ltb-true bus busCount (not-false _ b)); goodValue = not-false _ v }
   bus-facts (buses.Fill start count value) (b, (v, end)) =
       record { low = leb-true (start + count) busCount (both-true (not (isNegative count)) _ (not-false _ b) .1); goodValue = not-false _ v }
-
-  pub bus-accepted : (c : BusCommand) → isAccepted (firstOf (busChecks c e) Done) ≡ true → BusAccepted c
-  bus-accepted c h = bus-facts c (all-passed (command.Buses c) bytes e Done h)
 
   definition-facts : (c : DefinitionCommand) → Passed (definitionChecks c bytes e) → DefinitionAccepted c bytes e
   unfolding Passed
@@ -169,8 +185,22 @@ module _ (bytes : List ℕ) (e : Engine) where
       file-facts (bad q at) f r = absurd (let z : _≡_ {A = ℕ} 0 1 = cc in omega arith)
   definition-facts definitions.Free (r, end) = r
 
-  pub definition-accepted : (c : DefinitionCommand) → isAccepted (firstOf (definitionChecks c bytes e) Done) ≡ true → DefinitionAccepted c bytes e
-  definition-accepted c h = definition-facts c (all-passed (command.Definitions c) bytes e Done h)
+  query-facts : (q : Query) → Passed (queryChecks q bytes e) → QueryAccepted q bytes e
+  unfolding Passed
+  query-facts (query.Node n) (k, end) = not-false _ k
+  query-facts (query.Control n key) (k, (w, (c, end))) = record { nodeKnown = not-false _ k; nodeKind = w; controls = c }
+  query-facts (query.Bus bus) (b, end) = not-false _ b
+  query-facts (query.Tree g flag) (k, (w, end)) = record { nodeKnown = not-false _ k; nodeKind = w }
+  query-facts query.Status end = tt
+  query-facts query.Export end = tt
+
+  pub accepted : (c : Command) (room : ℕ) → isAccepted (answerIn c bytes e room) ≡ true → Accepted c bytes e
+  unfolding answerIn queryAnswer
+  accepted (command.Definitions c) room h = definition-facts c (all-passed (command.Definitions c) bytes e Done h)
+  accepted (command.Tree c) room h = tree-facts c (all-passed (command.Tree c) bytes e Done h)
+  accepted (command.Controls c) room h = control-facts c (all-passed (command.Controls c) bytes e Done h)
+  accepted (command.Buses c) room h = bus-facts c (all-passed (command.Buses c) bytes e Done h)
+  accepted (command.Query q) room h = query-facts q (all-passed (command.Query q) bytes e _ h)
 
 -- an argument that names a node: its number lives
 named-lives : (x : Target) (latest : ℕ) (t : List Node) → knownBy x latest t ≡ true → lives (meantBy x latest) t ≡ true
