@@ -13,6 +13,7 @@ use lib.Dec.{eqb}
 use Rattle.words.specs.Choice.{pick}
 use Rattle.format.specs.Definition.{ParameterName, Definition}
 use Rattle.format.specs.Reader.{sameName}
+use Rattle.format.specs.Names.{firstIndex, firstName}
 use Rattle.nodes.specs.declared.Node.{Node}
 use Rattle.nodes.specs.Forest.{Forest, node, flatten, mapForest, has, below}
 use Rattle.nodes.specs.Forest as forest
@@ -28,7 +29,10 @@ use Rattle.values.specs.declared.Key.the-variants.{Index, Name}
 use Rattle.values.specs.declared.Mapping.{Mapping}
 use Rattle.values.specs.declared.Mapping.the-variants.{Unmapped, Bus}
 use Rattle.values.specs.Controls.{ControlValue, shown}
+<<<<<<< HEAD
 use Rattle.format.specs.Names.{firstIndex, firstName}
+=======
+>>>>>>> bd26efa02d7a874576f2d5608f9ab3d2a4d15428
 use Rattle.model.specs.View.{Kind, group, synth, PlainNode, Row, isGroupKind, slotOfKind, shapeOf, shape}
 use Rattle.model.specs.Meaning.{startOf}
 use Rattle.model.specs.Replies.{infoAddress, setAddress, busAddress, treeAddress, statusAddress, plainNamed, infoKind, infoReply, keyArgument, noControl, mappingArgument, labelArgument, controlArguments, flagged, kindArguments, rowsBelow, rowsAt, treeArguments, subtreeRows, flagNumber, treeReply, unitsOf, unitCount, groupCount, synthCount}
