@@ -29,10 +29,6 @@ use Rattle.values.specs.declared.Key.the-variants.{Index, Name}
 use Rattle.values.specs.declared.Mapping.{Mapping}
 use Rattle.values.specs.declared.Mapping.the-variants.{Unmapped, Bus}
 use Rattle.values.specs.Controls.{ControlValue, shown}
-<<<<<<< HEAD
-use Rattle.format.specs.Names.{firstIndex, firstName}
-=======
->>>>>>> bd26efa02d7a874576f2d5608f9ab3d2a4d15428
 use Rattle.model.specs.View.{Kind, group, synth, PlainNode, Row, isGroupKind, slotOfKind, shapeOf, shape}
 use Rattle.model.specs.Meaning.{startOf}
 use Rattle.model.specs.Replies.{infoAddress, setAddress, busAddress, treeAddress, statusAddress, plainNamed, infoKind, infoReply, keyArgument, noControl, mappingArgument, labelArgument, controlArguments, flagged, kindArguments, rowsBelow, rowsAt, treeArguments, subtreeRows, flagNumber, treeReply, unitsOf, unitCount, groupCount, synthCount}
