@@ -10,8 +10,6 @@ use lib.Dec.{ltb, eqb}
 use borrow.Author.Tests.{le-ltb, ltb-true, ltb-false, eq-eqb}
 use Rattle.words.specs.Choice.{pick, either}
 use Rattle.words.specs.Parts.{region}
-
-
 use Rattle.format.specs.Reader.{readFile}
 use Rattle.nodes.specs.declared.Node.{Node}
 use Rattle.nodes.specs.Place.{isGroup}

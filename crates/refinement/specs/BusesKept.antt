@@ -5,8 +5,6 @@ use mathlib.Core.Path.{_≡_, ap, _∙_}
 use mathlib.Core.List.{List}
 use native.Mathlib.Omega.{arith}
 use lib.ListN.{length, getD, replicate, length-set, length-replicate}
-
-
 use Rattle.words.specs.Parts.{region, put-length, region-length}
 use Rattle.values.specs.Values.{pattern}
 use Rattle.model.specs.declared.BusCommand.{BusCommand}
@@ -14,7 +12,6 @@ use Rattle.model.specs.declared.BusCommand.the-variants as buses
 use Rattle.model.specs.declared.Command.the-variants as command
 use Rattle.model.specs.Layout.{busesPlace, busCount, lengthsPlace, residentPlace, slotCount, nodesIn, controlsIn, busesIn, putBuses}
 use Rattle.model.specs.Engine.{decode}
-
 use Rattle.model.specs.Effects.{busEffect, withBuses, effect}
 use Rattle.model.specs.After.{wordsAfter}
 use Rattle.model.specs.Formed.{formed, flagsFormed, slotsFormed}

@@ -14,7 +14,6 @@ use Rattle.words.specs.Bytes.{AreBytes}
 use Rattle.format.specs.Read.{Read}
 use Rattle.format.specs.Definition.{Definition}
 use Rattle.format.specs.Reader.{readFile}
-
 use Rattle.nodes.specs.declared.Node.{Node}
 use Rattle.nodes.specs.Place.{groupSlot, lives}
 use Rattle.nodes.specs.Forest.{free, freeBelow, freeDeep, change, placeBefore, placeAfter, placeHead, placeTail}
@@ -43,7 +42,6 @@ use Rattle.model.specs.declared.BusCommand.{BusCommand}
 use Rattle.model.specs.declared.BusCommand.the-variants as buses
 use Rattle.model.specs.declared.Command.{Command}
 use Rattle.model.specs.declared.Command.the-variants as command
-
 use Rattle.model.specs.Layout.{slotCount, busCount, busesPlace}
 use Rattle.model.specs.Engine.{Engine, decode, definitionIn, slotAt, residentOf}
 use Rattle.model.specs.Formed.{namesApart}

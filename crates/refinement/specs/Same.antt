@@ -9,7 +9,6 @@ use borrow.Author.Tests.{leb-true, eqb-true, ne-eqb, not-false}
 use lib.ListN.{length, drop, getD}
 use lib.Dec.{eqb}
 use Rattle.words.specs.Choice.{pick, either, either-false}
-
 use Rattle.format.specs.Definition.{Definition}
 use Rattle.nodes.specs.declared.Node.{Node}
 use Rattle.nodes.specs.Place.{isGroup, lives}

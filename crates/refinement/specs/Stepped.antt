@@ -4,16 +4,8 @@ use mathlib.Core.Bool.{true}
 use mathlib.Core.Path.{_≡_, refl}
 use mathlib.Core.List.{List}
 use Rattle.words.specs.Bytes.{AreBytes}
-
-
-
-
-
-
-
 use Rattle.model.specs.declared.Command.{Command}
 use Rattle.model.specs.declared.Command.the-variants as command
-
 use Rattle.model.specs.Engine.{decode}
 use Rattle.model.specs.Formed.{formed}
 use Rattle.model.specs.Effects.{effect}
