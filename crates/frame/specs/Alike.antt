@@ -10,9 +10,6 @@ use lib.Dec.{ltb, eqb}
 use borrow.Author.Tests.{le-ltb, ltb-true, ltb-false, eq-eqb}
 use Rattle.words.specs.Choice.{pick, either}
 use Rattle.words.specs.Parts.{region}
-use Rattle.refusals.specs.declared.Refusal.the-variants.{NoSlot}
-use Rattle.format.specs.Read.{Read, got, bad}
-use Rattle.format.specs.Definition.{Definition}
 use Rattle.format.specs.Reader.{readFile}
 use Rattle.nodes.specs.declared.Node.{Node}
 use Rattle.nodes.specs.Place.{isGroup}
@@ -26,13 +23,12 @@ use Rattle.values.specs.declared.Key.the-variants.{Name}
 use Rattle.values.specs.Controls.{ControlValue, setTo}
 use Rattle.model.specs.declared.DefinitionCommand.{DefinitionCommand}
 use Rattle.model.specs.declared.DefinitionCommand.the-variants as definitions
-use Rattle.model.specs.declared.Answer.the-variants.{Done}
 use Rattle.model.specs.Layout.{slotCount, rowWords, controlsWords}
 use Rattle.model.specs.Engine.{Slot, Engine, held, residentOf}
 use Rattle.model.specs.View.{Kind, viewOf}
-use Rattle.model.specs.Checks.{Check, firstOf, faultOf, definitionsOf, namesOf, noSlot, definitionChecks}
+use Rattle.model.specs.Checks.{definitionsOf, namesOf}
 use Rattle.model.specs.Effects.{retired, loaded, retire, definitionEffect, changeAll}
-use Rattle.preservation.specs.Passed.{passed}
+use Rattle.state.specs.Accepted.{DefinitionAccepted}
 use Rattle.preservation.specs.ControlRows.{started, other-row}
 use Rattle.refinement.specs.Load.{freeCount, free-staying, held-loaded}
 use Rattle.refinement.specs.DefinitionsReplay.{bytes-alike, retired-bytes, set-bytes}
@@ -103,19 +99,13 @@ all-held (r ∷ l) all g = (
     right true q h = refl
     right false q h = h
 
-fault-passed : (r : Read (List Definition)) (cs : List Check) → firstOf (faultOf r ∷ cs) Done ≡ Done → firstOf cs Done ≡ Done
-unfolding firstOf
-fault-passed (got ds end) cs h = h
-fault-passed (bad r at) cs h = cc
-
-pub definitions-alike : (c : DefinitionCommand) (bytes : List ℕ) (e : Engine) → length (e .slots) ≡ slotCount → firstOf (definitionChecks c bytes e) Done ≡ Done
+pub definitions-alike : (c : DefinitionCommand) (bytes : List ℕ) (e : Engine) → length (e .slots) ≡ slotCount → DefinitionAccepted c bytes e
     → AllOf (λ (r : Node). viewOf (e .slots) (e .controls) r ≡ viewOf (definitionEffect c bytes e .slots) (e .controls) r) (e .nodes)
 definitions-alike definitions.Receive bytes e many h =
     let ds = definitionsOf (readFile bytes) in
     let names = namesOf ds in
-    let p = passed NoSlot (noSlot ds e) [] (fault-passed (readFile bytes) _ h) in
     let fits : length ds ≤ freeCount 0 (retired names (e .slots)) (e .nodes) =
-    omega (arith, ltb-false _ (length ds) (p .0), free-staying 0 names (e .slots) (e .nodes)) in
+    omega (arith, ltb-false _ (length ds) (h .room), free-staying 0 names (e .slots) (e .nodes)) in
     all-more (λ r k.
     bytes-alike (e .slots) (loaded ds (retired names (e .slots)) (e .nodes)) (e .controls) r
     (ap (λ (s : Slot). s .bytes) (held-loaded ds (retired names (e .slots)) (e .nodes) fits (r .slot) k) ∙ retired-bytes names (e .slots) (r .slot))) (e .nodes) (all-held (e .nodes) (e .nodes) (λ k q. q))

@@ -1,5 +1,4 @@
 pub mod Tree
-pub mod Accepted
 pub mod Seen
 pub mod TreeUntouched
 pub mod Ordered

@@ -16,18 +16,16 @@ use Rattle.model.specs.declared.ControlCommand.{ControlCommand}
 use Rattle.model.specs.declared.ControlCommand.the-variants as controls
 use Rattle.model.specs.declared.Command.{Command}
 use Rattle.model.specs.declared.Command.the-variants as command
-use Rattle.model.specs.declared.Answer.the-variants.{Done}
 use Rattle.model.specs.Engine.{Engine, decode}
 use Rattle.model.specs.View.{view}
 use Rattle.model.specs.Meaning.{meant}
-use Rattle.model.specs.Checks.{firstOf, treeChecks}
 use Rattle.model.specs.Effects.{definitionEffect, treeEffect, controlEffect, effect}
 use Rattle.model.specs.Formed.{formed}
 use Rattle.model.specs.Apply.{answerIn, isAccepted}
 use Rattle.model.specs.Frame.{displacedBy, turnedBy, displaced, numbersLeft}
 use Rattle.state.specs.Known.{known}
+use Rattle.state.specs.Accepted.{TreeAccepted, accepted}
 use Rattle.preservation.specs.TreeKept.{known-sound}
-use Rattle.frame.specs.Accepted.{tree-done}
 use Rattle.frame.specs.Seen.{numbers-view}
 use Rattle.frame.specs.TreeUntouched.{tree-untouched}
 
@@ -38,7 +36,7 @@ ordered-by test e after h =
 
 module _ (e : Engine) (root : rooted (e .nodes) ≡ true) (distinct : apart (e .nodes) ≡ true) (bytes : List ℕ) where
   -- a command that turns no node on or off
-  still : (c : TreeCommand) → ((m : ℕ) → turnedBy c e m ≡ false) → firstOf (treeChecks c bytes e) Done ≡ Done
+  still : (c : TreeCommand) → ((m : ℕ) → turnedBy c e m ≡ false) → TreeAccepted c bytes e
       → numbers (left (displacedBy c e) (treeEffect c bytes e .nodes)) ≡ numbers (left (displacedBy c e) (e .nodes))
   still c q h =
       ap numbers
@@ -48,7 +46,7 @@ module _ (e : Engine) (root : rooted (e .nodes) ≡ true) (distinct : apart (e .
       plain true k = refl
       plain false k = k
 
-  order-nodes : (c : TreeCommand) → firstOf (treeChecks c bytes e) Done ≡ Done → numbers (left (displacedBy c e) (treeEffect c bytes e .nodes)) ≡ numbers (left (displacedBy c e) (e .nodes))
+  order-nodes : (c : TreeCommand) → TreeAccepted c bytes e → numbers (left (displacedBy c e) (treeEffect c bytes e .nodes)) ≡ numbers (left (displacedBy c e) (e .nodes))
   order-nodes (tree.NewSynth number action target) h = still (tree.NewSynth number action target) (λ m. refl) h
   order-nodes (tree.NewGroup number action target) h = still (tree.NewGroup number action target) (λ m. refl) h
   order-nodes (tree.Free a) h = still (tree.Free a) (λ m. refl) h
@@ -72,14 +70,14 @@ control-nodes (controls.Map n key bus) bytes e = refl
 
 pub ordered-step : (c : Command) (bytes ws bs : List ℕ) (room : ℕ) → AreBytes bytes → formed ws bs ≡ true → isAccepted (answerIn c bytes (decode ws bs) room) ≡ true
     → numbersLeft (displaced true c (decode ws bs)) (view (decode ws bs)) ≡ numbersLeft (displaced true c (decode ws bs)) (view (effect c bytes (decode ws bs)))
-unfolding effect answerIn
+unfolding effect
 ordered-step (command.Definitions c) bytes ws bs room b f h =
     let e = decode ws bs in
     ordered-by (λ n. false) e (definitionEffect c bytes e) (ap (λ (t : List Node). numbers (left (λ n. false) t)) (definition-nodes c bytes e))
 ordered-step (command.Tree c) bytes ws bs room b f h =
     let e = decode ws bs in
     let s = known-sound ws bs (known ws bs f) .tree in
-    ordered-by (displacedBy c e) e (treeEffect c bytes e) (order-nodes e (s .root) (s .distinct) bytes c (tree-done c bytes e h))
+    ordered-by (displacedBy c e) e (treeEffect c bytes e) (order-nodes e (s .root) (s .distinct) bytes c (accepted bytes e (command.Tree c) room h))
 ordered-step (command.Controls c) bytes ws bs room b f h =
     let e = decode ws bs in
     ordered-by (λ n. false) e (controlEffect c bytes e) (ap (λ (t : List Node). numbers (left (λ n. false) t)) (control-nodes c bytes e))

@@ -11,7 +11,7 @@ use Rattle.model.specs.Engine.{decode}
 use Rattle.model.specs.Formed.{formed}
 use Rattle.model.specs.Demands.{holds, TreeHolds}
 use Rattle.state.specs.Known.{known}
-use Rattle.preservation.specs.Passed.{group-named}
+use Rattle.preservation.specs.Groups.{group-named}
 use Rattle.preservation.specs.TreeKept.{known-sound}
 
 -- a number among numbers, by the name that the demands use

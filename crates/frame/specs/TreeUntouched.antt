@@ -1,13 +1,12 @@
 -- An accepted command of the tree kind: nodes outside the subtrees that it adds, moves, frees or turns on or off keep their records and their parents.
 use Prim.Native.Nat.{ℕ, zero, suc}
-use mathlib.Core.Bool.{Bool, true, false, not}
+use mathlib.Core.Bool.{Bool, true, false}
 use mathlib.Core.Path.{_≡_, refl, sym, ap, _∙_}
 use mathlib.Core.List.{List, [], _∷_}
 use native.Mathlib.Omega.{arith}
-use lib.Dec.{ltb, eqb}
+use lib.Dec.{eqb}
 use borrow.Author.Tests.{ltb-false, eqb-true, eq-eqb}
 use Rattle.words.specs.Choice.{pick, both, either}
-use Rattle.refusals.specs.declared.Refusal.the-variants.{BadFlag, NoNode}
 use Rattle.nodes.specs.declared.Node.{Node}
 use Rattle.nodes.specs.Place.{isGroup, lives}
 use Rattle.nodes.specs.Edit.{sink, takeDeeper, runOf, isBelow}
@@ -19,13 +18,14 @@ use Rattle.treerefinement.specs.Left.{Covers}
 use Rattle.treerefinement.specs.Untouched.{Untouched, untouched-cut, untouched-cutBelow, untouched-deepFree, untouched-setRun, untouched-addHead, untouched-addTail, untouched-addBefore, untouched-addAfter, untouched-addOver, untouched-moveHead, untouched-moveTail, untouched-moveBefore, untouched-moveAfter}
 use Rattle.model.specs.declared.TreeCommand.{TreeCommand}
 use Rattle.model.specs.declared.TreeCommand.the-variants as tree
-use Rattle.model.specs.declared.Answer.the-variants.{Done}
-use Rattle.model.specs.Engine.{Engine, residentOf}
-use Rattle.model.specs.Meaning.{meant, known, nodeNamed}
-use Rattle.model.specs.Checks.{firstOf, treeChecks, badAction}
-use Rattle.model.specs.Effects.{addBy, stayingNodes, freeRow, newGroup, newSynth, numberFor, treeEffect}
+use Rattle.model.specs.Engine.{Engine}
+use Rattle.model.specs.Meaning.{meant, nodeNamed}
+use Rattle.model.specs.Checks.{badAction}
+use Rattle.model.specs.Effects.{addBy, newGroup, numberFor, treeEffect}
 use Rattle.model.specs.Frame.{displacedBy, turnedBy}
-use Rattle.preservation.specs.Passed.{passed, known-lives, group-named}
+use Rattle.state.specs.Accepted.{TreeAccepted, known-lives}
+use Rattle.preservation.specs.Groups.{group-named}
+use Rattle.preservation.specs.TreeSteps.{synthFor}
 
 -- a node that lives is in its own subtree
 self-below : (n : ℕ) (t : List Node) → lives n t ≡ true → isBelow n n t ≡ true
@@ -77,15 +77,14 @@ module _ (e : Engine) (root : rooted (e .nodes) ≡ true) (distinct : apart (e .
       go false true h = refl
       go false false h = h
 
-  pub tree-untouched : (c : TreeCommand) (bytes : List ℕ) → firstOf (treeChecks c bytes e) Done ≡ Done → ((m : ℕ) → either (displacedBy c e m) (turnedBy c e m) ≡ true → test m ≡ true)
+  pub tree-untouched : (c : TreeCommand) (bytes : List ℕ) → TreeAccepted c bytes e → ((m : ℕ) → either (displacedBy c e m) (turnedBy c e m) ≡ true → test m ≡ true)
       → Untouched test (treeEffect c bytes e .nodes) (e .nodes)
   tree-untouched (tree.NewSynth number action target) bytes h c =
       let w = fresh action (meant target e) (numberFor number (e .next)) c in
-      untouched-add test (e .nodes) root (newSynth (numberFor number (e .next)) (residentOf bytes (e .slots)) (freeRow (stayingNodes action (meant target e) (e .nodes)))) refl (w .0) (meant target e) action
-      (passed BadFlag (badAction action) _ h .0) (w .1)
+      untouched-add test (e .nodes) root (synthFor number action target bytes e) refl (w .0) (meant target e) action (h .place .goodAction) (w .1)
   tree-untouched (tree.NewGroup number action target) bytes h c =
       let w = fresh action (meant target e) number c in
-      untouched-add test (e .nodes) root (newGroup number) refl (w .0) (meant target e) action (passed BadFlag (badAction action) _ h .0) (w .1)
+      untouched-add test (e .nodes) root (newGroup number) refl (w .0) (meant target e) action (h .place .goodAction) (w .1)
   tree-untouched (tree.Free a) bytes h c = untouched-cut test (e .nodes) root (meant a e) (λ m b. c m (rw b))
   tree-untouched (tree.FreeAll g) bytes h c = untouched-cutBelow test (e .nodes) root (meant g e) distinct (λ m b q. c m (rw (b, q)))
   tree-untouched (tree.DeepFree g) bytes h c = untouched-deepFree test (e .nodes) root (meant g e) (λ m b s. c m (rw (b, synth-no-group m (e .nodes) distinct s)))
@@ -94,6 +93,4 @@ module _ (e : Engine) (root : rooted (e .nodes) ≡ true) (distinct : apart (e .
   tree-untouched (tree.Head g a) bytes h c = untouched-moveHead test (e .nodes) root (meant a e) (meant g e) (λ m b. c m (rw b))
   tree-untouched (tree.Tail g a) bytes h c = untouched-moveTail test (e .nodes) root (meant a e) (meant g e) (λ m b. c m (rw b))
   tree-untouched (tree.Run a flag) bytes h c =
-      let p0 = passed BadFlag (ltb 1 flag) _ h in
-      let p1 = passed NoNode (not (known a e)) _ (p0 .1) in
-      untouched-setRun test (e .nodes) root (meant a e) flag (c (meant a e) (self-below (meant a e) (e .nodes) (known-lives a e (p1 .0))))
+      untouched-setRun test (e .nodes) root (meant a e) flag (c (meant a e) (self-below (meant a e) (e .nodes) (known-lives a e (h .nodeKnown))))

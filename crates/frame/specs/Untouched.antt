@@ -1,25 +1,20 @@
 -- Demand 3, of one accepted command: a node outside the subtrees that it adds, moves, sets, maps, turns on or off, or frees keeps its kind, parent, definition, run flag and controls.
-use Prim.Native.Nat.{ℕ, _<_}
-use mathlib.Core.Bool.{Bool, true, false, not}
+use Prim.Native.Nat.{ℕ}
+use mathlib.Core.Bool.{Bool, true, false}
 use mathlib.Core.Path.{_≡_, refl, subst}
 use mathlib.Core.List.{List}
 use native.Mathlib.Omega.{arith}
 use lib.Dec.{eqb}
-use borrow.Author.Tests.{ltb-true, not-false}
 use Rattle.words.specs.Choice.{pick, both, either}
 use Rattle.words.specs.Bytes.{AreBytes}
-use Rattle.refusals.specs.declared.Refusal.the-variants.{BadFlag, BadNumber, NumberLive, NoDefinition, NoNode, WrongKind, NodesFull, NoBus, NoNumber}
 use Rattle.nodes.specs.declared.Node.{Node}
-use Rattle.nodes.specs.Place.{lives}
 use Rattle.nodes.specs.Edit.{isBelow, cut}
-use Rattle.nodes.specs.Formed.{mostRows, noneLeft, rowTaken}
 use Rattle.treerefinement.specs.Keep.{within-formed}
 use Rattle.treerefinement.specs.Left.{left, left-cut}
 use Rattle.treerefinement.specs.Untouched.{Untouched}
-use Rattle.values.specs.declared.Mapping.the-variants.{Unmapped, Bus}
 use Rattle.values.specs.declared.NodeArgument.{NodeArgument}
-use Rattle.values.specs.Controls.{mappingWord, setTo, mapTo}
-use Rattle.values.specs.Values.{pattern}
+use Rattle.values.specs.declared.Key.{Key}
+use Rattle.values.specs.Controls.{ControlValue}
 use Rattle.model.specs.declared.DefinitionCommand.{DefinitionCommand}
 use Rattle.model.specs.declared.DefinitionCommand.the-variants as definitions
 use Rattle.model.specs.declared.TreeCommand.{TreeCommand}
@@ -28,24 +23,19 @@ use Rattle.model.specs.declared.ControlCommand.{ControlCommand}
 use Rattle.model.specs.declared.ControlCommand.the-variants as controls
 use Rattle.model.specs.declared.Command.{Command}
 use Rattle.model.specs.declared.Command.the-variants as command
-use Rattle.model.specs.declared.Answer.the-variants.{Done}
-use Rattle.model.specs.Layout.{busCount}
+use Rattle.model.specs.Layout.{lengthsIn}
 use Rattle.model.specs.Engine.{Engine, decode, residentOf}
 use Rattle.model.specs.View.{viewOf, view}
-use Rattle.model.specs.Meaning.{minusOne, isNegative, meant, known, isBus, mappingTo}
-use Rattle.model.specs.Checks.{firstOf, noResident, badAction, badTarget, full, treeChecks, controlChecks, definitionChecks}
-use Rattle.model.specs.Effects.{stayingNodes, freeRow, newSynth, numberFor, definitionEffect, treeEffect, controlEffect, effect}
+use Rattle.model.specs.Meaning.{meant}
+use Rattle.model.specs.Effects.{changed, stayingNodes, freeRow, numberFor, definitionEffect, treeEffect, controlEffect, effect}
 use Rattle.model.specs.Formed.{formed}
 use Rattle.model.specs.Apply.{answerIn, isAccepted}
 use Rattle.model.specs.Frame.{touched, entriesLeft}
-use Rattle.state.specs.Known as state
-use Rattle.preservation.specs.Passed.{passed}
-use Rattle.preservation.specs.Rows.{free-row}
-use Rattle.preservation.specs.TreeSteps.{Sound, comes}
+use Rattle.state.specs.Known.{known}
+use Rattle.state.specs.Accepted.{NewSynthAccepted, TreeAccepted, ChangeAccepted, ControlAccepted, DefinitionAccepted, Accepted, accepted}
+use Rattle.preservation.specs.TreeSteps.{Sound, synth-comes}
 use Rattle.preservation.specs.TreeKept.{known-sound}
-use Rattle.refinement.specs.RowChange.{FitsWord}
 use Rattle.refinement.specs.ControlsReplay.{AllOf}
-use Rattle.frame.specs.Accepted.{definitions-done, tree-done, controls-done}
 use Rattle.frame.specs.Seen.{entries-stay, all-left, all-of}
 use Rattle.frame.specs.TreeUntouched.{tree-untouched}
 use Rattle.frame.specs.Alike.{controls-alike, synth-alike, definitions-alike}
@@ -56,7 +46,7 @@ same-nodes test t = record { records = refl; parents = λ m e. refl }
 
 module _ (bytes sizes : List ℕ) (e : Engine) (k : Sound sizes e) where
   -- a command of the tree kind, by how the records that are left are seen
-  tree-entries : (c : TreeCommand) → firstOf (treeChecks c bytes e) Done ≡ Done
+  tree-entries : (c : TreeCommand) → TreeAccepted c bytes e
       → AllOf (λ (r : Node). viewOf (e .slots) (e .controls) r ≡ viewOf (treeEffect c bytes e .slots) (treeEffect c bytes e .controls) r) (left (touched true (command.Tree c) e) (e .nodes))
       → entriesLeft (touched true (command.Tree c) e) (e .nodes) (view e) ≡ entriesLeft (touched true (command.Tree c) e) (treeEffect c bytes e .nodes) (view (treeEffect c bytes e))
   tree-entries c h all =
@@ -64,12 +54,12 @@ module _ (bytes sizes : List ℕ) (e : Engine) (k : Sound sizes e) where
       (tree-untouched e (k .tree .root) (k .tree .distinct) (touched true (command.Tree c) e) c bytes h (λ m b. b)) all
 
   -- that changes neither slots nor controls
-  plain : (c : TreeCommand) → treeEffect c bytes e .slots ≡ e .slots → treeEffect c bytes e .controls ≡ e .controls → firstOf (treeChecks c bytes e) Done ≡ Done
+  plain : (c : TreeCommand) → treeEffect c bytes e .slots ≡ e .slots → treeEffect c bytes e .controls ≡ e .controls → TreeAccepted c bytes e
       → entriesLeft (touched true (command.Tree c) e) (e .nodes) (view e) ≡ entriesLeft (touched true (command.Tree c) e) (treeEffect c bytes e .nodes) (view (treeEffect c bytes e))
   plain c s q h = tree-entries c h (all-of (λ r. rw (s, q)) (left (touched true (command.Tree c) e) (e .nodes)))
 
   -- the new synth, which has a row of its own
-  module _ (number action : ℕ) (target : NodeArgument) (h : firstOf (treeChecks (tree.NewSynth number action target) bytes e) Done ≡ Done) where
+  module _ (number action : ℕ) (target : NodeArgument) (h : NewSynthAccepted number action target bytes e) where
     abbrev made : TreeCommand
     made = tree.NewSynth number action target
 
@@ -96,23 +86,13 @@ module _ (bytes sizes : List ℕ) (e : Engine) (k : Sound sizes e) where
 
     synth-entries : entriesLeft (touched true (command.Tree made) e) (e .nodes) (view e) ≡ entriesLeft (touched true (command.Tree made) e) (treeEffect made bytes e .nodes) (view (treeEffect made bytes e))
     synth-entries =
-        let p0 = passed BadFlag (badAction action) _ h in
-        let p1 = passed BadNumber (both (isNegative number) (not (eqb number minusOne))) _ (p0 .1) in
-        let p2 = passed NumberLive (both (not (eqb number minusOne)) (lives number (e .nodes))) _ (p1 .1) in
-        let p3 = passed NoDefinition (noResident bytes e) _ (p2 .1) in
-        let p4 = passed NoNode (not (known target e)) _ (p3 .1) in
-        let p5 = passed WrongKind (badTarget action target e) _ (p4 .1) in
-        let p6 = passed NoNumber (both (eqb number minusOne) (eqb (e .next) noneLeft)) _ (p5 .1) in
-        let p7 = passed NodesFull (full action e) _ (p6 .1) in
-        let slot = residentOf bytes (e .slots) in
-        let a = comes sizes e k action target (p0 .0) (p4 .0) (p5 .0) (p7 .0) (newSynth (numberFor number (e .next)) slot (freeRow stays)) refl in
-        let free : (freeRow stays < mostRows) × (rowTaken (freeRow stays) stays ≡ false) = free-row stays (a .room) in
+        let c = synth-comes sizes e k number action target bytes h in
         tree-entries made h
         (subst (λ (l : List Node). AllOf (λ (r : Node). viewOf (e .slots) (e .controls) r ≡ viewOf (e .slots) (treeEffect made bytes e .controls) r) l) left-stays
         (all-left (λ (r : Node). viewOf (e .slots) (e .controls) r ≡ viewOf (e .slots) (treeEffect made bytes e .controls) r) (touched true (command.Tree made) e) stays
-        (synth-alike (e .slots) (e .controls) (k .words) slot (freeRow stays) (e .next) (free .0) stays (free .1) (within-formed (a .within) (e .next) (k .tree .fields)))))
+        (synth-alike (e .slots) (e .controls) (k .words) (residentOf bytes (e .slots)) (freeRow stays) (e .next) (c .rowLow) stays (c .rowFree) (within-formed (c .added .within) (e .next) (k .tree .fields)))))
 
-  tree-step : (c : TreeCommand) → firstOf (treeChecks c bytes e) Done ≡ Done
+  tree-step : (c : TreeCommand) → TreeAccepted c bytes e
       → entriesLeft (touched true (command.Tree c) e) (e .nodes) (view e) ≡ entriesLeft (touched true (command.Tree c) e) (treeEffect c bytes e .nodes) (view (treeEffect c bytes e))
   tree-step (tree.NewSynth number action target) h = synth-entries number action target h
   tree-step (tree.NewGroup number action target) h = plain (tree.NewGroup number action target) refl refl h
@@ -125,7 +105,7 @@ module _ (bytes sizes : List ℕ) (e : Engine) (k : Sound sizes e) where
   tree-step (tree.Tail g a) h = plain (tree.Tail g a) refl refl h
   tree-step (tree.Run a flag) h = plain (tree.Run a flag) refl refl h
 
-  definition-step : (c : DefinitionCommand) → firstOf (definitionChecks c bytes e) Done ≡ Done
+  definition-step : (c : DefinitionCommand) → DefinitionAccepted c bytes e
       → entriesLeft (λ m. false) (e .nodes) (view e) ≡ entriesLeft (λ m. false) (definitionEffect c bytes e .nodes) (view (definitionEffect c bytes e))
   definition-step definitions.Receive h =
       entries-stay (λ m. false) (e .slots) (definitionEffect definitions.Receive bytes e .slots) (e .controls) (e .controls) (e .nodes) (e .nodes) (same-nodes (λ m. false) (e .nodes))
@@ -134,40 +114,33 @@ module _ (bytes sizes : List ℕ) (e : Engine) (k : Sound sizes e) where
       entries-stay (λ m. false) (e .slots) (definitionEffect definitions.Free bytes e .slots) (e .controls) (e .controls) (e .nodes) (e .nodes) (same-nodes (λ m. false) (e .nodes))
       (all-left _ (λ m. false) (e .nodes) (definitions-alike definitions.Free bytes e (k .many) h))
 
-  -- mapping is to a bus or to none
-  map-fits-word : (bus : ℕ) → not (either (eqb bus minusOne) (isBus bus)) ≡ false → FitsWord (mapTo (mappingTo bus))
-  map-fits-word bus h v = go (eqb bus minusOne) (not-false (either (eqb bus minusOne) (isBus bus)) h)
-    where
-      go : (b : Bool) → either b (isBus bus) ≡ true → mappingWord (pick b Unmapped (Bus bus)) < 4294967295
-      go true q = omega arith
-      go false q = omega (arith, ltb-true bus busCount q)
+  change-step : {f : ControlValue → ControlValue} {n : NodeArgument} {key : Key} {count : ℕ} {badValue : Bool} → ChangeAccepted f n key count badValue bytes e
+      → entriesLeft (λ m. isBelow m (meant n e) (e .nodes)) (e .nodes) (view e) ≡ entriesLeft (λ m. isBelow m (meant n e) (e .nodes)) (e .nodes) (view (changed f n key count bytes e))
+  change-step {f} {n} {key} {count} h =
+      entries-stay (λ m. isBelow m (meant n e) (e .nodes)) (e .slots) (e .slots) (e .controls) (changed f n key count bytes e .controls) (e .nodes) (e .nodes)
+      (same-nodes (λ m. isBelow m (meant n e) (e .nodes)) (e .nodes))
+      (controls-alike f (λ v. omega (arith, h .busLow v)) key bytes count (meant n e) (e .next) (e .slots) (e .controls) (e .nodes) (k .words) (k .tree .rowsDiffer) (k .tree .fields))
 
-  control-step : (c : ControlCommand) → firstOf (controlChecks c bytes e) Done ≡ Done
+  control-step : (c : ControlCommand) → ControlAccepted c bytes e
       → entriesLeft (touched true (command.Controls c) e) (e .nodes) (view e) ≡ entriesLeft (touched true (command.Controls c) e) (controlEffect c bytes e .nodes) (view (controlEffect c bytes e))
-  control-step (controls.Set n key value) h =
-      entries-stay (λ m. isBelow m (meant n e) (e .nodes)) (e .slots) (e .slots) (e .controls) (controlEffect (controls.Set n key value) bytes e .controls) (e .nodes) (e .nodes)
-      (same-nodes (λ m. isBelow m (meant n e) (e .nodes)) (e .nodes))
-      (controls-alike (setTo (pattern value)) (λ v. omega arith) key bytes 1 (meant n e) (e .next) (e .slots) (e .controls) (e .nodes) (k .words) (k .tree .rowsDiffer) (k .tree .fields))
-  control-step (controls.Fill n key count value) h =
-      entries-stay (λ m. isBelow m (meant n e) (e .nodes)) (e .slots) (e .slots) (e .controls) (controlEffect (controls.Fill n key count value) bytes e .controls) (e .nodes) (e .nodes)
-      (same-nodes (λ m. isBelow m (meant n e) (e .nodes)) (e .nodes))
-      (controls-alike (setTo (pattern value)) (λ v. omega arith) key bytes count (meant n e) (e .next) (e .slots) (e .controls) (e .nodes) (k .words) (k .tree .rowsDiffer) (k .tree .fields))
-  control-step (controls.Map n key bus) h =
-      let p0 = passed NoNode (not (known n e)) _ h in
-      let p1 = passed NoBus (not (either (eqb bus minusOne) (isBus bus))) _ (p0 .1) in
-      entries-stay (λ m. isBelow m (meant n e) (e .nodes)) (e .slots) (e .slots) (e .controls) (controlEffect (controls.Map n key bus) bytes e .controls) (e .nodes) (e .nodes)
-      (same-nodes (λ m. isBelow m (meant n e) (e .nodes)) (e .nodes))
-      (controls-alike (mapTo (mappingTo bus)) (map-fits-word bus (p1 .0)) key bytes 1 (meant n e) (e .next) (e .slots) (e .controls) (e .nodes) (k .words) (k .tree .rowsDiffer) (k .tree .fields))
+  control-step (controls.Set n key value) h = change-step h
+  control-step (controls.Fill n key count value) h = change-step h
+  control-step (controls.Map n key bus) h = change-step h
 
 pub untouched-step : (c : Command) (bytes ws bs : List ℕ) (room : ℕ) → AreBytes bytes → formed ws bs ≡ true → isAccepted (answerIn c bytes (decode ws bs) room) ≡ true
     → entriesLeft (touched true c (decode ws bs)) (decode ws bs .nodes) (view (decode ws bs))
     ≡ entriesLeft (touched true c (decode ws bs)) (effect c bytes (decode ws bs) .nodes) (view (effect c bytes (decode ws bs)))
-unfolding effect answerIn
-untouched-step (command.Definitions c) bytes ws bs room b f h =
-    definition-step bytes _ (decode ws bs) (known-sound ws bs (state.known ws bs f)) c (definitions-done c bytes (decode ws bs) h)
-untouched-step (command.Tree c) bytes ws bs room b f h =
-    tree-step bytes _ (decode ws bs) (known-sound ws bs (state.known ws bs f)) c (tree-done c bytes (decode ws bs) h)
-untouched-step (command.Controls c) bytes ws bs room b f h =
-    control-step bytes _ (decode ws bs) (known-sound ws bs (state.known ws bs f)) c (controls-done c bytes (decode ws bs) h)
-untouched-step (command.Buses c) bytes ws bs room b f h = refl
-untouched-step (command.Query q) bytes ws bs room b f h = refl
+unfolding effect
+untouched-step c bytes ws bs room b f h = go c (accepted bytes (decode ws bs) c room h)
+  where
+    sound : Sound (lengthsIn ws) (decode ws bs)
+    sound = known-sound ws bs (known ws bs f)
+
+    go : (c : Command) → Accepted c bytes (decode ws bs)
+        → entriesLeft (touched true c (decode ws bs)) (decode ws bs .nodes) (view (decode ws bs))
+        ≡ entriesLeft (touched true c (decode ws bs)) (effect c bytes (decode ws bs) .nodes) (view (effect c bytes (decode ws bs)))
+    go (command.Definitions c) a = definition-step bytes _ (decode ws bs) sound c a
+    go (command.Tree c) a = tree-step bytes _ (decode ws bs) sound c a
+    go (command.Controls c) a = control-step bytes _ (decode ws bs) sound c a
+    go (command.Buses c) a = refl
+    go (command.Query q) a = refl

@@ -1,22 +1,21 @@
 -- /s_new: the words after it.
 use Prim.Native.Nat.{ℕ, _+_, _*_, _≤_, _<_}
-use mathlib.Core.Bool.{true, not}
-use mathlib.Core.Path.{_≡_, refl, sym, ap, ap₂, _∙_, subst}
+use mathlib.Core.Bool.{true}
+use mathlib.Core.Path.{_≡_, sym, ap, ap₂, _∙_, subst}
 use mathlib.Core.List.{List, [], _∷_}
 use native.Mathlib.Omega.{arith}
 use lib.ListN.{length, take, drop, getD, length-take}
-use lib.Dec.{leb, eqb}
+use lib.Dec.{leb}
 use borrow.Author.Tests.{lt-ltb, leb-true}
-use Rattle.words.specs.Choice.{both, both-true}
+use Rattle.words.specs.Choice.{both-true}
 use Rattle.words.specs.Parts.{region, put, region-length}
 use Rattle.refusals.specs.declared.Refusal.{Refusal}
-use Rattle.refusals.specs.declared.Refusal.the-variants.{BadFlag, BadNumber, NumberLive, NoDefinition, NoNode, WrongKind, NodesFull, NoNumber}
+use Rattle.refusals.specs.declared.Refusal.the-variants.{BadFlag}
 use Rattle.format.specs.Read.{Read}
 use Rattle.format.specs.Definition.{Front, Definition}
 use Rattle.readable.specs.Readable.{Readable, whole-readable}
 use Rattle.nodes.specs.declared.Node.{Node}
 use Rattle.nodes.specs.Table.{rows, over}
-use Rattle.nodes.specs.Place.{lives}
 use Rattle.nodes.specs.Edit.{editAt}
 use Rattle.nodes.specs.Order.{order}
 use Rattle.nodes.specs.Formed.{mostNodes, mostRows, noneLeft, firstGiven}
@@ -26,19 +25,18 @@ use Rattle.model.specs.declared.Command.the-variants as command
 use Rattle.model.specs.declared.Answer.the-variants.{Done, Refused}
 use Rattle.model.specs.Layout.{slotCount, slotRoom, rowWords, wordsLength, lengthsPlace, nodesPlace, nodesWords, controlsPlace, controlsWords, countIn, nextIn, lengthsIn, nodesIn, controlsIn, putHeader, putControls, putOrder, putNodes, orderPlace, orderWords, orderRegion}
 use Rattle.model.specs.Engine.{Engine, decode, definitionIn, noDefinition, valueOr, definitionOf, residentOf, slotAt}
-use Rattle.model.specs.Meaning.{minusOne, isNegative, meant, known}
-use Rattle.model.specs.Checks.{firstOf, treeChecks, noResident, badAction, badTarget, full}
+use Rattle.model.specs.Meaning.{meant, known}
+use Rattle.model.specs.Checks.{firstOf, treeChecks}
 use Rattle.model.specs.Effects.{addBy, stayingNodes, freeRow, newSynth, numberFor, nextAfter, initialWords, synthMade, effect}
 use Rattle.model.specs.After.{putTree, wordsAfter}
-use Rattle.model.specs.Apply.{answerIn}
+use Rattle.model.specs.Apply.{answerIn, isAccepted}
 use Rattle.state.specs.Known.{Known}
+use Rattle.state.specs.Accepted.{accepted}
 use Rattle.state.specs.Does.{WordsStep, step-refused, step-done}
 use Rattle.state.specs.Decoded.{tree-size, tree-controls, order-region-length}
 use Rattle.state.specs.Regions.{put-size}
-use Rattle.preservation.specs.Passed.{passed}
-use Rattle.preservation.specs.Rows.{free-row}
-use Rattle.preservation.specs.Slots.{resident-found}
-use Rattle.preservation.specs.TreeSteps.{comes}
+
+use Rattle.preservation.specs.TreeSteps.{NewSynthComes, synth-comes}
 use Rattle.preservation.specs.TreeKept.{known-sound}
 use Rattle.tree.specs.declared.action.Action.{Action}
 use Rattle.tree.specs.Sizes.{Leaves, leaves-first}
@@ -112,43 +110,31 @@ module _ (number : ℕ) (action : Action) (target : NodeArgument) (at slot : ℕ
   abbrev after : List Node
   after = addBy (numberOf action) made n (nodesIn ws)
 
-  accepted : firstOf (treeChecks (tree.NewSynth number (numberOf action) target) bytes (decode ws bs)) Done ≡ Done
-  accepted = g .clear .passed bytes bs (g .meant)
+  done : firstOf (treeChecks (tree.NewSynth number (numberOf action) target) bytes (decode ws bs)) Done ≡ Done
+  done = g .clear .passed bytes bs (g .meant)
 
   few : length after ≤ mostNodes
   unfolding answerIn decode
-  few = rw (g .meant) (after-few (tree.NewSynth number (numberOf action) target) bytes ws bs k accepted)
+  few = rw (g .meant) (after-few (tree.NewSynth number (numberOf action) target) bytes ws bs k done)
 
   pub next-some : 1 ≤ nextIn ws
   next-some =
       let w = both-true (leb noneLeft (nextIn ws)) (leb (nextIn ws) firstGiven) (k .tree .nextRight) in
       omega (arith, leb-true noneLeft (nextIn ws) (w .0))
 
-  -- a row is free
+  -- the new synth has a free row, and its slot a resident
+  comes : NewSynthComes number (numberOf action) target bytes (decode ws bs)
+  unfolding answerIn
+  comes =
+      synth-comes (lengthsIn ws) (decode ws bs) (known-sound ws bs k) number (numberOf action) target bytes
+      (accepted bytes (decode ws bs) (command.Tree (tree.NewSynth number (numberOf action) target)) 0 (ap isAccepted done))
+
   pub row-low : row < mostRows
   unfolding decode
-  row-low =
-      let e = decode ws bs in
-      let p0 = passed BadFlag (badAction (numberOf action)) _ accepted in
-      let p1 = passed BadNumber (both (isNegative number) (not (eqb number minusOne))) _ (p0 .1) in
-      let p2 = passed NumberLive (both (not (eqb number minusOne)) (lives number (e .nodes))) _ (p1 .1) in
-      let p3 = passed NoDefinition (noResident bytes e) _ (p2 .1) in
-      let p4 = passed NoNode (not (known target e)) _ (p3 .1) in
-      let p5 = passed WrongKind (badTarget (numberOf action) target e) _ (p4 .1) in
-      let p6 = passed NoNumber (both (eqb number minusOne) (eqb (e .next) noneLeft)) _ (p5 .1) in
-      let p7 = passed NodesFull (full (numberOf action) e) _ (p6 .1) in
-      free-row (stayingNodes (numberOf action) n (nodesIn ws))
-      (comes (lengthsIn ws) e (known-sound ws bs k) (numberOf action) target (p0 .0) (p4 .0) (p5 .0) (p7 .0) made refl .room)
-      .0
+  row-low = comes .rowLow
 
   resident : slotAt (decode ws bs .slots) slot .resident ≡ true
-  resident =
-      let e = decode ws bs in
-      let p0 = passed BadFlag (badAction (numberOf action)) _ accepted in
-      let p1 = passed BadNumber (both (isNegative number) (not (eqb number minusOne))) _ (p0 .1) in
-      let p2 = passed NumberLive (both (not (eqb number minusOne)) (lives number (e .nodes))) _ (p1 .1) in
-      let p3 = passed NoDefinition (noResident bytes e) _ (p2 .1) in
-      rw (g .meant) (resident-found bytes (e .slots) (p3 .0))
+  resident = rw (g .meant) (comes .resident)
 
   pub definition-readable : (size : ℕ) → size ≡ getD ws (lengthsPlace + slot) 0 → Readable (lentBytes slot size bs)
   definition-readable size same = resident-readable ws bs k slot (g .clear .there) resident size same
@@ -244,7 +230,7 @@ module _ (number : ℕ) (action : Action) (target : NodeArgument) (at slot : ℕ
         pub synth-done : WordsStep (command.Tree (tree.NewSynth number (numberOf action) target)) bytes ws bs Done out
         unfolding answerIn decode wordsAfter effect
         synth-done =
-            step-done (command.Tree (tree.NewSynth number (numberOf action) target)) bytes ws bs out accepted
+            step-done (command.Tree (tree.NewSynth number (numberOf action) target)) bytes ws bs out done
             (made-left ∙ ap (λ (s : ℕ). putTree (synthMade number (numberOf action) n s (decode ws bs)) ws) (g .meant))
 
 -- a number that asks for no add action

@@ -1,5 +1,5 @@
 pub mod Assemble
-pub mod Passed
+pub mod Groups
 pub mod Parameters
 pub mod Rows
 pub mod Every

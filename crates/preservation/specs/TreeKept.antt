@@ -10,14 +10,13 @@ use Rattle.nodes.specs.Order.{order}
 use Rattle.model.specs.declared.TreeCommand.{TreeCommand}
 use Rattle.model.specs.declared.TreeCommand.the-variants as tree
 use Rattle.model.specs.declared.Command.the-variants as command
-use Rattle.model.specs.declared.Answer.the-variants.{Done}
 use Rattle.model.specs.Layout.{slotCount, slotRoom, controlsPlace, controlsWords, orderWords, lengthsIn, flagsIn, busesIn}
 use Rattle.model.specs.Engine.{Engine, slotsFrom, decode}
 use Rattle.model.specs.Effects.{treeEffect, effect}
 use Rattle.model.specs.After.{putTree, wordsAfter}
-use Rattle.model.specs.Apply.{answerIn}
 use Rattle.model.specs.Formed.{formed, flagsFormed, slotsFormed, namesApart}
 use Rattle.state.specs.Known.{Known, known}
+use Rattle.state.specs.Accepted.{TreeAccepted}
 use Rattle.state.specs.Decoded.{tree-size, tree-lengths, tree-flags, tree-decoded}
 use Rattle.preservation.specs.Assemble.{Whole, tree-formed, whole-formed}
 use Rattle.preservation.specs.Rows.{order-short}
@@ -79,10 +78,9 @@ module _ (ws bs : List ℕ) (k : Known ws bs) (e : Engine) (s : Sound (lengthsIn
   pub put-formed : formed (putTree e ws) bs ≡ true
   put-formed = whole-formed (putTree e ws) bs e put-whole
 
-module _ (c : TreeCommand) (bytes ws bs : List ℕ) (h : formed ws bs ≡ true) (a : answerIn (command.Tree c) bytes (decode ws bs) 0 ≡ Done) where
+module _ (c : TreeCommand) (bytes ws bs : List ℕ) (h : formed ws bs ≡ true) (a : TreeAccepted c bytes (decode ws bs)) where
   after : Sound (lengthsIn ws) (treeEffect c bytes (decode ws bs))
-  unfolding answerIn
-  after = sound-step bytes (lengthsIn ws) (decode ws bs) (known-sound ws bs (known ws bs h)) c a
+  after = sound-step (lengthsIn ws) (decode ws bs) (known-sound ws bs (known ws bs h)) c bytes a
 
   buses : treeEffect c bytes (decode ws bs) .buses ≡ busesIn ws
   unfolding decode

@@ -1,33 +1,29 @@
 -- Each accepted command of the tree kind keeps the rules, of the engine as decoded.
 use Prim.Native.Nat.{ℕ, _≤_, _<_}
-use mathlib.Core.Bool.{true, false, not}
+use mathlib.Core.Bool.{Bool, true, false}
 use mathlib.Core.Path.{_≡_, refl, sym, _∙_}
 use mathlib.Core.List.{List}
 use native.Mathlib.Omega.{arith}
 use lib.ListN.{length}
-use lib.Dec.{ltb, eqb}
 use borrow.Author.Tests.{lt-ltb, ltb-true, ltb-false, leb-false, ne-eqb}
-use Rattle.words.specs.Choice.{both}
-use Rattle.refusals.specs.declared.Refusal.the-variants.{BadFlag, BadNumber, NumberLive, NoDefinition, NoNode, WrongKind, InsideItself, NodesFull, NoNumber}
 use Rattle.nodes.specs.declared.Node.{Node}
 use Rattle.nodes.specs.Place.{groupSlot, lives}
 use Rattle.nodes.specs.Edit.{runOf, isBelow, cut, cutBelow, deepFree, setRun, moveBefore, moveAfter, moveHead, moveTail}
-use Rattle.nodes.specs.Formed.{mostRows, noneLeft, rooted, rowTaken}
+use Rattle.nodes.specs.Formed.{mostRows, rooted, rowTaken}
 use Rattle.treerefinement.specs.Tally.{tally, tally-cut, Within, same-within, cut-within, cutBelow-within, deepFree-within, moveHead-same, moveTail-same, moveBefore-same, moveAfter-same}
 use Rattle.treerefinement.specs.Keep.{numbered, lives-some, within-formed}
 use Rattle.treerefinement.specs.Rooted.{rooted-cut, rooted-cutBelow, rooted-deepFree, rooted-moveHead, rooted-moveTail, rooted-moveBefore, rooted-moveAfter}
 use Rattle.values.specs.declared.NodeArgument.{NodeArgument}
 use Rattle.model.specs.declared.TreeCommand.{TreeCommand}
 use Rattle.model.specs.declared.TreeCommand.the-variants as tree
-use Rattle.model.specs.declared.Answer.the-variants.{Done}
 use Rattle.model.specs.Layout.{slotCount, controlsWords}
 use Rattle.model.specs.Engine.{Engine, slotAt, residentOf}
-use Rattle.model.specs.Meaning.{minusOne, isNegative, meant, known}
-use Rattle.model.specs.Checks.{firstOf, treeChecks, noResident, badAction, isRoot, notGroup, badTarget, full, inside}
+use Rattle.model.specs.Meaning.{meant}
 use Rattle.model.specs.Effects.{latestAmong, withNodes, addBy, stayingNodes, freeRow, newGroup, newSynth, numberFor, nextAfter, synthMade, treeEffect}
 use Rattle.model.specs.Formed.{slotsFormed, controlsFormed}
 use Rattle.state.specs.Known.{Tree}
-use Rattle.preservation.specs.Passed.{passed, known-lives, group-only}
+use Rattle.state.specs.Accepted.{NewNodeAccepted, NewSynthAccepted, NewGroupAccepted, MoveAccepted, TreeAccepted, known-lives}
+use Rattle.preservation.specs.Groups.{group-only}
 use Rattle.preservation.specs.Rows.{free-row}
 use Rattle.preservation.specs.Every.{Fewer, within-fewer, run-fewer}
 use Rattle.preservation.specs.Nodes.{Added, tree-within, tree-run, tree-added, latest-new, latest-added}
@@ -51,6 +47,22 @@ still-lives m n t h b =
     let none = ltb-false 0 (tally (numbered n) (runOf m t)) (sym (lives-some n (runOf m t)) ∙ b) in
     lives-some n (cut m t) ∙ lt-ltb 0 (tally (numbered n) (cut m t)) (omega (arith, tally-cut (numbered n) (λ d r. refl) m t))
 
+-- the place of a move lives while the moved node is out
+pub place-stays : {moved place : NodeArgument} {wrongKind : Bool} {e : Engine} → MoveAccepted moved place wrongKind e → lives (meant place e) (cut (meant moved e) (e .nodes)) ≡ true
+place-stays {moved} {place} {wrongKind} {e} h = still-lives (meant moved e) (meant place e) (e .nodes) (known-lives place e (h .placeKnown)) (h .outside)
+
+-- the node that /s_new brings
+abbrev pub synthFor : ℕ → ℕ → NodeArgument → List ℕ → Engine → Node
+synthFor number action target bytes e = newSynth (numberFor number (e .next)) (residentOf bytes (e .slots)) (freeRow (stayingNodes action (meant target e) (e .nodes)))
+
+pub record NewSynthComes (number action : ℕ) (target : NodeArgument) (bytes : List ℕ) (e : Engine) : Type 0 where
+  pub given : Given number (e .next) (e .nodes)
+  pub slotLow : residentOf bytes (e .slots) < slotCount
+  pub resident : slotAt (e .slots) (residentOf bytes (e .slots)) .resident ≡ true
+  pub added : Added (synthFor number action target bytes e) (addBy action (synthFor number action target bytes e) (meant target e) (e .nodes)) (stayingNodes action (meant target e) (e .nodes)) (e .nodes)
+  pub rowLow : freeRow (stayingNodes action (meant target e) (e .nodes)) < mostRows
+  pub rowFree : rowTaken (freeRow (stayingNodes action (meant target e) (e .nodes))) (stayingNodes action (meant target e) (e .nodes)) ≡ false
+
 module _ (sizes : List ℕ) (e : Engine) (k : Sound sizes e) where
   sound-fewer : (after : List Node) → Tree (e .next) (latestAmong after (e .latest)) after → Fewer after (e .nodes) → Sound sizes (withNodes after e)
   sound-fewer after t f = record {
@@ -68,151 +80,98 @@ module _ (sizes : List ℕ) (e : Engine) (k : Sound sizes e) where
   sound-run n flag low = sound-fewer (setRun n flag (e .nodes)) (tree-run (e .next) (e .latest) (e .nodes) (k .tree) n flag low) (run-fewer n flag (e .nodes))
 
   -- a new node goes in
-  module _ (action : ℕ) (target : NodeArgument) (act : badAction action ≡ false) (there : not (known target e) ≡ false) (kind : badTarget action target e ≡ false) (room : full action e ≡ false) where
-    pub comes : (x : Node) → x .depth ≡ 0 → Added x (addBy action x (meant target e) (e .nodes)) (stayingNodes action (meant target e) (e .nodes)) (e .nodes)
-    comes x flat =
-        added x flat (meant target e) (e .nodes) (known-lives target e there) (k .tree .root) (k .tree .few) action act room
-        (λ q. group-only target e (k .tree .distinct) (rw q at kind))
-        (λ q. rw q at kind)
+  pub comes : (action : ℕ) (target : NodeArgument) → NewNodeAccepted action target e → (x : Node) → x .depth ≡ 0
+      → Added x (addBy action x (meant target e) (e .nodes)) (stayingNodes action (meant target e) (e .nodes)) (e .nodes)
+  comes action target a x flat =
+      added x flat (meant target e) (e .nodes) (known-lives target e (a .targetKnown)) (k .tree .root) (k .tree .few) action (a .goodAction) (a .room)
+      (λ q. group-only target e (k .tree .distinct) (rw q at (a .targetKind)))
+      (λ q. rw q at (a .targetKind))
 
-    sound-group : (number : ℕ) → isNegative number ≡ false → lives number (e .nodes) ≡ false → Sound sizes (withNodes (addBy action (newGroup number) (meant target e) (e .nodes)) e)
-    sound-group number low new =
-        let a = comes (newGroup number) refl in
-        let before = stayingNodes action (meant target e) (e .nodes) in
-        let after = addBy action (newGroup number) (meant target e) (e .nodes) in
-        record {
-          tree = tree-added (e .next) (e .latest) (e .nodes) (k .tree) (newGroup number) after before a new (e .next) (latestAmong after (e .latest)) (omega arith) (k .tree .nextRight)
-              (group-fields (e .next) number low) (λ q. cc) (latest-added (e .next) (e .latest) (e .nodes) (k .tree) (newGroup number) after before a new);
-          many = k .many;
-          words = k .words;
-          slots = slots-grown sizes (e .slots) (newGroup number) (a .grown) (k .many) (λ q. absurd (omega arith)) (slots-fewer sizes (e .slots) (within-fewer (a .within)) (k .slots));
-          controls = controls-grown (e .slots) (e .controls) (newGroup number) (a .grown) refl (controls-fewer (e .slots) (e .controls) (within-fewer (a .within)) (k .controls));
-        }
+  sound-group : (number action : ℕ) (target : NodeArgument) → NewGroupAccepted number action target e → Sound sizes (withNodes (addBy action (newGroup number) (meant target e) (e .nodes)) e)
+  sound-group number action target h =
+      let a = comes action target (h .place) (newGroup number) refl in
+      let before = stayingNodes action (meant target e) (e .nodes) in
+      let after = addBy action (newGroup number) (meant target e) (e .nodes) in
+      record {
+        tree = tree-added (e .next) (e .latest) (e .nodes) (k .tree) (newGroup number) after before a (h .freeNumber) (e .next) (latestAmong after (e .latest)) (omega arith) (k .tree .nextRight)
+            (group-fields (e .next) number (h .goodNumber)) (λ q. cc) (latest-added (e .next) (e .latest) (e .nodes) (k .tree) (newGroup number) after before a (h .freeNumber));
+        many = k .many;
+        words = k .words;
+        slots = slots-grown sizes (e .slots) (newGroup number) (a .grown) (k .many) (λ q. absurd (omega arith)) (slots-fewer sizes (e .slots) (within-fewer (a .within)) (k .slots));
+        controls = controls-grown (e .slots) (e .controls) (newGroup number) (a .grown) refl (controls-fewer (e .slots) (e .controls) (within-fewer (a .within)) (k .controls));
+      }
 
-    sound-synth : (number slot : ℕ) → Given number (e .next) (e .nodes) → slot < slotCount → slotAt (e .slots) slot .resident ≡ true
-        → Sound sizes (synthMade number action (meant target e) slot e)
-    sound-synth number slot n low live =
-        record {
-          tree = tree-added (e .next) (e .latest) (e .nodes) (k .tree) x after before a (n .new) (nextAfter number (e .next)) (numberFor number (e .next)) (n .fall) (n .nextRight)
-              (n .fields slot row low (free .0)) (λ q. free .1) (latest-new (e .next) (e .latest) (e .nodes) (k .tree) x after before a (n .new) (ne-eqb slot groupSlot (λ q. omega arith)));
-          many = k .many;
-          words = started-length (e .slots) (e .controls) (k .words) slot row (free .0);
-          slots = slots-grown sizes (e .slots) x (a .grown) (k .many) (λ q. live) (slots-fewer sizes (e .slots) (within-fewer (a .within)) (k .slots));
-          controls = controls-grown (e .slots) (started (e .slots) (e .controls) (k .words) slot row (free .0)) x (a .grown)
-              (started-mapped (e .slots) (e .controls) (k .words) slot row (free .0) x refl refl)
-              (others-mapped (e .slots) (e .controls) (k .words) slot row (free .0) (e .next) before (within-formed (a .within) (e .next) (k .tree .fields)) (free .1)
-              (controls-fewer (e .slots) (e .controls) (within-fewer (a .within)) (k .controls)));
-        }
-      where
-        before : List Node
-        before = stayingNodes action (meant target e) (e .nodes)
+  -- a new synth: its number is new, its slot a resident's, its row free
+  pub synth-comes : (number action : ℕ) (target : NodeArgument) (bytes : List ℕ) → NewSynthAccepted number action target bytes e → NewSynthComes number action target bytes e
+  synth-comes number action target bytes h =
+      let a = comes action target (h .place) (synthFor number action target bytes e) refl in
+      let free = free-row (stayingNodes action (meant target e) (e .nodes)) (a .room) in
+      record {
+        given = given number (e .next) (e .nodes) (h .goodNumber) (h .freeNumber) (h .numberLeft) (k .tree .nextRight) (k .tree .fields);
+        slotLow = omega (arith, leb-false (length (e .slots)) (residentOf bytes (e .slots)) (h .resident), k .many);
+        resident = resident-found bytes (e .slots) (h .resident);
+        added = a;
+        rowLow = free .0;
+        rowFree = free .1;
+      }
 
-        row : ℕ
-        row = freeRow before
+  sound-synth : (number action : ℕ) (target : NodeArgument) (bytes : List ℕ) → NewSynthComes number action target bytes e
+      → Sound sizes (synthMade number action (meant target e) (residentOf bytes (e .slots)) e)
+  sound-synth number action target bytes c =
+      record {
+        tree = tree-added (e .next) (e .latest) (e .nodes) (k .tree) x after before a (n .new) (nextAfter number (e .next)) (numberFor number (e .next)) (n .fall) (n .nextRight)
+            (n .fields slot row (c .slotLow) (c .rowLow)) (λ q. c .rowFree)
+            (latest-new (e .next) (e .latest) (e .nodes) (k .tree) x after before a (n .new) (ne-eqb slot groupSlot (λ q. omega (arith, c .slotLow))));
+        many = k .many;
+        words = started-length (e .slots) (e .controls) (k .words) slot row (c .rowLow);
+        slots = slots-grown sizes (e .slots) x (a .grown) (k .many) (λ q. c .resident) (slots-fewer sizes (e .slots) (within-fewer (a .within)) (k .slots));
+        controls = controls-grown (e .slots) (started (e .slots) (e .controls) (k .words) slot row (c .rowLow)) x (a .grown)
+            (started-mapped (e .slots) (e .controls) (k .words) slot row (c .rowLow) x refl refl)
+            (others-mapped (e .slots) (e .controls) (k .words) slot row (c .rowLow) (e .next) before (within-formed (a .within) (e .next) (k .tree .fields)) (c .rowFree)
+            (controls-fewer (e .slots) (e .controls) (within-fewer (a .within)) (k .controls)));
+      }
+    where
+      slot : ℕ
+      slot = residentOf bytes (e .slots)
 
-        x : Node
-        x = newSynth (numberFor number (e .next)) slot row
+      before : List Node
+      before = stayingNodes action (meant target e) (e .nodes)
 
-        after : List Node
-        after = addBy action x (meant target e) (e .nodes)
+      row : ℕ
+      row = freeRow before
 
-        a : Added x after before (e .nodes)
-        a = comes x refl
+      x : Node
+      x = synthFor number action target bytes e
 
-        free : (row < mostRows) × (rowTaken row before ≡ false)
-        free = free-row before (a .room)
+      after : List Node
+      after = addBy action x (meant target e) (e .nodes)
 
--- from the checks that passed to the rules after
-module _ (bytes sizes : List ℕ) (e : Engine) (k : Sound sizes e) where
-  sound-made : (number action : ℕ) (target : NodeArgument) → firstOf (treeChecks (tree.NewSynth number action target) bytes e) Done ≡ Done → Sound sizes (treeEffect (tree.NewSynth number action target) bytes e)
-  sound-made number action target h =
-      let p0 = passed BadFlag (badAction action) _ h in
-      let p1 = passed BadNumber (both (isNegative number) (not (eqb number minusOne))) _ (p0 .1) in
-      let p2 = passed NumberLive (both (not (eqb number minusOne)) (lives number (e .nodes))) _ (p1 .1) in
-      let p3 = passed NoDefinition (noResident bytes e) _ (p2 .1) in
-      let p4 = passed NoNode (not (known target e)) _ (p3 .1) in
-      let p5 = passed WrongKind (badTarget action target e) _ (p4 .1) in
-      let p6 = passed NoNumber (both (eqb number minusOne) (eqb (e .next) noneLeft)) _ (p5 .1) in
-      let p7 = passed NodesFull (full action e) _ (p6 .1) in
-      sound-synth sizes e k action target (p0 .0) (p4 .0) (p5 .0) (p7 .0) number (residentOf bytes (e .slots))
-      (given number (e .next) (e .nodes) (p1 .0) (p2 .0) (p6 .0) (k .tree .nextRight) (k .tree .fields))
-      (omega (arith, leb-false (length (e .slots)) (residentOf bytes (e .slots)) (p3 .0), k .many))
-      (resident-found bytes (e .slots) (p3 .0))
+      n : Given number (e .next) (e .nodes)
+      n = c .given
 
-  sound-new : (number action : ℕ) (target : NodeArgument) → firstOf (treeChecks (tree.NewGroup number action target) bytes e) Done ≡ Done → Sound sizes (treeEffect (tree.NewGroup number action target) bytes e)
-  sound-new number action target h =
-      let p0 = passed BadFlag (badAction action) _ h in
-      let p1 = passed BadNumber (isNegative number) _ (p0 .1) in
-      let p2 = passed NumberLive (lives number (e .nodes)) _ (p1 .1) in
-      let p3 = passed NoNode (not (known target e)) _ (p2 .1) in
-      let p4 = passed WrongKind (badTarget action target e) _ (p3 .1) in
-      let p5 = passed NodesFull (full action e) _ (p4 .1) in
-      sound-group sizes e k action target (p0 .0) (p3 .0) (p4 .0) (p5 .0) number (p1 .0) (p2 .0)
-
-  -- moves: the two nodes live, the moved one is not the root, and the place is not inside it
-  module _ (place moved : NodeArgument) (there : not (known place e) ≡ false) (out : inside place moved e ≡ false) where
-    stays : lives (meant place e) (cut (meant moved e) (e .nodes)) ≡ true
-    stays = still-lives (meant moved e) (meant place e) (e .nodes) (known-lives place e there) out
-
-    sound-beside : isRoot (meant moved e) ≡ false → isRoot (meant place e) ≡ false
-        → Sound sizes (withNodes (moveBefore (meant moved e) (meant place e) (e .nodes)) e) × Sound sizes (withNodes (moveAfter (meant moved e) (meant place e) (e .nodes)) e)
-    sound-beside m n = (
-      sound-within sizes e k (moveBefore (meant moved e) (meant place e) (e .nodes)) (same-within (moveBefore-same (meant moved e) (meant place e) (e .nodes) stays))
-          (rooted-moveBefore (e .nodes) (k .tree .root) (meant moved e) (meant place e) m n),
-      sound-within sizes e k (moveAfter (meant moved e) (meant place e) (e .nodes)) (same-within (moveAfter-same (meant moved e) (meant place e) (e .nodes) stays))
-          (rooted-moveAfter (e .nodes) (k .tree .root) (meant moved e) (meant place e) m n),
-    )
-
-    sound-into : isRoot (meant moved e) ≡ false → notGroup place e ≡ false
-        → Sound sizes (withNodes (moveHead (meant moved e) (meant place e) (e .nodes)) e) × Sound sizes (withNodes (moveTail (meant moved e) (meant place e) (e .nodes)) e)
-    sound-into m n =
-        let g = group-only place e (k .tree .distinct) n in (
-          sound-within sizes e k (moveHead (meant moved e) (meant place e) (e .nodes)) (same-within (moveHead-same (meant moved e) (meant place e) (e .nodes) stays))
-              (rooted-moveHead (e .nodes) (k .tree .root) (meant moved e) (meant place e) m g),
-          sound-within sizes e k (moveTail (meant moved e) (meant place e) (e .nodes)) (same-within (moveTail-same (meant moved e) (meant place e) (e .nodes) stays))
-              (rooted-moveTail (e .nodes) (k .tree .root) (meant moved e) (meant place e) m g),
-        )
+      a : Added x after before (e .nodes)
+      a = c .added
 
   -- every command of the tree kind
-  pub sound-step : (c : TreeCommand) → firstOf (treeChecks c bytes e) Done ≡ Done → Sound sizes (treeEffect c bytes e)
-  sound-step (tree.NewSynth number action target) h = sound-made number action target h
-  sound-step (tree.NewGroup number action target) h = sound-new number action target h
-  sound-step (tree.Free n) h =
-      let p0 = passed NoNode (not (known n e)) _ h in
-      let p1 = passed WrongKind (isRoot (meant n e)) _ (p0 .1) in
-      sound-within sizes e k (cut (meant n e) (e .nodes)) (cut-within (meant n e) (e .nodes)) (rooted-cut (e .nodes) (k .tree .root) (meant n e) (p1 .0))
-  sound-step (tree.FreeAll g) h =
-      sound-within sizes e k (cutBelow (meant g e) (e .nodes)) (cutBelow-within (meant g e) (e .nodes)) (rooted-cutBelow (e .nodes) (k .tree .root) (meant g e))
-  sound-step (tree.DeepFree g) h =
-      sound-within sizes e k (deepFree (meant g e) (e .nodes)) (deepFree-within (meant g e) (e .nodes)) (rooted-deepFree (e .nodes) (k .tree .root) (meant g e))
-  sound-step (tree.Before a b) h =
-      let p0 = passed NoNode (not (known a e)) _ h in
-      let p1 = passed NoNode (not (known b e)) _ (p0 .1) in
-      let p2 = passed WrongKind (isRoot (meant a e)) _ (p1 .1) in
-      let p3 = passed WrongKind (isRoot (meant b e)) _ (p2 .1) in
-      let p4 = passed InsideItself (inside b a e) _ (p3 .1) in
-      sound-beside b a (p1 .0) (p4 .0) (p2 .0) (p3 .0) .0
-  sound-step (tree.After a b) h =
-      let p0 = passed NoNode (not (known a e)) _ h in
-      let p1 = passed NoNode (not (known b e)) _ (p0 .1) in
-      let p2 = passed WrongKind (isRoot (meant a e)) _ (p1 .1) in
-      let p3 = passed WrongKind (isRoot (meant b e)) _ (p2 .1) in
-      let p4 = passed InsideItself (inside b a e) _ (p3 .1) in
-      sound-beside b a (p1 .0) (p4 .0) (p2 .0) (p3 .0) .1
-  sound-step (tree.Head g a) h =
-      let p0 = passed NoNode (not (known g e)) _ h in
-      let p1 = passed NoNode (not (known a e)) _ (p0 .1) in
-      let p2 = passed WrongKind (notGroup g e) _ (p1 .1) in
-      let p3 = passed WrongKind (isRoot (meant a e)) _ (p2 .1) in
-      let p4 = passed InsideItself (inside g a e) _ (p3 .1) in
-      sound-into g a (p0 .0) (p4 .0) (p3 .0) (p2 .0) .0
-  sound-step (tree.Tail g a) h =
-      let p0 = passed NoNode (not (known g e)) _ h in
-      let p1 = passed NoNode (not (known a e)) _ (p0 .1) in
-      let p2 = passed WrongKind (notGroup g e) _ (p1 .1) in
-      let p3 = passed WrongKind (isRoot (meant a e)) _ (p2 .1) in
-      let p4 = passed InsideItself (inside g a e) _ (p3 .1) in
-      sound-into g a (p0 .0) (p4 .0) (p3 .0) (p2 .0) .1
-  sound-step (tree.Run n flag) h =
-      let p0 = passed BadFlag (ltb 1 flag) _ h in
-      sound-run sizes e k (meant n e) flag (ltb-false 1 flag (p0 .0))
+  pub sound-step : (c : TreeCommand) (bytes : List ℕ) → TreeAccepted c bytes e → Sound sizes (treeEffect c bytes e)
+  sound-step (tree.NewSynth number action target) bytes h = sound-synth number action target bytes (synth-comes number action target bytes h)
+  sound-step (tree.NewGroup number action target) bytes h = sound-group number action target h
+  sound-step (tree.Free n) bytes h =
+      sound-within (cut (meant n e) (e .nodes)) (cut-within (meant n e) (e .nodes)) (rooted-cut (e .nodes) (k .tree .root) (meant n e) (h .nodeKind))
+  sound-step (tree.FreeAll g) bytes h =
+      sound-within (cutBelow (meant g e) (e .nodes)) (cutBelow-within (meant g e) (e .nodes)) (rooted-cutBelow (e .nodes) (k .tree .root) (meant g e))
+  sound-step (tree.DeepFree g) bytes h =
+      sound-within (deepFree (meant g e) (e .nodes)) (deepFree-within (meant g e) (e .nodes)) (rooted-deepFree (e .nodes) (k .tree .root) (meant g e))
+  sound-step (tree.Before a b) bytes h =
+      sound-within (moveBefore (meant a e) (meant b e) (e .nodes)) (same-within (moveBefore-same (meant a e) (meant b e) (e .nodes) (place-stays h)))
+      (rooted-moveBefore (e .nodes) (k .tree .root) (meant a e) (meant b e) (h .movedKind) (h .placeKind))
+  sound-step (tree.After a b) bytes h =
+      sound-within (moveAfter (meant a e) (meant b e) (e .nodes)) (same-within (moveAfter-same (meant a e) (meant b e) (e .nodes) (place-stays h)))
+      (rooted-moveAfter (e .nodes) (k .tree .root) (meant a e) (meant b e) (h .movedKind) (h .placeKind))
+  sound-step (tree.Head g a) bytes h =
+      sound-within (moveHead (meant a e) (meant g e) (e .nodes)) (same-within (moveHead-same (meant a e) (meant g e) (e .nodes) (place-stays h)))
+      (rooted-moveHead (e .nodes) (k .tree .root) (meant a e) (meant g e) (h .movedKind) (group-only g e (k .tree .distinct) (h .placeKind)))
+  sound-step (tree.Tail g a) bytes h =
+      sound-within (moveTail (meant a e) (meant g e) (e .nodes)) (same-within (moveTail-same (meant a e) (meant g e) (e .nodes) (place-stays h)))
+      (rooted-moveTail (e .nodes) (k .tree .root) (meant a e) (meant g e) (h .movedKind) (group-only g e (k .tree .distinct) (h .placeKind)))
+  sound-step (tree.Run n flag) bytes h = sound-run (meant n e) flag (ltb-false 1 flag (h .goodFlag))

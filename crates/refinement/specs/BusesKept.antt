@@ -1,47 +1,35 @@
 -- An accepted command of buses leaves a well-formed state, which decodes to the command's effect.
 use Prim.Native.Nat.{ℕ, _+_, _≤_, _<_}
-use mathlib.Core.Bool.{true, not}
+use mathlib.Core.Bool.{true}
 use mathlib.Core.Path.{_≡_, ap, _∙_}
 use mathlib.Core.List.{List}
 use native.Mathlib.Omega.{arith}
 use lib.ListN.{length, getD, replicate, length-set, length-replicate}
-use lib.Dec.{leb}
-use borrow.Author.Tests.{leb-true, not-false}
-use Rattle.words.specs.Choice.{both-true}
 use Rattle.words.specs.Parts.{region, put-length, region-length}
-use Rattle.refusals.specs.declared.Refusal.the-variants.{NoBus}
 use Rattle.values.specs.Values.{pattern}
 use Rattle.model.specs.declared.BusCommand.{BusCommand}
 use Rattle.model.specs.declared.BusCommand.the-variants as buses
 use Rattle.model.specs.declared.Command.the-variants as command
-use Rattle.model.specs.declared.Answer.the-variants.{Done}
 use Rattle.model.specs.Layout.{busesPlace, busCount, lengthsPlace, residentPlace, slotCount, nodesIn, controlsIn, busesIn, putBuses}
-use Rattle.model.specs.Engine.{Engine, decode}
-use Rattle.model.specs.Meaning.{isNegative, isBusRange}
-use Rattle.model.specs.Checks.{firstOf, busChecks}
+use Rattle.model.specs.Engine.{decode}
 use Rattle.model.specs.Effects.{busEffect, withBuses, effect}
 use Rattle.model.specs.After.{wordsAfter}
-use Rattle.model.specs.Apply.{answerIn}
 use Rattle.model.specs.Formed.{formed, flagsFormed, slotsFormed}
+use Rattle.state.specs.Accepted.{BusAccepted}
 use Rattle.state.specs.Known.{known}
 use Rattle.state.specs.Regions.{region-before, word-before}
 use Rattle.state.specs.Decoded.{buses-size, buses-decoded}
-use Rattle.preservation.specs.Passed.{passed}
 use Rattle.refinement.specs.Beside.{beside-formed}
 
 -- as many buses as before
-buses-many : (c : BusCommand) (e : Engine) → firstOf (busChecks c e) Done ≡ Done → (bs : List ℕ) → length bs ≡ busCount → length (busEffect c bs) ≡ busCount
-buses-many (buses.Set bus value) e a bs h = rw length-set h
-buses-many (buses.Fill start count value) e a bs h =
-    let p = passed NoBus (not (isBusRange start count)) _ a in
-    let r = both-true (not (isNegative count)) (leb (start + count) busCount) (not-false (isBusRange start count) (p .0)) in
-    let fits : start + count ≤ busCount = leb-true (start + count) busCount (r .1) in
-    put-length start count (replicate count (pattern value)) bs (omega arith) (length-replicate count (pattern value)) ∙ h
+buses-many : (c : BusCommand) → BusAccepted c → (bs : List ℕ) → length bs ≡ busCount → length (busEffect c bs) ≡ busCount
+buses-many (buses.Set bus value) a bs h = rw length-set h
+buses-many (buses.Fill start count value) a bs h =
+    put-length start count (replicate count (pattern value)) bs (omega (arith, a .low)) (length-replicate count (pattern value)) ∙ h
 
-module _ (c : BusCommand) (bytes ws bs : List ℕ) (h : formed ws bs ≡ true) (a : answerIn (command.Buses c) bytes (decode ws bs) 0 ≡ Done) where
+module _ (c : BusCommand) (bytes ws bs : List ℕ) (h : formed ws bs ≡ true) (a : BusAccepted c) where
   many : length (busEffect c (busesIn ws)) ≡ busCount
-  unfolding answerIn decode
-  many = buses-many c (decode ws bs) a (busesIn ws) (region-length busesPlace busCount ws (omega (arith, known ws bs h .size)))
+  many = buses-many c a (busesIn ws) (region-length busesPlace busCount ws (omega (arith, known ws bs h .size)))
 
   decoded : decode (putBuses (busEffect c (busesIn ws)) ws) bs ≡ withBuses (busEffect c (busesIn ws)) (decode ws bs)
   decoded = buses-decoded (busEffect c (busesIn ws)) ws bs (known ws bs h .size) many

@@ -1,44 +1,39 @@
 -- An accepted command of controls leaves a well-formed state, which decodes to the command's effect.
 use Prim.Native.Nat.{ℕ, _+_, _≤_, _<_}
-use mathlib.Core.Bool.{Bool, true, false, not}
+use mathlib.Core.Bool.{Bool, true}
 use mathlib.Core.Path.{_≡_, refl, sym, ap, _∙_}
 use mathlib.Core.List.{List, [], _∷_}
 use native.Mathlib.Omega.{arith}
 use lib.ListN.{length, getD}
-use lib.Dec.{leb, eqb}
-use borrow.Author.Tests.{ltb-true, not-false}
-use Rattle.words.specs.Choice.{pick, both, either, both-true}
+use lib.Dec.{leb}
+use Rattle.words.specs.Choice.{both, both-true}
 use Rattle.words.specs.Parts.{region, region-length}
-use Rattle.refusals.specs.declared.Refusal.the-variants.{NoNode, NoBus}
 use Rattle.format.specs.Bounds.{every}
 use Rattle.nodes.specs.declared.Node.{Node}
 use Rattle.nodes.specs.Place.{groupSlot}
 use Rattle.nodes.specs.Edit.{runOf}
 use Rattle.nodes.specs.Formed.{numberFormed, rowFormed, fieldsFormed, allFormed}
 use Rattle.treerefinement.specs.Tally.{tally-cut}
-use Rattle.values.specs.declared.Mapping.the-variants.{Unmapped, Bus}
-use Rattle.values.specs.Controls.{mappingWord, setTo, mapTo}
-use Rattle.values.specs.Values.{pattern}
+use Rattle.values.specs.declared.Key.{Key}
+use Rattle.values.specs.declared.NodeArgument.{NodeArgument}
+use Rattle.values.specs.Controls.{ControlValue}
 use Rattle.model.specs.declared.ControlCommand.{ControlCommand}
 use Rattle.model.specs.declared.ControlCommand.the-variants as controls
 use Rattle.model.specs.declared.Command.the-variants as command
-use Rattle.model.specs.declared.Answer.the-variants.{Done}
-use Rattle.model.specs.Layout.{controlsPlace, controlsWords, busCount, lengthsPlace, residentPlace, slotCount, nextIn, nodesIn, controlsIn, busesIn, putControls}
+use Rattle.model.specs.Layout.{controlsPlace, controlsWords, lengthsPlace, residentPlace, slotCount, nextIn, nodesIn, controlsIn, busesIn, putControls}
 use Rattle.model.specs.Engine.{Engine, decode}
-use Rattle.model.specs.Meaning.{minusOne, known, meant, isBus, mappingTo}
-use Rattle.model.specs.Checks.{firstOf, controlChecks}
-use Rattle.model.specs.Effects.{controlEffect, withControls, effect}
+use Rattle.model.specs.Meaning.{known, meant}
+use Rattle.model.specs.Effects.{changed, controlEffect, withControls, effect}
 use Rattle.model.specs.After.{wordsAfter}
-use Rattle.model.specs.Apply.{answerIn}
 use Rattle.model.specs.Formed.{formed, flagsFormed, slotsFormed}
 use Rattle.state.specs.Known.{Known}
+use Rattle.state.specs.Accepted.{ChangeAccepted, ControlAccepted}
 use Rattle.state.specs.Known as state
 use Rattle.state.specs.Regions.{region-before, word-before}
 use Rattle.state.specs.Decoded.{controls-size, controls-decoded}
 use Rattle.preservation.specs.Every.{Fewer, every-fewer}
-use Rattle.preservation.specs.Passed.{passed}
 use Rattle.refinement.specs.Beside.{beside-formed}
-use Rattle.refinement.specs.Mappings.{Mild, Right, all-changed, controls-mild}
+use Rattle.refinement.specs.Mappings.{Mild, all-changed, controls-mild}
 
 -- the rows of a node and of all below it are among 256
 rows-low : (next : ℕ) (t : List Node) → allFormed next t ≡ true → every rowFormed t ≡ true
@@ -54,34 +49,21 @@ rows-low next (r ∷ l) h =
 run-few : (n : ℕ) (t : List Node) → Fewer (runOf n t) t
 run-few n t = record { sum = λ p b s. omega (arith, tally-cut p b n t) }
 
--- setting unmaps, and mapping is to a bus or to none
-set-right : (x : ℕ) → Right (setTo x)
-set-right x = record { low = λ v. omega arith }
-
-map-right : (bus : ℕ) → not (either (eqb bus minusOne) (isBus bus)) ≡ false → Right (mapTo (mappingTo bus))
-map-right bus h = record { low = λ v. go (eqb bus minusOne) (not-false (either (eqb bus minusOne) (isBus bus)) h) }
-  where
-    go : (b : Bool) → either b (isBus bus) ≡ true → mappingWord (pick b Unmapped (Bus bus)) ≤ busCount
-    go true e = omega arith
-    go false e = omega (arith, ltb-true bus busCount e)
-
 -- the controls after, of an engine whose rows are among 256
-changed-right : (c : ControlCommand) (bytes : List ℕ) (e : Engine) → firstOf (controlChecks c bytes e) Done ≡ Done → every rowFormed (e .nodes) ≡ true → length (e .controls) ≡ controlsWords
+changed-right : (c : ControlCommand) (bytes : List ℕ) (e : Engine) → ControlAccepted c bytes e → every rowFormed (e .nodes) ≡ true → length (e .controls) ≡ controlsWords
     → (length (controlEffect c bytes e .controls) ≡ controlsWords) × Mild (controlEffect c bytes e .controls) (e .controls)
 changed-right c bytes e a rows size = go c a
   where
-    below : (n : ℕ) → every rowFormed (runOf n (e .nodes)) ≡ true
-    below n = every-fewer rowFormed (λ d r. refl) (λ flag r. refl) (run-few n (e .nodes)) rows
+    by : {f : ControlValue → ControlValue} {n : NodeArgument} {key : Key} {count : ℕ} {badValue : Bool} → ChangeAccepted f n key count badValue bytes e
+        → (length (changed f n key count bytes e .controls) ≡ controlsWords) × Mild (changed f n key count bytes e .controls) (e .controls)
+    by {f} {n} {key} {count} a =
+        all-changed f (record { low = a .busLow }) key bytes count (e .slots) (runOf (meant n e) (e .nodes))
+        (every-fewer rowFormed (λ d r. refl) (λ flag r. refl) (run-few (meant n e) (e .nodes)) rows) (e .controls) size
 
-    go : (c : ControlCommand) → firstOf (controlChecks c bytes e) Done ≡ Done
-        → (length (controlEffect c bytes e .controls) ≡ controlsWords) × Mild (controlEffect c bytes e .controls) (e .controls)
-    go (controls.Set n key value) a = all-changed (setTo (pattern value)) (set-right (pattern value)) key bytes 1 (e .slots) (runOf (meant n e) (e .nodes)) (below (meant n e)) (e .controls) size
-    go (controls.Fill n key count value) a =
-        all-changed (setTo (pattern value)) (set-right (pattern value)) key bytes count (e .slots) (runOf (meant n e) (e .nodes)) (below (meant n e)) (e .controls) size
-    go (controls.Map n key bus) a =
-        let p = passed NoNode (not (known n e)) _ a in
-        let q = passed NoBus (not (either (eqb bus minusOne) (isBus bus))) _ (p .1) in
-        all-changed (mapTo (mappingTo bus)) (map-right bus (q .0)) key bytes 1 (e .slots) (runOf (meant n e) (e .nodes)) (below (meant n e)) (e .controls) size
+    go : (c : ControlCommand) → ControlAccepted c bytes e → (length (controlEffect c bytes e .controls) ≡ controlsWords) × Mild (controlEffect c bytes e .controls) (e .controls)
+    go (controls.Set n key value) a = by a
+    go (controls.Fill n key count value) a = by a
+    go (controls.Map n key bus) a = by a
 
 -- no command of controls changes anything else
 unchanged : (c : ControlCommand) (bytes : List ℕ) (e : Engine) → controlEffect c bytes e ≡ withControls (controlEffect c bytes e .controls) e
@@ -89,7 +71,7 @@ unchanged (controls.Set n key value) bytes e = refl
 unchanged (controls.Fill n key count value) bytes e = refl
 unchanged (controls.Map n key bus) bytes e = refl
 
-module _ (c : ControlCommand) (bytes ws bs : List ℕ) (h : formed ws bs ≡ true) (a : answerIn (command.Controls c) bytes (decode ws bs) 0 ≡ Done) where
+module _ (c : ControlCommand) (bytes ws bs : List ℕ) (h : formed ws bs ≡ true) (a : ControlAccepted c bytes (decode ws bs)) where
   k : Known ws bs
   k = state.known ws bs h
 
@@ -97,7 +79,7 @@ module _ (c : ControlCommand) (bytes ws bs : List ℕ) (h : formed ws bs ≡ tru
   cs = controlEffect c bytes (decode ws bs) .controls
 
   right : (length cs ≡ controlsWords) × Mild cs (controlsIn ws)
-  unfolding answerIn decode
+  unfolding decode
   right =
       changed-right c bytes (decode ws bs) a (rows-low (nextIn ws) (nodesIn ws) (k .tree .fields)) (region-length controlsPlace controlsWords ws (omega (arith, k .size)))
 

@@ -9,13 +9,12 @@ use Rattle.words.specs.Bytes.{AreBytes}
 use Rattle.model.specs.declared.DefinitionCommand.{DefinitionCommand}
 use Rattle.model.specs.declared.DefinitionCommand.the-variants as definitions
 use Rattle.model.specs.declared.Command.the-variants as command
-use Rattle.model.specs.declared.Answer.the-variants.{Done}
 use Rattle.model.specs.Layout.{slotCount, lengthsIn, flagsIn, nodesIn, controlsIn, busesIn}
 use Rattle.model.specs.Engine.{Slot, Engine, decode}
 use Rattle.model.specs.Effects.{definitionEffect, withSlots, effect}
 use Rattle.model.specs.After.{putSlots, lengthsOf, arenaOf, wordsAfter, arenaAfter}
-use Rattle.model.specs.Apply.{answerIn}
 use Rattle.model.specs.Formed.{formed, flagsFormed, slotsFormed}
+use Rattle.state.specs.Accepted.{DefinitionAccepted}
 use Rattle.state.specs.Known.{Known, known}
 use Rattle.state.specs.Decoded.{Backed, slots-size, slots-word, slots-lengths, slots-flags, slots-decoded}
 use Rattle.preservation.specs.TreeKept.{slots-many}
@@ -28,7 +27,7 @@ unchanged : (c : DefinitionCommand) (bytes : List ℕ) (e : Engine) → definiti
 unchanged definitions.Receive bytes e = refl
 unchanged definitions.Free bytes e = refl
 
-module _ (c : DefinitionCommand) (bytes ws bs : List ℕ) (b : AreBytes bytes) (h : formed ws bs ≡ true) (a : answerIn (command.Definitions c) bytes (decode ws bs) 0 ≡ Done) where
+module _ (c : DefinitionCommand) (bytes ws bs : List ℕ) (b : AreBytes bytes) (h : formed ws bs ≡ true) (a : DefinitionAccepted c bytes (decode ws bs)) where
   k : Known ws bs
   k = known ws bs h
 
@@ -40,7 +39,7 @@ module _ (c : DefinitionCommand) (bytes ws bs : List ℕ) (b : AreBytes bytes) (
   oldMany = slots-many slotCount (lengthsIn ws) (flagsIn ws) bs
 
   kept : Kept slots (decode ws bs .slots) (nodesIn ws)
-  unfolding answerIn decode
+  unfolding decode
   kept = slots-kept c bytes b (decode ws bs) a oldMany (k .names)
 
   many : length slots ≡ slotCount

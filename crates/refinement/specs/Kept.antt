@@ -5,7 +5,7 @@ use mathlib.Core.Path.{_≡_, refl, sym, ap, ap₂, _∙_}
 use mathlib.Core.List.{List, [], _∷_, _++_}
 use mathlib.Core.Option.{none, some}
 use native.Mathlib.Omega.{arith}
-use borrow.Author.Tests.{ltb-true, ltb-false, not-true, not-false}
+use borrow.Author.Tests.{ltb-true, ltb-false, not-true}
 use lib.ListN.{length}
 use lib.Dec.{ltb, eqb}
 use Rattle.words.specs.Choice.{pick, both-true}
@@ -64,9 +64,9 @@ group-kind slots controls x = go (isGroup x)
     go false = refl
 
 -- a node argument that the engine knows means the same
-pub same-meant : (a : NodeArgument) (e : Engine) (p : Plain) → Kept e p → not (known a e) ≡ false → meantIn a p ≡ some (meant a e)
+pub same-meant : (a : NodeArgument) (e : Engine) (p : Plain) → Kept e p → known a e ≡ true → meantIn a p ≡ some (meant a e)
 unfolding targetOf
-same-meant a e p k h = go (ltb n 2147483648) refl (ltb n minusOne) refl (not-false (known a e) h)
+same-meant a e p k h = go (ltb n 2147483648) refl (ltb n minusOne) refl h
   where
     n : ℕ
     n = a .number

@@ -8,20 +8,30 @@ use mathlib.Core.Option.{Option, none, some}
 use native.Mathlib.Omega.{arith}
 use lib.ListN.{length, set, length-append}
 use lib.Seq.{getD-set-other}
-use Rattle.words.specs.Choice.{pick, both, either, either-false}
+use lib.Dec.{leb}
+use Rattle.words.specs.Choice.{pick, both, both-true, either, either-false}
+use Rattle.words.specs.Bytes.{AreBytes}
 use Rattle.format.specs.Read.{Read, got}
 use Rattle.format.specs.Definition.{Definition}
-use Rattle.format.specs.Reader.{readDefinition, sameName, among}
+use Rattle.format.specs.Reader.{mostDefinitions, readDefinition, readFile, sameName, among}
 use Rattle.format.specs.Writer.{writeDefinition}
-use Rattle.format.specs.Bounds.{isDefinition}
+use Rattle.format.specs.Bounds.{isDefinition, areDefinitions}
 use Rattle.roundtrip.specs.Back.{definition-back}
+use Rattle.roundtrip.specs.Forth.{file-forth}
 use Rattle.nodes.specs.declared.Node.{Node}
-use Rattle.model.specs.Engine.{Slot, noDefinition, valueOr, nameIn, definitionIn, slotAt, held, slotTaken, residents}
-use Rattle.model.specs.Checks.{namesOf, staying}
+use Rattle.model.specs.Engine.{Slot, Engine, noDefinition, valueOr, nameIn, definitionIn, slotAt, held, slotTaken, residents}
+use Rattle.model.specs.Checks.{definitionsOf, namesOf, staying}
 use Rattle.model.specs.Effects.{retired, freeFrom, placed, loaded}
 use Rattle.model.specs.Plain.{Named, meaning, forget, learn}
 use Rattle.refinement.specs.Names.{same-equal, same-self, same-sym, there, means, Once, meaning-forget, meaning-snoc, once-forget, once-snoc, forget-count}
 use Rattle.refinement.specs.SlotNames.{means-set, residents-set, Differ}
+use Rattle.state.specs.Accepted.{FileAccepted}
+
+-- the definitions of an accepted file are within the paper's bounds
+pub file-bounded : (bytes : List ℕ) → AreBytes bytes → {e : Engine} → FileAccepted (readFile bytes) e → areDefinitions [] (definitionsOf (readFile bytes)) ≡ true
+file-bounded bytes b a =
+    let ds = definitionsOf (readFile bytes) in
+    both-true (leb (length ds) mostDefinitions) (areDefinitions [] ds) (file-forth bytes b ds (a .past) (a .reads) .bounded) .1
 
 -- a definition as it is put into a slot, and what is read from it
 abbrev pub newSlot : Definition → Slot

@@ -10,26 +10,23 @@ use lib.Dec.{leb}
 use borrow.Author.Tests.{leb-true, ltb-false, eq-eqb}
 use Rattle.words.specs.Choice.{either, both-true}
 use Rattle.words.specs.Bytes.{AreBytes}
-use Rattle.refusals.specs.declared.Refusal.the-variants.{NoSlot}
-use Rattle.format.specs.Read.{Read, got, bad}
+use Rattle.format.specs.Read.{Read}
 use Rattle.format.specs.Definition.{Definition}
-use Rattle.format.specs.Reader.{readDefinition, readFile, sizeLimit, mostDefinitions, sameName, among}
+use Rattle.format.specs.Reader.{readDefinition, readFile, sizeLimit, sameName, among}
 use Rattle.format.specs.Writer.{writeDefinition}
 use Rattle.format.specs.Bounds.{isDefinition, areDefinitions}
-use Rattle.roundtrip.specs.Forth.{file-forth}
 use Rattle.nodes.specs.declared.Node.{Node}
 use Rattle.model.specs.declared.DefinitionCommand.{DefinitionCommand}
 use Rattle.model.specs.declared.DefinitionCommand.the-variants as definitions
-use Rattle.model.specs.declared.Answer.the-variants.{Done}
 use Rattle.model.specs.Layout.{slotCount}
 use Rattle.model.specs.Engine.{Slot, Engine, nameIn, slotAt, held, residentOf}
-use Rattle.model.specs.Checks.{check, firstOf, faultOf, definitionsOf, namesOf, staying, noSlot, definitionChecks}
+use Rattle.model.specs.Checks.{definitionsOf, namesOf, staying}
 use Rattle.model.specs.Effects.{retired, freeFrom, placed, loaded, retire, definitionEffect}
 use Rattle.model.specs.Formed.{isWhole, nameResident, namesApart}
-use Rattle.preservation.specs.Passed.{passed}
+use Rattle.state.specs.Accepted.{DefinitionAccepted}
 use Rattle.refinement.specs.Names.{same-equal, same-self}
 use Rattle.refinement.specs.SlotNames.{Differ}
-use Rattle.refinement.specs.Load.{newSlot, written-back, written-read, freeCount, spot-slot, spot-resident, placed-count, held-placed, free-staying}
+use Rattle.refinement.specs.Load.{file-bounded, newSlot, written-back, written-read, freeCount, spot-slot, spot-resident, placed-count, held-placed, free-staying}
 use Rattle.refinement.specs.DefinitionsReplay.{names-apart}
 use Rattle.refinement.specs.Follow.{comes, Follow, AllLess, follow-set, less-follow, less-bytes, retired-less, retire-less}
 use Rattle.refinement.specs.SlotsApart.{less-apart, retired-named, named-set, apart-set}
@@ -116,29 +113,15 @@ unfolding loaded
 loaded-kept [] slots old t r = r .kept
 loaded-kept (d ∷ ds) slots old t r = loaded-kept ds (placed d slots t) old t (ready-next d ds slots old t r)
 
--- what an accepted load tells of its file
-received : (bytes : List ℕ) → AreBytes bytes → (e : Engine) → firstOf (definitionChecks definitions.Receive bytes e) Done ≡ Done
-    → (areDefinitions [] (definitionsOf (readFile bytes)) ≡ true) × (noSlot (definitionsOf (readFile bytes)) e ≡ false)
-unfolding firstOf
-received bytes b e a = go (readFile bytes) refl a
-  where
-    go : (r : Read (List Definition)) → readFile bytes ≡ r → firstOf (faultOf r ∷ (check NoSlot (noSlot (definitionsOf r) e) ∷ [])) Done ≡ Done
-        → (areDefinitions [] (definitionsOf r) ≡ true) × (noSlot (definitionsOf r) e ≡ false)
-    go (got ds end) q h = (
-      both-true (leb (length ds) mostDefinitions) (areDefinitions [] ds) (file-forth bytes b ds end q .bounded) .1,
-      passed NoSlot (noSlot ds e) [] h .0,
-    )
-    go (bad r at) q h = let z : _≡_ {A = ℕ} 0 1 = cc in absurd (omega arith)
-
-pub slots-kept : (c : DefinitionCommand) (bytes : List ℕ) → AreBytes bytes → (e : Engine) → firstOf (definitionChecks c bytes e) Done ≡ Done → length (e .slots) ≡ slotCount → namesApart (e .slots) ≡ true
+pub slots-kept : (c : DefinitionCommand) (bytes : List ℕ) → AreBytes bytes → (e : Engine) → DefinitionAccepted c bytes e → length (e .slots) ≡ slotCount → namesApart (e .slots) ≡ true
     → Kept (definitionEffect c bytes e .slots) (e .slots) (e .nodes)
 slots-kept definitions.Receive bytes b e a many n =
-    let (fine, room) = received bytes b e a in
+    let fine = file-bounded bytes b a in
     let ds = definitionsOf (readFile bytes) in
     let names = namesOf (definitionsOf (readFile bytes)) in
     let less = retired-less names (e .slots) in
     let free = free-staying 0 names (e .slots) (e .nodes) in
-    let fits : length ds ≤ slotCount - staying 0 names (e .slots) (e .nodes) = ltb-false (slotCount - staying 0 names (e .slots) (e .nodes)) (length ds) room in
+    let fits : length ds ≤ slotCount - staying 0 names (e .slots) (e .nodes) = ltb-false (slotCount - staying 0 names (e .slots) (e .nodes)) (length ds) (a .room) in
     loaded-kept ds (retired names (e .slots)) (e .slots) (e .nodes) (record {
       kept = retired-kept (retired names (e .slots)) (e .slots) (e .nodes) n less;
       fine = all-fine [] ds fine;

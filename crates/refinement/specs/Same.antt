@@ -9,8 +9,6 @@ use borrow.Author.Tests.{leb-true, eqb-true, ne-eqb, not-false}
 use lib.ListN.{length, drop, getD}
 use lib.Dec.{eqb}
 use Rattle.words.specs.Choice.{pick, either, either-false}
-use Rattle.refusals.specs.declared.Refusal.{Refusal}
-use Rattle.refusals.specs.declared.Refusal.the-variants.{NoNode, WrongKind, NoControl}
 use Rattle.format.specs.Definition.{Definition}
 use Rattle.nodes.specs.declared.Node.{Node}
 use Rattle.nodes.specs.Place.{isGroup, lives}
@@ -22,32 +20,26 @@ use Rattle.treerefinement.specs.Parent.{parent-tree}
 use Rattle.treerefinement.specs.Family.{children-tree}
 use Rattle.treerefinement.specs.Order.{order-tree}
 use Rattle.treerefinement.specs.MapForest.{map-has, map-order, map-parent, map-children}
-use Rattle.preservation.specs.Passed.{known-lives}
+use Rattle.state.specs.Accepted.{QueryAccepted, accepted, known-lives}
 use Rattle.osc.specs.Message.{Argument, int, float, message}
 use Rattle.values.specs.declared.Key.{Key}
 use Rattle.values.specs.declared.NodeArgument.{NodeArgument}
 use Rattle.values.specs.Controls.{ControlValue}
 use Rattle.model.specs.declared.Query.{Query}
 use Rattle.model.specs.declared.Query.the-variants as query
-use Rattle.model.specs.declared.Answer.{Answer}
+use Rattle.model.specs.declared.Command.the-variants as command
 use Rattle.model.specs.Layout.{rowWords}
 use Rattle.model.specs.Engine.{Slot, Engine, definitionOf, controlsFrom, controlsOf, residents}
 use Rattle.model.specs.View.{group, synth, PlainNode, Row, viewOf, viewRows, view}
 use Rattle.model.specs.Meaning.{meant, known, nodeNamed, node as nodeOf, startOf, hasControls, negativeKey, isNegative}
-use Rattle.model.specs.Checks.{Check, check, firstOf, notGroup, noControls}
+use Rattle.model.specs.Checks.{notGroup, noControls}
 use Rattle.model.specs.Replies.{infoAddress, setAddress, statusAddress, plainNamed, infoReply, keyArgument, noControl, readAt, readControl, controlReply, treeReply, flagNumber, unitCount, synthCount, statusReply, replyTo, reply}
-use Rattle.model.specs.Apply.{queryAnswer, isAccepted}
+use Rattle.model.specs.Apply.{queryAnswer, answerIn, isAccepted}
 use Rattle.model.specs.Plain.{Plain, ifSome, numberIn, isGroupNode, isOnNode, plainRows}
 use Rattle.model.specs.PlainReplies.{bytesOf, nodeIn, aboutNode, nodeInfo, floatRead, controlIn, keyShown, controlShown, flagShown, included, nodesShown, treeShown, sumOver, unitsIn, oneSynth, oneGroup, plainReply, isExport}
 use Rattle.model.specs.Demands.{Same}
 use Rattle.refinement.specs.Kept.{Kept, view-tree, group-kind, same-meant}
 use Rattle.refinement.specs.RowReplies.{info-address, set-address, bus-address, tree-address, status-address, info-rows, node-rows, same-start, same-read, same-key, control-in, tree-rows, units-rows, groups-rows, synths-rows}
-
--- a check that did not fire
-unfired : (r : Refusal) (b : Bool) (cs : List Check) (a : Answer) → isAccepted (firstOf (check r b ∷ cs) a) ≡ true → (b ≡ false) × (isAccepted (firstOf cs a) ≡ true)
-unfolding firstOf
-unfired r true cs a h = let z : _≡_ {A = Bool} false true = h in ((cc), (cc))
-unfired r false cs a h = (refl, h)
 
 -- a node that lives is found, and is seen as it lies in the table
 named-number : (n : ℕ) (t : List Node) → lives n t ≡ true → nodeNamed n t .number ≡ n
@@ -94,7 +86,7 @@ module _ (e : Engine) (p : Plain) (k : Kept e p) where
   look = viewOf (e .slots) (e .controls)
 
   -- the node that a known argument means
-  module _ (a : NodeArgument) (h : not (known a e) ≡ false) where
+  module _ (a : NodeArgument) (h : known a e ≡ true) where
     abbrev n : ℕ
     n = meant a e
 
@@ -189,21 +181,18 @@ module _ (e : Engine) (p : Plain) (k : Kept e p) where
       ∙ ap (λ (l : List Row). some (statusReply l (length (residents (e .slots))))) (sym rows)
 
   -- the reply to every query that is accepted
+  accepted-reply : (q : Query) (bytes : List ℕ) → isExport q ≡ false → QueryAccepted q bytes e → plainReply q bytes p ≡ some (reply q bytes e)
+  unfolding replyTo
+  accepted-reply (query.Node a) bytes x h = info a h
+  accepted-reply (query.Control a key) bytes x h = control a (h .nodeKnown) key bytes (h .nodeKind) (h .controls)
+  accepted-reply (query.Bus bus) bytes x h = ap₂ (λ (address bs : List ℕ). some (message address (int bus ∷ (float (getD bs bus 0) ∷ [])))) bus-address (sym (k .buses))
+  accepted-reply (query.Tree a flag) bytes x h = tree a (h .nodeKnown) flag (h .nodeKind)
+  accepted-reply query.Status bytes x h = status
+  accepted-reply query.Export bytes x h = let z : _≡_ {A = Bool} true false = x in cc
+
   replies : (q : Query) (bytes : List ℕ) (room : ℕ) → isExport q ≡ false → isAccepted (queryAnswer q bytes e room) ≡ true → plainReply q bytes p ≡ some (reply q bytes e)
-  unfolding replyTo queryAnswer
-  replies (query.Node a) bytes room x h = info a (unfired NoNode (not (known a e)) _ _ h .0)
-  replies (query.Control a key) bytes room x h =
-      let p0 = unfired NoNode (not (known a e)) _ _ h in
-      let p1 = unfired WrongKind (isGroup (nodeOf a e)) _ _ (p0 .1) in
-      let p2 = unfired NoControl (noControls key 1 bytes a e) _ _ (p1 .1) in
-      control a (p0 .0) key bytes (p1 .0) (p2 .0)
-  replies (query.Bus bus) bytes room x h = ap₂ (λ (address bs : List ℕ). some (message address (int bus ∷ (float (getD bs bus 0) ∷ [])))) bus-address (sym (k .buses))
-  replies (query.Tree a flag) bytes room x h =
-      let p0 = unfired NoNode (not (known a e)) _ _ h in
-      let p1 = unfired WrongKind (notGroup a e) _ _ (p0 .1) in
-      tree a (p0 .0) flag (p1 .0)
-  replies query.Status bytes room x h = status
-  replies query.Export bytes room x h = let z : _≡_ {A = Bool} true false = x in cc
+  unfolding answerIn
+  replies q bytes room x h = accepted-reply q bytes x (accepted bytes e (command.Query q) room h)
 
   pub kept-same : Same e p
   kept-same = record {

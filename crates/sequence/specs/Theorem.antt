@@ -11,6 +11,7 @@ use Rattle.words.specs.Bytes.{AreBytes}
 use Rattle.format.specs.Definition.{Definition}
 use Rattle.preservation.specs.TreeKept.{known-sound}
 use Rattle.state.specs.Known.{Known, known}
+use Rattle.state.specs.Accepted.{Accepted, accepted}
 use Rattle.model.specs.declared.DefinitionCommand.the-variants as definitions
 use Rattle.model.specs.declared.Query.{Query}
 use Rattle.model.specs.declared.Command.{Command}
@@ -29,8 +30,7 @@ use Rattle.model.specs.Chain.{State, engineIn, Call, Applied, Chain, leftBy, Fr
 use Rattle.model.specs.Demands.{refusalIn, Ends, fedBy, replay, madeIn, made, definitionOfSynth, replyIn, Same, StepHolds, EachHolds, Demand3}
 use Rattle.refinement.specs.Kept.{Kept}
 use Rattle.refinement.specs.Same.{kept-same}
-use Rattle.refinement.specs.Replay.{isDone, replayed}
-use Rattle.refinement.specs.Stepped.{accepted-is-done}
+use Rattle.refinement.specs.Replay.{replayed}
 use Rattle.frame.specs.Ordered.{ordered-step}
 use Rattle.frame.specs.Untouched.{untouched-step}
 use Rattle.frame.specs.Tree.{tree-holds}
@@ -69,7 +69,7 @@ plain-written (command.Query q) bytes out e p k a h = plain-reply q bytes out e 
 
 -- the synths after an accepted command
 made-after : (c : Command) (bytes ws bs : List ℕ) (p : Plain) (room : ℕ) → AreBytes bytes → (h : formed ws bs ≡ true) → Kept (decode ws bs) p → Kept (effect c bytes (decode ws bs)) (grow c bytes p)
-    → isDone c (answerIn c bytes (decode ws bs) room) → (n : ℕ) (d : Definition) (before : Option Definition) → (definitionOfSynth n (view (decode ws bs)) ≡ some d → before ≡ some d)
+    → Accepted c bytes (decode ws bs) → (n : ℕ) (d : Definition) (before : Option Definition) → (definitionOfSynth n (view (decode ws bs)) ≡ some d → before ≡ some d)
     → definitionOfSynth n (view (effect c bytes (decode ws bs))) ≡ some d → madeIn c bytes (decode ws bs) n before ≡ some d
 unfolding effect grow answerIn
 made-after (command.Definitions definitions.Receive) bytes ws bs p room clean h k k′ a n d before old v = old (ap (λ (l : List Row). definitionOfSynth n l) (kept-same (decode ws bs) p k .nodes ∙ sym (kept-same _ _ k′ .nodes)) ∙ v)
@@ -102,7 +102,7 @@ module _ (c : Call) (s : State) (a : Applied c s) (p : Plain) (madeFrom : ℕ �
   yes h = ap (λ (x : Answer). isAccepted x) (sym fact) ∙ h
 
   kept-after : isAccepted (c .answer) ≡ true → Kept (effect (c .command) (c .bytes) (engineIn s)) (grow (c .command) (c .bytes) p)
-  kept-after h = replayed (c .command) (c .bytes) (s .words) (s .arena) p (a .lentBytes) fit (g .same) (known-sound (s .words) (s .arena) fit .many) room (accepted-is-done (c .command) (c .bytes) e room (yes h))
+  kept-after h = replayed (c .command) (c .bytes) (s .words) (s .arena) p (a .lentBytes) fit (g .same) (known-sound (s .words) (s .arena) fit .many) (accepted (c .bytes) e (c .command) room (yes h))
 
   abbrev next-made : ℕ → Option Definition
   next-made n = pick (isAccepted (c .answer)) (madeIn (c .command) (c .bytes) (engineIn s) n (madeFrom n)) (madeFrom n)
@@ -116,7 +116,7 @@ module _ (c : Call) (s : State) (a : Applied c s) (p : Plain) (madeFrom : ℕ �
         same = subst (λ (b : Bool). Kept (engineIn (c .left)) (fed (c .command) (c .bytes) b p)) (sym h) (subst (λ (x : Engine). Kept x (grow (c .command) (c .bytes) p)) (sym (ends .effected h)) (kept-after h));
         synths = λ n d v.
             ap (λ (b : Bool). pick b (madeIn (c .command) (c .bytes) e n (madeFrom n)) (madeFrom n)) h
-            ∙ made-after (c .command) (c .bytes) (s .words) (s .arena) p room (a .lentBytes) (g .whole) (g .same) (kept-after h) (accepted-is-done (c .command) (c .bytes) e room (yes h)) n d (madeFrom n) (g .synths n d)
+            ∙ made-after (c .command) (c .bytes) (s .words) (s .arena) p room (a .lentBytes) (g .whole) (g .same) (kept-after h) (accepted (c .bytes) e (c .command) room (yes h)) n d (madeFrom n) (g .synths n d)
             (ap (λ (x : Engine). definitionOfSynth n (view x)) (sym (ends .effected h)) ∙ v);
       }
       go false h = record {

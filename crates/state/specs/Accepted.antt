@@ -1,17 +1,18 @@
 -- What acceptance gives, for each command: its checks, by name.
-use Prim.Native.Nat.{ℕ}
+use Prim.{Unit, tt}
+use Prim.Native.Nat.{ℕ, _+_, _≤_}
 use mathlib.Core.Bool.{Bool, true, false, not}
 use mathlib.Core.Path.{_≡_, refl}
 use mathlib.Core.List.{List}
 use native.Mathlib.Omega.{arith}
 use lib.Dec.{ltb, eqb}
-use borrow.Author.Tests.{not-false}
-use Rattle.words.specs.Choice.{both, both-true, either}
+use borrow.Author.Tests.{ltb-true, leb-true, not-false}
+use Rattle.words.specs.Choice.{pick, both, both-true, either}
 use Rattle.format.specs.Read.{Read, got, bad}
 use Rattle.format.specs.Definition.{Definition}
 use Rattle.format.specs.Reader.{readFile}
 use Rattle.nodes.specs.declared.Node.{Node}
-use Rattle.nodes.specs.Place.{lives}
+use Rattle.nodes.specs.Place.{isGroup, lives}
 use Rattle.nodes.specs.Formed.{noneLeft}
 use Rattle.values.specs.declared.Key.{Key}
 use Rattle.values.specs.declared.Value.{Value}
@@ -19,7 +20,9 @@ use Rattle.values.specs.declared.NodeArgument.{NodeArgument}
 use Rattle.values.specs.declared.Target.{Target}
 use Rattle.values.specs.declared.Target.the-variants.{Latest, Number, Reserved}
 use Rattle.values.specs.Targets.{targetOf}
-use Rattle.values.specs.Values.{inBounds}
+use Rattle.values.specs.declared.Mapping.the-variants.{Unmapped, Bus}
+use Rattle.values.specs.Controls.{ControlValue, mappingWord, setTo, mapTo}
+use Rattle.values.specs.Values.{inBounds, pattern}
 use Rattle.model.specs.declared.DefinitionCommand.{DefinitionCommand}
 use Rattle.model.specs.declared.DefinitionCommand.the-variants as definitions
 use Rattle.model.specs.declared.TreeCommand.{TreeCommand}
@@ -28,12 +31,16 @@ use Rattle.model.specs.declared.ControlCommand.{ControlCommand}
 use Rattle.model.specs.declared.ControlCommand.the-variants as controls
 use Rattle.model.specs.declared.BusCommand.{BusCommand}
 use Rattle.model.specs.declared.BusCommand.the-variants as buses
+use Rattle.model.specs.declared.Query.{Query}
+use Rattle.model.specs.declared.Query.the-variants as query
+use Rattle.model.specs.declared.Command.{Command}
 use Rattle.model.specs.declared.Command.the-variants as command
 use Rattle.model.specs.declared.Answer.the-variants.{Done}
+use Rattle.model.specs.Layout.{busCount}
 use Rattle.model.specs.Engine.{Engine}
-use Rattle.model.specs.Meaning.{minusOne, isNegative, meantBy, knownBy, meant, known, isBus, isBusRange}
-use Rattle.model.specs.Checks.{firstOf, faultOf, definitionsOf, noSlot, noResident, badAction, isRoot, notGroup, badTarget, full, noControls, definitionChecks, inside, treeChecks, controlChecks, busChecks}
-use Rattle.model.specs.Apply.{isAccepted}
+use Rattle.model.specs.Meaning.{minusOne, isNegative, meantBy, knownBy, meant, known, node, isBus, mappingTo}
+use Rattle.model.specs.Checks.{faultOf, definitionsOf, noSlot, noResident, badAction, isRoot, notGroup, badTarget, full, noControls, definitionChecks, inside, treeChecks, controlChecks, busChecks, queryChecks}
+use Rattle.model.specs.Apply.{queryAnswer, answerIn, isAccepted}
 use Rattle.state.specs.Refusing.{Passed, all-passed}
 
 -- /s_new and /g_new: where the new node goes
@@ -55,8 +62,8 @@ pub record NewGroupAccepted (number action : ℕ) (target : NodeArgument) (e : E
   pub goodNumber : isNegative number ≡ false
   pub freeNumber : lives number (e .nodes) ≡ false
 
--- /n_free, /g_freeAll and /g_deepFree: of a node of the right kind
-pub record FreeAccepted (n : NodeArgument) (wrongKind : Bool) (e : Engine) : Type 0 where
+-- /n_free, /g_freeAll, /g_deepFree and /g_queryTree: of a node of the right kind
+pub record NodeAccepted (n : NodeArgument) (wrongKind : Bool) (e : Engine) : Type 0 where
   pub nodeKnown : known n e ≡ true
   pub nodeKind : wrongKind ≡ false
 
@@ -75,34 +82,35 @@ pub record RunAccepted (n : NodeArgument) (flag : ℕ) (e : Engine) : Type 0 whe
 abbrev pub TreeAccepted : TreeCommand → List ℕ → Engine → Type 0
 TreeAccepted (tree.NewSynth number action target) bytes e = NewSynthAccepted number action target bytes e
 TreeAccepted (tree.NewGroup number action target) bytes e = NewGroupAccepted number action target e
-TreeAccepted (tree.Free n) bytes e = FreeAccepted n (isRoot (meant n e)) e
-TreeAccepted (tree.FreeAll g) bytes e = FreeAccepted g (notGroup g e) e
-TreeAccepted (tree.DeepFree g) bytes e = FreeAccepted g (notGroup g e) e
+TreeAccepted (tree.Free n) bytes e = NodeAccepted n (isRoot (meant n e)) e
+TreeAccepted (tree.FreeAll g) bytes e = NodeAccepted g (notGroup g e) e
+TreeAccepted (tree.DeepFree g) bytes e = NodeAccepted g (notGroup g e) e
 TreeAccepted (tree.Before a b) bytes e = MoveAccepted a b (isRoot (meant b e)) e
 TreeAccepted (tree.After a b) bytes e = MoveAccepted a b (isRoot (meant b e)) e
 TreeAccepted (tree.Head g a) bytes e = MoveAccepted a g (notGroup g e) e
 TreeAccepted (tree.Tail g a) bytes e = MoveAccepted a g (notGroup g e) e
 TreeAccepted (tree.Run n flag) bytes e = RunAccepted n flag e
 
--- /n_set, /n_fill and /n_map
-pub record ControlsAccepted (n : NodeArgument) (key : Key) (count : ℕ) (wrong : Bool) (bytes : List ℕ) (e : Engine) : Type 0 where
+-- /n_set, /n_fill and /n_map: the change maps to a bus or to none
+pub record ChangeAccepted (f : ControlValue → ControlValue) (n : NodeArgument) (key : Key) (count : ℕ) (badValue : Bool) (bytes : List ℕ) (e : Engine) : Type 0 where
   pub nodeKnown : known n e ≡ true
-  pub goodValue : wrong ≡ false
+  pub goodValue : badValue ≡ false
+  pub busLow : (v : ControlValue) → mappingWord (f v .mapping) ≤ busCount
   pub controls : noControls key count bytes n e ≡ false
 
 abbrev pub ControlAccepted : ControlCommand → List ℕ → Engine → Type 0
-ControlAccepted (controls.Set n key value) bytes e = ControlsAccepted n key 1 (not (inBounds value)) bytes e
-ControlAccepted (controls.Fill n key count value) bytes e = ControlsAccepted n key count (not (inBounds value)) bytes e
-ControlAccepted (controls.Map n key bus) bytes e = ControlsAccepted n key 1 (not (either (eqb bus minusOne) (isBus bus))) bytes e
+ControlAccepted (controls.Set n key value) bytes e = ChangeAccepted (setTo (pattern value)) n key 1 (not (inBounds value)) bytes e
+ControlAccepted (controls.Fill n key count value) bytes e = ChangeAccepted (setTo (pattern value)) n key count (not (inBounds value)) bytes e
+ControlAccepted (controls.Map n key bus) bytes e = ChangeAccepted (mapTo (mappingTo bus)) n key 1 (not (either (eqb bus minusOne) (isBus bus))) bytes e
 
--- /c_set and /c_fill
-pub record BusesAccepted (areBuses : Bool) (value : Value) : Type 0 where
-  pub there : areBuses ≡ true
+-- /c_set, of one bus, and /c_fill
+pub record BusesAccepted (start count : ℕ) (value : Value) : Type 0 where
+  pub low : start + count ≤ busCount
   pub goodValue : inBounds value ≡ true
 
 abbrev pub BusAccepted : BusCommand → Type 0
-BusAccepted (buses.Set bus value) = BusesAccepted (isBus bus) value
-BusAccepted (buses.Fill start count value) = BusesAccepted (isBusRange start count) value
+BusAccepted (buses.Set bus value) = BusesAccepted bus 1 value
+BusAccepted (buses.Fill start count value) = BusesAccepted start count value
 
 -- /d_recv: the file reads, and its definitions have slots
 pub record FileAccepted (r : Read (List Definition)) (e : Engine) : Type 0 where
@@ -113,6 +121,27 @@ pub record FileAccepted (r : Read (List Definition)) (e : Engine) : Type 0 where
 abbrev pub DefinitionAccepted : DefinitionCommand → List ℕ → Engine → Type 0
 DefinitionAccepted definitions.Receive bytes e = FileAccepted (readFile bytes) e
 DefinitionAccepted definitions.Free bytes e = noResident bytes e ≡ false
+
+-- /s_get: of a synth
+pub record ControlAsked (n : NodeArgument) (key : Key) (bytes : List ℕ) (e : Engine) : Type 0 where
+  pub nodeKnown : known n e ≡ true
+  pub nodeKind : isGroup (node n e) ≡ false
+  pub controls : noControls key 1 bytes n e ≡ false
+
+abbrev pub QueryAccepted : Query → List ℕ → Engine → Type 0
+QueryAccepted (query.Node n) bytes e = known n e ≡ true
+QueryAccepted (query.Control n key) bytes e = ControlAsked n key bytes e
+QueryAccepted (query.Bus bus) bytes e = isBus bus ≡ true
+QueryAccepted (query.Tree g flag) bytes e = NodeAccepted g (notGroup g e) e
+QueryAccepted query.Status bytes e = Unit {0}
+QueryAccepted query.Export bytes e = Unit {0}
+
+abbrev pub Accepted : Command → List ℕ → Engine → Type 0
+Accepted (command.Definitions c) bytes e = DefinitionAccepted c bytes e
+Accepted (command.Tree c) bytes e = TreeAccepted c bytes e
+Accepted (command.Controls c) bytes e = ControlAccepted c bytes e
+Accepted (command.Buses c) bytes e = BusAccepted c
+Accepted (command.Query q) bytes e = QueryAccepted q bytes e
 
 -- each from the checks that passed
 module _ (bytes : List ℕ) (e : Engine) where
@@ -131,25 +160,21 @@ module _ (bytes : List ℕ) (e : Engine) where
   tree-facts (tree.Tail g a) (l, (k, (p, (m, (i, end))))) = record { movedKnown = not-false _ k; placeKnown = not-false _ l; movedKind = m; placeKind = p; outside = i }
   tree-facts (tree.Run n flag) (f, (k, end)) = record { goodFlag = f; nodeKnown = not-false _ k }
 
-  pub tree-accepted : (c : TreeCommand) → isAccepted (firstOf (treeChecks c bytes e) Done) ≡ true → TreeAccepted c bytes e
-  tree-accepted c h = tree-facts c (all-passed (command.Tree c) bytes e Done h)
-
   control-facts : (c : ControlCommand) → Passed (controlChecks c bytes e) → ControlAccepted c bytes e
   unfolding Passed
-  control-facts (controls.Set n key value) (k, (v, (c, end))) = record { nodeKnown = not-false _ k; goodValue = v; controls = c }
-  control-facts (controls.Fill n key count value) (k, (v, (c, end))) = record { nodeKnown = not-false _ k; goodValue = v; controls = c }
-  control-facts (controls.Map n key bus) (k, (v, (c, end))) = record { nodeKnown = not-false _ k; goodValue = v; controls = c }
-
-  pub control-accepted : (c : ControlCommand) → isAccepted (firstOf (controlChecks c bytes e) Done) ≡ true → ControlAccepted c bytes e
-  control-accepted c h = control-facts c (all-passed (command.Controls c) bytes e Done h)
+  control-facts (controls.Set n key value) (k, (v, (c, end))) = record { nodeKnown = not-false _ k; goodValue = v; busLow = λ x. omega arith; controls = c }
+  control-facts (controls.Fill n key count value) (k, (v, (c, end))) = record { nodeKnown = not-false _ k; goodValue = v; busLow = λ x. omega arith; controls = c }
+  control-facts (controls.Map n key bus) (k, (v, (c, end))) = record { nodeKnown = not-false _ k; goodValue = v; busLow = λ x. low (eqb bus minusOne) (not-false _ v); controls = c }
+    where
+      low : (b : Bool) → either b (isBus bus) ≡ true → mappingWord (pick b Unmapped (Bus bus)) ≤ busCount
+      low true q = omega arith
+      low false q = omega (arith, ltb-true bus busCount q)
 
   bus-facts : (c : BusCommand) → Passed (busChecks c e) → BusAccepted c
   unfolding Passed
-  bus-facts (buses.Set bus value) (b, (v, end)) = record { there = not-false _ b; goodValue = not-false _ v }
-  bus-facts (buses.Fill start count value) (b, (v, end)) = record { there = not-false _ b; goodValue = not-false _ v }
-
-  pub bus-accepted : (c : BusCommand) → isAccepted (firstOf (busChecks c e) Done) ≡ true → BusAccepted c
-  bus-accepted c h = bus-facts c (all-passed (command.Buses c) bytes e Done h)
+  bus-facts (buses.Set bus value) (b, (v, end)) = record { low = omega (arith, ltb-true bus busCount (not-false _ b)); goodValue = not-false _ v }
+  bus-facts (buses.Fill start count value) (b, (v, end)) =
+      record { low = leb-true (start + count) busCount (both-true (not (isNegative count)) _ (not-false _ b) .1); goodValue = not-false _ v }
 
   definition-facts : (c : DefinitionCommand) → Passed (definitionChecks c bytes e) → DefinitionAccepted c bytes e
   unfolding Passed
@@ -160,8 +185,22 @@ module _ (bytes : List ℕ) (e : Engine) where
       file-facts (bad q at) f r = absurd (let z : _≡_ {A = ℕ} 0 1 = cc in omega arith)
   definition-facts definitions.Free (r, end) = r
 
-  pub definition-accepted : (c : DefinitionCommand) → isAccepted (firstOf (definitionChecks c bytes e) Done) ≡ true → DefinitionAccepted c bytes e
-  definition-accepted c h = definition-facts c (all-passed (command.Definitions c) bytes e Done h)
+  query-facts : (q : Query) → Passed (queryChecks q bytes e) → QueryAccepted q bytes e
+  unfolding Passed
+  query-facts (query.Node n) (k, end) = not-false _ k
+  query-facts (query.Control n key) (k, (w, (c, end))) = record { nodeKnown = not-false _ k; nodeKind = w; controls = c }
+  query-facts (query.Bus bus) (b, end) = not-false _ b
+  query-facts (query.Tree g flag) (k, (w, end)) = record { nodeKnown = not-false _ k; nodeKind = w }
+  query-facts query.Status end = tt
+  query-facts query.Export end = tt
+
+  pub accepted : (c : Command) (room : ℕ) → isAccepted (answerIn c bytes e room) ≡ true → Accepted c bytes e
+  unfolding answerIn queryAnswer
+  accepted (command.Definitions c) room h = definition-facts c (all-passed (command.Definitions c) bytes e Done h)
+  accepted (command.Tree c) room h = tree-facts c (all-passed (command.Tree c) bytes e Done h)
+  accepted (command.Controls c) room h = control-facts c (all-passed (command.Controls c) bytes e Done h)
+  accepted (command.Buses c) room h = bus-facts c (all-passed (command.Buses c) bytes e Done h)
+  accepted (command.Query q) room h = query-facts q (all-passed (command.Query q) bytes e _ h)
 
 -- an argument that names a node: its number lives
 named-lives : (x : Target) (latest : ℕ) (t : List Node) → knownBy x latest t ≡ true → lives (meantBy x latest) t ≡ true

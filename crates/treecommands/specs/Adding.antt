@@ -22,7 +22,8 @@ use Rattle.model.specs.Meaning.{meant}
 use Rattle.model.specs.Checks.{isRoot, notGroup, badTarget, full}
 use Rattle.model.specs.Effects.{addBy, treeEffect, effect}
 use Rattle.model.specs.After.{wordsAfter}
-use Rattle.model.specs.Apply.{answerIn}
+use Rattle.model.specs.Apply.{answerIn, isAccepted}
+use Rattle.state.specs.Accepted.{accepted}
 use Rattle.state.specs.Known.{Known, known}
 use Rattle.preservation.specs.TreeKept.{tree-kept}
 use Rattle.tree.specs.declared.action.Action.{Action}
@@ -93,4 +94,4 @@ same-add Replace r n t = refl
 -- after an accepted command there are at most 256 nodes
 pub after-few : (c : TreeCommand) (bytes ws bs : List ℕ) → Known ws bs → answerIn (command.Tree c) bytes (decode ws bs) 0 ≡ Done → length (treeEffect c bytes (decode ws bs) .nodes) ≤ mostNodes
 unfolding wordsAfter effect
-after-few c bytes ws bs k a = known (wordsAfter (command.Tree c) bytes ws bs) bs (tree-kept c bytes ws bs (k .whole) a) .few
+after-few c bytes ws bs k a = known (wordsAfter (command.Tree c) bytes ws bs) bs (tree-kept c bytes ws bs (k .whole) (accepted bytes (decode ws bs) (command.Tree c) 0 (ap isAccepted a))) .few
