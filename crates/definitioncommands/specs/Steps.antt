@@ -31,7 +31,8 @@ use Rattle.model.specs.After.{wordsAfter, arenaAfter}
 use Rattle.model.specs.Apply.{queryAnswer, answerIn}
 use Rattle.state.specs.Known.{Known}
 use Rattle.state.specs.Does.{Step, Reply}
-use Rattle.definitions.specs.Slots.{tableWords, slotsOn, slots-length, slots-lent, Formed}
+use Rattle.slots.specs.Slots.{tableWords, slotsOn, slots-length, slots-lent}
+use Rattle.definitions.specs.Slots.{Formed}
 use Rattle.definitions.specs.Holders.{HeldBy, holders}
 use Rattle.definitions.specs.Files.{Accepted, definitionsOn}
 use Rattle.definitions.specs.Storing.{tableOf}

@@ -23,7 +23,8 @@ use Rattle.model.specs.Engine.{Slot, decode, noDefinition, valueOr, definitionI
 use Rattle.model.specs.Formed.{isWhole, slotFormed}
 use Rattle.state.specs.Known.{Known}
 use Rattle.controls.specs.Encoded.{frontIn}
-use Rattle.controls.specs.Ready.{Ready, nodeIn, slotBytes, slot-bytes, held-at, slot-formed, decoded-many, either-true, synth-ready}
+use Rattle.slots.specs.Slots.{slotBytes, slot-bytes, decoded-many}
+use Rattle.controls.specs.Ready.{Ready, nodeIn, held-at, slot-formed, either-true, synth-ready}
 use Rattle.controls.specs.Formed.{bounds-ready}
 use Rattle.controls.specs.Synth.{Bounds, slot-word, slot-bound}
 

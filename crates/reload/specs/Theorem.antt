@@ -26,7 +26,8 @@ use Rattle.model.specs.Demands.{AreBytes, receive, meaningIn, Demand2, definiti
 use Rattle.roundtrip.specs.Stands.{Bytes, bytes-of-every}
 use Rattle.roundtrip.specs.Forth.{file-forth}
 use Rattle.state.specs.Known.{Known, known}
-use Rattle.definitions.specs.Slots.{lengthsOn, flagsOn, slotsOn, slots-length, slots-lent, Formed}
+use Rattle.slots.specs.Slots.{lengthsOn, flagsOn, slotsOn, slots-length, slots-lent}
+use Rattle.definitions.specs.Slots.{Formed}
 use Rattle.definitions.specs.Lent.{tableIn, formed-lent}
 use Rattle.definitions.specs.Exported.{AllFine, formed-fine, residents-file, export-read, fresh-residents, fresh-export, meaningOf, meaning-residents}
 use Rattle.reload.specs.Fresh.{fresh-many, fresh-out, fresh-idle, fresh-staying}

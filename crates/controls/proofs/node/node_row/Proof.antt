@@ -1,11 +1,9 @@
-use Prim.Native.Nat.{ℕ}
-use mathlib.Core.Path.{sym, ap}
+use mathlib.Core.Path.{sym}
 use native.Mathlib.Omega.{arith}
 use borrow.Author.Needs.{needs}
-use lib.Dec.{eqb}
-use Rattle.controls.specs.Synth.{slot-word}
-use Rattle.controls.proofs.table.node_is_group.Statement.{statement}
-use Rattle.controls.proofs.table.node_is_group.Tie as tie
+use Rattle.controls.specs.Synth.{row-word}
+use Rattle.controls.proofs.node.node_row.Statement.{statement}
+use Rattle.controls.proofs.node.node_row.Tie as tie
 
 mul-result : tie.Need-mul-result
 mul-result c = search needs
@@ -23,9 +21,9 @@ shared-slice-read-result : tie.Need-shared-slice-read-result
 shared-slice-read-result c = search needs
 
 returns : tie.Need-returns
-returns c = ap (λ (k : ℕ). eqb k 32) (sym (slot-word (c .before .args .words .now) (c .before .args .place) (omega arith)))
+returns c = sym (row-word (c .before .args .words .now) (c .before .args .place) (omega arith))
 
-pub node-is-group-spec : {M : Type 1} → statement M
-node-is-group-spec =
+pub node-row-spec : {M : Type 1} → statement M
+node-row-spec =
     tie.close
     (tie.spec mul-result add-result add-result-2 mul-result-2 shared-slice-read-result returns)

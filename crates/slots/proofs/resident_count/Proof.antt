@@ -1,4 +1,4 @@
-use Rattle.definitions.specs.Exporting.{countFrom, count-turn, count-end}
+use Rattle.slots.specs.Slots.{countFrom, count-turn, count-end}
 
 use native.Mathlib.Nat.{zero-add}
 use mathlib.Core.Logic.{⊎-elim}
@@ -9,8 +9,8 @@ use native.Mathlib.Omega.{arith}
 
 use borrow.Author.Tests.{eq-eqb, ne-eqb}
 use lib.ListN.{getD}
-use Rattle.definitions.proofs.resident_count.Statement.{statement}
-use Rattle.definitions.proofs.resident_count.Tie as tie
+use Rattle.slots.proofs.resident_count.Statement.{statement}
+use Rattle.slots.proofs.resident_count.Tie as tie
 
 abbrev Inv-loop : tie.InvT-loop
 Inv-loop table n₀ k₀ n k = (k ≤ 32) × ((n ≤ k) × ((arena : List ℕ) → n + countFrom table arena k ≡ countFrom table arena 0))

@@ -1,9 +1,11 @@
-use mathlib.Core.Path.{sym}
+use Prim.Native.Nat.{ℕ}
+use mathlib.Core.Path.{sym, ap}
 use native.Mathlib.Omega.{arith}
 use borrow.Author.Needs.{needs}
-use Rattle.controls.specs.Synth.{row-word}
-use Rattle.controls.proofs.table.node_row.Statement.{statement}
-use Rattle.controls.proofs.table.node_row.Tie as tie
+use lib.Dec.{eqb}
+use Rattle.controls.specs.Synth.{slot-word}
+use Rattle.controls.proofs.node.node_is_group.Statement.{statement}
+use Rattle.controls.proofs.node.node_is_group.Tie as tie
 
 mul-result : tie.Need-mul-result
 mul-result c = search needs
@@ -21,9 +23,9 @@ shared-slice-read-result : tie.Need-shared-slice-read-result
 shared-slice-read-result c = search needs
 
 returns : tie.Need-returns
-returns c = sym (row-word (c .before .args .words .now) (c .before .args .place) (omega arith))
+returns c = ap (λ (k : ℕ). eqb k 32) (sym (slot-word (c .before .args .words .now) (c .before .args .place) (omega arith)))
 
-pub node-row-spec : {M : Type 1} → statement M
-node-row-spec =
+pub node-is-group-spec : {M : Type 1} → statement M
+node-is-group-spec =
     tie.close
     (tie.spec mul-result add-result add-result-2 mul-result-2 shared-slice-read-result returns)
