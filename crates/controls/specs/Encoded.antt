@@ -2,8 +2,8 @@
 use Prim.Native.Nat.{ℕ, _+_, _-_, _≤_, _<_}
 use mathlib.Core.Bool.{Bool, true, false}
 use mathlib.Core.Path.{_≡_, refl, sym, ap, _∙_}
-use mathlib.Core.List.{List, [], _∷_}
-use mathlib.Core.Option.{Option, none, some}
+use mathlib.Core.List.{List, []}
+use mathlib.Core.Option.{none}
 use native.Mathlib.Omega.{arith}
 use borrow.Author.Tests.{leb-true, leb-false, le-leb, lt-leb}
 use lib.ListN.{length}
@@ -11,17 +11,17 @@ use lib.Dec.{leb}
 use Rattle.readable.specs.declared.found.Found.{Found}
 use Rattle.readable.specs.declared.found.Found.the-variants as found
 use Rattle.format.specs.Read.{onRead, Read, got, bad, repeat}
-use Rattle.readable.specs.Lookup.{firstOf, parametersIn, firstNamed, indexIn}
+use Rattle.readable.specs.Lookup.{parametersIn, indexIn}
 use Rattle.format.specs.Fields.{integer, float32, definitionName, count, countTo, highest16, shortCountTo}
 use Rattle.format.specs.FieldLaws.{checked-got}
 use Rattle.format.specs.RepeatLaws.{went-on, repeat-length}
-use Rattle.format.specs.Definition.{ParameterName, Front, Definition}
-use Rattle.format.specs.Reader.{sameName, mostParameters, parameterName, readFront, readUnits, variant, readDefinition}
-use Rattle.words.specs.Choice.{pick}
+use Rattle.format.specs.Definition.{Front, Definition}
+use Rattle.format.specs.Reader.{mostParameters, parameterName, readFront, readUnits, variant, readDefinition}
 use Rattle.faults.specs.declared.Fault.the-variants.{BadCount}
 use Rattle.values.specs.declared.Key.{Key}
 use Rattle.values.specs.declared.Key.the-variants.{Index, Name}
-use Rattle.model.specs.Engine.{valueOr, firstIndex}
+use Rattle.format.specs.Names.{firstIndex}
+use Rattle.model.specs.Engine.{valueOr}
 use Rattle.model.specs.Meaning.{startOf}
 
 -- a front with nothing in it, for bytes that have none
@@ -36,10 +36,6 @@ abbrev pub frontOnly : List ℕ → Definition
 frontOnly s = record { front = frontIn s; units = []; variants = [] }
 
 -- a lookup's answer
-abbrev pub foundAt : Found → Option ℕ
-foundAt (found.At n) = some n
-foundAt found.Nothing = none
-
 abbrev pub numberOr : Found → ℕ
 numberOr (found.At n) = n
 numberOr found.Nothing = 0
@@ -94,21 +90,12 @@ unfolding frontIn
 parameters-fact s = count-of (readFront s 0)
 
 -- the first entry of a name
-first-of : (name : List ℕ) (l : List ParameterName) → foundAt (firstNamed name l) ≡ firstIndex name l
-unfolding firstOf firstIndex
-first-of name [] = refl
-first-of name (p ∷ l) = go (first-of name l) (sameName (p .name) name)
-  where
-    go : foundAt (firstNamed name l) ≡ firstIndex name l → (b : Bool) → foundAt (pick b (found.At (p .index)) (firstNamed name l)) ≡ pick b (some (p .index)) (firstIndex name l)
-    go ih true = refl
-    go ih false = ih
-
-index-of : (name : List ℕ) (r : Read Front) → foundAt (onRead r found.Nothing (λ f next. firstNamed name (f .names))) ≡ firstIndex name (valueOr noFront r .names)
+index-of : (name : List ℕ) (r : Read Front) → onRead r none (λ f next. firstIndex name (f .names)) ≡ firstIndex name (valueOr noFront r .names)
 unfolding firstIndex
-index-of name (got f p) = first-of name (f .names)
+index-of name (got f p) = refl
 index-of name (bad q place) = refl
 
-pub index-fact : (name s : List ℕ) → foundAt (indexIn name s) ≡ firstIndex name (frontIn s .names)
+pub index-fact : (name s : List ℕ) → indexIn name s ≡ firstIndex name (frontIn s .names)
 unfolding frontIn
 index-fact name s = index-of name (readFront s 0)
 

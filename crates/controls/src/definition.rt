@@ -16,7 +16,8 @@ ghost use Rattle.model.specs.Layout.{rowWords};
 ghost use Rattle.model.specs.Engine.{valueOr};
 ghost use Rattle.model.specs.Meaning.{startOf, hasControls};
 ghost use Rattle.model.specs.Effects.{initialWords};
-ghost use Rattle.controls.specs.Encoded.{frontIn, frontOnly, foundAt};
+ghost use Rattle.readable.specs.Lookup.{foundAt};
+ghost use Rattle.controls.specs.Encoded.{frontIn, frontOnly};
 ghost use Rattle.controls.specs.Initial.{floatsFrom};
 
 // P, the number of controls.

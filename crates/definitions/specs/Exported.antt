@@ -10,6 +10,7 @@ use lib.ListN.{length, getD, length-append}
 use lib.Seq.{set-append-seam, append-snoc}
 use lib.Dec.{ltb, leb}
 use borrow.Author.Tests.{not-true, le-leb, leb-true, lt-ltb, le-ltb}
+use Rattle.words.specs.Bytes.{AreBytes}
 use Rattle.words.specs.Choice.{pick, both, either, both-true}
 use Rattle.format.specs.Read.{Read, got}
 use Rattle.format.specs.Definition.{Definition}
@@ -24,7 +25,6 @@ use Rattle.model.specs.Checks.{namesOf}
 use Rattle.model.specs.Effects.{freeFrom, loaded, retired}
 use Rattle.model.specs.Replies.{definitionsIn, exportFile}
 use Rattle.model.specs.Demands.{definitionAtSlot}
-use Rattle.roundtrip.specs.Stands.{Bytes}
 use Rattle.roundtrip.specs.Back.{definition-back, file-back}
 use Rattle.roundtrip.specs.Forth.{definition-forth, file-forth}
 use Rattle.slots.specs.Slots.{lengthsOn, flagsOn, slotsOn, slotOn, bytesOn, slots-length}
@@ -112,7 +112,7 @@ pub export-read : (slots : List Slot) → length slots ≡ slotCount → AllFine
 export-read slots many fine apart = file-back (definitionsIn (residents slots)) (residents-file slots many fine apart)
 
 -- the slots of a well-formed state
-pub formed-fine : (table arena : List ℕ) → Bytes arena → Formed table arena → AllFine (slotsOn table arena)
+pub formed-fine : (table arena : List ℕ) → AreBytes arena → Formed table arena → AllFine (slotsOn table arena)
 formed-fine table arena b f k h r =
     let less : k < slotCount = rw (slots-length slotCount (lengthsOn table) (flagsOn table) arena) at h in
     let is : slotAt (slotsOn table arena) k ≡ slotOn table arena k = slot-is table arena k less in
@@ -216,7 +216,7 @@ fresh-residents ds file slots t many out idle =
     ∙ new-definitions ds [] (c .1)
 
 -- Demand 2, what a fresh engine accepts is exported byte for byte: a file loaded where no slot is taken
-pub fresh-export : (file : List ℕ) → Bytes file → (ds : List Definition) (end : ℕ) → readFile file ≡ got ds end
+pub fresh-export : (file : List ℕ) → AreBytes file → (ds : List Definition) (end : ℕ) → readFile file ≡ got ds end
     → (slots : List Slot) (t : List Node) → length slots ≡ slotCount → AllOut slots → ((k : ℕ) → k < slotCount → held k t ≡ false)
     → exportFile (loaded ds (retired (namesOf ds) slots) t) ≡ file
 fresh-export file b ds end e slots t many out idle =

@@ -8,6 +8,7 @@ use lib.ListN.{length, take, drop, getD, length-take, length-append, take-append
 use lib.Seq.{getD-take, getD-drop, take-length, take-at, drop-drop, length-take-le}
 use lib.Dec.{ltb}
 use borrow.Author.Tests.{ltb-true, ltb-false}
+use Rattle.words.specs.Bytes.{AreBytes}
 use Rattle.words.specs.Choice.{pick}
 use Rattle.words.specs.Parts.{put, put-length, past-put}
 use Rattle.format.specs.Read.{Read}
@@ -16,14 +17,13 @@ use Rattle.format.specs.Writer.{writeAll, writeDefinition, writeFile}
 use Rattle.model.specs.Layout.{slotCount, slotRoom}
 use Rattle.model.specs.Engine.{Slot, residents, definitionIn, noDefinition, valueOr}
 use Rattle.model.specs.Replies.{definitionsIn, exportFile}
-use Rattle.roundtrip.specs.Stands.{Bytes}
 use Rattle.roundtrip.specs.Forth.{definition-forth}
 use Rattle.slots.specs.Slots.{slotsOn, slotOn, bytesOn, residentOn, slot-at, slots-end, countFrom, count-few}
 use Rattle.definitions.specs.Slots.{SlotsFit, Whole, Formed}
 use Rattle.definitions.specs.Retiring.{whole-size}
 
 -- parts of bytes are bytes
-bytes-take : (n : ℕ) (s : List ℕ) → Bytes s → Bytes (take n s)
+bytes-take : (n : ℕ) (s : List ℕ) → AreBytes s → AreBytes (take n s)
 bytes-take n s b i = by (ltb i n) refl
   where
     by : (t : Bool) → ltb i n ≡ t → getD (take n s) i 0 < 256
@@ -32,15 +32,15 @@ bytes-take n s b i = by (ltb i n) refl
         let short : length (take n s) ≤ i = omega (arith, length-take n s, ltb-false i n e) in
         rw (List·getD-eq-default (take n s) 0 {n = i} short) (omega arith)
 
-bytes-drop : (n : ℕ) (s : List ℕ) → Bytes s → Bytes (drop n s)
+bytes-drop : (n : ℕ) (s : List ℕ) → AreBytes s → AreBytes (drop n s)
 bytes-drop n s b i = rw (getD-drop n s i 0) (b (n + i))
 
-pub bytes-on : (table arena : List ℕ) (k : ℕ) → Bytes arena → Bytes (bytesOn table arena k)
+pub bytes-on : (table arena : List ℕ) (k : ℕ) → AreBytes arena → AreBytes (bytesOn table arena k)
 bytes-on table arena k b =
     bytes-take (getD table k 0) (take slotRoom (drop (slotRoom * k) arena)) (bytes-take slotRoom (drop (slotRoom * k) arena) (bytes-drop (slotRoom * k) arena b))
 
 -- a resident's bytes are the writing of its definition as read
-pub whole-written : (table arena : List ℕ) (k : ℕ) → Bytes arena → SlotsFit table arena → k < slotCount → Whole table arena k
+pub whole-written : (table arena : List ℕ) (k : ℕ) → AreBytes arena → SlotsFit table arena → k < slotCount → Whole table arena k
     → writeDefinition (definitionIn (slotOn table arena k)) ≡ bytesOn table arena k
 whole-written table arena k b z h w =
     let bytes = bytesOn table arena k in
@@ -57,7 +57,7 @@ bodyFrom table arena k = writeAll writeDefinition (definitionsIn (residents (dro
 
 module _ (table arena : List ℕ) where
   -- the bytes: one step, and the end
-  pub body-turn : Bytes arena → Formed table arena → (k : ℕ) → k < slotCount
+  pub body-turn : AreBytes arena → Formed table arena → (k : ℕ) → k < slotCount
       → bodyFrom table arena k ≡ pick (residentOn table k) (bytesOn table arena k ++ bodyFrom table arena (k + 1)) (bodyFrom table arena (k + 1))
   unfolding residents definitionsIn writeAll
   body-turn b f k h =
@@ -76,7 +76,7 @@ module _ (table arena : List ℕ) where
   body-end k h = ap (λ (l : List Slot). writeAll writeDefinition (definitionsIn (residents l))) (slots-end table arena k h)
 
 -- the length of the bytes: one step
-pub size-turn : (table arena : List ℕ) → Bytes arena → Formed table arena → (k : ℕ) → k < slotCount
+pub size-turn : (table arena : List ℕ) → AreBytes arena → Formed table arena → (k : ℕ) → k < slotCount
     → length (bodyFrom table arena k) ≡ pick (residentOn table k) (getD table k 0) 0 + length (bodyFrom table arena (k + 1))
 size-turn table arena b f k h = ap length (body-turn table arena b f k h) ∙ by (residentOn table k) refl
   where
@@ -119,7 +119,7 @@ pub record Exporting (table arena start : List ℕ) (k at : ℕ) (out : List ℕ
   pub front : take at out ++ bodyFrom table arena k ≡ exportFile (slotsOn table arena)
   pub back : drop at out ≡ drop at start
 
-module _ (table arena start : List ℕ) (k at : ℕ) (out : List ℕ) (b : Bytes arena) (f : Formed table arena)
+module _ (table arena start : List ℕ) (k at : ℕ) (out : List ℕ) (b : AreBytes arena) (f : Formed table arena)
     (m : Exporting table arena start k at out) (less : k < slotCount) where
   pub exporting-skip : residentOn table k ≡ false → Exporting table arena start (k + 1) at out
   exporting-skip e =

@@ -7,6 +7,7 @@ use native.Mathlib.Omega.{arith}
 use lib.ListN.{length, getD}
 use lib.Dec.{ltb, leb, eqb}
 use borrow.Author.Tests.{ltb-false}
+use Rattle.words.specs.Bytes.{AreBytes}
 use Rattle.words.specs.Choice.{pick}
 use Rattle.words.specs.Parts.{region, region-length}
 use Rattle.faults.specs.declared.Fault.the-variants.{NotSynthDef, BadVersion, BadCount, TooLong, NameTwice, BytesLeft, BadName}
@@ -20,7 +21,6 @@ use Rattle.format.specs.Definition.{Front, Definition}
 use Rattle.format.specs.Reader.{mostParameters, mostDefinitions, sizeLimit, fileType, fileVersion, parameterName, variant, among, fits, readFront, readUnits, readDefinition, readDefinitions, readHeader, readFile}
 use Rattle.format.specs.Writer.{writeDefinition}
 use Rattle.model.specs.Checks.{definitionsOf, faultOf}
-use Rattle.roundtrip.specs.Stands.{Bytes}
 use Rattle.roundtrip.specs.Forth.{definition-forth}
 
 -- the name of a definition that was read
@@ -72,7 +72,7 @@ write-some : (d : Definition) → 0 < length (writeDefinition d)
 unfolding writeDefinition
 write-some d = omega arith
 
-pub held-definition : (s : List ℕ) → Bytes s → (at next : ℕ) (d : Definition) → readDefinition s at ≡ got d next → next - at ≤ sizeLimit → Held s at next d
+pub held-definition : (s : List ℕ) → AreBytes s → (at next : ℕ) (d : Definition) → readDefinition s at ≡ got d next → next - at ≤ sizeLimit → Held s at next d
 held-definition s b at next d e small =
     let w = definition-forth s b at d next e in
     let n = definition-named s at e in
@@ -81,7 +81,7 @@ held-definition s b at next d e small =
     let size : length (writeDefinition d) ≡ next - at = ap length (w .bytes) ∙ region-length at (next - at) s (omega arith) in
     record { read = e; forward = omega (arith, write-some d); inside = i; small = small; written = w .bytes; named = n .0; nameInside = n .1 }
 
-run-read : (s : List ℕ) → Bytes s → (n : ℕ) (names : List (List ℕ)) (at : ℕ) {ds : List Definition} {end : ℕ} → readDefinitions s n names at ≡ got ds end → length s ≤ end → Run s at ds
+run-read : (s : List ℕ) → AreBytes s → (n : ℕ) (names : List (List ℕ)) (at : ℕ) {ds : List Definition} {end : ℕ} → readDefinitions s n names at ≡ got ds end → length s ≤ end → Run s at ds
 unfolding readDefinitions
 run-read s b zero names at {ds} {end} e h =
     let none : [] ≡ ds = cc in
@@ -119,7 +119,7 @@ header-end s {n} {p} e =
 abbrev pub firstPlace : ℕ
 firstPlace = 10
 
-pub file-run : (s : List ℕ) → Bytes s → {ds : List Definition} {end : ℕ} → readFile s ≡ got ds end → Run s firstPlace ds
+pub file-run : (s : List ℕ) → AreBytes s → {ds : List Definition} {end : ℕ} → readFile s ≡ got ds end → Run s firstPlace ds
 unfolding readFile
 file-run s b {ds} {end} e =
     went-on (readHeader s) _ e (λ n p1 e1 r1.
@@ -150,5 +150,5 @@ accepted-got s a = by (readFile s) refl a
     by (got ds end) e t = record { end = end; read = rw e refl }
     by (bad q at) e t = absurd (let z : _≡_ {A = ℕ} 0 1 = cc in omega arith)
 
-pub accepted-run : (s : List ℕ) → Bytes s → Accepted s → Run s firstPlace (definitionsOn s)
+pub accepted-run : (s : List ℕ) → AreBytes s → Accepted s → Run s firstPlace (definitionsOn s)
 accepted-run s b a = file-run s b (accepted-got s a .read)

@@ -1,1 +1,4 @@
+pub mod Loads
 pub mod Theorems
+pub mod Played
+pub mod Calls

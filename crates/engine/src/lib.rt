@@ -4,7 +4,6 @@ mod exports;
 mod query;
 
 pub use commands::apply;
-pub use commands::step;
 pub use exports::engine_apply;
 pub use exports::engine_fresh;
 pub use exports::engine_arena;

@@ -6,6 +6,7 @@ pub mod FieldLaws
 pub mod NameLaws
 pub mod Definition
 pub mod Reader
+pub mod Names
 pub mod Writer
 pub mod Bounds
 pub mod Endings

@@ -4,6 +4,7 @@ use mathlib.Core.Bool.{Bool, true, false}
 use mathlib.Core.Path.{_≡_, refl, sym, ap, _∙_}
 use mathlib.Core.List.{List}
 use Rattle.words.specs.Choice.{either}
+use Rattle.words.specs.Bytes.{AreBytes}
 use Rattle.nodes.specs.declared.Node.{Node}
 use Rattle.nodes.specs.Formed.{rooted, apart}
 use Rattle.treerefinement.specs.Left.{left, numbers, numbers-setRun}
@@ -23,7 +24,7 @@ use Rattle.model.specs.Checks.{firstOf, treeChecks}
 use Rattle.model.specs.Effects.{definitionEffect, treeEffect, controlEffect, effect}
 use Rattle.model.specs.Formed.{formed}
 use Rattle.model.specs.Apply.{answerIn, isAccepted}
-use Rattle.model.specs.Demands.{AreBytes, displacedBy, turnedBy, displaced, numbersLeft}
+use Rattle.model.specs.Frame.{displacedBy, turnedBy, displaced, numbersLeft}
 use Rattle.state.specs.Known.{known}
 use Rattle.preservation.specs.TreeKept.{known-sound}
 use Rattle.frame.specs.Accepted.{tree-done}
@@ -70,7 +71,7 @@ control-nodes (controls.Fill n key count value) bytes e = refl
 control-nodes (controls.Map n key bus) bytes e = refl
 
 pub ordered-step : (c : Command) (bytes ws bs : List ℕ) (room : ℕ) → AreBytes bytes → formed ws bs ≡ true → isAccepted (answerIn c bytes (decode ws bs) room) ≡ true
-    → numbersLeft (displaced c (decode ws bs)) (view (decode ws bs)) ≡ numbersLeft (displaced c (decode ws bs)) (view (effect c bytes (decode ws bs)))
+    → numbersLeft (displaced true c (decode ws bs)) (view (decode ws bs)) ≡ numbersLeft (displaced true c (decode ws bs)) (view (effect c bytes (decode ws bs)))
 unfolding effect answerIn
 ordered-step (command.Definitions c) bytes ws bs room b f h =
     let e = decode ws bs in

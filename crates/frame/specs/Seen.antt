@@ -14,7 +14,7 @@ use Rattle.treerefinement.specs.Untouched.{Untouched, entries, untouched-entrie
 use Rattle.treerefinement.specs.Untouched as bridge
 use Rattle.model.specs.Engine.{Slot}
 use Rattle.model.specs.View.{PlainNode, viewOf, viewRows}
-use Rattle.model.specs.Demands.{Entry, numbersLeft, entriesLeft}
+use Rattle.model.specs.Frame.{Entry, numbersLeft, entriesLeft}
 use Rattle.refinement.specs.ControlsReplay.{AllOf}
 
 pub numbers-view : (test : ℕ → Bool) (slots : List Slot) (controls : List ℕ) (t : List Node) → numbersLeft test (viewRows slots controls t) ≡ numbers (left test t)

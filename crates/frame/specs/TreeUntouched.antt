@@ -24,7 +24,7 @@ use Rattle.model.specs.Engine.{Engine, residentOf}
 use Rattle.model.specs.Meaning.{meant, known, nodeNamed}
 use Rattle.model.specs.Checks.{firstOf, treeChecks, badAction}
 use Rattle.model.specs.Effects.{addBy, stayingNodes, freeRow, newGroup, newSynth, numberFor, treeEffect}
-use Rattle.model.specs.Demands.{displacedBy, turnedBy}
+use Rattle.model.specs.Frame.{displacedBy, turnedBy}
 use Rattle.preservation.specs.Passed.{passed, known-lives, group-named}
 
 -- a node that lives is in its own subtree

@@ -7,6 +7,7 @@ use native.Mathlib.Omega.{arith}
 use lib.Dec.{eqb}
 use borrow.Author.Tests.{ltb-true, not-false}
 use Rattle.words.specs.Choice.{pick, both, either}
+use Rattle.words.specs.Bytes.{AreBytes}
 use Rattle.refusals.specs.declared.Refusal.the-variants.{BadFlag, BadNumber, NumberLive, NoDefinition, NoNode, WrongKind, NodesFull, NoBus, NoNumber}
 use Rattle.nodes.specs.declared.Node.{Node}
 use Rattle.nodes.specs.Place.{lives}
@@ -36,7 +37,7 @@ use Rattle.model.specs.Checks.{firstOf, noResident, badAction, badTarget, full,
 use Rattle.model.specs.Effects.{stayingNodes, freeRow, newSynth, numberFor, definitionEffect, treeEffect, controlEffect, effect}
 use Rattle.model.specs.Formed.{formed}
 use Rattle.model.specs.Apply.{answerIn, isAccepted}
-use Rattle.model.specs.Demands.{AreBytes, touched, entriesLeft}
+use Rattle.model.specs.Frame.{touched, entriesLeft}
 use Rattle.state.specs.Known as state
 use Rattle.preservation.specs.Passed.{passed}
 use Rattle.preservation.specs.Rows.{free-row}
@@ -56,16 +57,16 @@ same-nodes test t = record { records = refl; parents = λ m e. refl }
 module _ (bytes sizes : List ℕ) (e : Engine) (k : Sound sizes e) where
   -- a command of the tree kind, by how the records that are left are seen
   tree-entries : (c : TreeCommand) → firstOf (treeChecks c bytes e) Done ≡ Done
-      → AllOf (λ (r : Node). viewOf (e .slots) (e .controls) r ≡ viewOf (treeEffect c bytes e .slots) (treeEffect c bytes e .controls) r) (left (touched (command.Tree c) e) (e .nodes))
-      → entriesLeft (touched (command.Tree c) e) (e .nodes) (view e) ≡ entriesLeft (touched (command.Tree c) e) (treeEffect c bytes e .nodes) (view (treeEffect c bytes e))
+      → AllOf (λ (r : Node). viewOf (e .slots) (e .controls) r ≡ viewOf (treeEffect c bytes e .slots) (treeEffect c bytes e .controls) r) (left (touched true (command.Tree c) e) (e .nodes))
+      → entriesLeft (touched true (command.Tree c) e) (e .nodes) (view e) ≡ entriesLeft (touched true (command.Tree c) e) (treeEffect c bytes e .nodes) (view (treeEffect c bytes e))
   tree-entries c h all =
-      entries-stay (touched (command.Tree c) e) (e .slots) (treeEffect c bytes e .slots) (e .controls) (treeEffect c bytes e .controls) (e .nodes) (treeEffect c bytes e .nodes)
-      (tree-untouched e (k .tree .root) (k .tree .distinct) (touched (command.Tree c) e) c bytes h (λ m b. b)) all
+      entries-stay (touched true (command.Tree c) e) (e .slots) (treeEffect c bytes e .slots) (e .controls) (treeEffect c bytes e .controls) (e .nodes) (treeEffect c bytes e .nodes)
+      (tree-untouched e (k .tree .root) (k .tree .distinct) (touched true (command.Tree c) e) c bytes h (λ m b. b)) all
 
   -- that changes neither slots nor controls
   plain : (c : TreeCommand) → treeEffect c bytes e .slots ≡ e .slots → treeEffect c bytes e .controls ≡ e .controls → firstOf (treeChecks c bytes e) Done ≡ Done
-      → entriesLeft (touched (command.Tree c) e) (e .nodes) (view e) ≡ entriesLeft (touched (command.Tree c) e) (treeEffect c bytes e .nodes) (view (treeEffect c bytes e))
-  plain c s q h = tree-entries c h (all-of (λ r. rw (s, q)) (left (touched (command.Tree c) e) (e .nodes)))
+      → entriesLeft (touched true (command.Tree c) e) (e .nodes) (view e) ≡ entriesLeft (touched true (command.Tree c) e) (treeEffect c bytes e .nodes) (view (treeEffect c bytes e))
+  plain c s q h = tree-entries c h (all-of (λ r. rw (s, q)) (left (touched true (command.Tree c) e) (e .nodes)))
 
   -- the new synth, which has a row of its own
   module _ (number action : ℕ) (target : NodeArgument) (h : firstOf (treeChecks (tree.NewSynth number action target) bytes e) Done ≡ Done) where
@@ -79,7 +80,7 @@ module _ (bytes sizes : List ℕ) (e : Engine) (k : Sound sizes e) where
     stays = stayingNodes action n (e .nodes)
 
     -- the records that are left are of nodes that stay
-    left-stays : left (touched (command.Tree made) e) stays ≡ left (touched (command.Tree made) e) (e .nodes)
+    left-stays : left (touched true (command.Tree made) e) stays ≡ left (touched true (command.Tree made) e) (e .nodes)
     left-stays = go (eqb action 4) refl
       where
         over : (m : ℕ) (p q : Bool) → p ≡ true → q ≡ true → either (either (eqb (numberFor number (e .next)) m) (both p q)) false ≡ true
@@ -89,11 +90,11 @@ module _ (bytes sizes : List ℕ) (e : Engine) (k : Sound sizes e) where
             both-ways true = refl
             both-ways false = refl
 
-        go : (b : Bool) → eqb action 4 ≡ b → left (touched (command.Tree made) e) (pick b (cut n (e .nodes)) (e .nodes)) ≡ left (touched (command.Tree made) e) (e .nodes)
-        go true q = left-cut (touched (command.Tree made) e) n (e .nodes) (λ m b. over m (eqb action 4) (isBelow m n (e .nodes)) q b)
+        go : (b : Bool) → eqb action 4 ≡ b → left (touched true (command.Tree made) e) (pick b (cut n (e .nodes)) (e .nodes)) ≡ left (touched true (command.Tree made) e) (e .nodes)
+        go true q = left-cut (touched true (command.Tree made) e) n (e .nodes) (λ m b. over m (eqb action 4) (isBelow m n (e .nodes)) q b)
         go false q = refl
 
-    synth-entries : entriesLeft (touched (command.Tree made) e) (e .nodes) (view e) ≡ entriesLeft (touched (command.Tree made) e) (treeEffect made bytes e .nodes) (view (treeEffect made bytes e))
+    synth-entries : entriesLeft (touched true (command.Tree made) e) (e .nodes) (view e) ≡ entriesLeft (touched true (command.Tree made) e) (treeEffect made bytes e .nodes) (view (treeEffect made bytes e))
     synth-entries =
         let p0 = passed BadFlag (badAction action) _ h in
         let p1 = passed BadNumber (both (isNegative number) (not (eqb number minusOne))) _ (p0 .1) in
@@ -108,11 +109,11 @@ module _ (bytes sizes : List ℕ) (e : Engine) (k : Sound sizes e) where
         let free : (freeRow stays < mostRows) × (rowTaken (freeRow stays) stays ≡ false) = free-row stays (a .room) in
         tree-entries made h
         (subst (λ (l : List Node). AllOf (λ (r : Node). viewOf (e .slots) (e .controls) r ≡ viewOf (e .slots) (treeEffect made bytes e .controls) r) l) left-stays
-        (all-left (λ (r : Node). viewOf (e .slots) (e .controls) r ≡ viewOf (e .slots) (treeEffect made bytes e .controls) r) (touched (command.Tree made) e) stays
+        (all-left (λ (r : Node). viewOf (e .slots) (e .controls) r ≡ viewOf (e .slots) (treeEffect made bytes e .controls) r) (touched true (command.Tree made) e) stays
         (synth-alike (e .slots) (e .controls) (k .words) slot (freeRow stays) (e .next) (free .0) stays (free .1) (within-formed (a .within) (e .next) (k .tree .fields)))))
 
   tree-step : (c : TreeCommand) → firstOf (treeChecks c bytes e) Done ≡ Done
-      → entriesLeft (touched (command.Tree c) e) (e .nodes) (view e) ≡ entriesLeft (touched (command.Tree c) e) (treeEffect c bytes e .nodes) (view (treeEffect c bytes e))
+      → entriesLeft (touched true (command.Tree c) e) (e .nodes) (view e) ≡ entriesLeft (touched true (command.Tree c) e) (treeEffect c bytes e .nodes) (view (treeEffect c bytes e))
   tree-step (tree.NewSynth number action target) h = synth-entries number action target h
   tree-step (tree.NewGroup number action target) h = plain (tree.NewGroup number action target) refl refl h
   tree-step (tree.Free a) h = plain (tree.Free a) refl refl h
@@ -142,7 +143,7 @@ module _ (bytes sizes : List ℕ) (e : Engine) (k : Sound sizes e) where
       go false q = omega (arith, ltb-true bus busCount q)
 
   control-step : (c : ControlCommand) → firstOf (controlChecks c bytes e) Done ≡ Done
-      → entriesLeft (touched (command.Controls c) e) (e .nodes) (view e) ≡ entriesLeft (touched (command.Controls c) e) (controlEffect c bytes e .nodes) (view (controlEffect c bytes e))
+      → entriesLeft (touched true (command.Controls c) e) (e .nodes) (view e) ≡ entriesLeft (touched true (command.Controls c) e) (controlEffect c bytes e .nodes) (view (controlEffect c bytes e))
   control-step (controls.Set n key value) h =
       entries-stay (λ m. isBelow m (meant n e) (e .nodes)) (e .slots) (e .slots) (e .controls) (controlEffect (controls.Set n key value) bytes e .controls) (e .nodes) (e .nodes)
       (same-nodes (λ m. isBelow m (meant n e) (e .nodes)) (e .nodes))
@@ -159,8 +160,8 @@ module _ (bytes sizes : List ℕ) (e : Engine) (k : Sound sizes e) where
       (controls-alike (mapTo (mappingTo bus)) (map-fits-word bus (p1 .0)) key bytes 1 (meant n e) (e .next) (e .slots) (e .controls) (e .nodes) (k .words) (k .tree .rowsDiffer) (k .tree .fields))
 
 pub untouched-step : (c : Command) (bytes ws bs : List ℕ) (room : ℕ) → AreBytes bytes → formed ws bs ≡ true → isAccepted (answerIn c bytes (decode ws bs) room) ≡ true
-    → entriesLeft (touched c (decode ws bs)) (decode ws bs .nodes) (view (decode ws bs))
-    ≡ entriesLeft (touched c (decode ws bs)) (effect c bytes (decode ws bs) .nodes) (view (effect c bytes (decode ws bs)))
+    → entriesLeft (touched true c (decode ws bs)) (decode ws bs .nodes) (view (decode ws bs))
+    ≡ entriesLeft (touched true c (decode ws bs)) (effect c bytes (decode ws bs) .nodes) (view (effect c bytes (decode ws bs)))
 unfolding effect answerIn
 untouched-step (command.Definitions c) bytes ws bs room b f h =
     definition-step bytes _ (decode ws bs) (known-sound ws bs (state.known ws bs f)) c (definitions-done c bytes (decode ws bs) h)

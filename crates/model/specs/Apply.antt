@@ -6,6 +6,7 @@ use mathlib.Core.List.{List, [], _∷_, _++_}
 use lib.ListN.{length, drop}
 use lib.Dec.{eqb}
 use Rattle.words.specs.Choice.{pick, both}
+use Rattle.words.specs.Bytes.{AreBytes}
 use Rattle.faults.specs.Faults.{faultNumber}
 use Rattle.refusals.specs.Refusals.{numberOf}
 use Rattle.refusals.specs.declared.Refusal.the-variants.{BadState}
@@ -57,12 +58,15 @@ replyOf (command.Controls c) bytes e = []
 replyOf (command.Buses c) bytes e = []
 replyOf (command.Query q) bytes e = reply q bytes e
 
--- a call of a command with its bytes on the lent words, arena and reply buffer: it answers a and leaves the words, the arena and the buffer so; "change no lent byte" where refused
+-- a call of a command with its bytes on the lent words, arena and reply buffer: it answers a and leaves the words, the arena and the buffer so; "change no lent byte" where refused.
+-- What is lent as bytes is bytes
 pub record Does (c : Command) (bytes ws bs out : List ℕ) (a : Answer) (ws′ bs′ out′ : List ℕ) : Type 0 where
   pub answers : a ≡ answer c bytes ws bs out
   pub words : ws′ ≡ pick (isAccepted (answer c bytes ws bs out)) (wordsAfter c bytes ws bs) ws
   pub arena : bs′ ≡ pick (isAccepted (answer c bytes ws bs out)) (arenaAfter c bytes ws bs) bs
   pub reply : out′ ≡ written (answer c bytes ws bs out) (replyOf c bytes (decode ws bs)) out
+  pub lentBytes : AreBytes bytes
+  pub lentArena : AreBytes bs
 
 -- "Making a fresh engine tests the sizes only."
 abbrev pub sized : List ℕ → List ℕ → Bool
@@ -76,6 +80,12 @@ freshWords ws arena = pick (sized ws arena) freshState ws
 
 unfoldable pub freshArenas : List ℕ → List ℕ → List ℕ
 freshArenas ws arena = pick (sized ws arena) freshArena arena
+
+-- a fresh engine made in the lent words and in the lent arena: it answers a and leaves the words and the arena so
+pub record Freshly (ws bs : List ℕ) (a : Answer) (ws′ bs′ : List ℕ) : Type 0 where
+  pub answers : a ≡ freshAnswer ws bs
+  pub words : ws′ ≡ freshWords ws bs
+  pub arena : bs′ ≡ freshArenas ws bs
 
 -- an answer as one number: the refusal's number (0 accepted) plus 256 times the place (refusals 2 to 11) or the length written
 abbrev pub answerNumber : Answer → ℕ

@@ -1,43 +1,42 @@
 -- The three demands, each as a statement over the definitions that the contracts cite.
 use Prim.{Unit}
-use Prim.Native.Nat.{ℕ}
-use mathlib.Core.Bool.{Bool, true, false, not}
+use Prim.Native.Nat.{ℕ, _≤_, _<_}
+use mathlib.Core.Bool.{Bool, true, false}
 use mathlib.Core.Path.{_≡_}
-use mathlib.Core.List.{List, [], _∷_}
+use mathlib.Core.List.{List, [], _∷_, _++_}
 use mathlib.Core.Option.{Option, none, some}
-use lib.ListN.{length}
+use lib.ListN.{length, drop}
 use lib.Dec.{ltb, eqb}
-use Rattle.words.specs.Choice.{pick, both, either}
+use Rattle.words.specs.Choice.{pick, either}
 use Rattle.faults.specs.Faults.{faultNumber}
+use Rattle.refusals.specs.declared.Refusal.the-variants.{NoRoom}
 use Rattle.refusals.specs.Refusals.{numberOf}
 use Rattle.format.specs.Definition.{Definition}
-use Rattle.format.specs.Bounds.{every}
 use Rattle.nodes.specs.declared.Node.{Node}
 use Rattle.nodes.specs.Place.{isGroup, lives}
 use Rattle.nodes.specs.Edit.{isBelow}
-use Rattle.nodes.specs.Structure.{parentOf, childrenOf}
+use Rattle.nodes.specs.Structure.{parentOf, childrenOf, parent, children}
 use Rattle.nodes.specs.Formed.{apart}
-use Rattle.values.specs.declared.NodeArgument.{NodeArgument}
 use Rattle.model.specs.declared.DefinitionCommand.the-variants as definitions
 use Rattle.model.specs.declared.TreeCommand.{TreeCommand}
 use Rattle.model.specs.declared.TreeCommand.the-variants as tree
-use Rattle.model.specs.declared.ControlCommand.{ControlCommand}
-use Rattle.model.specs.declared.ControlCommand.the-variants as controls
 use Rattle.model.specs.declared.Query.{Query}
 use Rattle.model.specs.declared.Query.the-variants as query
 use Rattle.model.specs.declared.Command.{Command}
 use Rattle.model.specs.declared.Command.the-variants as command
 use Rattle.model.specs.declared.Answer.{Answer}
 use Rattle.model.specs.declared.Answer.the-variants.{Done, Replied, Refused, RefusedAt}
-use Rattle.model.specs.Engine.{Slot, Engine, decode, slotAt, definitionIn, residentOf, residents}
+use Rattle.model.specs.Engine.{Slot, Engine, slotAt, definitionIn, residentOf, residents}
 use Rattle.model.specs.Formed.{formed}
-use Rattle.model.specs.View.{Kind, group, synth, PlainNode, Row, view}
-use Rattle.model.specs.Meaning.{meant, nodeNamed}
+use Rattle.model.specs.View.{Kind, group, synth, Row, view}
+use Rattle.model.specs.Meaning.{nodeNamed}
 use Rattle.model.specs.Effects.{numberFor, effect}
-use Rattle.model.specs.Replies.{replyTo, reply}
-use Rattle.model.specs.After.{wordsAfter, arenaAfter, freshState, freshArena}
-use Rattle.model.specs.Apply.{answerIn, answer, isAccepted, written, replyOf, Does}
-use Rattle.model.specs.Plain.{Plain, atFirst, meaning, meantIn, fed, plainRows, plainOrder}
+use Rattle.model.specs.Replies.{reply}
+use Rattle.model.specs.Apply.{queryAnswer, answerIn, answer, isAccepted, written, replyOf}
+use Rattle.model.specs.Chain.{State, engineIn, Call, Applied, Chain, leftBy, Fresh}
+use Rattle.model.specs.Plain.{Plain, ifSome, atFirst, meaning, numberIn, fed, plainRows, plainOrder}
+use Rattle.model.specs.PlainReplies.{plainReply, isExport}
+use Rattle.model.specs.Frame.{displaced, touched, numbersLeft, entriesLeft}
 
 -- the definition that a name means in the engine: its resident's
 abbrev pub definitionAtSlot : List Slot → ℕ → Option Definition
@@ -46,10 +45,6 @@ definitionAtSlot slots k = pick (ltb k (length slots)) (some (definitionIn (slot
 abbrev pub meaningIn : List ℕ → Engine → Option Definition
 meaningIn name e = definitionAtSlot (e .slots) (residentOf name (e .slots))
 
--- a file as a call's bytes: each below 256
-abbrev pub AreBytes : List ℕ → Type 0
-AreBytes s = every (λ b. ltb b 256) s ≡ true
-
 -- the number of the refusal that an answer gives, 0 where it gives none
 abbrev pub refusalIn : Answer → ℕ
 refusalIn Done = 0
@@ -57,73 +52,50 @@ refusalIn (Replied n) = 0
 refusalIn (Refused r) = numberOf r
 refusalIn (RefusedAt r at) = faultNumber r
 
--- of what a call does: any bytes and any command, in any lent state, end in the effect asked for or in one numbered refusal, by the table's order of checks. A refusal
+-- of a call in a state: any bytes and any command, in any lent state, end in the effect asked for or in one numbered refusal, by the table's order of checks. A refusal
 -- changes nothing in the state or the reply buffer. A command that is accepted was given in a well-formed state, and leaves one.
-pub record Ends (c : Command) (bytes ws bs out : List ℕ) (a : Answer) (ws′ bs′ out′ : List ℕ) : Type 0 where
-  pub table : a ≡ answer c bytes ws bs out
-  pub effected : isAccepted a ≡ true → decode ws′ bs′ ≡ effect c bytes (decode ws bs)
-  pub replied : isAccepted a ≡ true → out′ ≡ written a (replyOf c bytes (decode ws bs)) out
-  pub kept : isAccepted a ≡ true → formed ws′ bs′ ≡ true
-  pub unchanged : isAccepted a ≡ false → (ws′ ≡ ws) × ((bs′ ≡ bs) × (out′ ≡ out))
+pub record Ends (c : Call) (s : State) : Type 0 where
+  pub table : c .answer ≡ answer (c .command) (c .bytes) (s .words) (s .arena) (c .out)
+  pub effected : isAccepted (c .answer) ≡ true → engineIn (c .left) ≡ effect (c .command) (c .bytes) (engineIn s)
+  pub replied : isAccepted (c .answer) ≡ true → c .reply ≡ written (c .answer) (replyOf (c .command) (c .bytes) (engineIn s)) (c .out)
+  pub kept : isAccepted (c .answer) ≡ true → formed (c .left .words) (c .left .arena) ≡ true
+  pub unchanged : isAccepted (c .answer) ≡ false → (c .left ≡ s) × (c .reply ≡ c .out)
 
--- Demand 1, of whatever a call does: `Does` is what `engine::apply` promises of every input
+-- Demand 1, of every call: `Applied` is what `engine::apply` promises of every input
 abbrev pub Demand1 : Type 0
-Demand1 =
-    (c : Command) (bytes ws bs out : List ℕ) (a : Answer) (ws′ bs′ out′ : List ℕ)
-    → AreBytes bytes → Does c bytes ws bs out a ws′ bs′ out′ → Ends c bytes ws bs out a ws′ bs′ out′
+Demand1 = (c : Call) (s : State) → Applied c s → Ends c s
 
 abbrev pub receive : Command
 receive = command.Definitions definitions.Receive
 
--- Demand 2: what a fresh engine accepts is exported byte for byte; an export loaded into a fresh one gives the same definitions.
+abbrev pub export : Command
+export = command.Query query.Export
+
+-- a call that exports a file: accepted with the file's length exactly if the buffer has room; the buffer is then the file, and past it as it was
+pub record Exports (file : List ℕ) (c : Call) : Type 0 where
+  pub room : length file ≤ length (c .out) → (c .answer ≡ Replied (length file)) × (c .reply ≡ file ++ drop (length file) (c .out))
+  pub noRoom : length (c .out) < length file → (c .answer ≡ Refused NoRoom) × (c .reply ≡ c .out)
+
+-- a call that exports a file, which a fresh engine then accepts by a call; after that each name means the definition that it means here
+pub record Reloads (c : Call) (s : State) : Type 0 where
+  pub file : List ℕ
+  pub exports : Exports file c
+  pub loads : (t : State) → Fresh t → (load : Call) → load .command ≡ receive → load .bytes ≡ file → Applied load t
+      → (load .answer ≡ Done) × ((name : List ℕ) → meaningIn name (engineIn (load .left)) ≡ meaningIn name (engineIn s))
+
+-- Demand 2: what a fresh engine accepts is exported byte for byte; an export, from every well-formed state, loaded into a fresh engine gives the same definitions
 pub record Demand2 : Type 0 where
-  pub exported : (file : List ℕ) → AreBytes file → answerIn receive file (decode freshState freshArena) 0 ≡ Done
-      → reply query.Export [] (decode (wordsAfter receive file freshState freshArena) (arenaAfter receive file freshState freshArena)) ≡ file
-  pub loaded : (ws bs : List ℕ) → AreBytes bs → formed ws bs ≡ true
-      → (answerIn receive (reply query.Export [] (decode ws bs)) (decode freshState freshArena) 0 ≡ Done)
-      × ((name : List ℕ)
-      → meaningIn name
-      (decode (wordsAfter receive (reply query.Export [] (decode ws bs)) freshState freshArena) (arenaAfter receive (reply query.Export [] (decode ws bs)) freshState freshArena))
-      ≡ meaningIn name (decode ws bs))
+  pub exported : (s : State) → Fresh s → (load next : Call) → load .command ≡ receive → next .command ≡ export → Chain (load ∷ (next ∷ [])) s
+      → load .answer ≡ Done → Exports (load .bytes) next
+  pub loaded : (s : State) → formed (s .words) (s .arena) ≡ true → (c : Call) → c .command ≡ export → Applied c s → Reloads c s
 
--- a call: a command, its bytes, and the reply buffer that is lent
-pub record Call : Type 0 where
-  pub command : Command
-  pub bytes : List ℕ
-  pub out : List ℕ
+-- the plain tree, fed each call's command and whether it was accepted
+abbrev pub fedBy : Call → Plain → Plain
+fedBy c p = fed (c .command) (c .bytes) (isAccepted (c .answer)) p
 
-pub record State : Type 0 where
-  pub words : List ℕ
-  pub arena : List ℕ
-
-abbrev pub engineIn : State → Engine
-engineIn s = decode (s .words) (s .arena)
-
-abbrev pub answerTo : Call → State → Answer
-answerTo c s = answer (c .command) (c .bytes) (s .words) (s .arena) (c .out)
-
-abbrev pub acceptedIn : Call → State → Bool
-acceptedIn c s = isAccepted (answerTo c s)
-
--- the state after a call
-abbrev pub after : Call → State → State
-after c s = record {
-  words = pick (acceptedIn c s) (wordsAfter (c .command) (c .bytes) (s .words) (s .arena)) (s .words);
-  arena = pick (acceptedIn c s) (arenaAfter (c .command) (c .bytes) (s .words) (s .arena)) (s .arena);
-}
-
--- one claim about every sequence of loads and commands from a fresh engine
-abbrev pub freshEngine : State
-freshEngine = record { words = freshState; arena = freshArena }
-
-unfoldable pub run : List Call → State → State
-run [] s = s
-run (c ∷ cs) s = run cs (after c s)
-
--- the plain tree, fed each command and whether it was accepted
-unfoldable pub replay : List Call → State → Plain → Plain
-replay [] s p = p
-replay (c ∷ cs) s p = replay cs (after c s) (fed (c .command) (c .bytes) (acceptedIn c s) p)
+unfoldable pub replay : List Call → Plain → Plain
+replay [] p = p
+replay (c ∷ cs) p = replay cs (fedBy c p)
 
 -- the definition that the name of an accepted `/s_new` meant, if it made the synth n; else what was known before
 abbrev pub madeBy : TreeCommand → List ℕ → Engine → ℕ → Option Definition → Option Definition
@@ -148,7 +120,7 @@ madeIn (command.Query q) bytes e n known = known
 -- what the name meant when the last synth n was made
 unfoldable pub made : List Call → State → ℕ → Option Definition → Option Definition
 made [] s n known = known
-made (c ∷ cs) s n known = made cs (after c s) n (pick (acceptedIn c s) (madeIn (c .command) (c .bytes) (engineIn s) n known) known)
+made (c ∷ cs) s n known = made cs (c .left) n (pick (isAccepted (c .answer)) (madeIn (c .command) (c .bytes) (engineIn s) n known) known)
 
 -- the definition of the synth n in the tree
 abbrev pub definitionOfKind : Kind → Option Definition
@@ -163,83 +135,6 @@ unfoldable pub holds : ℕ → List ℕ → Bool
 holds n [] = false
 holds n (m ∷ ms) = either (eqb m n) (holds n ms)
 
--- the node n is in a subtree that the command adds, moves or frees
-abbrev pub displacedBy : TreeCommand → Engine → ℕ → Bool
-displacedBy (tree.NewSynth number action target) e n =
-    either (eqb (numberFor number (e .next)) n) (both (eqb action 4) (isBelow n (meant target e) (e .nodes)))
-displacedBy (tree.NewGroup number action target) e n = either (eqb number n) (both (eqb action 4) (isBelow n (meant target e) (e .nodes)))
-displacedBy (tree.Free a) e n = isBelow n (meant a e) (e .nodes)
-displacedBy (tree.FreeAll g) e n = both (isBelow n (meant g e) (e .nodes)) (not (eqb n (meant g e)))
-displacedBy (tree.DeepFree g) e n = both (isBelow n (meant g e) (e .nodes)) (not (isGroup (nodeNamed n (e .nodes))))
-displacedBy (tree.Before a b) e n = isBelow n (meant a e) (e .nodes)
-displacedBy (tree.After a b) e n = isBelow n (meant a e) (e .nodes)
-displacedBy (tree.Head g a) e n = isBelow n (meant a e) (e .nodes)
-displacedBy (tree.Tail g a) e n = isBelow n (meant a e) (e .nodes)
-displacedBy (tree.Run a flag) e n = false
-
-abbrev pub displaced : Command → Engine → ℕ → Bool
-displaced (command.Definitions c) e n = false
-displaced (command.Tree c) e n = displacedBy c e n
-displaced (command.Controls c) e n = false
-displaced (command.Buses c) e n = false
-displaced (command.Query q) e n = false
-
--- .. or that it turns on or off, sets or maps
-abbrev pub turnedBy : TreeCommand → Engine → ℕ → Bool
-turnedBy (tree.NewSynth number action target) e n = false
-turnedBy (tree.NewGroup number action target) e n = false
-turnedBy (tree.Free a) e n = false
-turnedBy (tree.FreeAll g) e n = false
-turnedBy (tree.DeepFree g) e n = false
-turnedBy (tree.Before a b) e n = false
-turnedBy (tree.After a b) e n = false
-turnedBy (tree.Head g a) e n = false
-turnedBy (tree.Tail g a) e n = false
-turnedBy (tree.Run a flag) e n = isBelow n (meant a e) (e .nodes)
-
-abbrev pub controlNode : ControlCommand → NodeArgument
-controlNode (controls.Set n key value) = n
-controlNode (controls.Fill n key count value) = n
-controlNode (controls.Map n key bus) = n
-
-abbrev pub touched : Command → Engine → ℕ → Bool
-touched (command.Definitions c) e n = false
-touched (command.Tree c) e n = either (displacedBy c e n) (turnedBy c e n)
-touched (command.Controls c) e n = isBelow n (meant (controlNode c) e) (e .nodes)
-touched (command.Buses c) e n = false
-touched (command.Query q) e n = false
-
--- the numbers of rows that fail a test
-unfoldable pub numbersLeft : (ℕ → Bool) → List Row → List ℕ
-numbersLeft test [] = []
-numbersLeft test (r ∷ l) = pick (test (r .node .number)) (numbersLeft test l) (r .node .number ∷ numbersLeft test l)
-
--- a node with its parent
-pub record Entry : Type 0 where
-  pub node : PlainNode
-  pub parent : ℕ
-
--- the nodes whose numbers fail a test, each with its parent in the tree t
-unfoldable pub entriesLeft : (ℕ → Bool) → List Node → List Row → List Entry
-entriesLeft test t [] = []
-entriesLeft test t (r ∷ l) =
-    pick (test (r .node .number)) (entriesLeft test t l) (record { node = r .node; parent = parentOf (r .node .number) t } ∷ entriesLeft test t l)
-
--- of one call between the state before it and the state after it: never refusal 1, each answer as the table says; what a command doesn't touch stays as it was: nodes that
--- it neither adds, moves nor frees keep their order among themselves; a node outside the subtrees that it adds, moves, sets, maps, turns on or off, or frees keeps its
--- kind, parent, definition, run flag and controls
-pub record StepHolds (c : Call) (s : State) : Type 0 where
-  pub sound : refusalIn (answerTo c s) ≡ 1 → ⊥
-  pub table : answerTo c s ≡ answerIn (c .command) (c .bytes) (engineIn s) (length (c .out))
-  pub ordered : numbersLeft (displaced (c .command) (engineIn s)) (view (engineIn s))
-      ≡ numbersLeft (displaced (c .command) (engineIn s)) (view (engineIn (after c s)))
-  pub untouched : entriesLeft (touched (c .command) (engineIn s)) (engineIn s .nodes) (view (engineIn s))
-      ≡ entriesLeft (touched (c .command) (engineIn s)) (engineIn (after c s) .nodes) (view (engineIn (after c s)))
-
-unfoldable pub EachHolds : List Call → State → Type 0
-EachHolds [] s = Unit {0}
-EachHolds (c ∷ cs) s = StepHolds c s × EachHolds cs (after c s)
-
 -- of a tree: numbers are distinct, every node descends from the root by one parent
 pub record TreeHolds (t : List Node) : Type 0 where
   pub distinct : apart t ≡ true
@@ -248,39 +143,54 @@ pub record TreeHolds (t : List Node) : Type 0 where
       → (lives (parentOf n t) t ≡ true) × ((isGroup (nodeNamed (parentOf n t) t) ≡ true) × (holds n (childrenOf (parentOf n t) t) ≡ true))
   pub oneParent : (n g : ℕ) → lives n t ≡ true → holds n (childrenOf g t) ≡ true → g ≡ parentOf n t
 
--- "One reply for all queries breaks it by the replay model": the reply to a query, of what the plain tree holds; all but export's
-abbrev pub plainReply : Query → List ℕ → Plain → List ℕ
-plainReply q bytes p = replyTo q (λ a. meantIn a p) bytes (plainRows 0 (p .tree)) (p .buses) (length (p .names)) []
-
-abbrev pub isExport : Query → Bool
-isExport (query.Node n) = false
-isExport (query.Control n key) = false
-isExport (query.Bus b) = false
-isExport (query.Tree g flag) = false
-isExport query.Status = false
-isExport query.Export = true
+-- the latest synth or none: its number in the state, or 0
+abbrev pub latestSynth : ℕ → Option ℕ
+latestSynth latest = pick (eqb latest 0) none (some latest)
 
 -- of the state after a sequence and the plain tree that was fed the same: everything equals paper 01's plain tree, the kept running order equals the one worked
 -- out afresh. "All that the plain tree holds is compared: definitions, each synth's and each name's, as read, not by slot; controls by own float and mapping; every float by its bits."
+-- "One reply for all queries breaks it by the replay model": each reply but export's is the plain tree's own.
 pub record Same (e : Engine) (p : Plain) : Type 0 where
   pub nodes : view e ≡ plainRows 0 (p .tree)
+  pub parents : (n : ℕ) → parentOf n (e .nodes) ≡ parent numberIn n (p .tree)
+  -- "each group's children from head to tail"
+  pub headToTail : (n : ℕ) → childrenOf n (e .nodes) ≡ children numberIn n (p .tree)
   pub names : (name : List ℕ) → meaningIn name e ≡ meaning name (p .names)
   pub nameCount : length (residents (e .slots)) ≡ length (p .names)
   pub next : e .next ≡ p .next
-  pub latest : e .latest ≡ p .latest
+  pub latest : latestSynth (e .latest) ≡ p .latest
   pub buses : e .buses ≡ p .buses
   pub order : e .order ≡ plainOrder p
-  pub replies : (q : Query) (bytes : List ℕ) → isExport q ≡ false → reply q bytes e ≡ plainReply q bytes p
+  pub replies : (q : Query) (bytes : List ℕ) (room : ℕ) → isExport q ≡ false → isAccepted (queryAnswer q bytes e room) ≡ true → plainReply q bytes p ≡ some (reply q bytes e)
 
--- every call's bytes are bytes
-unfoldable pub AllBytes : List Call → Type 0
-AllBytes [] = Unit {0}
-AllBytes (c ∷ cs) = AreBytes (c .bytes) × AllBytes cs
+-- the reply to a command: a query's of what the plain tree holds, export's of the residents in slot order
+abbrev pub replyIn : Command → List ℕ → Engine → Plain → List ℕ
+replyIn (command.Definitions c) bytes e p = []
+replyIn (command.Tree c) bytes e p = []
+replyIn (command.Controls c) bytes e p = []
+replyIn (command.Buses c) bytes e p = []
+replyIn (command.Query q) bytes e p = pick (isExport q) (reply q bytes e) (ifSome (plainReply q bytes p) (λ l. l) [])
 
--- Demand 3, of one sequence; it is claimed of every one whose bytes are bytes: `(cs : List Call) → AllBytes cs → Demand3 cs`
-pub record Demand3 (cs : List Call) : Type 0 where
-  pub each : EachHolds cs freshEngine
-  pub same : Same (engineIn (run cs freshEngine)) (replay cs freshEngine atFirst)
-  pub tree : TreeHolds (engineIn (run cs freshEngine) .nodes)
+-- of one call in a state, with the plain tree fed what came before: never refusal 1, each answer as the table says, the reply buffer with the plain tree's reply; what a
+-- command doesn't touch stays as it was: nodes that it neither adds, moves nor frees keep their order among themselves; a node outside the subtrees that it adds, moves,
+-- sets, maps, turns on or off, or frees keeps its kind, parent, definition, run flag and controls
+pub record StepHolds (c : Call) (s : State) (p : Plain) : Type 0 where
+  pub sound : refusalIn (c .answer) ≡ 1 → ⊥
+  pub table : c .answer ≡ answerIn (c .command) (c .bytes) (engineIn s) (length (c .out))
+  pub replied : c .reply ≡ written (c .answer) (replyIn (c .command) (c .bytes) (engineIn s) p) (c .out)
+  pub ordered : numbersLeft (displaced (isAccepted (c .answer)) (c .command) (engineIn s)) (view (engineIn s))
+      ≡ numbersLeft (displaced (isAccepted (c .answer)) (c .command) (engineIn s)) (view (engineIn (c .left)))
+  pub untouched : entriesLeft (touched (isAccepted (c .answer)) (c .command) (engineIn s)) (engineIn s .nodes) (view (engineIn s))
+      ≡ entriesLeft (touched (isAccepted (c .answer)) (c .command) (engineIn s)) (engineIn (c .left) .nodes) (view (engineIn (c .left)))
+
+unfoldable pub EachHolds : List Call → State → Plain → Type 0
+EachHolds [] s p = Unit {0}
+EachHolds (c ∷ cs) s p = StepHolds c s p × EachHolds cs (c .left) (fedBy c p)
+
+-- Demand 3, of calls in a row in a fresh state; it is claimed of all: `(s : State) → Fresh s → (cs : List Call) → Chain cs s → Demand3 cs s`
+pub record Demand3 (cs : List Call) (s : State) : Type 0 where
+  pub each : EachHolds cs s atFirst
+  pub same : Same (engineIn (leftBy cs s)) (replay cs atFirst)
+  pub tree : TreeHolds (engineIn (leftBy cs s) .nodes)
   -- each synth has the definition its name meant when it was made
-  pub synths : (n : ℕ) (d : Definition) → definitionOfSynth n (view (engineIn (run cs freshEngine))) ≡ some d → made cs freshEngine n none ≡ some d
+  pub synths : (n : ℕ) (d : Definition) → definitionOfSynth n (view (engineIn (leftBy cs s))) ≡ some d → made cs s n none ≡ some d

@@ -2,12 +2,11 @@
 use Prim.Native.Nat.{ℕ, zero, suc, _+_, _*_}
 use mathlib.Core.Bool.{Bool, false}
 use mathlib.Core.List.{List, [], _∷_}
-use mathlib.Core.Option.{Option, none, some}
 use lib.ListN.{length, take, drop, getD}
 use lib.Dec.{eqb}
 use Rattle.words.specs.Choice.{pick, both, either}
 use Rattle.format.specs.Read.{Read, got, bad}
-use Rattle.format.specs.Definition.{ParameterName, Definition}
+use Rattle.format.specs.Definition.{Definition}
 use Rattle.format.specs.Reader.{readDefinition, sameName}
 use Rattle.nodes.specs.declared.Node.{Node}
 use Rattle.values.specs.Controls.{ControlValue, controlAt}
@@ -97,13 +96,3 @@ controlsFrom (suc n) us = controlAt (getD us 0 0) (getD us 1 0) ∷ controlsFrom
 -- a synth's controls: as many as its definition has parameters, from its row on
 abbrev pub controlsOf : List Slot → List ℕ → Node → List ControlValue
 controlsOf slots controls r = controlsFrom (length (definitionOf slots r .front .values)) (drop (rowWords * r .row) controls)
-
--- "A name means its first entry in that synth's own definition."
-unfoldable pub firstIndex : List ℕ → List ParameterName → Option ℕ
-firstIndex name [] = none
-firstIndex name (p ∷ more) = pick (sameName (p .name) name) (some (p .index)) (firstIndex name more)
-
--- the first name of an index
-unfoldable pub firstName : ℕ → List ParameterName → Option (List ℕ)
-firstName i [] = none
-firstName i (p ∷ more) = pick (eqb (p .index) i) (some (p .name)) (firstName i more)

@@ -1,7 +1,7 @@
 -- The examples that paper 01 marks "Proved", as one table with one proved statement.
-use Prim.Native.Nat.{ℕ, _*_}
+use Prim.Native.Nat.{ℕ, _*_, _+_}
 use mathlib.Core.Bool.{true}
-use mathlib.Core.Path.{_≡_, refl}
+use mathlib.Core.Path.{_≡_, refl, ap, _∙_}
 use mathlib.Core.List.{List, [], _∷_, _++_}
 use lib.ListN.{length, take, drop, replicate}
 use Rattle.format.specs.Read.{repeat}
@@ -23,30 +23,32 @@ use Rattle.model.specs.declared.ControlCommand.the-variants.{Set, Map}
 use Rattle.model.specs.declared.BusCommand.the-variants as buses
 use Rattle.model.specs.declared.Query.the-variants as query
 use Rattle.model.specs.declared.Command.the-variants.{Definitions, Tree, Controls, Buses, Query}
-use Rattle.model.specs.Engine.{held, residentFrom, controlsFrom, firstIndex}
+use Rattle.format.specs.Names.{firstIndex}
+use Rattle.model.specs.Engine.{Engine, held, residentFrom, controlsFrom}
 use Rattle.model.specs.View.{viewRows}
 use Rattle.model.specs.Meaning.{minusOne, nodeNamed}
 use Rattle.model.specs.Checks.{firstOf, namesOf, staying}
 use Rattle.model.specs.Effects.{retired, freeFrom, loaded, freeRowFrom, initialWords, changeWords, changeAll, effect}
 use Rattle.model.specs.Replies.{plainNamed, replyTo}
 use Rattle.model.specs.Apply.{queryAnswer, answerIn}
-use Rattle.model.specs.Script.{Line, line, played, answersFrom, replied, answersOf, orderAfter, verdict, Example, example, agrees}
+use Rattle.model.specs.Fresh.{freshEngine, freshParts, fresh-parts}
+use Rattle.model.specs.Script.{Line, line, played, answersOf, replied, orderAfter, Example, example, agrees}
 
 -- the header of a file of so many definitions
-abbrev header : ℕ → List ℕ
+abbrev pub header : ℕ → List ℕ
 header n = 83 ∷ 67 ∷ 103 ∷ 102 ∷ 0 ∷ 0 ∷ 0 ∷ 2 ∷ 0 ∷ n ∷ []
 
 -- four bytes of a small number
-abbrev int : ℕ → List ℕ
+abbrev pub int : ℕ → List ℕ
 int n = 0 ∷ 0 ∷ 0 ∷ n ∷ []
 
 -- "a", no constants, so many parameters at 0.0, names, units, no variants
-abbrev fileOf : ℕ → List ℕ → List ℕ → List ℕ
+abbrev pub fileOf : ℕ → List ℕ → List ℕ → List ℕ
 fileOf parameters names units =
     header 1 ++ (1 ∷ 97 ∷ []) ++ int 0 ++ int parameters ++ replicate (4 * parameters) 0 ++ names ++ units ++ (0 ∷ 0 ∷ [])
 
 -- one parameter name, `x`, of the index i
-abbrev oneName : ℕ → List ℕ
+abbrev pub oneName : ℕ → List ℕ
 oneName i = int 1 ++ (1 ∷ 120 ∷ []) ++ int i
 
 -- one unit, `U`, whose one input is output 0 of the unit u
@@ -64,10 +66,13 @@ pingName = 112 ∷ 105 ∷ 110 ∷ 103 ∷ []
 abbrev pub freqName : List ℕ
 freqName = 102 ∷ 114 ∷ 101 ∷ 113 ∷ []
 
+abbrev pub load : List ℕ → Line
+load file = line (Definitions definitions.Receive) file
+
 -- group 1 at tail of 0, "ping" 1000 at tail of 1, "ping" 1001 before 1000
 abbrev show : List Line
 show =
-    line (Definitions definitions.Receive) ping
+    load ping
     ∷ line (Tree (NewGroup 1 1 (argument 0))) []
     ∷ line (Tree (NewSynth 1000 1 (argument 1))) pingName
     ∷ line (Tree (NewSynth 1001 2 (argument 1000))) pingName
@@ -88,38 +93,51 @@ abbrev unmapped : List Line
 unmapped = line (Controls (Map (argument 1000) Name minusOne)) freqName ∷ []
 
 -- the last four bytes of a reply to `/s_get` 1000 freq: the value read
-abbrev valueRead : List Line → List ℕ
-valueRead ls = drop 28 (replied ls (line (Query (query.Control (argument 1000) Name)) freqName))
+abbrev valueRead : Engine → List Line → List ℕ
+valueRead e ls = drop 28 (replied e ls (line (Query (query.Control (argument 1000) Name)) freqName))
 
-abbrev pub table : List Example
-table =
+-- the answer to a load
+abbrev loadedBy : Engine → List ℕ → List ℕ
+loadedBy e file = answersOf e (load file ∷ [])
+
+-- the rows, played from an engine; a file's refusal is its number and 256 times its place
+abbrev rowsFrom : Engine → List Example
+rowsFrom e =
     -- "no definitions, 10 bytes, loads; 9 bytes is 2. One definition "a" with every count 0: 30 bytes."
-    example (verdict (readFile (header 0))) (0 ∷ 0 ∷ [])
-    ∷ example (verdict (readFile (take 9 (header 0)))) (2 ∷ 8 ∷ [])
-    ∷ example (verdict (readFile (fileOf 0 (int 0) (int 0)))) (0 ∷ 1 ∷ [])
+    example (loadedBy e (header 0)) (0 ∷ [])
+    ∷ example (length (header 0) ∷ []) (10 ∷ [])
+    ∷ example (loadedBy e (take 9 (header 0))) ((2 + 256 * 8) ∷ [])
+    ∷ example (loadedBy e (fileOf 0 (int 0) (int 0))) (0 ∷ [])
     ∷ example (length (fileOf 0 (int 0) (int 0)) ∷ []) (30 ∷ [])
     -- "P 32 loads, 33 is 5; index P-1 loads, P is 8; a unit's input naming itself is 8."
-    ∷ example (verdict (readFile (fileOf 32 (int 0) (int 0)))) (0 ∷ 1 ∷ [])
-    ∷ example (verdict (readFile (fileOf 33 (int 0) (int 0)))) (5 ∷ 16 ∷ [])
-    ∷ example (verdict (readFile (fileOf 2 (oneName 1) (int 0)))) (0 ∷ 1 ∷ [])
-    ∷ example (verdict (readFile (fileOf 2 (oneName 2) (int 0)))) (8 ∷ 34 ∷ [])
-    ∷ example (verdict (readFile (fileOf 0 (int 0) (oneUnit 0)))) (8 ∷ 41 ∷ [])
+    ∷ example (loadedBy e (fileOf 32 (int 0) (int 0))) (0 ∷ [])
+    ∷ example (loadedBy e (fileOf 33 (int 0) (int 0))) ((5 + 256 * 16) ∷ [])
+    ∷ example (loadedBy e (fileOf 2 (oneName 1) (int 0))) (0 ∷ [])
+    ∷ example (loadedBy e (fileOf 2 (oneName 2) (int 0))) ((8 + 256 * 34) ∷ [])
+    ∷ example (loadedBy e (fileOf 0 (int 0) (oneUnit 0))) ((8 + 256 * 41) ∷ [])
     -- ""ping" with one parameter "freq", 440.0 (43 DC 00 00), no units: 46 bytes."
-    ∷ example (verdict (readFile ping)) (0 ∷ 1 ∷ [])
+    ∷ example (loadedBy e ping) (0 ∷ [])
     ∷ example (length ping ∷ []) (46 ∷ [])
     -- "running order 1001, 1000. Then run 1 off: empty."
-    ∷ example (answersOf show) (0 ∷ 0 ∷ 0 ∷ 0 ∷ [])
-    ∷ example (orderAfter show) (1001 ∷ 1000 ∷ [])
-    ∷ example (orderAfter (show ++ (line (Tree (Run (argument 1) 0)) [] ∷ []))) []
+    ∷ example (answersOf e show) (0 ∷ 0 ∷ 0 ∷ 0 ∷ [])
+    ∷ example (orderAfter e show) (1001 ∷ 1000 ∷ [])
+    ∷ example (orderAfter e (show ++ (line (Tree (Run (argument 1) 0)) [] ∷ []))) []
     -- "`/g_head` 1 with node 1 is 19; `/n_before` 1000 1000 is 19; `/n_free` 0 is 18."
-    ∷ example (answersOf (show ++ (line (Tree (Head (argument 1) (argument 1))) [] ∷ line (Tree (Before (argument 1000) (argument 1000))) [] ∷ line (Tree (Free (argument 0))) [] ∷ [])))
+    ∷ example (answersOf e (show ++ (line (Tree (Head (argument 1) (argument 1))) [] ∷ line (Tree (Before (argument 1000) (argument 1000))) [] ∷ line (Tree (Free (argument 0))) [] ∷ [])))
     (0 ∷ 0 ∷ 0 ∷ 0 ∷ 19 ∷ 19 ∷ 18 ∷ [])
     -- "own 440.0, mapped to bus 7 at 2.0, reads 2.0; mapped to -1, reads 440.0."
-    ∷ example (valueRead show) (67 ∷ 220 ∷ 0 ∷ 0 ∷ [])
-    ∷ example (valueRead (show ++ mapped)) (64 ∷ 0 ∷ 0 ∷ 0 ∷ [])
-    ∷ example (valueRead (show ++ mapped ++ unmapped)) (67 ∷ 220 ∷ 0 ∷ 0 ∷ [])
+    ∷ example (valueRead e show) (67 ∷ 220 ∷ 0 ∷ 0 ∷ [])
+    ∷ example (valueRead e (show ++ mapped)) (64 ∷ 0 ∷ 0 ∷ 0 ∷ [])
+    ∷ example (valueRead e (show ++ mapped ++ unmapped)) (67 ∷ 220 ∷ 0 ∷ 0 ∷ [])
     ∷ []
 
+computed : agrees (rowsFrom freshParts) ≡ true
+unfolding repeat nameBytes readFront readUnit readUnits readDefinition readDefinitions readFile sameName among writeAll writeDefinition writeFile lives lift sink takeDeeper dropDeeper onlyGroups runOf editRows orderFrom rowTaken tags arguments targetOf inBounds pattern held residentFrom controlsFrom firstIndex viewRows nodeNamed firstOf namesOf staying retired freeFrom loaded freeRowFrom initialWords changeWords changeAll effect plainNamed replyTo queryAnswer answerIn played answersOf agrees
+computed = refl
+
+-- the table, played from a fresh engine
+abbrev pub table : List Example
+table = rowsFrom freshEngine
+
 pub proved : agrees table ≡ true
-unfolding repeat nameBytes readFront readUnit readUnits readDefinition readDefinitions readFile sameName among writeAll writeDefinition writeFile lives lift sink takeDeeper dropDeeper onlyGroups runOf editRows orderFrom rowTaken tags arguments targetOf inBounds pattern held residentFrom controlsFrom firstIndex viewRows nodeNamed firstOf namesOf staying retired freeFrom loaded freeRowFrom initialWords changeWords changeAll effect plainNamed replyTo queryAnswer answerIn played answersFrom agrees
-proved = refl
+proved = ap (λ (e : Engine). agrees (rowsFrom e)) fresh-parts ∙ computed

@@ -8,8 +8,12 @@ pub mod Effects
 pub mod Replies
 pub mod After
 pub mod Apply
+pub mod Chain
 pub mod Plain
+pub mod PlainReplies
+pub mod Frame
 pub mod Demands
+pub mod Fresh
 pub mod Script
 pub mod Examples
 pub mod Traps

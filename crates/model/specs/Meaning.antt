@@ -18,7 +18,8 @@ use Rattle.values.specs.declared.Mapping.{Mapping}
 use Rattle.values.specs.declared.Mapping.the-variants.{Unmapped, Bus}
 use Rattle.values.specs.Targets.{targetOf}
 use Rattle.model.specs.Layout.{busCount}
-use Rattle.model.specs.Engine.{Engine, firstIndex}
+use Rattle.format.specs.Names.{firstIndex}
+use Rattle.model.specs.Engine.{Engine}
 
 -- the pattern of -1, and the first that is negative
 abbrev pub minusOne : ℕ

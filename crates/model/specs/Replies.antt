@@ -18,7 +18,8 @@ use Rattle.values.specs.declared.Mapping.the-variants.{Unmapped, Bus}
 use Rattle.values.specs.Controls.{ControlValue, shownBy}
 use Rattle.model.specs.declared.Query.{Query}
 use Rattle.model.specs.declared.Query.the-variants as query
-use Rattle.model.specs.Engine.{Slot, Engine, definitionIn, residents, firstName}
+use Rattle.format.specs.Names.{firstName}
+use Rattle.model.specs.Engine.{Slot, Engine, definitionIn, residents}
 use Rattle.model.specs.View.{Kind, group, synth, PlainNode, Row, isGroupKind, shape, view}
 use Rattle.model.specs.Meaning.{meant, startOf}
 

@@ -1,32 +1,17 @@
--- A list of commands played on the engine's model from a fresh engine, for the tables of examples.
+-- A list of commands played on an engine, for the tables of examples: each answered by the refusal table, and its effect where it is accepted.
 use Prim.Native.Nat.{ℕ}
 use mathlib.Core.Bool.{Bool, true, false}
 use mathlib.Core.List.{List, [], _∷_}
-use lib.ListN.{length, replicate}
+use lib.ListN.{length}
 use Rattle.words.specs.Choice.{pick}
 use Rattle.faults.specs.Faults.{faultNumber}
 use Rattle.format.specs.Read.{Read, got, bad}
 use Rattle.format.specs.Definition.{Definition}
 use Rattle.format.specs.Reader.{sameName}
-use Rattle.nodes.specs.Formed.{firstGiven}
 use Rattle.model.specs.declared.Command.{Command}
-use Rattle.model.specs.Layout.{slotCount, controlsWords, busCount}
 use Rattle.model.specs.Engine.{Engine}
 use Rattle.model.specs.Effects.{effect}
-use Rattle.model.specs.After.{root}
 use Rattle.model.specs.Apply.{answerIn, isAccepted, answerNumber, replyOf}
-
--- a fresh engine
-abbrev pub freshModel : Engine
-freshModel = record {
-  slots = replicate slotCount (record { bytes = []; resident = false });
-  nodes = root ∷ [];
-  order = [];
-  controls = replicate controlsWords 0;
-  buses = replicate busCount 0;
-  next = firstGiven;
-  latest = 0;
-}
 
 -- a command with its bytes
 pub record Line : Type 0 where
@@ -51,19 +36,16 @@ played [] e = e
 played (l ∷ ls) e = played ls (afterLine l e)
 
 -- the answers of all lines, each as one number
-unfoldable pub answersFrom : List Line → Engine → List ℕ
-answersFrom [] e = []
-answersFrom (l ∷ ls) e = answerNumber (answerIn (l .command) (l .bytes) e room) ∷ answersFrom ls (afterLine l e)
+unfoldable pub answersOf : Engine → List Line → List ℕ
+answersOf e [] = []
+answersOf e (l ∷ ls) = answerNumber (answerIn (l .command) (l .bytes) e room) ∷ answersOf (afterLine l e) ls
 
--- the reply to a query behind a script
-abbrev pub replied : List Line → Line → List ℕ
-replied ls l = replyOf (l .command) (l .bytes) (played ls freshModel)
+-- the reply to a query behind a script, and the running order
+abbrev pub replied : Engine → List Line → Line → List ℕ
+replied e ls l = replyOf (l .command) (l .bytes) (played ls e)
 
-abbrev pub answersOf : List Line → List ℕ
-answersOf ls = answersFrom ls freshModel
-
-abbrev pub orderAfter : List Line → List ℕ
-orderAfter ls = played ls freshModel .order
+abbrev pub orderAfter : Engine → List Line → List ℕ
+orderAfter e ls = played ls e .order
 
 -- what is said of a file: 0 and the number of definitions, or the refusal's number and its place
 abbrev pub verdict : Read (List Definition) → List ℕ

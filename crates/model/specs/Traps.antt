@@ -1,7 +1,7 @@
 -- The paper's other examples, and the points of the paper that are easy to get wrong, as a second table, by computation.
-use Prim.Native.Nat.{ℕ, zero, suc, _+_, _-_}
+use Prim.Native.Nat.{ℕ, zero, suc, _+_, _-_, _*_}
 use mathlib.Core.Bool.{Bool, true, false}
-use mathlib.Core.Path.{_≡_, refl}
+use mathlib.Core.Path.{_≡_, refl, ap, _∙_}
 use mathlib.Core.List.{List, [], _∷_, _++_}
 use lib.ListN.{length, take, drop, replicate}
 use Rattle.format.specs.Read.{repeat}
@@ -26,15 +26,17 @@ use Rattle.model.specs.declared.BusCommand.the-variants as buses
 use Rattle.model.specs.declared.Query.the-variants as query
 use Rattle.model.specs.declared.Command.the-variants.{Definitions, Tree, Controls, Buses, Query}
 use Rattle.nodes.specs.Structure.{firstOr, lastOr, atDepth, depthOf, lastAbove, lastBeside, firstBeside, nextOf}
-use Rattle.model.specs.Engine.{held, residents, residentFrom, controlsFrom, firstIndex, firstName}
+use Rattle.format.specs.Names.{firstIndex, firstName}
+use Rattle.model.specs.Engine.{Engine, held, residents, residentFrom, controlsFrom}
 use Rattle.model.specs.View.{viewRows, shape}
 use Rattle.model.specs.Meaning.{minusOne, nodeNamed}
 use Rattle.model.specs.Checks.{firstOf, namesOf, staying}
 use Rattle.model.specs.Effects.{retired, freeFrom, loaded, freeRowFrom, initialWords, changeWords, changeAll, effect}
 use Rattle.model.specs.Replies.{plainNamed, controlArguments, rowsBelow, rowsAt, treeArguments, subtreeRows, unitCount, groupCount, synthCount, definitionsIn, replyTo}
-use Rattle.model.specs.Apply.{queryAnswer, answerIn}
-use Rattle.model.specs.Examples.{ping, pingName}
-use Rattle.model.specs.Script.{Line, line, played, answersFrom, replied, answersOf, orderAfter, verdict, Example, example, agrees}
+use Rattle.model.specs.Apply.{queryAnswer, answerIn, answerNumber}
+use Rattle.model.specs.Examples.{header, int, fileOf, oneName, ping, pingName, load}
+use Rattle.model.specs.Fresh.{freshEngine, freshParts, fresh-parts}
+use Rattle.model.specs.Script.{Line, line, played, answersOf, replied, orderAfter, verdict, Example, example, agrees}
 
 abbrev rain : List ℕ
 rain =
@@ -57,6 +59,9 @@ ampName = 97 ∷ 109 ∷ 112 ∷ []
 abbrev panName : List ℕ
 panName = 112 ∷ 97 ∷ 110 ∷ []
 
+abbrev aName : List ℕ
+aName = 97 ∷ []
+
 abbrev noName : List ℕ
 noName = 122 ∷ 122 ∷ []
 
@@ -64,21 +69,15 @@ noName = 122 ∷ 122 ∷ []
 abbrev long : List ℕ
 long = take 10 ping ++ (3 ∷ 98 ∷ 105 ∷ 103 ∷ 0 ∷ 0 ∷ 1 ∷ 254 ∷ []) ++ replicate 2040 0 ++ replicate 12 0 ++ (0 ∷ 0 ∷ [])
 
--- patterns of -2, -8, -9 and of the lowest number
+-- patterns of -2, of -8 and of the lowest number
 abbrev minusTwo : ℕ
 minusTwo = 4294967294
 
 abbrev minusEight : ℕ
 minusEight = 4294967288
 
-abbrev minusNine : ℕ
-minusNine = 4294967287
-
 abbrev lowest : ℕ
 lowest = 2147483648
-
-abbrev load : List ℕ → Line
-load file = line (Definitions definitions.Receive) file
 
 abbrev synth : ℕ → ℕ → ℕ → Line
 synth number action target = line (Tree (NewSynth number action (argument target))) pingName
@@ -100,24 +99,44 @@ rains =
     ∷ []
 
 -- the answer of the last line of a script
-abbrev last : List Line → List ℕ
-last ls = drop (length ls - 1) (answersOf ls)
+abbrev last : Engine → List Line → List ℕ
+last e ls = drop (length ls - 1) (answersOf e ls)
 
 -- the value bytes of a reply to `/s_get` by index
-abbrev value : List Line → ℕ → ℕ → List ℕ
-value ls n i = drop 24 (replied ls (line (Query (query.Control (argument n) (Index i))) []))
+abbrev value : Engine → List Line → ℕ → ℕ → List ℕ
+value e ls n i = drop 24 (replied e ls (line (Query (query.Control (argument n) (Index i))) []))
 
 -- the four numbers of `/status`
-abbrev status : List Line → List ℕ
-status ls = drop 24 (replied ls (line (Query query.Status) []))
+abbrev status : Engine → List Line → List ℕ
+status e ls = drop 24 (replied e ls (line (Query query.Status) []))
 
 -- so many groups, numbered from n on
 unfoldable pub groups : ℕ → ℕ → List Line
 groups zero n = []
 groups (suc k) n = group n 1 0 ∷ groups k (n + 1)
 
-abbrev pub filesAndReplies : List Example
-filesAndReplies =
+-- a file of 32 definitions with one byte to a name, from n on
+unfoldable pub bodies : ℕ → ℕ → List ℕ
+bodies zero n = []
+bodies (suc k) n = 1 ∷ n ∷ (replicate 18 0 ++ bodies k (n + 1))
+
+abbrev thirtyTwo : ℕ → List ℕ
+thirtyTwo n = header 32 ++ bodies 32 n
+
+-- "ping" in slot 0, held by 1000 and retired; "rain" in slot 1
+abbrev retiredPing : List Line
+retiredPing = load ping ∷ synth 1000 1 0 ∷ load rain ∷ line (Definitions definitions.Free) pingName ∷ []
+
+-- the answer to `/g_queryTree` 0 0 behind `one`, with so much room for the reply
+abbrev roomFor : ℕ → Engine → ℕ
+roomFor room e = answerNumber (answerIn (Query (query.Tree (argument 0) 0)) [] (played one e) room)
+
+-- the engine with one number left to give
+abbrev withLastNumber : Engine → Engine
+withLastNumber e = record { slots = e .slots; nodes = e .nodes; order = e .order; controls = e .controls; buses = e .buses; next = lowest; latest = e .latest }
+
+abbrev filesAndReplies : Engine → List Example
+filesAndReplies e =
     -- a file of 3 bytes is truncated at its first field
     example (verdict (readFile (take 3 ping))) (2 ∷ 0 ∷ [])
     -- a pstring is one field: cut anywhere, its place is its length byte
@@ -139,146 +158,176 @@ filesAndReplies =
     -- a byte of 128 in a name
     ∷ example (verdict (readFile (take 10 ping ++ (1 ∷ 128 ∷ []) ++ replicate 18 0))) (6 ∷ 10 ∷ [])
     -- "Root holding group 1 holding only "ping" 1000, flag 0, whole reply of 68 bytes"
-    ∷ example (length (replied one (line (Query (query.Tree (argument 0) 0)) [])) ∷ []) (68 ∷ [])
+    ∷ example (length (replied e one (line (Query (query.Tree (argument 0) 0)) [])) ∷ []) (68 ∷ [])
     -- its bytes
-    ∷ example (replied one (line (Query (query.Tree (argument 0) 0)) [])) (47 ∷ 103 ∷ 95 ∷ 113 ∷ 117 ∷ 101 ∷ 114 ∷ 121 ∷ 84 ∷ 114 ∷ 101 ∷ 101 ∷ 46 ∷ 114 ∷ 101 ∷ 112 ∷ 108 ∷ 121 ∷ 0 ∷ 0 ∷ 44 ∷ 105 ∷ 105 ∷ 105 ∷ 105 ∷ 105 ∷ 105 ∷ 105 ∷ 115 ∷ 0 ∷ 0 ∷ 0 ∷ 0 ∷ 0 ∷ 0 ∷ 0 ∷ 0 ∷ 0 ∷ 0 ∷ 0 ∷ 0 ∷ 0 ∷ 0 ∷ 1 ∷ 0 ∷ 0 ∷ 0 ∷ 1 ∷ 0 ∷ 0 ∷ 0 ∷ 1 ∷ 0 ∷ 0 ∷ 3 ∷ 232 ∷ 255 ∷ 255 ∷ 255 ∷ 255 ∷ 112 ∷ 105 ∷ 110 ∷ 103 ∷ 0 ∷ 0 ∷ 0 ∷ 0 ∷ [])
+    ∷ example (replied e one (line (Query (query.Tree (argument 0) 0)) [])) (47 ∷ 103 ∷ 95 ∷ 113 ∷ 117 ∷ 101 ∷ 114 ∷ 121 ∷ 84 ∷ 114 ∷ 101 ∷ 101 ∷ 46 ∷ 114 ∷ 101 ∷ 112 ∷ 108 ∷ 121 ∷ 0 ∷ 0 ∷ 44 ∷ 105 ∷ 105 ∷ 105 ∷ 105 ∷ 105 ∷ 105 ∷ 105 ∷ 115 ∷ 0 ∷ 0 ∷ 0 ∷ 0 ∷ 0 ∷ 0 ∷ 0 ∷ 0 ∷ 0 ∷ 0 ∷ 0 ∷ 0 ∷ 0 ∷ 0 ∷ 1 ∷ 0 ∷ 0 ∷ 0 ∷ 1 ∷ 0 ∷ 0 ∷ 0 ∷ 1 ∷ 0 ∷ 0 ∷ 3 ∷ 232 ∷ 255 ∷ 255 ∷ 255 ∷ 255 ∷ 112 ∷ 105 ∷ 110 ∷ 103 ∷ 0 ∷ 0 ∷ 0 ∷ 0 ∷ [])
     -- "With flag 1: 88 bytes."
-    ∷ example (length (replied one (line (Query (query.Tree (argument 0) 1)) [])) ∷ []) (88 ∷ [])
+    ∷ example (length (replied e one (line (Query (query.Tree (argument 0) 1)) [])) ∷ []) (88 ∷ [])
+    -- its bytes
+    ∷ example (replied e one (line (Query (query.Tree (argument 0) 1)) [])) (47 ∷ 103 ∷ 95 ∷ 113 ∷ 117 ∷ 101 ∷ 114 ∷ 121 ∷ 84 ∷ 114 ∷ 101 ∷ 101 ∷ 46 ∷ 114 ∷ 101 ∷ 112 ∷ 108 ∷ 121 ∷ 0 ∷ 0 ∷ 44 ∷ 105 ∷ 105 ∷ 105 ∷ 105 ∷ 105 ∷ 105 ∷ 105 ∷ 115 ∷ 105 ∷ 115 ∷ 102 ∷ 0 ∷ 0 ∷ 0 ∷ 0 ∷ 0 ∷ 0 ∷ 0 ∷ 1 ∷ 0 ∷ 0 ∷ 0 ∷ 0 ∷ 0 ∷ 0 ∷ 0 ∷ 1 ∷ 0 ∷ 0 ∷ 0 ∷ 1 ∷ 0 ∷ 0 ∷ 0 ∷ 1 ∷ 0 ∷ 0 ∷ 3 ∷ 232 ∷ 255 ∷ 255 ∷ 255 ∷ 255 ∷ 112 ∷ 105 ∷ 110 ∷ 103 ∷ 0 ∷ 0 ∷ 0 ∷ 0 ∷ 0 ∷ 0 ∷ 0 ∷ 1 ∷ 102 ∷ 114 ∷ 101 ∷ 113 ∷ 0 ∷ 0 ∷ 0 ∷ 0 ∷ 67 ∷ 220 ∷ 0 ∷ 0 ∷ [])
     -- "Any nonzero flag is 1."
-    ∷ example (replied one (line (Query (query.Tree (argument 0) 7)) [])) (replied one (line (Query (query.Tree (argument 0) 1)) []))
+    ∷ example (replied e one (line (Query (query.Tree (argument 0) 7)) [])) (replied e one (line (Query (query.Tree (argument 0) 1)) []))
     ∷ []
 
-abbrev pub making : List Example
-making =
+abbrev making : Engine → List Example
+making e =
     -- a new number 0 is live
-    example (last (one ++ (synth 0 1 0 ∷ []))) (15 ∷ [])
+    example (last e (one ++ (synth 0 1 0 ∷ []))) (15 ∷ [])
     -- 14 comes before 15: below -1
-    ∷ example (last (one ++ (synth minusTwo 1 0 ∷ []))) (14 ∷ [])
+    ∷ example (last e (one ++ (synth minusTwo 1 0 ∷ []))) (14 ∷ [])
     -- -1 for a group
-    ∷ example (last (one ++ (group minusOne 1 0 ∷ []))) (14 ∷ [])
+    ∷ example (last e (one ++ (group minusOne 1 0 ∷ []))) (14 ∷ [])
     -- "add action not 0 to 4" comes first
-    ∷ example (last (one ++ (synth 0 5 99 ∷ []))) (13 ∷ [])
+    ∷ example (last e (one ++ (synth 0 5 99 ∷ []))) (13 ∷ [])
     -- "For -1 the engine gives -8, then -9": answersFrom by `/n_query`
-    ∷ example (drop 16 (take 20 (replied (one ++ (synth minusOne 1 0 ∷ synth minusOne 1 0 ∷ [])) (line (Query (query.Node (argument minusOne))) [])))) (255 ∷ 255 ∷ 255 ∷ 247 ∷ [])
+    ∷ example (drop 16 (take 20 (replied e (one ++ (synth minusOne 1 0 ∷ synth minusOne 1 0 ∷ [])) (line (Query (query.Node (argument minusOne))) [])))) (255 ∷ 255 ∷ 255 ∷ 247 ∷ [])
     -- "Below -1 no command can name a node (17)", even a live one
-    ∷ example (last (one ++ (synth minusOne 1 0 ∷ line (Tree (Free (argument minusEight))) [] ∷ []))) (17 ∷ [])
+    ∷ example (last e (one ++ (synth minusOne 1 0 ∷ line (Tree (Free (argument minusEight))) [] ∷ []))) (17 ∷ [])
     -- -1 is the latest while it lives
-    ∷ example (last (one ++ (line (Tree (Free (argument minusOne))) [] ∷ []))) (0 ∷ [])
+    ∷ example (last e (one ++ (line (Tree (Free (argument minusOne))) [] ∷ []))) (0 ∷ [])
     -- "even if its number lives again"
-    ∷ example (last (one ++ (line (Tree (Free (argument 1000))) [] ∷ group 1000 1 0 ∷ line (Tree (Free (argument minusOne))) [] ∷ []))) (17 ∷ [])
+    ∷ example (last e (one ++ (line (Tree (Free (argument 1000))) [] ∷ group 1000 1 0 ∷ line (Tree (Free (argument minusOne))) [] ∷ []))) (17 ∷ [])
     -- no resident of that name, before no such node
-    ∷ example (last (one ++ (line (Tree (NewSynth 5 1 (argument 99))) noName ∷ []))) (16 ∷ [])
+    ∷ example (last e (one ++ (line (Tree (NewSynth 5 1 (argument 99))) noName ∷ []))) (16 ∷ [])
     -- no such target
-    ∷ example (last (one ++ (synth 5 1 99 ∷ []))) (17 ∷ [])
+    ∷ example (last e (one ++ (synth 5 1 99 ∷ []))) (17 ∷ [])
     -- into a synth
-    ∷ example (last (one ++ (synth 5 1 1000 ∷ []))) (18 ∷ [])
+    ∷ example (last e (one ++ (synth 5 1 1000 ∷ []))) (18 ∷ [])
     -- beside the root
-    ∷ example (last (one ++ (synth 5 2 0 ∷ []))) (18 ∷ [])
+    ∷ example (last e (one ++ (synth 5 2 0 ∷ []))) (18 ∷ [])
     ∷ []
 
-abbrev pub numbersAndMoves : List Example
-numbersAndMoves =
+abbrev numbersAndMoves : Engine → List Example
+numbersAndMoves e =
     -- over the root
-    example (last (one ++ (synth 5 4 0 ∷ []))) (18 ∷ [])
+    example (last e (one ++ (synth 5 4 0 ∷ []))) (18 ∷ [])
     -- action 4 with a number that it would free
-    ∷ example (last (one ++ (synth 1000 4 1 ∷ []))) (15 ∷ [])
+    ∷ example (last e (one ++ (synth 1000 4 1 ∷ []))) (15 ∷ [])
     -- action 4 frees the whole subtree
-    ∷ example (orderAfter (one ++ (synth 5 4 1 ∷ []))) (5 ∷ [])
+    ∷ example (orderAfter e (one ++ (synth 5 4 1 ∷ []))) (5 ∷ [])
     -- `/g_freeAll` and `/g_deepFree` take the root
-    ∷ example (answersOf (one ++ (line (Tree (DeepFree (argument 0))) [] ∷ line (Tree (FreeAll (argument 0))) [] ∷ []))) (0 ∷ 0 ∷ 0 ∷ 0 ∷ 0 ∷ [])
+    ∷ example (answersOf e (one ++ (line (Tree (DeepFree (argument 0))) [] ∷ line (Tree (FreeAll (argument 0))) [] ∷ []))) (0 ∷ 0 ∷ 0 ∷ 0 ∷ 0 ∷ [])
     -- `/g_deepFree` leaves groups: two, and no synth
-    ∷ example (status (one ++ (line (Tree (DeepFree (argument 0))) [] ∷ []))) (0 ∷ 0 ∷ 0 ∷ 0 ∷ 0 ∷ 0 ∷ 0 ∷ 0 ∷ 0 ∷ 0 ∷ 0 ∷ 2 ∷ 0 ∷ 0 ∷ 0 ∷ 1 ∷ [])
+    ∷ example (status e (one ++ (line (Tree (DeepFree (argument 0))) [] ∷ []))) (0 ∷ 0 ∷ 0 ∷ 0 ∷ 0 ∷ 0 ∷ 0 ∷ 0 ∷ 0 ∷ 0 ∷ 0 ∷ 2 ∷ 0 ∷ 0 ∷ 0 ∷ 1 ∷ [])
     -- `/n_free` of a group frees its children: the root is left
-    ∷ example (status (one ++ (line (Tree (Free (argument 1))) [] ∷ []))) (0 ∷ 0 ∷ 0 ∷ 0 ∷ 0 ∷ 0 ∷ 0 ∷ 0 ∷ 0 ∷ 0 ∷ 0 ∷ 1 ∷ 0 ∷ 0 ∷ 0 ∷ 1 ∷ [])
+    ∷ example (status e (one ++ (line (Tree (Free (argument 1))) [] ∷ []))) (0 ∷ 0 ∷ 0 ∷ 0 ∷ 0 ∷ 0 ∷ 0 ∷ 0 ∷ 0 ∷ 0 ∷ 0 ∷ 1 ∷ 0 ∷ 0 ∷ 0 ∷ 1 ∷ [])
     -- a synth as a group for `/g_freeAll`
-    ∷ example (last (one ++ (line (Tree (FreeAll (argument 1000))) [] ∷ []))) (18 ∷ [])
+    ∷ example (last e (one ++ (line (Tree (FreeAll (argument 1000))) [] ∷ []))) (18 ∷ [])
     -- `/n_run` takes the root: all is silent
-    ∷ example (orderAfter (one ++ (line (Tree (Run (argument 0) 0)) [] ∷ []))) ([])
+    ∷ example (orderAfter e (one ++ (line (Tree (Run (argument 0) 0)) [] ∷ []))) ([])
     -- a run flag of 2
-    ∷ example (last (one ++ (line (Tree (Run (argument 0) 2)) [] ∷ []))) (13 ∷ [])
+    ∷ example (last e (one ++ (line (Tree (Run (argument 0) 2)) [] ∷ []))) (13 ∷ [])
     -- 17 of both arguments before 18
-    ∷ example (last (one ++ (line (Tree (Before (argument 0) (argument 99))) [] ∷ []))) (17 ∷ [])
+    ∷ example (last e (one ++ (line (Tree (Before (argument 0) (argument 99))) [] ∷ []))) (17 ∷ [])
     -- a group below itself
-    ∷ example (last (one ++ (group 2 1 1 ∷ line (Tree (Tail (argument 2) (argument 1))) [] ∷ []))) (19 ∷ [])
+    ∷ example (last e (one ++ (group 2 1 1 ∷ line (Tree (Tail (argument 2) (argument 1))) [] ∷ []))) (19 ∷ [])
     -- `/n_set` on a group of a control that no synth has
-    ∷ example (last (one ++ (line (Controls (Set (argument 1) Name (Float 0))) noName ∷ []))) (0 ∷ [])
+    ∷ example (last e (one ++ (line (Controls (Set (argument 1) Name (Float 0))) noName ∷ []))) (0 ∷ [])
     ∷ []
 
-abbrev pub controlsAndBuses : List Example
-controlsAndBuses =
+abbrev controlsAndBuses : Engine → List Example
+controlsAndBuses e =
     -- .. and on the synth itself
-    example (last (one ++ (line (Controls (Set (argument 1000) Name (Float 0))) noName ∷ []))) (21 ∷ [])
+    example (last e (one ++ (line (Controls (Set (argument 1000) Name (Float 0))) noName ∷ []))) (21 ∷ [])
     -- a negative index on a group
-    ∷ example (last (one ++ (line (Controls (Set (argument 1) (Index minusOne) (Float 0))) [] ∷ []))) (21 ∷ [])
+    ∷ example (last e (one ++ (line (Controls (Set (argument 1) (Index minusOne) (Float 0))) [] ∷ []))) (21 ∷ [])
     -- 23 comes before 21
-    ∷ example (last (one ++ (line (Controls (Set (argument 1000) (Index 9) (Integer 16777217))) [] ∷ []))) (23 ∷ [])
+    ∷ example (last e (one ++ (line (Controls (Set (argument 1000) (Index 9) (Integer 16777217))) [] ∷ []))) (23 ∷ [])
     -- an integer becomes the equal float
-    ∷ example (value (one ++ (line (Controls (Set (argument 1000) (Index 0) (Integer 440))) [] ∷ [])) 1000 0) (67 ∷ 220 ∷ 0 ∷ 0 ∷ [])
+    ∷ example (value e (one ++ (line (Controls (Set (argument 1000) (Index 0) (Integer 440))) [] ∷ [])) 1000 0) (67 ∷ 220 ∷ 0 ∷ 0 ∷ [])
     -- integer 0 has all bits zero
-    ∷ example (value (one ++ (line (Controls (Set (argument 1000) (Index 0) (Integer 0))) [] ∷ [])) 1000 0) (0 ∷ 0 ∷ 0 ∷ 0 ∷ [])
+    ∷ example (value e (one ++ (line (Controls (Set (argument 1000) (Index 0) (Integer 0))) [] ∷ [])) 1000 0) (0 ∷ 0 ∷ 0 ∷ 0 ∷ [])
     -- a NaN is kept bit for bit
-    ∷ example (value (one ++ (line (Controls (Set (argument 1000) (Index 0) (Float 2143294737))) [] ∷ [])) 1000 0) (127 ∷ 192 ∷ 21 ∷ 17 ∷ [])
+    ∷ example (value e (one ++ (line (Controls (Set (argument 1000) (Index 0) (Float 2143294737))) [] ∷ [])) 1000 0) (127 ∷ 192 ∷ 21 ∷ 17 ∷ [])
     -- `/n_fill` with count 0 at start P
-    ∷ example (last (one ++ (line (Controls (Fill (argument 1000) (Index 1) 0 (Float 0))) [] ∷ []))) (0 ∷ [])
+    ∷ example (last e (one ++ (line (Controls (Fill (argument 1000) (Index 1) 0 (Float 0))) [] ∷ []))) (0 ∷ [])
     -- .. one past P
-    ∷ example (last (one ++ (line (Controls (Fill (argument 1000) (Index 2) 0 (Float 0))) [] ∷ []))) (21 ∷ [])
+    ∷ example (last e (one ++ (line (Controls (Fill (argument 1000) (Index 2) 0 (Float 0))) [] ∷ []))) (21 ∷ [])
     -- .. by a name that it lacks
-    ∷ example (last (one ++ (line (Controls (Fill (argument 1000) Name 0 (Float 0))) noName ∷ []))) (21 ∷ [])
+    ∷ example (last e (one ++ (line (Controls (Fill (argument 1000) Name 0 (Float 0))) noName ∷ []))) (21 ∷ [])
     -- start plus count past 32 bits, on a group
-    ∷ example (last (one ++ (line (Controls (Fill (argument 1) (Index 2147483647) 2147483647 (Float 0))) [] ∷ []))) (0 ∷ [])
+    ∷ example (last e (one ++ (line (Controls (Fill (argument 1) (Index 2147483647) 2147483647 (Float 0))) [] ∷ []))) (0 ∷ [])
     -- `/c_fill` with count 0 at 4,096
-    ∷ example (last (line (Buses (buses.Fill 4096 0 (Float 0))) [] ∷ [])) (0 ∷ [])
+    ∷ example (last e (line (Buses (buses.Fill 4096 0 (Float 0))) [] ∷ [])) (0 ∷ [])
     -- a negative count of buses
-    ∷ example (last (line (Buses (buses.Fill 0 minusOne (Float 0))) [] ∷ [])) (22 ∷ [])
+    ∷ example (last e (line (Buses (buses.Fill 0 minusOne (Float 0))) [] ∷ [])) (22 ∷ [])
     -- 23 is asked even where nothing would be set
-    ∷ example (last (line (Buses (buses.Fill 0 0 (Integer 16777217))) [] ∷ [])) (23 ∷ [])
+    ∷ example (last e (line (Buses (buses.Fill 0 0 (Integer 16777217))) [] ∷ [])) (23 ∷ [])
     -- setting unmaps
-    ∷ example (value (one ++ (line (Controls (Map (argument 1000) (Index 0) 7)) [] ∷ line (Controls (Set (argument 1000) (Index 0) (Integer 1))) [] ∷ [])) 1000 0) (63 ∷ 128 ∷ 0 ∷ 0 ∷ [])
+    ∷ example (value e (one ++ (line (Controls (Map (argument 1000) (Index 0) 7)) [] ∷ line (Controls (Set (argument 1000) (Index 0) (Integer 1))) [] ∷ [])) 1000 0) (63 ∷ 128 ∷ 0 ∷ 0 ∷ [])
     ∷ []
 
-abbrev pub oldShapes : List Example
-oldShapes =
+abbrev oldShapes : Engine → List Example
+oldShapes e =
     -- 22 before 21 in `/n_map`
-    example (last (one ++ (line (Controls (Map (argument 1000) (Index 9) 4096)) [] ∷ []))) (22 ∷ [])
+    example (last e (one ++ (line (Controls (Map (argument 1000) (Index 9) 4096)) [] ∷ []))) (22 ∷ [])
     -- a name means its entry in the synth's own definition: `pan` of the old rain is 1, of the new one 0
-    ∷ example (value (rains ++ (line (Controls (Set (argument 0) Name (Integer 9))) panName ∷ [])) 10 1) (65 ∷ 16 ∷ 0 ∷ 0 ∷ [])
+    ∷ example (value e (rains ++ (line (Controls (Set (argument 0) Name (Integer 9))) panName ∷ [])) 10 1) (65 ∷ 16 ∷ 0 ∷ 0 ∷ [])
     -- .. and the new one
-    ∷ example (value (rains ++ (line (Controls (Set (argument 0) Name (Integer 9))) panName ∷ [])) 11 0) (65 ∷ 16 ∷ 0 ∷ 0 ∷ [])
+    ∷ example (value e (rains ++ (line (Controls (Set (argument 0) Name (Integer 9))) panName ∷ [])) 11 0) (65 ∷ 16 ∷ 0 ∷ 0 ∷ [])
     -- the first entry: `amp` of the new rain is 1
-    ∷ example (value (rains ++ (line (Controls (Set (argument 11) Name (Integer 9))) ampName ∷ [])) 11 1) (65 ∷ 16 ∷ 0 ∷ 0 ∷ [])
+    ∷ example (value e (rains ++ (line (Controls (Set (argument 11) Name (Integer 9))) ampName ∷ [])) 11 1) (65 ∷ 16 ∷ 0 ∷ 0 ∷ [])
     -- the old rain's other control is as it was
-    ∷ example (value (rains ++ (line (Controls (Set (argument 0) Name (Integer 9))) panName ∷ [])) 10 0) (63 ∷ 128 ∷ 0 ∷ 0 ∷ [])
+    ∷ example (value e (rains ++ (line (Controls (Set (argument 0) Name (Integer 9))) panName ∷ [])) 10 0) (63 ∷ 128 ∷ 0 ∷ 0 ∷ [])
     -- a retired definition is no resident: `/status` counts one
-    ∷ example (drop 12 (status rains)) (0 ∷ 0 ∷ 0 ∷ 1 ∷ [])
+    ∷ example (drop 12 (status e rains)) (0 ∷ 0 ∷ 0 ∷ 1 ∷ [])
     -- `/d_free` of it, and again
-    ∷ example (answersOf (rains ++ (line (Definitions definitions.Free) rainName ∷ line (Definitions definitions.Free) rainName ∷ []))) (0 ∷ 0 ∷ 0 ∷ 0 ∷ 0 ∷ 16 ∷ [])
+    ∷ example (answersOf e (rains ++ (line (Definitions definitions.Free) rainName ∷ line (Definitions definitions.Free) rainName ∷ []))) (0 ∷ 0 ∷ 0 ∷ 0 ∷ 0 ∷ 16 ∷ [])
     -- export is the file that a fresh engine loaded
-    ∷ example (replied (load ping ∷ []) (line (Query query.Export) [])) (ping)
+    ∷ example (replied e (load ping ∷ []) (line (Query query.Export) [])) (ping)
     -- `/s_get` of a group
-    ∷ example (last (one ++ (line (Query (query.Control (argument 1) (Index 0))) [] ∷ []))) (18 ∷ [])
+    ∷ example (last e (one ++ (line (Query (query.Control (argument 1) (Index 0))) [] ∷ []))) (18 ∷ [])
     -- "255 new nodes fit; one more is 20, but by action 4 it goes in."
-    ∷ example (drop 255 (answersOf (groups 255 1 ++ (group 256 1 0 ∷ group 256 4 255 ∷ [])))) (20 ∷ 0 ∷ [])
+    ∷ example (drop 255 (answersOf e (groups 255 1 ++ (group 256 1 0 ∷ group 256 4 255 ∷ [])))) (20 ∷ 0 ∷ [])
     ∷ []
 
-filesAndReplies-agrees : agrees filesAndReplies ≡ true
-unfolding toBits ofInt groups residents definitionsIn firstName firstOr lastOr atDepth depthOf lastAbove lastBeside firstBeside nextOf shape subtreeRows rowsBelow rowsAt treeArguments controlArguments unitCount groupCount synthCount repeat nameBytes readFront readUnit readUnits readDefinition readDefinitions readFile sameName among writeAll writeDefinition writeFile lives lift sink takeDeeper dropDeeper onlyGroups runOf editRows orderFrom rowTaken tags arguments targetOf inBounds pattern held residentFrom controlsFrom firstIndex viewRows nodeNamed firstOf namesOf staying retired freeFrom loaded freeRowFrom initialWords changeWords changeAll effect plainNamed replyTo queryAnswer answerIn played answersFrom agrees
+abbrev shownAndRefused : Engine → List Example
+shownAndRefused e =
+    -- "a mapped control shows 'c' and the decimal bus"
+    example (replied e (one ++ (line (Controls (Map (argument 1000) (Index 0) 7)) [] ∷ [])) (line (Query (query.Tree (argument 0) 1)) [])) (47 ∷ 103 ∷ 95 ∷ 113 ∷ 117 ∷ 101 ∷ 114 ∷ 121 ∷ 84 ∷ 114 ∷ 101 ∷ 101 ∷ 46 ∷ 114 ∷ 101 ∷ 112 ∷ 108 ∷ 121 ∷ 0 ∷ 0 ∷ 44 ∷ 105 ∷ 105 ∷ 105 ∷ 105 ∷ 105 ∷ 105 ∷ 105 ∷ 115 ∷ 105 ∷ 115 ∷ 115 ∷ 0 ∷ 0 ∷ 0 ∷ 0 ∷ 0 ∷ 0 ∷ 0 ∷ 1 ∷ 0 ∷ 0 ∷ 0 ∷ 0 ∷ 0 ∷ 0 ∷ 0 ∷ 1 ∷ 0 ∷ 0 ∷ 0 ∷ 1 ∷ 0 ∷ 0 ∷ 0 ∷ 1 ∷ 0 ∷ 0 ∷ 3 ∷ 232 ∷ 255 ∷ 255 ∷ 255 ∷ 255 ∷ 112 ∷ 105 ∷ 110 ∷ 103 ∷ 0 ∷ 0 ∷ 0 ∷ 0 ∷ 0 ∷ 0 ∷ 0 ∷ 1 ∷ 102 ∷ 114 ∷ 101 ∷ 113 ∷ 0 ∷ 0 ∷ 0 ∷ 0 ∷ 99 ∷ 55 ∷ 0 ∷ 0 ∷ [])
+    -- "a control shows its first name or else its index": the control 0 of "a" has no name, 1 is `x`
+    ∷ example (replied e (load (fileOf 2 (oneName 1) (int 0)) ∷ line (Tree (NewSynth 1000 1 (argument 0))) aName ∷ []) (line (Query (query.Tree (argument 0) 1)) [])) (47 ∷ 103 ∷ 95 ∷ 113 ∷ 117 ∷ 101 ∷ 114 ∷ 121 ∷ 84 ∷ 114 ∷ 101 ∷ 101 ∷ 46 ∷ 114 ∷ 101 ∷ 112 ∷ 108 ∷ 121 ∷ 0 ∷ 0 ∷ 44 ∷ 105 ∷ 105 ∷ 105 ∷ 105 ∷ 105 ∷ 115 ∷ 105 ∷ 105 ∷ 102 ∷ 115 ∷ 102 ∷ 0 ∷ 0 ∷ 0 ∷ 0 ∷ 0 ∷ 0 ∷ 0 ∷ 1 ∷ 0 ∷ 0 ∷ 0 ∷ 0 ∷ 0 ∷ 0 ∷ 0 ∷ 1 ∷ 0 ∷ 0 ∷ 3 ∷ 232 ∷ 255 ∷ 255 ∷ 255 ∷ 255 ∷ 97 ∷ 0 ∷ 0 ∷ 0 ∷ 0 ∷ 0 ∷ 0 ∷ 2 ∷ 0 ∷ 0 ∷ 0 ∷ 0 ∷ 0 ∷ 0 ∷ 0 ∷ 0 ∷ 120 ∷ 0 ∷ 0 ∷ 0 ∷ 0 ∷ 0 ∷ 0 ∷ 0 ∷ [])
+    -- the whole `/n_info` of a group between two others: its parent, previous, next, head and tail
+    ∷ example (replied e (groups 3 1 ++ (group 4 1 2 ∷ group 5 1 2 ∷ [])) (line (Query (query.Node (argument 2))) [])) (47 ∷ 110 ∷ 95 ∷ 105 ∷ 110 ∷ 102 ∷ 111 ∷ 0 ∷ 44 ∷ 105 ∷ 105 ∷ 105 ∷ 105 ∷ 105 ∷ 105 ∷ 105 ∷ 0 ∷ 0 ∷ 0 ∷ 0 ∷ 0 ∷ 0 ∷ 0 ∷ 2 ∷ 0 ∷ 0 ∷ 0 ∷ 0 ∷ 0 ∷ 0 ∷ 0 ∷ 1 ∷ 0 ∷ 0 ∷ 0 ∷ 3 ∷ 0 ∷ 0 ∷ 0 ∷ 1 ∷ 0 ∷ 0 ∷ 0 ∷ 4 ∷ 0 ∷ 0 ∷ 0 ∷ 5 ∷ [])
+    -- "reply or export longer than its buffer": with room for 67 and for 68 bytes
+    ∷ example (roomFor 67 e ∷ roomFor 68 e ∷ []) (24 ∷ (256 * 68) ∷ [])
+    -- "Refusal 12 is given exactly if D is more than 32 minus the slots that stay taken": all are taken
+    ∷ example (answersOf e (load (thirtyTwo 65) ∷ load ping ∷ [])) (0 ∷ 12 ∷ [])
+    -- .. all are retired, but one is held
+    ∷ example (answersOf e (load (thirtyTwo 65) ∷ line (Tree (NewSynth 1000 1 (argument 0))) (65 ∷ []) ∷ load (thirtyTwo 65) ∷ line (Tree (Free (argument 1000))) [] ∷ load (thirtyTwo 65) ∷ []))
+    (0 ∷ 0 ∷ 12 ∷ 0 ∷ 0 ∷ [])
+    -- a retired definition's slot is taken while a synth holds it, so that "a" stands last
+    ∷ example (replied e (retiredPing ++ (load (fileOf 0 (int 0) (int 0)) ∷ [])) (line (Query query.Export) [])) (header 2 ++ drop 10 rain ++ drop 10 (fileOf 0 (int 0) (int 0)))
+    -- .. and free again when that synth is gone, so that it stands first
+    ∷ example (replied e (retiredPing ++ (line (Tree (Free (argument 1000))) [] ∷ load (fileOf 0 (int 0) (int 0)) ∷ [])) (line (Query query.Export) []))
+    (header 2 ++ drop 10 (fileOf 0 (int 0) (int 0)) ++ drop 10 rain)
+    -- "the last being -2,147,483,648", then "no number left for a new -1"; a number that the command gives is taken
+    ∷ example (answersOf (withLastNumber e) (load ping ∷ synth minusOne 1 0 ∷ synth minusOne 1 0 ∷ synth 7 1 0 ∷ [])) (0 ∷ 0 ∷ 25 ∷ 0 ∷ [])
+    ∷ []
+
+filesAndReplies-agrees : agrees (filesAndReplies freshParts) ≡ true
+unfolding toBits ofInt groups residents definitionsIn firstName firstOr lastOr atDepth depthOf lastAbove lastBeside firstBeside nextOf shape subtreeRows rowsBelow rowsAt treeArguments controlArguments unitCount groupCount synthCount repeat nameBytes readFront readUnit readUnits readDefinition readDefinitions readFile sameName among writeAll writeDefinition writeFile lives lift sink takeDeeper dropDeeper onlyGroups runOf editRows orderFrom rowTaken tags arguments targetOf inBounds pattern held residentFrom controlsFrom firstIndex viewRows nodeNamed firstOf namesOf staying retired freeFrom loaded freeRowFrom initialWords changeWords changeAll effect plainNamed replyTo queryAnswer answerIn played answersOf agrees
 filesAndReplies-agrees = refl
 
-making-agrees : agrees making ≡ true
-unfolding toBits ofInt groups residents definitionsIn firstName firstOr lastOr atDepth depthOf lastAbove lastBeside firstBeside nextOf shape subtreeRows rowsBelow rowsAt treeArguments controlArguments unitCount groupCount synthCount repeat nameBytes readFront readUnit readUnits readDefinition readDefinitions readFile sameName among writeAll writeDefinition writeFile lives lift sink takeDeeper dropDeeper onlyGroups runOf editRows orderFrom rowTaken tags arguments targetOf inBounds pattern held residentFrom controlsFrom firstIndex viewRows nodeNamed firstOf namesOf staying retired freeFrom loaded freeRowFrom initialWords changeWords changeAll effect plainNamed replyTo queryAnswer answerIn played answersFrom agrees
+making-agrees : agrees (making freshParts) ≡ true
+unfolding toBits ofInt groups residents definitionsIn firstName firstOr lastOr atDepth depthOf lastAbove lastBeside firstBeside nextOf shape subtreeRows rowsBelow rowsAt treeArguments controlArguments unitCount groupCount synthCount repeat nameBytes readFront readUnit readUnits readDefinition readDefinitions readFile sameName among writeAll writeDefinition writeFile lives lift sink takeDeeper dropDeeper onlyGroups runOf editRows orderFrom rowTaken tags arguments targetOf inBounds pattern held residentFrom controlsFrom firstIndex viewRows nodeNamed firstOf namesOf staying retired freeFrom loaded freeRowFrom initialWords changeWords changeAll effect plainNamed replyTo queryAnswer answerIn played answersOf agrees
 making-agrees = refl
 
-numbersAndMoves-agrees : agrees numbersAndMoves ≡ true
-unfolding toBits ofInt groups residents definitionsIn firstName firstOr lastOr atDepth depthOf lastAbove lastBeside firstBeside nextOf shape subtreeRows rowsBelow rowsAt treeArguments controlArguments unitCount groupCount synthCount repeat nameBytes readFront readUnit readUnits readDefinition readDefinitions readFile sameName among writeAll writeDefinition writeFile lives lift sink takeDeeper dropDeeper onlyGroups runOf editRows orderFrom rowTaken tags arguments targetOf inBounds pattern held residentFrom controlsFrom firstIndex viewRows nodeNamed firstOf namesOf staying retired freeFrom loaded freeRowFrom initialWords changeWords changeAll effect plainNamed replyTo queryAnswer answerIn played answersFrom agrees
+numbersAndMoves-agrees : agrees (numbersAndMoves freshParts) ≡ true
+unfolding toBits ofInt groups residents definitionsIn firstName firstOr lastOr atDepth depthOf lastAbove lastBeside firstBeside nextOf shape subtreeRows rowsBelow rowsAt treeArguments controlArguments unitCount groupCount synthCount repeat nameBytes readFront readUnit readUnits readDefinition readDefinitions readFile sameName among writeAll writeDefinition writeFile lives lift sink takeDeeper dropDeeper onlyGroups runOf editRows orderFrom rowTaken tags arguments targetOf inBounds pattern held residentFrom controlsFrom firstIndex viewRows nodeNamed firstOf namesOf staying retired freeFrom loaded freeRowFrom initialWords changeWords changeAll effect plainNamed replyTo queryAnswer answerIn played answersOf agrees
 numbersAndMoves-agrees = refl
 
-controlsAndBuses-agrees : agrees controlsAndBuses ≡ true
-unfolding toBits ofInt groups residents definitionsIn firstName firstOr lastOr atDepth depthOf lastAbove lastBeside firstBeside nextOf shape subtreeRows rowsBelow rowsAt treeArguments controlArguments unitCount groupCount synthCount repeat nameBytes readFront readUnit readUnits readDefinition readDefinitions readFile sameName among writeAll writeDefinition writeFile lives lift sink takeDeeper dropDeeper onlyGroups runOf editRows orderFrom rowTaken tags arguments targetOf inBounds pattern held residentFrom controlsFrom firstIndex viewRows nodeNamed firstOf namesOf staying retired freeFrom loaded freeRowFrom initialWords changeWords changeAll effect plainNamed replyTo queryAnswer answerIn played answersFrom agrees
+controlsAndBuses-agrees : agrees (controlsAndBuses freshParts) ≡ true
+unfolding toBits ofInt groups residents definitionsIn firstName firstOr lastOr atDepth depthOf lastAbove lastBeside firstBeside nextOf shape subtreeRows rowsBelow rowsAt treeArguments controlArguments unitCount groupCount synthCount repeat nameBytes readFront readUnit readUnits readDefinition readDefinitions readFile sameName among writeAll writeDefinition writeFile lives lift sink takeDeeper dropDeeper onlyGroups runOf editRows orderFrom rowTaken tags arguments targetOf inBounds pattern held residentFrom controlsFrom firstIndex viewRows nodeNamed firstOf namesOf staying retired freeFrom loaded freeRowFrom initialWords changeWords changeAll effect plainNamed replyTo queryAnswer answerIn played answersOf agrees
 controlsAndBuses-agrees = refl
 
-oldShapes-agrees : agrees oldShapes ≡ true
-unfolding toBits ofInt groups residents definitionsIn firstName firstOr lastOr atDepth depthOf lastAbove lastBeside firstBeside nextOf shape subtreeRows rowsBelow rowsAt treeArguments controlArguments unitCount groupCount synthCount repeat nameBytes readFront readUnit readUnits readDefinition readDefinitions readFile sameName among writeAll writeDefinition writeFile lives lift sink takeDeeper dropDeeper onlyGroups runOf editRows orderFrom rowTaken tags arguments targetOf inBounds pattern held residentFrom controlsFrom firstIndex viewRows nodeNamed firstOf namesOf staying retired freeFrom loaded freeRowFrom initialWords changeWords changeAll effect plainNamed replyTo queryAnswer answerIn played answersFrom agrees
+oldShapes-agrees : agrees (oldShapes freshParts) ≡ true
+unfolding toBits ofInt groups residents definitionsIn firstName firstOr lastOr atDepth depthOf lastAbove lastBeside firstBeside nextOf shape subtreeRows rowsBelow rowsAt treeArguments controlArguments unitCount groupCount synthCount repeat nameBytes readFront readUnit readUnits readDefinition readDefinitions readFile sameName among writeAll writeDefinition writeFile lives lift sink takeDeeper dropDeeper onlyGroups runOf editRows orderFrom rowTaken tags arguments targetOf inBounds pattern held residentFrom controlsFrom firstIndex viewRows nodeNamed firstOf namesOf staying retired freeFrom loaded freeRowFrom initialWords changeWords changeAll effect plainNamed replyTo queryAnswer answerIn played answersOf agrees
 oldShapes-agrees = refl
+
+shownAndRefused-agrees : agrees (shownAndRefused freshParts) ≡ true
+unfolding toBits ofInt groups bodies residents definitionsIn firstName firstOr lastOr atDepth depthOf lastAbove lastBeside firstBeside nextOf shape subtreeRows rowsBelow rowsAt treeArguments controlArguments unitCount groupCount synthCount repeat nameBytes readFront readUnit readUnits readDefinition readDefinitions readFile sameName among writeAll writeDefinition writeFile lives lift sink takeDeeper dropDeeper onlyGroups runOf editRows orderFrom rowTaken tags arguments targetOf inBounds pattern held residentFrom controlsFrom firstIndex viewRows nodeNamed firstOf namesOf staying retired freeFrom loaded freeRowFrom initialWords changeWords changeAll effect plainNamed replyTo queryAnswer answerIn played answersOf agrees
+shownAndRefused-agrees = refl
 
 agrees-append : (a b : List Example) → agrees a ≡ true → agrees b ≡ true → agrees (a ++ b) ≡ true
 unfolding agrees
@@ -289,11 +338,21 @@ agrees-append (x ∷ a) b p q = go (sameName (x .found) (x .wanted)) p (λ k. ag
     go true k ih = ih k
     go false k ih = k
 
--- one table, one statement
+-- the rows, played from an engine
+abbrev rowsFrom : Engine → List Example
+rowsFrom e = filesAndReplies e ++ (making e ++ (numbersAndMoves e ++ (controlsAndBuses e ++ (oldShapes e ++ shownAndRefused e))))
+
+computed : agrees (rowsFrom freshParts) ≡ true
+computed =
+    agrees-append (filesAndReplies freshParts) _ filesAndReplies-agrees
+    (agrees-append (making freshParts) _ making-agrees
+    (agrees-append (numbersAndMoves freshParts) _ numbersAndMoves-agrees
+    (agrees-append (controlsAndBuses freshParts) _ controlsAndBuses-agrees
+    (agrees-append (oldShapes freshParts) (shownAndRefused freshParts) oldShapes-agrees shownAndRefused-agrees))))
+
+-- one table, played from a fresh engine, one statement
 abbrev pub table : List Example
-table = filesAndReplies ++ (making ++ (numbersAndMoves ++ (controlsAndBuses ++ oldShapes)))
+table = rowsFrom freshEngine
 
 pub agreed : agrees table ≡ true
-agreed =
-    agrees-append filesAndReplies _ filesAndReplies-agrees
-    (agrees-append making _ making-agrees (agrees-append numbersAndMoves _ numbersAndMoves-agrees (agrees-append controlsAndBuses oldShapes controlsAndBuses-agrees oldShapes-agrees)))
+agreed = ap (λ (e : Engine). agrees (rowsFrom e)) fresh-parts ∙ computed

@@ -81,6 +81,16 @@ module _ {A : Type 0} (key : A → ℕ) where
   abbrev pub children : ℕ → Forest A → List ℕ
   children n f = tops (below key n f)
 
+  -- the first and the last of one list
+  unfoldable pub firstTop : Forest A → ℕ
+  firstTop none = noNode
+  firstTop (node x b a) = key x
+
+  -- p, where the list is empty
+  unfoldable pub lastTop : ℕ → Forest A → ℕ
+  lastTop p none = p
+  lastTop p (node x b a) = lastTop (key x) a
+
   -- of the node n in a list whose parent is p
   unfoldable pub parentIn : ℕ → ℕ → Forest A → ℕ
   parentIn p n none = noNode
@@ -99,10 +109,10 @@ module _ {A : Type 0} (key : A → ℕ) where
 
   unfoldable pub next : ℕ → Forest A → ℕ
   next n none = noNode
-  next n (node x b a) = pick (eqb (key x) n) (firstOr noNode (tops a)) (pick (has key n b) (next n b) (next n a))
+  next n (node x b a) = pick (eqb (key x) n) (firstTop a) (pick (has key n b) (next n b) (next n a))
 
   abbrev pub head : ℕ → Forest A → ℕ
-  head n f = firstOr noNode (children n f)
+  head n f = firstTop (below key n f)
 
   abbrev pub tail : ℕ → Forest A → ℕ
-  tail n f = lastOr noNode (children n f)
+  tail n f = lastTop noNode (below key n f)

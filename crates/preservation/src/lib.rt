@@ -1,2 +1,1 @@
 // Laws only: a step keeps a well-formed state well formed. They stand in specs/.
-pub fn nothing() {}

@@ -13,7 +13,8 @@ use Rattle.readable.specs.declared.found.Found.the-variants as found
 use Rattle.format.specs.Read.{Read, got, bad}
 use Rattle.format.specs.Definition.{Definition}
 use Rattle.format.specs.Reader.{sizeLimit, readDefinition}
-use Rattle.readable.specs.Lookup.{unitsIn, nameIn, nameOfIn, firstName}
+use Rattle.format.specs.Names.{firstName}
+use Rattle.readable.specs.Lookup.{unitsIn, nameIn, nameOfIn}
 use Rattle.readable.specs.LookupOf.{units-of, name-of, first-name-of}
 use Rattle.readable.specs.Readable.{ReadableWhole}
 use Rattle.nodes.specs.Table.{row-from}

@@ -1,8 +1,9 @@
 -- Parameter names by their shape: where each stands and ends, from its bytes alone.
 use Prim.Native.Nat.{ℕ, zero, suc, _+_, _-_, _≤_, _<_}
 use mathlib.Core.Bool.{Bool, true, false}
-use mathlib.Core.Path.{_≡_, sym, ap, ap₂, _∙_}
+use mathlib.Core.Path.{_≡_, refl, sym, ap, ap₂, _∙_}
 use mathlib.Core.List.{List, [], _∷_}
+use mathlib.Core.Option.{Option, none, some}
 use native.Mathlib.Omega.{arith}
 use borrow.Author.Tests.{ltb-true}
 use lib.ListN.{length, getD}
@@ -17,7 +18,7 @@ use Rattle.format.specs.RepeatLaws.{went-on, got-value, got-place}
 use Rattle.format.specs.Endings.{field-got}
 use Rattle.format.specs.Sizes.{name-got}
 use Rattle.format.specs.Definition.{ParameterName}
-use Rattle.readable.specs.Lookup.{nothing, atNumber, firstOf, firstNamed}
+use Rattle.format.specs.Names.{firstIndex}
 use Rattle.format.specs.Reader.{mostParameters, parameterName, sameName}
 
 -- "N parameter names (pstring, int32 index)": the place of an entry's index, and the place past the entry
@@ -63,6 +64,10 @@ entries-turn s bound n i at h l =
 pub entries-none : (s : List ℕ) (n i at : ℕ) → n ≤ i → entriesFrom s (n - i) at ≡ []
 unfolding entriesFrom
 entries-none s n i at h = let e : n - i ≡ 0 = omega arith in rw e
+
+pub entries-past : (s : List ℕ) (bound n at : ℕ) → at ≤ length s → Entries s bound (n - n) at
+unfolding Entries
+entries-past s bound n at h = let e : n - n ≡ 0 = omega arith in rw e h
 
 pub entries-last : (s : List ℕ) (n i at : ℕ) → n ≤ i → entriesEnd s (n - i) at ≡ at
 unfolding entriesEnd
@@ -126,21 +131,30 @@ entries-below s p q (suc n) at h l = (omega (arith, l .0), l .1, entries-below s
 
 -- the first entry of a name, by one entry and those behind it
 pub named-turn : (s name : List ℕ) (n i at : ℕ) → Turn s mostParameters n i at
-    → firstNamed name (entriesFrom s (n - i) at) ≡ pick (sameName (stringAt s at) name) (atNumber (word s (indexPlace s at))) (firstNamed name (entriesFrom s (n - (i + 1)) (entryEnd s at)))
-unfolding firstOf
-named-turn s name n i at t = ap (firstNamed name) (t .first)
+    → firstIndex name (entriesFrom s (n - i) at) ≡ pick (sameName (stringAt s at) name) (some (word s (indexPlace s at))) (firstIndex name (entriesFrom s (n - (i + 1)) (entryEnd s at)))
+unfolding firstIndex
+named-turn s name n i at t = ap (firstIndex name) (t .first)
 
-pub named-none : (s name : List ℕ) (n i at : ℕ) → n ≤ i → firstNamed name (entriesFrom s (n - i) at) ≡ nothing
-unfolding firstOf
-named-none s name n i at h = ap (firstNamed name) (entries-none s n i at h)
+pub named-none : (s name : List ℕ) (n i at : ℕ) → n ≤ i → firstIndex name (entriesFrom s (n - i) at) ≡ none
+unfolding firstIndex
+named-none s name n i at h = ap (firstIndex name) (entries-none s n i at h)
 
 -- by a test of its bytes
 module _ (s name : List ℕ) (n i at : ℕ) (t : Turn s mostParameters n i at) {same : Bool} (said : same ≡ sameName (region (at + 1) (at + 1 + getD s at 0 - (at + 1)) s) name) where
   tested : sameName (stringAt s at) name ≡ same
   tested = let size : getD s at 0 ≡ at + 1 + getD s at 0 - (at + 1) = omega arith in ap (λ (k : ℕ). sameName (region (at + 1) k s) name) size ∙ sym said
 
-  pub named-here : same ≡ true → firstNamed name (entriesFrom s (n - i) at) ≡ atNumber (word s (indexPlace s at))
+  pub named-here : same ≡ true → firstIndex name (entriesFrom s (n - i) at) ≡ some (word s (indexPlace s at))
   named-here e = named-turn s name n i at t ∙ rw (tested ∙ e)
 
-  pub named-behind : same ≡ false → firstNamed name (entriesFrom s (n - i) at) ≡ firstNamed name (entriesFrom s (n - (i + 1)) (entryEnd s at))
+  pub named-behind : same ≡ false → firstIndex name (entriesFrom s (n - i) at) ≡ firstIndex name (entriesFrom s (n - (i + 1)) (entryEnd s at))
   named-behind e = named-turn s name n i at t ∙ rw (tested ∙ e)
+
+-- one that was found stands, and where none was, the entries behind decide
+abbrev pub orLater : Option ℕ → Option ℕ → Option ℕ
+orLater (some n) later = some n
+orLater none later = later
+
+pub or-none : (found : Option ℕ) → orLater found none ≡ found
+or-none (some n) = refl
+or-none none = refl

@@ -1,36 +1,26 @@
 -- Lookups in one encoded definition, which starts at the first byte. They read its front, and answer none where that can't be read.
 use Prim.Native.Nat.{ℕ}
-use mathlib.Core.Bool.{Bool}
-use mathlib.Core.List.{List, [], _∷_}
+use mathlib.Core.List.{List, []}
 use mathlib.Core.Option.{Option, none, some}
 use lib.ListN.{length}
-use lib.Dec.{eqb}
-use Rattle.words.specs.Choice.{pick}
+
 use Rattle.readable.specs.declared.found.Found.{Found}
 use Rattle.readable.specs.declared.found.Found.the-variants as found
 use Rattle.readable.specs.declared.found.ValuesFound.{ValuesFound}
 use Rattle.readable.specs.declared.found.ValuesFound.the-variants as values
+use Rattle.format.specs.Read.{onRead}
 use Rattle.format.specs.Fields.{count}
-use Rattle.format.specs.Definition.{ParameterName}
-use Rattle.format.specs.Reader.{readFront, sameName}
+use Rattle.format.specs.Reader.{readFront}
+use Rattle.format.specs.Names.{firstIndex, firstName}
 use Rattle.front.specs.Front.{valuesAt}
 
-module _ {A B : Type 0} where
-  -- what is asked of the first item that passes a test, and the answer where none does
-  unfoldable pub firstOf : (A → Bool) → (A → B) → B → List A → B
-  firstOf test ask nothing [] = nothing
-  firstOf test ask nothing (x ∷ xs) = pick (test x) (ask x) (firstOf test ask nothing xs)
-
-abbrev pub nothing : Found
-nothing = found.Nothing
+-- a number that was found, or none
+abbrev pub foundAt : Found → Option ℕ
+foundAt (found.At n) = some n
+foundAt found.Nothing = none
 
 abbrev pub atNumber : ℕ → Found
 atNumber n = found.At n
-
--- the first of two answers, if there is one, else the second
-abbrev pub orElse : Option (List ℕ) → Option (List ℕ) → Option (List ℕ)
-orElse (some n) other = some n
-orElse none other = other
 
 -- the definition's name, and no bytes where there is none
 abbrev pub nameIn : List ℕ → List ℕ
@@ -48,16 +38,10 @@ unitsIn s = onRead (readFront s 0) found.Nothing (λ f next. onRead (count s nex
 abbrev pub valuesIn : List ℕ → ValuesFound
 valuesIn s = onRead (readFront s 0) values.Nothing (λ f next. values.At (valuesAt 0 f) (length (f .values)))
 
--- "A name means its first entry": the index that it has there
-abbrev pub firstNamed : List ℕ → List ParameterName → Found
-firstNamed n names = firstOf (λ p. sameName (p .name) n) (λ p. found.At (p .index)) found.Nothing names
+-- the index of a name
+abbrev pub indexIn : List ℕ → List ℕ → Option ℕ
+indexIn n s = onRead (readFront s 0) none (λ f next. firstIndex n (f .names))
 
-abbrev pub indexIn : List ℕ → List ℕ → Found
-indexIn n s = onRead (readFront s 0) found.Nothing (λ f next. firstNamed n (f .names))
-
--- the name of the first entry that has an index
-abbrev pub firstName : ℕ → List ParameterName → Option (List ℕ)
-firstName i names = firstOf (λ p. eqb (p .index) i) (λ p. some (p .name)) none names
-
+-- the first name of an index
 abbrev pub nameOfIn : ℕ → List ℕ → Option (List ℕ)
 nameOfIn i s = onRead (readFront s 0) none (λ f next. firstName i (f .names))

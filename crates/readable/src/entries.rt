@@ -3,28 +3,31 @@ use crate::found::Found;
 use fields::same_name;
 use fields::word_at;
 ghost use mathlib.Core.Path.{_≡_};
-ghost use Rattle.readable.specs.Lookup.{firstNamed};
+ghost use Rattle.format.specs.Names.{firstIndex};
+ghost use Rattle.readable.specs.Lookup.{foundAt};
 ghost use Rattle.format.specs.Reader.{mostParameters};
 ghost use Rattle.readable.specs.Entries.{Entries, entriesFrom, entriesEnd};
 
 // The index of a name among so many entries: it stops at the first that has it.
 pub(crate) fn find_entry(s: &[u8], first: usize, count: u32, name: &[u8]) -> Found
     requires { ⌜ Entries (now s) mostParameters count first ⌝ }
-    ensures { λ r. ⌜ r ≡ firstNamed (now (name .entry)) (entriesFrom (now (s .entry)) count first) ⌝ }
+    ensures { λ r. ⌜ foundAt r ≡ firstIndex (now (name .entry)) (entriesFrom (now (s .entry)) count first) ⌝ }
 {
+    let mut found = Found::Nothing;
     let mut at = first;
     let mut i = 0;
     while i < count {
         let size = s[at] as usize;
         let start = at + 1;
         let end = start + size;
-        if same_name(&s[start..end], name) {
-            return Found::At(word_at(s, end));
-        }
         at = end + 4;
         i += 1;
+        if same_name(&s[start..end], name) {
+            found = Found::At(word_at(s, end));
+            i = count;
+        }
     }
-    Found::Nothing
+    found
 }
 
 // The place past so many entries.

@@ -7,7 +7,7 @@ use crate::places::counts;
 use fields::name_at;
 use fields::word_at;
 ghost use mathlib.Core.Path.{_≡_};
-ghost use Rattle.readable.specs.Lookup.{atNumber, nameIn, parametersIn, unitsIn, valuesIn, indexIn};
+ghost use Rattle.readable.specs.Lookup.{atNumber, foundAt, nameIn, parametersIn, unitsIn, valuesIn, indexIn};
 ghost use Rattle.readable.specs.Readable.{Readable, ReadableWhole};
 
 // P, the number of parameters.
@@ -39,7 +39,7 @@ pub fn name(s: &[u8]) -> &[u8]
 // The index of a parameter name: a name means its first entry.
 pub fn index_of(s: &[u8], name: &[u8]) -> Found
     requires { ⌜ Readable (now s) ⌝ }
-    ensures { λ r. ⌜ r ≡ indexIn (now (name .entry)) (now (s .entry)) ⌝ }
+    ensures { λ r. ⌜ foundAt r ≡ indexIn (now (name .entry)) (now (s .entry)) ⌝ }
 {
     let places = counts(s);
     find_entry(s, places.first, places.names, name)

@@ -11,7 +11,6 @@ use Rattle.format.specs.Reader.{readDefinition}
 use Rattle.files.specs.File.{firstPlace}
 use Rattle.format.specs.Read.{onRead}
 
-
 -- where a reader of a file starts: at the first definition, and at the end of a file that is refused
 abbrev pub startOf : List ℕ → Checked → ℕ
 startOf s (Accepted n) = firstPlace

@@ -9,6 +9,7 @@ use lib.Seq.{drop-drop}
 use lib.Dec.{ltb}
 use borrow.Author.Tests.{le-leb, lt-leb, leb-false}
 use denote.Ref.{RefT, now}
+use Rattle.words.specs.Bytes.{AreBytes}
 use Rattle.words.specs.Choice.{pick}
 use Rattle.words.specs.Parts.{region, region-length}
 use Rattle.faults.specs.declared.Fault.{Fault}
@@ -20,7 +21,6 @@ use Rattle.files.specs.File.{firstPlace}
 use Rattle.format.specs.RepeatLaws.{went-on}
 use Rattle.files.specs.FileLaws.{fitting-got, head-few, definitions-length}
 use Rattle.files.specs.Forward.{definition-whole}
-use Rattle.roundtrip.specs.Stands.{Bytes}
 use Rattle.roundtrip.specs.Forth.{definition-forth, file-forth}
 use Rattle.roundtrip.specs.Local.{definition-alone}
 use Rattle.reader.specs.declared.reader.Reader.{Reader}
@@ -55,7 +55,7 @@ module _ (f : RefT (List ℕ)) where
       let none-left : walk n (at-place p) ≡ [] = ended-walk n (at-place p) (le-leb (length s) p h) in
       record { each = rw none-left none; rest = rw (none-left, drop-of-length-le s h) }
 
-  module _ (b : Bytes s) (p : ℕ) (d : Definition) (next : ℕ) (e : readDefinition s p ≡ got d next) where
+  module _ (b : AreBytes s) (p : ℕ) (d : Definition) (next : ℕ) (e : readDefinition s p ≡ got d next) where
     bytes-here : handed (at-place p) ≡ region p (next - p) s
     bytes-here = rw e
 
@@ -89,7 +89,7 @@ module _ (f : RefT (List ℕ)) where
         }
 
   -- definitions that were read one after the other, to the file's end, in as many steps or more
-  from-all : Bytes s → (k : ℕ) (names : List (List ℕ)) (p : ℕ) {ds : List Definition} {end : ℕ} → readDefinitions s k names p ≡ got ds end → length s ≤ end
+  from-all : AreBytes s → (k : ℕ) (names : List (List ℕ)) (p : ℕ) {ds : List Definition} {end : ℕ} → readDefinitions s k names p ≡ got ds end → length s ≤ end
       → (n : ℕ) → k ≤ n → From n p ds
   unfolding readDefinitions
   from-all b zero names p {ds} {end} h l n m =
@@ -119,7 +119,7 @@ module _ (f : RefT (List ℕ)) where
       picked false x m h = ((cc), (cc))
 
   -- "walks the definitions": those of an accepted file, in as many steps or more
-  pub walks : Bytes s → {ds : List Definition} {end : ℕ} → readFile s ≡ got ds end → (n : ℕ) → length ds ≤ n → Walks f n ds
+  pub walks : AreBytes s → {ds : List Definition} {end : ℕ} → readFile s ≡ got ds end → (n : ℕ) → length ds ≤ n → Walks f n ds
   walks b {ds} {end} h n m =
       let whole = file-forth s b ds end h .whole in
       let w = from-all b (length ds) [] firstPlace (from-first h) (omega arith) n m in

@@ -30,8 +30,9 @@ use Rattle.model.specs.Engine.{Slot, Engine, definitionOf, slotAt, controlsFrom
 use Rattle.model.specs.View.{Kind, group, synth, PlainNode, kindIn, viewOf}
 use Rattle.model.specs.Meaning.{startOf}
 use Rattle.model.specs.Effects.{changeStart, changeAll, withControls}
-use Rattle.model.specs.Plain.{Plain, numberIn, changeAt, changeKind, changeNode}
+use Rattle.model.specs.Plain.{Plain, numberIn, changeAt, changeKind, changeNode, changeBelow}
 use Rattle.refinement.specs.Kept.{Kept, seenTree}
+use Rattle.refinement.specs.RowReplies.{same-start}
 use Rattle.refinement.specs.DefinitionsReplay.{each-more}
 use Rattle.refinement.specs.SynthReplay.{controls-front}
 use Rattle.refinement.specs.RowChange.{FitsWord, row-length, row-other, row-own}
@@ -84,7 +85,7 @@ module _ (f : ControlValue → ControlValue) (fits-word : FitsWord f) (name : Ke
   push : (d : Definition) (cs : List ControlValue) (g : Bool)
       → changeKind f name bytes count (pick g group (synth d cs)) ≡ pick g group (synth d (changeAt f (startOf name bytes d) count cs))
   push d cs true = refl
-  push d cs false = refl
+  push d cs false = ap (λ (o : Option ℕ). synth d (changeAt f o count cs)) (same-start name bytes d)
 
   step-own : (r : Node) (cs : List ℕ) → length cs ≡ controlsWords → rowFormed r ≡ true → kindIn slots (step r cs) r ≡ changeKind f name bytes count (kindIn slots cs r)
   step-own r cs size low =
@@ -391,8 +392,7 @@ module _ (f : ControlValue → ControlValue) (fits-word : FitsWord f) (name : Ke
   abbrev g : PlainNode → PlainNode
   g = changeNode f name bytes count
 
-  pub changed-replayed : Kept (withControls after e)
-      (record { tree = edit numberIn n (λ x b a. node (g x) (mapForest g b) a) (p .tree); names = p .names; next = p .next; latest = p .latest; buses = p .buses })
+  pub changed-replayed : Kept (withControls after e) (changeBelow g n p)
   changed-replayed = record {
     forest = k .forest;
     laid = k .laid;

@@ -5,6 +5,7 @@ use mathlib.Core.Path.{_≡_, refl, sym, ap, _∙_}
 use mathlib.Core.List.{List}
 use native.Mathlib.Omega.{arith}
 use lib.ListN.{length}
+use Rattle.words.specs.Bytes.{AreBytes}
 use Rattle.model.specs.declared.DefinitionCommand.{DefinitionCommand}
 use Rattle.model.specs.declared.DefinitionCommand.the-variants as definitions
 use Rattle.model.specs.declared.Command.the-variants as command
@@ -15,7 +16,6 @@ use Rattle.model.specs.Effects.{definitionEffect, withSlots, effect}
 use Rattle.model.specs.After.{putSlots, lengthsOf, arenaOf, wordsAfter, arenaAfter}
 use Rattle.model.specs.Apply.{answerIn}
 use Rattle.model.specs.Formed.{formed, flagsFormed, slotsFormed}
-use Rattle.model.specs.Demands.{AreBytes}
 use Rattle.state.specs.Known.{Known, known}
 use Rattle.state.specs.Decoded.{Backed, slots-size, slots-word, slots-lengths, slots-flags, slots-decoded}
 use Rattle.preservation.specs.TreeKept.{slots-many}

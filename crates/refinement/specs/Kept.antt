@@ -1,28 +1,28 @@
 -- What is kept along a sequence: the state is well formed, and its nodes, laid out as a tree and seen as the plain tree sees them, are the plain tree.
-use Prim.Native.Nat.{ℕ, _+_}
-use mathlib.Core.Bool.{Bool, true, false}
+use Prim.Native.Nat.{ℕ, _+_, _≤_}
+use mathlib.Core.Bool.{Bool, true, false, not}
 use mathlib.Core.Path.{_≡_, refl, sym, ap, ap₂, _∙_}
 use mathlib.Core.List.{List, [], _∷_, _++_}
+use mathlib.Core.Option.{none, some}
+use native.Mathlib.Omega.{arith}
+use borrow.Author.Tests.{ltb-true, ltb-false, not-true, not-false}
 use lib.ListN.{length}
-use Rattle.words.specs.Choice.{pick}
+use lib.Dec.{ltb, eqb}
+use Rattle.words.specs.Choice.{pick, both-true}
 use Rattle.nodes.specs.declared.Node.{Node}
-use Rattle.nodes.specs.Place.{isGroup}
-use Rattle.nodes.specs.Forest.{Forest, none, node, flatten, mapForest}
-use Rattle.nodes.specs.Order.{isOn, order, orderTree}
-use Rattle.treerefinement.specs.Flatten.{key}
+use Rattle.nodes.specs.Place.{isGroup, lives}
+use Rattle.nodes.specs.Forest.{Forest, none as noTree, node, flatten, mapForest}
+use Rattle.nodes.specs.Order.{order}
 use Rattle.treerefinement.specs.Leaves.{Leaves}
-use Rattle.treerefinement.specs.Order.{order-tree}
-use Rattle.treerefinement.specs.MapForest.{map-order}
-use Rattle.model.specs.declared.Query.{Query}
-use Rattle.model.specs.declared.Query.the-variants as query
-use Rattle.model.specs.Engine.{Slot, Engine, definitionOf, controlsOf, residents}
-use Rattle.model.specs.View.{group, synth, PlainNode, Row, isGroupKind, kindIn, viewOf, viewRows, view}
 use Rattle.values.specs.declared.NodeArgument.{NodeArgument}
-use Rattle.values.specs.Targets.{targetOf}
-use Rattle.model.specs.Meaning.{meantBy, meant}
-use Rattle.model.specs.Replies.{replyTo}
-use Rattle.model.specs.Plain.{Plain, meaning, meantIn, numberIn, isGroupNode, isOnNode, plainRows}
-use Rattle.model.specs.Demands.{Same, meaningIn, isExport}
+use Rattle.values.specs.declared.Target.{Target}
+use Rattle.values.specs.declared.Target.the-variants.{Latest, Reserved}
+use Rattle.values.specs.Targets.{named, targetOf, signed-high, target-number, target-reserved}
+use Rattle.model.specs.Engine.{Slot, Engine, definitionOf, controlsOf, residents}
+use Rattle.model.specs.View.{group, synth, PlainNode, Row, isGroupKind, kindIn, viewOf, viewRows}
+use Rattle.model.specs.Meaning.{meantBy, knownBy, meant, known}
+use Rattle.model.specs.Plain.{Plain, minusOne, meaning, meantIn, plainRows}
+use Rattle.model.specs.Demands.{meaningIn, latestSynth}
 use Rattle.refinement.specs.Names.{Once}
 
 -- a tree of records, seen with these slots and controls
@@ -38,7 +38,7 @@ pub record Kept (e : Engine) (p : Plain) : Type 0 where
   pub nameCount : length (residents (e .slots)) ≡ length (p .names)
   pub once : Once (p .names)
   pub next : e .next ≡ p .next
-  pub latest : e .latest ≡ p .latest
+  pub latest : latestSynth (e .latest) ≡ p .latest
   pub buses : e .buses ≡ p .buses
   pub ordered : e .order ≡ order (e .nodes)
 
@@ -50,7 +50,7 @@ view-append slots controls (r ∷ a) b = ap (λ (l : List Row). record { depth =
 -- the rows of a tree of records, seen, are the rows of the tree that is seen
 pub view-tree : (slots : List Slot) (controls : List ℕ) (d : ℕ) (f : Forest Node) → viewRows slots controls (flatten d f) ≡ plainRows d (seenTree slots controls f)
 unfolding viewRows flatten plainRows mapForest
-view-tree slots controls d none = refl
+view-tree slots controls d noTree = refl
 view-tree slots controls d (node x b a) =
     ap (λ (l : List Row). record { depth = d; node = viewOf slots controls x } ∷ l)
     (view-append slots controls (flatten (d + 1) b) (flatten d a)
@@ -63,35 +63,30 @@ group-kind slots controls x = go (isGroup x)
     go true = refl
     go false = refl
 
--- the reply to a query, of equal parts
-reply-by : (q : Query) (bytes : List ℕ) (m m′ : NodeArgument → ℕ) (rows rows′ : List Row) (buses buses′ : List ℕ) (n n′ : ℕ) (file : List ℕ) → isExport q ≡ false
-    → ((a : NodeArgument) → m a ≡ m′ a) → rows ≡ rows′ → buses ≡ buses′ → n ≡ n′ → replyTo q m bytes rows buses n file ≡ replyTo q m′ bytes rows′ buses′ n′ []
-unfolding replyTo
-reply-by (query.Node a) bytes m m′ rows rows′ buses buses′ n n′ file x h r b k = rw (h a, r)
-reply-by (query.Control a key) bytes m m′ rows rows′ buses buses′ n n′ file x h r b k = rw (h a, r, b)
-reply-by (query.Bus a) bytes m m′ rows rows′ buses buses′ n n′ file x h r b k = rw b
-reply-by (query.Tree a flag) bytes m m′ rows rows′ buses buses′ n n′ file x h r b k = rw (h a, r)
-reply-by query.Status bytes m m′ rows rows′ buses buses′ n n′ file x h r b k = rw (r, k)
-reply-by query.Export bytes m m′ rows rows′ buses buses′ n n′ file x h r b k = let z : _≡_ {A = Bool} true false = x in cc
+-- a node argument that the engine knows means the same
+pub same-meant : (a : NodeArgument) (e : Engine) (p : Plain) → Kept e p → not (known a e) ≡ false → meantIn a p ≡ some (meant a e)
+unfolding targetOf
+same-meant a e p k h = go (ltb n 2147483648) refl (ltb n minusOne) refl (not-false (known a e) h)
+  where
+    n : ℕ
+    n = a .number
 
--- what is kept is what demand 3 asks of the state after a sequence
-pub kept-same : (e : Engine) (p : Plain) → Kept e p → Same e p
-kept-same e p k =
-    let rows : view e ≡ plainRows 0 (p .tree) =
-    ap (λ (l : List Node). viewRows (e .slots) (e .controls) l) (k .laid)
-    ∙ view-tree (e .slots) (e .controls) 0 (k .forest)
-    ∙ ap (λ (f : Forest PlainNode). plainRows 0 f) (sym (k .tree)) in
-    record {
-      nodes = rows;
-      names = k .names;
-      nameCount = k .nameCount;
-      next = k .next;
-      latest = k .latest;
-      buses = k .buses;
-      order = k .ordered
-          ∙ ap (λ (l : List Node). order l) (k .laid)
-          ∙ order-tree (k .forest)
-          ∙ sym (ap (λ (f : Forest PlainNode). orderTree numberIn isGroupNode isOnNode f) (k .tree)
-          ∙ map-order (viewOf (e .slots) (e .controls)) key numberIn (λ x. refl) isGroup isOn isGroupNode isOnNode (λ x. group-kind (e .slots) (e .controls) x) (λ x. refl) (k .forest));
-      replies = λ q bytes x. reply-by q bytes (λ a. meant a e) (λ a. meantIn a p) (view e) (plainRows 0 (p .tree)) (e .buses) (p .buses) (length (residents (e .slots))) (length (p .names)) _ x (λ a. ap (λ (l : ℕ). meantBy (targetOf (a .number)) l) (k .latest)) rows (k .buses) (k .nameCount);
-    }
+    no : (t : Target) → t ≡ Reserved → knownBy t (e .latest) (e .nodes) ≡ true → ⊥
+    no t q u = let z : _≡_ {A = Bool} false true = ap (λ (x : Target). knownBy x (e .latest) (e .nodes)) (sym q) ∙ u in clash z
+      where
+        clash : _≡_ {A = Bool} false true → ⊥
+        clash z = let y : _≡_ {A = ℕ} 0 1 = cc in omega arith
+
+    latest : (t : Target) → t ≡ Latest → knownBy t (e .latest) (e .nodes) ≡ true → p .latest ≡ some (meantBy t (e .latest))
+    latest t q u =
+        let w = both-true (not (eqb (e .latest) 0)) (lives (e .latest) (e .nodes)) (ap (λ (x : Target). knownBy x (e .latest) (e .nodes)) (sym q) ∙ u) in
+        sym (k .latest)
+        ∙ ap (λ (b : Bool). pick b none (some (e .latest))) (not-true (eqb (e .latest) 0) (w .0))
+        ∙ ap (λ (x : Target). some (meantBy x (e .latest))) (sym q)
+
+    go : (i : Bool) → ltb n 2147483648 ≡ i → (j : Bool) → ltb n minusOne ≡ j → known a e ≡ true → pick i (some n) (pick j none (p .latest)) ≡ some (meant a e)
+    go true u j v y = ap (λ (t : Target). some (meantBy t (e .latest))) (sym (target-number n (ltb-true n 2147483648 u)))
+    go false u true v y = absurd (no (targetOf n) (target-reserved n (ltb-false n 2147483648 u) (ltb-true n minusOne v)) y)
+    go false u false v y =
+        let past : minusOne ≤ n = ltb-false n minusOne v in
+        latest (targetOf n) (ap named (signed-high n 0 (ltb-false n 2147483648 u) (omega arith))) y

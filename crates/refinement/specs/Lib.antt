@@ -1,4 +1,6 @@
 pub mod Kept
+pub mod RowReplies
+pub mod Same
 pub mod TreeReplay
 pub mod Names
 pub mod SlotNames

@@ -9,13 +9,13 @@ use lib.ListN.{length}
 use lib.Dec.{leb}
 use borrow.Author.Tests.{leb-true, ltb-false, eq-eqb}
 use Rattle.words.specs.Choice.{either, both-true}
+use Rattle.words.specs.Bytes.{AreBytes}
 use Rattle.refusals.specs.declared.Refusal.the-variants.{NoSlot}
 use Rattle.format.specs.Read.{Read, got, bad}
 use Rattle.format.specs.Definition.{Definition}
 use Rattle.format.specs.Reader.{readDefinition, readFile, sizeLimit, mostDefinitions, sameName, among}
 use Rattle.format.specs.Writer.{writeDefinition}
 use Rattle.format.specs.Bounds.{isDefinition, areDefinitions}
-use Rattle.roundtrip.specs.Stands.{bytes-of-every}
 use Rattle.roundtrip.specs.Forth.{file-forth}
 use Rattle.nodes.specs.declared.Node.{Node}
 use Rattle.model.specs.declared.DefinitionCommand.{DefinitionCommand}
@@ -26,7 +26,6 @@ use Rattle.model.specs.Engine.{Slot, Engine, nameIn, slotAt, held, residentOf}
 use Rattle.model.specs.Checks.{check, firstOf, faultOf, definitionsOf, namesOf, staying, noSlot, definitionChecks}
 use Rattle.model.specs.Effects.{retired, freeFrom, placed, loaded, retire, definitionEffect}
 use Rattle.model.specs.Formed.{isWhole, nameResident, namesApart}
-use Rattle.model.specs.Demands.{AreBytes}
 use Rattle.preservation.specs.Passed.{passed}
 use Rattle.refinement.specs.Names.{same-equal, same-self}
 use Rattle.refinement.specs.SlotNames.{Differ}
@@ -126,7 +125,7 @@ received bytes b e a = go (readFile bytes) refl a
     go : (r : Read (List Definition)) → readFile bytes ≡ r → firstOf (faultOf r ∷ (check NoSlot (noSlot (definitionsOf r) e) ∷ [])) Done ≡ Done
         → (areDefinitions [] (definitionsOf r) ≡ true) × (noSlot (definitionsOf r) e ≡ false)
     go (got ds end) q h = (
-      both-true (leb (length ds) mostDefinitions) (areDefinitions [] ds) (file-forth bytes (bytes-of-every bytes b) ds end q .bounded) .1,
+      both-true (leb (length ds) mostDefinitions) (areDefinitions [] ds) (file-forth bytes b ds end q .bounded) .1,
       passed NoSlot (noSlot ds e) [] h .0,
     )
     go (bad r at) q h = let z : _≡_ {A = ℕ} 0 1 = cc in absurd (omega arith)

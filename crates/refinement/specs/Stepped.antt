@@ -4,6 +4,7 @@ use mathlib.Core.Bool.{Bool, true, false}
 use mathlib.Core.Path.{_≡_, refl}
 use mathlib.Core.List.{List, [], _∷_}
 use Rattle.words.specs.Choice.{pick, both-true}
+use Rattle.words.specs.Bytes.{AreBytes}
 use Rattle.format.specs.Read.{Read, got, bad}
 use Rattle.format.specs.Definition.{Definition}
 use Rattle.format.specs.Reader.{readFile}
@@ -26,7 +27,6 @@ use Rattle.model.specs.Checks.{Check, firstOf, faultOf, definitionChecks, treeC
 use Rattle.model.specs.Effects.{effect}
 use Rattle.model.specs.After.{wordsAfter, arenaAfter}
 use Rattle.model.specs.Apply.{answerIn, isAccepted}
-use Rattle.model.specs.Demands.{AreBytes}
 use Rattle.preservation.specs.TreeKept.{tree-kept, tree-effect}
 use Rattle.refinement.specs.Replay.{isDone}
 use Rattle.refinement.specs.BusesKept.{buses-kept, buses-effect}

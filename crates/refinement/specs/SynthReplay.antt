@@ -1,10 +1,10 @@
 -- A new synth: the engine and the plain tree after it are the same again.
 use Prim.{tt}
-use Prim.Native.Nat.{ℕ, zero, suc, _+_, _*_, _≤_, _<_}
+use Prim.Native.Nat.{ℕ, zero, suc, _+_, _-_, _*_, _≤_, _<_}
 use mathlib.Core.Bool.{Bool, true, false, not}
-use mathlib.Core.Path.{_≡_, refl, sym, ap, ap₂, _∙_}
+use mathlib.Core.Path.{_≡_, refl, sym, ap, ap₂, _∙_, subst}
 use mathlib.Core.List.{List, [], _∷_, _++_}
-use mathlib.Core.Option.{none}
+use mathlib.Core.Option.{Option, none, some}
 use native.Mathlib.Omega.{arith}
 use borrow.Author.Tests.{not-false, ltb-true, eqb-true, eqb-false, eq-eqb}
 use lib.ListN.{length, take, drop}
@@ -30,7 +30,9 @@ use Rattle.model.specs.Layout.{rowWords, controlsWords}
 use Rattle.model.specs.Engine.{Engine, definitionIn, slotAt, definitionOf, controlsFrom, controlsOf}
 use Rattle.model.specs.View.{Kind, group, synth, PlainNode, viewOf}
 use Rattle.model.specs.Effects.{addBy, stayingNodes, newSynth, numberFor, nextAfter, initialWords, freeRow, synthMade}
-use Rattle.model.specs.Plain.{Plain, numberIn, initialControls, synthOf, putBy, growSynth}
+use Rattle.model.specs.Checks.{badAction}
+use Rattle.model.specs.Meaning.{minusOne}
+use Rattle.model.specs.Plain.{Plain, ifSome, numberIn, initialControls, synthOf, putBy, putSynth, growSynth}
 use Rattle.refinement.specs.Kept.{Kept}
 use Rattle.refinement.specs.TreeReplay.{Added, added}
 use Rattle.refinement.specs.DefinitionsReplay.{each-more}
@@ -135,7 +137,7 @@ module _ (e : Engine) (p : Plain) (k : Kept e p) (number action n slot next : �
       go false h = refl
 
   -- what is known where the command is accepted
-  module _ (size : length (e .controls) ≡ controlsWords) (low : row < mostRows) (free : rowTaken row staying ≡ false) (new : lives fresh (e .nodes) ≡ false) (newHere : lives fresh staying ≡ false)
+  module _ (five : badAction action ≡ false) (nonzero : eqb fresh 0 ≡ false) (size : length (e .controls) ≡ controlsWords) (low : row < mostRows) (free : rowTaken row staying ≡ false) (new : lives fresh (e .nodes) ≡ false) (newHere : lives fresh staying ≡ false)
       (fields : allFormed next staying ≡ true) (single : eqb slot groupSlot ≡ false) (grown : Grown (made ∷ []) (addBy action made n (e .nodes)) staying)
       (s0 : eqb action 0 ≡ true → NoSynth n (k .forest)) (s1 : eqb action 1 ≡ true → NoSynth n (k .forest)) where
     abbrev f : Forest Node
@@ -149,7 +151,7 @@ module _ (e : Engine) (p : Plain) (k : Kept e p) (number action n slot next : �
         (each-more (λ y h. sym (ap (λ (b : Bool). pick b newNode (viewOf (e .slots) (e .controls) y)) h)) f (no-number fresh 0 f (ap (λ (l : List Node). lives fresh l) (sym (k .laid)) ∙ new)))
 
     put-in : Added between (addBy action made n (flatten 0 f)) (putBy action (between made) n (mapForest between f))
-    put-in = added between between-number f (k .leaves) made refl n action s0 s1
+    put-in = added between between-number f (k .leaves) made refl n action five s0 s1
 
     made-between : between made ≡ newNode
     made-between = ap (λ (b : Bool). pick b newNode (viewOf (e .slots) (e .controls) made)) (eq-eqb fresh fresh refl)
@@ -216,23 +218,37 @@ module _ (e : Engine) (p : Plain) (k : Kept e p) (number action n slot next : �
     laid-out = ap (λ (l : List Node). addBy action made n l) (k .laid) ∙ put-in .laid
 
     -- the plain tree gives the same number
-    number-next : record { number = numberFor number (p .next); run = 1; kind = synthOf d } ≡ newNode
-    number-next = ap (λ (m : ℕ). record { number = numberFor number m; run = 1; kind = synthOf d }) (sym (k .next))
+    grown-number : growSynth number action n d p ≡ putSynth fresh (nextAfter number (e .next)) action n d p
+    grown-number = go (eqb number minusOne) ∙ ap (λ (m : ℕ). putSynth (numberFor number m) (nextAfter number m) action n d p) (sym (k .next))
+      where
+        go : (b : Bool) → pick b (putSynth (p .next) (p .next - 1) action n d p) (putSynth number (p .next) action n d p)
+            ≡ putSynth (pick b (p .next) number) (pick b (p .next - 1) (p .next)) action n d p
+        go true = refl
+        go false = refl
+
+    put-tree : putBy action newNode n (p .tree) ≡ some (mapForest (viewOf (e .slots) controls′) (put-in .forest))
+    put-tree =
+        ap₂ (λ (x : PlainNode) (g : Forest PlainNode). putBy action x n g) (sym made-between) tree-between
+        ∙ put-in .seen
+        ∙ ap (λ (g : Forest PlainNode). some g)
+        (map-each between (viewOf (e .slots) controls′) (put-in .forest)
+        (each-more (λ y h. alike y h) (put-in .forest) (each-tally (strange fresh slot row) (λ d r. refl) 0 (put-in .forest) (ap (λ (l : List Node). tally (strange fresh slot row) l) (sym laid-out) ∙ none-odd))))
 
     pub synth-replayed : Kept (synthMade number action n slot e) (growSynth number action n d p)
-    synth-replayed = record {
-      forest = put-in .forest;
-      laid = laid-out;
-      leaves = put-in .leaves;
-      tree = ap₂ (λ (x : PlainNode) (g : Forest PlainNode). putBy action x n g) (number-next ∙ sym made-between) tree-between
-          ∙ put-in .seen
-          ∙ map-each between (viewOf (e .slots) controls′) (put-in .forest)
-          (each-more (λ y h. alike y h) (put-in .forest) (each-tally (strange fresh slot row) (λ d r. refl) 0 (put-in .forest) (ap (λ (l : List Node). tally (strange fresh slot row) l) (sym laid-out) ∙ none-odd)));
-      names = k .names;
-      nameCount = k .nameCount;
-      once = k .once;
-      next = ap (λ (m : ℕ). nextAfter number m) (k .next);
-      latest = ap (λ (m : ℕ). numberFor number m) (k .next);
-      buses = k .buses;
-      ordered = refl;
-    }
+    synth-replayed =
+        subst (λ (q : Plain). Kept (synthMade number action n slot e) q)
+        (sym (grown-number
+        ∙ ap (λ (o : Option (Forest PlainNode)). ifSome o (λ g. record { tree = g; names = p .names; next = nextAfter number (e .next); latest = some fresh; buses = p .buses }) p) put-tree))
+        (record {
+          forest = put-in .forest;
+          laid = laid-out;
+          leaves = put-in .leaves;
+          tree = refl;
+          names = k .names;
+          nameCount = k .nameCount;
+          once = k .once;
+          next = refl;
+          latest = ap (λ (b : Bool). pick b none (some fresh)) nonzero;
+          buses = k .buses;
+          ordered = refl;
+        })

@@ -1,9 +1,12 @@
 -- Commands of the tree: the engine's nodes and the plain tree after them are the same again.
-use Prim.Native.Nat.{ℕ, zero, suc}
-use mathlib.Core.Bool.{Bool, true}
-use mathlib.Core.Path.{_≡_, refl, sym, ap, ap₂, _∙_}
+use Prim.Native.Nat.{ℕ, zero, suc, _≤_}
+use mathlib.Core.Bool.{Bool, true, false}
+use mathlib.Core.Path.{_≡_, refl, sym, ap, _∙_, subst}
 use mathlib.Core.List.{List, [], _∷_}
-use lib.Dec.{eqb}
+use mathlib.Core.Option.{Option, none, some}
+use native.Mathlib.Omega.{arith}
+use borrow.Author.Tests.{ltb-false, eqb-true}
+use lib.Dec.{ltb, eqb}
 use Rattle.words.specs.Choice.{pick}
 use Rattle.nodes.specs.declared.Node.{Node}
 use Rattle.nodes.specs.Place.{isGroup, lives}
@@ -13,18 +16,13 @@ use Rattle.treerefinement.specs.Flatten.{key, lives-has}
 use Rattle.treerefinement.specs.Leaves.{Leaves, NoSynth, leaves-free, leaves-freeBelow, leaves-freeDeep, leaves-run, leaves-subtree, leaves-single, leaves-putBefore, leaves-putAfter, leaves-putOver, leaves-putHead, leaves-putTail, nosynth-free}
 use Rattle.treerefinement.specs.Edits.{cut-tree, cutBelow-tree, deepFree-tree, setRun-tree, addHead-tree, addTail-tree, addBefore-tree, addAfter-tree, addOver-tree, moveBefore-tree, moveAfter-tree, moveHead-tree, moveTail-tree}
 use Rattle.treerefinement.specs.MapForest.{map-has, map-free, map-freeBelow, map-freeDeep, map-change, map-putHead, map-putTail, map-putBefore, map-putAfter, map-putOver, map-placeHead, map-placeTail, map-placeBefore, map-placeAfter}
-use Rattle.values.specs.declared.NodeArgument.{NodeArgument}
-use Rattle.values.specs.Targets.{targetOf}
 use Rattle.model.specs.Engine.{Engine}
 use Rattle.model.specs.View.{group, PlainNode, viewOf}
-use Rattle.model.specs.Meaning.{meantBy, meant}
-use Rattle.model.specs.Effects.{withNodes, addBy, newGroup}
-use Rattle.model.specs.Plain.{Plain, meantIn, numberIn, isGroupNode, withTree, putBy, turned}
+use Rattle.model.specs.Checks.{badAction}
+use Rattle.model.specs.Effects.{latestAmong, withNodes, addBy, newGroup}
+use Rattle.model.specs.Plain.{Plain, ifSome, numberIn, isGroupNode, latestAfter, withTree, putBy, growGroup, turned}
+use Rattle.model.specs.Demands.{latestSynth}
 use Rattle.refinement.specs.Kept.{Kept, seenTree, group-kind}
-
--- a node argument means the same
-pub same-meant : (a : NodeArgument) (e : Engine) (p : Plain) → Kept e p → meant a e ≡ meantIn a p
-same-meant a e p k = ap (λ (l : ℕ). meantBy (targetOf (a .number)) l) (k .latest)
 
 -- other nodes, laid out from a tree that is seen as the other plain tree
 module _ (e : Engine) (p : Plain) (k : Kept e p) where
@@ -38,7 +36,7 @@ module _ (e : Engine) (p : Plain) (k : Kept e p) where
     nameCount = k .nameCount;
     once = k .once;
     next = k .next;
-    latest = ap₂ (λ (b : Bool) (l : ℕ). pick b l 0) (here ∙ sym there) (k .latest);
+    latest = living (eqb (e .latest) 0) refl (lives (e .latest) t) refl ∙ ap (λ (l : Option ℕ). latestAfter g l) (k .latest);
     buses = k .buses;
     ordered = refl;
   }
@@ -46,8 +44,24 @@ module _ (e : Engine) (p : Plain) (k : Kept e p) where
       here : lives (e .latest) t ≡ has key (e .latest) f
       here = ap (λ (l : List Node). lives (e .latest) l) laid ∙ lives-has (e .latest) 0 f
 
-      there : has numberIn (p .latest) g ≡ has key (e .latest) f
-      there = ap₂ (λ (n : ℕ) (h : Forest PlainNode). has numberIn n h) (sym (k .latest)) seen ∙ map-has (viewOf (e .slots) (e .controls)) key numberIn (λ x. refl) (e .latest) f
+      there : has numberIn (e .latest) g ≡ has key (e .latest) f
+      there = ap (λ (h : Forest PlainNode). has numberIn (e .latest) h) seen ∙ map-has (viewOf (e .slots) (e .controls)) key numberIn (λ x. refl) (e .latest) f
+
+      -- the latest, if it lives
+      living : (z : Bool) → eqb (e .latest) 0 ≡ z → (b : Bool) → lives (e .latest) t ≡ b → latestSynth (latestAmong t (e .latest)) ≡ latestAfter g (latestSynth (e .latest))
+      living true u b v =
+          ap (λ (l : ℕ). latestSynth (latestAmong t l)) (eqb-true (e .latest) 0 u) ∙ gone (lives 0 t) ∙ ap (λ (b : Bool). latestAfter g (pick b none (some (e .latest)))) (sym u)
+        where
+          gone : (b : Bool) → latestSynth (pick b 0 0) ≡ none
+          gone true = refl
+          gone false = refl
+      living false u true v =
+          ap (λ (b : Bool). latestSynth (pick b (e .latest) 0)) v
+          ∙ ap (λ (b : Bool). pick b none (some (e .latest))) u
+          ∙ sym (ap (λ (b : Bool). latestAfter g (pick b none (some (e .latest)))) u ∙ ap (λ (b : Bool). pick b (some (e .latest)) none) (there ∙ sym here ∙ v))
+      living false u false v =
+          ap (λ (b : Bool). latestSynth (pick b (e .latest) 0)) v
+          ∙ sym (ap (λ (b : Bool). latestAfter g (pick b none (some (e .latest)))) u ∙ ap (λ (b : Bool). pick b (some (e .latest)) none) (there ∙ sym here ∙ v))
 
   abbrev look : Node → PlainNode
   look = viewOf (e .slots) (e .controls)
@@ -71,10 +85,16 @@ module _ (e : Engine) (p : Plain) (k : Kept e p) where
       (leaves-freeDeep n f0 (k .leaves))
       (ap (λ (g : Forest PlainNode). freeDeep numberIn isGroupNode n g) (k .tree) ∙ map-freeDeep look key numberIn (λ x. refl) n f0 isGroup isGroupNode (λ x. group-kind (e .slots) (e .controls) x))
 
-  pub run-replayed : (n flag : ℕ) → Kept (withNodes (setRun n flag (e .nodes)) e) (withTree (change numberIn n (turned flag) (p .tree)) p)
-  run-replayed n flag =
+  -- the run flag is 0 or 1
+  turned-seen : (flag : ℕ) → ltb 1 flag ≡ false → (x : Node) → turned flag (look x) ≡ look (withRun flag x)
+  turned-seen zero h x = refl
+  turned-seen (suc zero) h x = refl
+  turned-seen (suc (suc flag)) h x = let low : suc (suc flag) ≤ 1 = ltb-false 1 (suc (suc flag)) h in absurd (omega arith)
+
+  pub run-replayed : (n flag : ℕ) → ltb 1 flag ≡ false → Kept (withNodes (setRun n flag (e .nodes)) e) (withTree (change numberIn n (turned flag) (p .tree)) p)
+  run-replayed n flag h =
       nodes-replayed (setRun n flag (e .nodes)) (change numberIn n (turned flag) (p .tree)) (change key n (withRun flag) f0) (ap (λ (l : List Node). setRun n flag l) (k .laid) ∙ setRun-tree n flag f0)
-      (leaves-run n f0 (k .leaves) flag) (ap (λ (g : Forest PlainNode). change numberIn n (turned flag) g) (k .tree) ∙ map-change look key numberIn (λ x. refl) n f0 (withRun flag) (turned flag) (λ x. refl))
+      (leaves-run n f0 (k .leaves) flag) (ap (λ (g : Forest PlainNode). change numberIn n (turned flag) g) (k .tree) ∙ map-change look key numberIn (λ x. refl) n f0 (withRun flag) (turned flag) (turned-seen flag h))
 
   -- moves; the group that a node moves into is no synth
   module _ (m n : ℕ) where
@@ -106,11 +126,11 @@ module _ (e : Engine) (p : Plain) (k : Kept e p) where
         (ap (λ (g : Forest PlainNode). placeTail numberIn m n g) (k .tree) ∙ map-placeTail look key numberIn (λ x. refl) m n f0)
 
 -- one node put in by an add action, on both sides: where both sides see the tree alike and see the new node alike
-pub record Added (look : Node → PlainNode) (t : List Node) (g : Forest PlainNode) : Type 0 where
+pub record Added (look : Node → PlainNode) (t : List Node) (g : Option (Forest PlainNode)) : Type 0 where
   pub forest : Forest Node
   pub laid : t ≡ flatten 0 forest
   pub leaves : Leaves forest
-  pub seen : g ≡ mapForest look forest
+  pub seen : g ≡ some (mapForest look forest)
 
 module _ (look : Node → PlainNode) (same : (x : Node) → numberIn (look x) ≡ key x) (f : Forest Node) (leaves : Leaves f) (x : Node) (x0 : x .depth ≡ 0) (n : ℕ) where
   one : x ∷ [] ≡ flatten 0 (single x)
@@ -120,44 +140,47 @@ module _ (look : Node → PlainNode) (same : (x : Node) → numberIn (look x) �
   leafy : Leaves (single x)
   leafy = leaves-single x
 
-  pub added : (action : ℕ) → (eqb action 0 ≡ true → NoSynth n f) → (eqb action 1 ≡ true → NoSynth n f) → Added look (addBy action x n (flatten 0 f)) (putBy action (look x) n (mapForest look f))
+  pub added : (action : ℕ) → badAction action ≡ false → (eqb action 0 ≡ true → NoSynth n f) → (eqb action 1 ≡ true → NoSynth n f) → Added look (addBy action x n (flatten 0 f)) (putBy action (look x) n (mapForest look f))
   unfolding mapForest
-  added zero s0 s1 = record {
+  added zero h s0 s1 = record {
     forest = putHead key (single x) n f;
     laid = ap (λ (l : List Node). addHead l n (flatten 0 f)) one ∙ addHead-tree (single x) n f;
     leaves = leaves-putHead n f leaves (single x) leafy (s0 refl);
-    seen = map-putHead look key numberIn same n f (single x);
+    seen = ap (λ (g : Forest PlainNode). some g) (map-putHead look key numberIn same n f (single x));
   }
-  added (suc zero) s0 s1 = record {
+  added (suc zero) h s0 s1 = record {
     forest = putTail key (single x) n f;
     laid = ap (λ (l : List Node). addTail l n (flatten 0 f)) one ∙ addTail-tree (single x) n f;
     leaves = leaves-putTail n f leaves (single x) leafy (s1 refl);
-    seen = map-putTail look key numberIn same n f (single x);
+    seen = ap (λ (g : Forest PlainNode). some g) (map-putTail look key numberIn same n f (single x));
   }
-  added (suc (suc zero)) s0 s1 = record {
+  added (suc (suc zero)) h s0 s1 = record {
     forest = putBefore key (single x) n f;
     laid = ap (λ (l : List Node). addBefore l n (flatten 0 f)) one ∙ addBefore-tree (single x) n f;
     leaves = leaves-putBefore n f leaves (single x) leafy;
-    seen = map-putBefore look key numberIn same n f (single x);
+    seen = ap (λ (g : Forest PlainNode). some g) (map-putBefore look key numberIn same n f (single x));
   }
-  added (suc (suc (suc zero))) s0 s1 = record {
+  added (suc (suc (suc zero))) h s0 s1 = record {
     forest = putAfter key (single x) n f;
     laid = ap (λ (l : List Node). addAfter l n (flatten 0 f)) one ∙ addAfter-tree (single x) n f;
     leaves = leaves-putAfter n f leaves (single x) leafy;
-    seen = map-putAfter look key numberIn same n f (single x);
+    seen = ap (λ (g : Forest PlainNode). some g) (map-putAfter look key numberIn same n f (single x));
   }
-  added (suc (suc (suc (suc action)))) s0 s1 = record {
+  added (suc (suc (suc (suc zero)))) h s0 s1 = record {
     forest = putOver key (single x) n f;
     laid = ap (λ (l : List Node). addOver l n (flatten 0 f)) one ∙ addOver-tree (single x) n f;
     leaves = leaves-putOver n f leaves (single x) leafy;
-    seen = map-putOver look key numberIn same n f (single x);
+    seen = ap (λ (g : Forest PlainNode). some g) (map-putOver look key numberIn same n f (single x));
   }
+  added (suc (suc (suc (suc (suc k))))) h s0 s1 = let low : suc (suc (suc (suc (suc k)))) ≤ 4 = ltb-false 4 (suc (suc (suc (suc (suc k))))) h in absurd (omega arith)
 
 -- a new group
-pub group-replayed : (e : Engine) (p : Plain) (k : Kept e p) (number action n : ℕ) → (eqb action 0 ≡ true → NoSynth n (k .forest)) → (eqb action 1 ≡ true → NoSynth n (k .forest))
-    → Kept (withNodes (addBy action (newGroup number) n (e .nodes)) e) (withTree (putBy action (record { number = number; run = 1; kind = group }) n (p .tree)) p)
-group-replayed e p k number action n s0 s1 =
-    let a = added (viewOf (e .slots) (e .controls)) (λ x. refl) (k .forest) (k .leaves) (newGroup number) refl n action s0 s1 in
-    nodes-replayed e p k (addBy action (newGroup number) n (e .nodes)) (putBy action (record { number = number; run = 1; kind = group }) n (p .tree)) (a .forest)
-    (ap (λ (l : List Node). addBy action (newGroup number) n l) (k .laid) ∙ a .laid) (a .leaves)
-    (ap (λ (g : Forest PlainNode). putBy action (record { number = number; run = 1; kind = group }) n g) (k .tree) ∙ a .seen)
+pub group-replayed : (e : Engine) (p : Plain) (k : Kept e p) (number action n : ℕ) → badAction action ≡ false → (eqb action 0 ≡ true → NoSynth n (k .forest)) → (eqb action 1 ≡ true → NoSynth n (k .forest))
+    → Kept (withNodes (addBy action (newGroup number) n (e .nodes)) e) (growGroup number action n p)
+group-replayed e p k number action n h s0 s1 =
+    let x : PlainNode = record { number = number; run = 1; kind = group } in
+    let a = added (viewOf (e .slots) (e .controls)) (λ x. refl) (k .forest) (k .leaves) (newGroup number) refl n action h s0 s1 in
+    let g = mapForest (viewOf (e .slots) (e .controls)) (a .forest) in
+    subst (λ (o : Option (Forest PlainNode)). Kept (withNodes (addBy action (newGroup number) n (e .nodes)) e) (ifSome o (λ f. withTree f p) p))
+    (sym (ap (λ (f : Forest PlainNode). putBy action x n f) (k .tree) ∙ a .seen))
+    (nodes-replayed e p k (addBy action (newGroup number) n (e .nodes)) g (a .forest) (ap (λ (l : List Node). addBy action (newGroup number) n l) (k .laid) ∙ a .laid) (a .leaves) refl)

@@ -1,4 +1,4 @@
--- Demand 2: what a fresh engine accepts is exported byte for byte; an export loaded into a fresh one gives the same definitions.
+-- What a fresh engine accepts is its export byte for byte; an export loaded into a fresh one gives the same definitions.
 use Prim.Native.Nat.{ℕ}
 use mathlib.Core.Bool.{true}
 use mathlib.Core.Path.{_≡_, refl, sym, ap, _∙_}
@@ -8,22 +8,21 @@ use lib.ListN.{length}
 use lib.Dec.{leb}
 use borrow.Author.Tests.{le-ltb, leb-true}
 use Rattle.words.specs.Choice.{both-true}
+use Rattle.words.specs.Bytes.{AreBytes}
 use Rattle.refusals.specs.declared.Refusal.the-variants.{NoSlot}
 use Rattle.format.specs.Read.{Read, got, bad}
 use Rattle.format.specs.Definition.{Definition}
 use Rattle.format.specs.Reader.{readFile, mostDefinitions}
 use Rattle.format.specs.Bounds.{isFile}
 use Rattle.model.specs.declared.Answer.the-variants.{Done}
-use Rattle.model.specs.declared.Query.the-variants as query
 use Rattle.model.specs.Layout.{slotCount}
 use Rattle.model.specs.Engine.{Slot, Engine, decode, residents, residentOf}
 use Rattle.model.specs.Formed.{formed}
 use Rattle.model.specs.Checks.{firstOf, check, faultOf, definitionsOf, namesOf, noSlot}
-use Rattle.model.specs.Replies.{definitionsIn, exportFile, replyTo, reply}
+use Rattle.model.specs.Replies.{definitionsIn, exportFile}
 use Rattle.model.specs.After.{wordsAfter, arenaAfter, freshState, freshArena}
 use Rattle.model.specs.Apply.{answerIn}
-use Rattle.model.specs.Demands.{AreBytes, receive, meaningIn, Demand2, definitionAtSlot as residentDefinition}
-use Rattle.roundtrip.specs.Stands.{Bytes, bytes-of-every}
+use Rattle.model.specs.Demands.{receive, meaningIn, definitionAtSlot as residentDefinition}
 use Rattle.roundtrip.specs.Forth.{file-forth}
 use Rattle.state.specs.Known.{Known, known}
 use Rattle.slots.specs.Slots.{lengthsOn, flagsOn, slotsOn, slots-length, slots-lent}
@@ -35,11 +34,6 @@ use Rattle.reload.specs.Loaded.{freshLoaded, fresh-after}
 
 abbrev fresh : Engine
 fresh = decode freshState freshArena
-
--- the slots of an export are what it is made of
-exported-slots : (e : Engine) → reply query.Export [] e ≡ exportFile (e .slots)
-unfolding replyTo
-exported-slots e = refl
 
 -- an accepted file was read
 record Read-whole (file : List ℕ) : Type 0 where
@@ -55,18 +49,18 @@ accepted-read file a = by (readFile file) refl a
     by (got ds end) e t = record { definitions = ds; end = end; read = e }
     by (bad q at) e t = absurd (let z : _≡_ {A = ℕ} 0 1 = cc in omega arith)
 
-exported-file : (file : List ℕ) → AreBytes file → answerIn receive file fresh 0 ≡ Done
-    → reply query.Export [] (decode (wordsAfter receive file freshState freshArena) (arenaAfter receive file freshState freshArena)) ≡ file
+-- what a fresh engine accepts is its export
+pub exported-file : (file : List ℕ) → AreBytes file → answerIn receive file fresh 0 ≡ Done
+    → exportFile (decode (wordsAfter receive file freshState freshArena) (arenaAfter receive file freshState freshArena) .slots) ≡ file
 exported-file file b a =
     let r = accepted-read file a in
     let ds = r .definitions in
-    let bytes : Bytes file = bytes-of-every file b in
-    let w = file-forth file bytes ds (r .end) (r .read) in
+    let w = file-forth file b ds (r .end) (r .read) in
     let known-as : definitionsOf (readFile file) ≡ ds = ap definitionsOf (r .read) in
-    exported-slots (decode (wordsAfter receive file freshState freshArena) (arenaAfter receive file freshState freshArena))
-    ∙ ap exportFile (fresh-after file ds known-as (w .bounded))
-    ∙ fresh-export file bytes ds (r .end) (r .read) (fresh .slots) (fresh .nodes) fresh-many fresh-out fresh-idle
+    ap exportFile (fresh-after file ds known-as (w .bounded))
+    ∙ fresh-export file b ds (r .end) (r .read) (fresh .slots) (fresh .nodes) fresh-many fresh-out fresh-idle
 
+-- an export, loaded into a fresh engine
 module _ (ws bs : List ℕ) (b : AreBytes bs) (h : formed ws bs ≡ true) where
   k : Known ws bs
   k = known ws bs h
@@ -84,7 +78,7 @@ module _ (ws bs : List ℕ) (b : AreBytes bs) (h : formed ws bs ≡ true) where
   same = slots-lent ws bs
 
   fine : AllFine (decode ws bs .slots)
-  fine = rw same at (formed-fine (tableIn ws) bs (bytes-of-every bs b) well)
+  fine = rw same at (formed-fine (tableIn ws) bs b well)
 
   many : length (decode ws bs .slots) ≡ slotCount
   many = sym (ap length same) ∙ slots-length slotCount (lengthsOn (tableIn ws)) (flagsOn (tableIn ws)) bs
@@ -95,7 +89,7 @@ module _ (ws bs : List ℕ) (b : AreBytes bs) (h : formed ws bs ≡ true) where
   read : readFile (exportFile (decode ws bs .slots)) ≡ got (definitionsIn (residents (decode ws bs .slots))) (length (exportFile (decode ws bs .slots)))
   read = export-read (decode ws bs .slots) many fine (k .names)
 
-  accepted : answerIn receive (exportFile (decode ws bs .slots)) fresh 0 ≡ Done
+  pub accepted : answerIn receive (exportFile (decode ws bs .slots)) fresh 0 ≡ Done
   unfolding answerIn firstOf
   accepted =
       let few = leb-true (length ds) mostDefinitions (both-true (leb (length ds) mostDefinitions) _ file .0) in
@@ -104,7 +98,7 @@ module _ (ws bs : List ℕ) (b : AreBytes bs) (h : formed ws bs ≡ true) where
   after-slots : decode (wordsAfter receive (exportFile (decode ws bs .slots)) freshState freshArena) (arenaAfter receive (exportFile (decode ws bs .slots)) freshState freshArena) .slots ≡ freshLoaded ds
   after-slots = fresh-after export ds (ap definitionsOf read) file
 
-  meant-same : (name : List ℕ)
+  pub meant-same : (name : List ℕ)
       → meaningIn name (decode (wordsAfter receive (exportFile (decode ws bs .slots)) freshState freshArena) (arenaAfter receive (exportFile (decode ws bs .slots)) freshState freshArena))
       ≡ meaningIn name (decode ws bs)
   meant-same name =
@@ -112,10 +106,3 @@ module _ (ws bs : List ℕ) (b : AreBytes bs) (h : formed ws bs ≡ true) where
       ∙ meaning-residents name (freshLoaded ds)
       ∙ ap (λ (l : List Definition). meaningOf name l) (fresh-residents ds file (fresh .slots) (fresh .nodes) fresh-many fresh-out fresh-idle)
       ∙ sym (meaning-residents name (decode ws bs .slots))
-
-pub demand2 : Demand2
-unfolding replyTo
-demand2 = record {
-  exported = exported-file;
-  loaded = λ ws bs b h. (accepted ws bs b h, meant-same ws bs b h);
-}

@@ -1,2 +1,1 @@
-// Demand 2 stands in specs/.
-pub fn nothing() {}
+// What demand 2 rests on: a file loaded into a fresh engine, and its export. It stands in specs/Theorem.antt.

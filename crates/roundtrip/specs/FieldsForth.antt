@@ -14,10 +14,9 @@ use Rattle.words.specs.Parts.{region, region-length}
 use Rattle.faults.specs.declared.Fault.the-variants.{Truncated, BadCount, BadName, BadRate, BadIndex}
 use Rattle.format.specs.Read.{got, bad}
 use Rattle.format.specs.Fields.{whole, int8, int16, int32, float32, nameBytes, stringAt, pstring, name, definitionName, highestRate, countTo, shortCountTo, rate, indexBelow}
-use Rattle.words.specs.Bytes.{bytes8, bytes16, bytes32}
+use Rattle.words.specs.Bytes.{AreBytes, bytes8, bytes16, bytes32}
 use Rattle.format.specs.Writer.{writeInteger, writeName}
 use Rattle.format.specs.Bounds.{isName, isFloat, isRate}
-use Rattle.roundtrip.specs.Stands.{Bytes}
 use Rattle.roundtrip.specs.BigEndian.{two, four, bytes-of-two, bytes-of-four}
 use Rattle.roundtrip.specs.Sound.{Sound, taken, refused, Forth, weaken, checked-sound}
 
@@ -27,7 +26,7 @@ region-cons s at next k e h = rw (e, add-one, drop-cons s at 0)
 
 module _ {A : Type 0} where
   whole-sound : (size : ℕ) (s : List ℕ) (at : ℕ) (value : A) (write : A → List ℕ) (Q : A → Type 0) → at ≤ length s
-      → (at + size ≤ length s → Bytes s → (write value ≡ region at size s) × Q value)
+      → (at + size ≤ length s → AreBytes s → (write value ≡ region at size s) × Q value)
       → Sound s at write Q (whole size s at value)
   whole-sound size s at value write Q h f = by (leb (at + size) (length s)) refl
     where

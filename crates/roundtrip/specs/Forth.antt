@@ -9,6 +9,7 @@ use lib.ListN.{length, take, drop}
 use lib.Seq.{take-length}
 use lib.Dec.{ltb, leb, eqb}
 use borrow.Author.Tests.{ltb-true, ltb-false, le-leb, eqb-true}
+use Rattle.words.specs.Bytes.{AreBytes}
 use Rattle.words.specs.Choice.{pick}
 use Rattle.faults.specs.declared.Fault.the-variants.{NotSynthDef, BadVersion, TooLong, NameTwice, BytesLeft}
 use Rattle.format.specs.Read.{got, bad, andThen}
@@ -16,7 +17,6 @@ use Rattle.format.specs.Definition.{Definition}
 use Rattle.format.specs.Reader.{mostDefinitions, sizeLimit, fileType, fileVersion, among, fits, readFront, readDefinition, readDefinitions, readHeader, readFile}
 use Rattle.format.specs.Writer.{writeAll, writeDefinition, writeFile}
 use Rattle.format.specs.Bounds.{isDefinition, areDefinitions, isFile}
-use Rattle.roundtrip.specs.Stands.{Bytes}
 use Rattle.roundtrip.specs.Back.{writeHeader}
 use Rattle.roundtrip.specs.Sound.{Part, Sound, taken, refused, Forth, empty-part, part-length, join, restate, then-sound, extend, checked-sound, part-of}
 use Rattle.roundtrip.specs.FieldsForth.{int32-sound, short-count-sound}
@@ -41,7 +41,7 @@ pub record Written (s : List ℕ) (at next : ℕ) (d : Definition) : Type 0 wher
   pub forward : at ≤ next
   pub inside : next ≤ length s
 
-pub definition-forth : (s : List ℕ) → Bytes s → (at : ℕ) (d : Definition) (next : ℕ) → readDefinition s at ≡ got d next → Written s at next d
+pub definition-forth : (s : List ℕ) → AreBytes s → (at : ℕ) (d : Definition) (next : ℕ) → readDefinition s at ≡ got d next → Written s at next d
 definition-forth s b at d next e =
     let c = part-of (definition-sound s at (starts-inside s at d next e)) e in
     record { bytes = c .fact b .0; bounded = c .fact b .1; forward = c .forward; inside = c .inside }
@@ -109,7 +109,7 @@ pub record WrittenFile (s : List ℕ) (end : ℕ) (ds : List Definition) : Type 
   pub bounded : isFile ds ≡ true
   pub whole : end ≡ length s
 
-pub file-forth : (s : List ℕ) → Bytes s → (ds : List Definition) (end : ℕ) → readFile s ≡ got ds end → WrittenFile s end ds
+pub file-forth : (s : List ℕ) → AreBytes s → (ds : List Definition) (end : ℕ) → readFile s ≡ got ds end → WrittenFile s end ds
 file-forth s b ds end e =
     let c = part-of (file-sound s) e in
     let w = c .fact b in

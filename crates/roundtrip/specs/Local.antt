@@ -5,15 +5,16 @@ use mathlib.Core.List.{List, _++_}
 use native.Mathlib.Nat.{zero-add}
 use lib.ListN.{length, take, drop}
 use native.Mathlib.Omega.{arith}
+use Rattle.words.specs.Bytes.{AreBytes}
 use Rattle.words.specs.Parts.{region-length}
 use Rattle.format.specs.Read.{got}
 use Rattle.format.specs.Definition.{Definition}
 use Rattle.format.specs.Reader.{readDefinition}
-use Rattle.roundtrip.specs.Stands.{Bytes, Stands, stands-in, stands-all}
+use Rattle.roundtrip.specs.Stands.{Stands, stands-in, stands-all}
 use Rattle.roundtrip.specs.RecordsBack.{definition-reads}
 use Rattle.roundtrip.specs.Forth.{definition-forth}
 
-module _ (s : List ℕ) (b : Bytes s) (at : ℕ) (d : Definition) (next : ℕ) (e : readDefinition s at ≡ got d next) where
+module _ (s : List ℕ) (b : AreBytes s) (at : ℕ) (d : Definition) (next : ℕ) (e : readDefinition s at ≡ got d next) where
   -- the same bytes in another file, at another place, are read as the same definition
   pub definition-moved : (t : List ℕ) (place : ℕ) → Stands t place (take (next - at) (drop at s)) → readDefinition t place ≡ got d (place + (next - at))
   definition-moved t place h =

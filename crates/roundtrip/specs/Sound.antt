@@ -7,19 +7,19 @@ use native.Mathlib.Nat.{le-refl}
 use native.Mathlib.Omega.{arith}
 use lib.ListN.{length, take, drop}
 use lib.Seq.{drop-drop, take-add}
+use Rattle.words.specs.Bytes.{AreBytes}
 use Rattle.words.specs.Choice.{pick}
 use Rattle.words.specs.Parts.{region, region-length}
 use Rattle.faults.specs.declared.Fault.{Fault}
 use Rattle.format.specs.Read.{Read, got, bad, andThen, checked, repeat}
 use Rattle.format.specs.Writer.{writeAll}
 use Rattle.format.specs.Bounds.{every}
-use Rattle.roundtrip.specs.Stands.{Bytes}
 
 -- the part of s from one place to another; where s holds bytes, it is w, and Q holds
 pub record Part (s : List ℕ) (at next : ℕ) (w : List ℕ) (Q : Type 0) : Type 0 where
   pub forward : at ≤ next
   pub inside : next ≤ length s
-  pub fact : Bytes s → (w ≡ region at (next - at) s) × Q
+  pub fact : AreBytes s → (w ≡ region at (next - at) s) × Q
 
 pub empty-part : (s : List ℕ) (at : ℕ) (Q : Type 0) → at ≤ length s → Q → Part s at at [] Q
 empty-part s at Q h q = record {
@@ -28,7 +28,7 @@ empty-part s at Q h q = record {
   fact = λ b. let none : at - at ≡ 0 = omega arith in (rw none, q);
 }
 
-pub part-length : {s : List ℕ} {at next : ℕ} {w : List ℕ} {Q : Type 0} → Part s at next w Q → Bytes s → length w ≡ next - at
+pub part-length : {s : List ℕ} {at next : ℕ} {w : List ℕ} {Q : Type 0} → Part s at next w Q → AreBytes s → length w ≡ next - at
 part-length {s} {at} {next} {w} c b = let f = c .forward in let i = c .inside in ap length (c .fact b .0) ∙ region-length at (next - at) s (omega arith)
 
 -- two parts side by side

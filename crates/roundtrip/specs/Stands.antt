@@ -1,27 +1,11 @@
 -- Bytes that stand in a file at a place.
-use Prim.Native.Nat.{ℕ, zero, suc, _+_, _≤_, _<_}
+use Prim.Native.Nat.{ℕ, _+_, _≤_, _<_}
 use mathlib.Core.Path.{_≡_, sym, ap, _∙_}
-use mathlib.Core.Bool.{true}
-use mathlib.Core.List.{List, [], _∷_, _++_}
+use mathlib.Core.List.{List, _++_}
 use native.Mathlib.Omega.{arith}
 use lib.ListN.{length, getD, take, drop, length-append, length-drop}
 use lib.Seq.{drop-at, drop-drop, drop-append-seam, take-append-seam, take-take, take-add, length-take-le, take-length, getD-take, getD-drop}
-use lib.Dec.{ltb}
-use borrow.Author.Tests.{ltb-true}
-use Rattle.words.specs.Choice.{both-true}
 use Rattle.words.specs.Parts.{region}
-use Rattle.format.specs.Bounds.{every}
-
--- a list of bytes
-abbrev pub Bytes : List ℕ → Type 0
-Bytes s = (i : ℕ) → getD s i 0 < 256
-
--- the same by a test
-pub bytes-of-every : (s : List ℕ) → every (λ b. ltb b 256) s ≡ true → Bytes s
-unfolding every
-bytes-of-every [] t i = omega arith
-bytes-of-every (b ∷ s) t zero = ltb-true b 256 (both-true (ltb b 256) (every (λ b. ltb b 256) s) t .0)
-bytes-of-every (b ∷ s) t (suc i) = bytes-of-every s (both-true (ltb b 256) (every (λ b. ltb b 256) s) t .1) i
 
 -- w stands in s from a place on
 pub record Stands (s : List ℕ) (at : ℕ) (w : List ℕ) : Type 0 where

@@ -1,15 +1,14 @@
 -- A fresh engine is well formed, and it is the plain tree at first.
 use Prim.{tt}
-use Prim.Native.Nat.{ℕ, zero, suc, _-_}
+use Prim.Native.Nat.{ℕ}
 use mathlib.Core.Bool.{Bool, true, false}
-use mathlib.Core.Path.{_≡_, refl, sym, ap, _∙_}
+use mathlib.Core.Path.{_≡_, refl, ap₂, _∙_}
 use mathlib.Core.List.{List, []}
 use mathlib.Core.Option.{Option, none, some}
 use native.Mathlib.Omega.{arith}
 use borrow.Author.Tests.{eq-eqb}
-use lib.ListN.{length, take, drop, replicate, length-replicate}
+use lib.ListN.{length}
 use lib.Dec.{eqb}
-use lib.Seq.{drop-drop, take-all}
 use Rattle.words.specs.Choice.{pick, both}
 use Rattle.format.specs.Definition.{Definition}
 use Rattle.format.specs.Reader.{sameName}
@@ -20,10 +19,15 @@ use Rattle.nodes.specs.Order.{orderFrom}
 use Rattle.nodes.specs.Formed.{steps, rooted, apart, allFormed, rowTaken, rowsApart, synthLives}
 use Rattle.nodes.specs.Formed as nodes
 use Rattle.treerefinement.specs.Leaves.{leaves-single}
-use Rattle.model.specs.Layout.{wordsLength, arenaLength, busCount, busesIn}
+use Rattle.model.specs.Layout.{wordsLength, arenaLength}
 use Rattle.model.specs.Engine.{slotsFrom, decode, held, residents}
 use Rattle.model.specs.Formed.{formed, flagsFormed, slotsFormed, namesApart, nameResident, controlsFormed}
 use Rattle.model.specs.After.{root, freshState, freshArena}
+use Rattle.refusals.specs.declared.Refusal.the-variants.{BadState}
+use Rattle.model.specs.declared.Answer.the-variants.{Done, Refused}
+use Rattle.model.specs.Apply.{sized, freshAnswer, freshWords, freshArenas}
+use Rattle.model.specs.Chain.{State, Fresh}
+use Rattle.model.specs.Fresh.{fresh-buses}
 use Rattle.model.specs.Plain.{atFirst, meaning}
 use Rattle.model.specs.View.{viewRows, view}
 use Rattle.model.specs.Demands.{definitionOfSynth}
@@ -37,20 +41,6 @@ all3 a b c p q r = rw (p, q) r
 pub fresh-formed : formed freshState freshArena ≡ true
 unfolding formed decode rows encode lives orderFrom steps rooted apart allFormed rowTaken rowsApart synthLives nodes.nodesFormed flagsFormed slotsFrom slotsFormed held namesApart nameResident controlsFormed sameName
 fresh-formed = all3 _ _ _ (eq-eqb (length freshState) wordsLength fresh-length) (eq-eqb (length freshArena) arenaLength arena-length) refl
-
--- zeros in zeros
-drop-zeros : (n m : ℕ) → drop n (replicate {A = ℕ} m 0) ≡ replicate (m - n) 0
-drop-zeros zero m = let e : m - 0 ≡ m = omega arith in rw e
-drop-zeros (suc n) zero = let e : 0 - suc n ≡ 0 = omega arith in rw e
-drop-zeros (suc n) (suc m) = let e : suc m - suc n ≡ m - n = omega arith in rw e (drop-zeros n m)
-
-take-zeros : (n : ℕ) → take n (replicate {A = ℕ} n 0) ≡ replicate n 0
-take-zeros n = take-all n (replicate n 0) (let e = length-replicate {A = ℕ} n 0 in omega arith)
-
-fresh-buses : busesIn freshState ≡ replicate busCount 0
-unfolding encode
-fresh-buses =
-    ap (λ (l : List ℕ). take busCount l) (sym (drop-drop 17914 73 freshState) ∙ drop-zeros 17914 22010) ∙ take-zeros busCount
 
 fresh-means : (name : List ℕ) → means name (decode freshState freshArena .slots) ≡ meaning name []
 unfolding decode encode slotsFrom means meaning
@@ -71,6 +61,16 @@ fresh-kept = record {
   buses = fresh-buses;
   ordered = refl;
 }
+
+-- what `start::fresh` leaves where it is not refused
+pub fresh-state : (s : State) → Fresh s → s ≡ record { words = freshState; arena = freshArena }
+unfolding freshAnswer freshWords freshArenas
+fresh-state s f = go (sized (f .words) (f .arena)) (f .made .answers) (f .made .words) (f .made .arena)
+  where
+    go : (b : Bool) → Done ≡ pick b Done (Refused BadState) → s .words ≡ pick b freshState (f .words) → s .arena ≡ pick b freshArena (f .arena)
+        → s ≡ record { words = freshState; arena = freshArena }
+    go true h w a = ap₂ (λ (ws bs : List ℕ). record { words = ws; arena = bs }) w a
+    go false h w a = let z : _≡_ {A = ℕ} 0 1 = cc in absurd (omega arith)
 
 -- no synth sounds
 pub fresh-synths : (n : ℕ) (d : Definition) → definitionOfSynth n (view (decode freshState freshArena)) ≡ some d → none ≡ some d

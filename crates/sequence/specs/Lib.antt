@@ -1,3 +1,4 @@
+pub mod Ends
 pub mod Sound
 pub mod Made
 pub mod Fresh

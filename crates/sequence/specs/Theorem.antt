@@ -1,4 +1,4 @@
--- Demand 3: every sequence of calls from a fresh engine.
+-- Demand 3: calls in a row from a fresh engine.
 use Prim.{tt}
 use Prim.Native.Nat.{ℕ}
 use mathlib.Core.Bool.{Bool, true, false}
@@ -7,10 +7,12 @@ use mathlib.Core.List.{List, [], _∷_}
 use mathlib.Core.Option.{Option, none, some}
 use lib.ListN.{length}
 use Rattle.words.specs.Choice.{pick}
+use Rattle.words.specs.Bytes.{AreBytes}
 use Rattle.format.specs.Definition.{Definition}
 use Rattle.preservation.specs.TreeKept.{known-sound}
 use Rattle.state.specs.Known.{Known, known}
 use Rattle.model.specs.declared.DefinitionCommand.the-variants as definitions
+use Rattle.model.specs.declared.Query.{Query}
 use Rattle.model.specs.declared.Command.{Command}
 use Rattle.model.specs.declared.Command.the-variants as command
 use Rattle.model.specs.declared.Answer.{Answer}
@@ -18,40 +20,52 @@ use Rattle.model.specs.Engine.{Engine, decode}
 use Rattle.model.specs.View.{Row, view}
 use Rattle.model.specs.Formed.{formed}
 use Rattle.model.specs.Effects.{effect}
-use Rattle.model.specs.After.{wordsAfter, arenaAfter}
-use Rattle.model.specs.Apply.{answerIn, answer, isAccepted}
-use Rattle.model.specs.Plain.{Plain, atFirst, grow, fed}
-use Rattle.model.specs.Demands.{AreBytes, refusalIn, Call, State, engineIn, answerTo, acceptedIn, after, freshEngine, run, replay, madeIn, made, definitionOfSynth, displaced, touched, numbersLeft, entriesLeft, StepHolds, EachHolds, AllBytes, Demand3}
-use Rattle.refinement.specs.Kept.{Kept, kept-same}
+use Rattle.model.specs.Replies.{reply}
+use Rattle.model.specs.Apply.{queryAnswer, answerIn, answer, isAccepted, written, replyOf}
+use Rattle.model.specs.Plain.{Plain, ifSome, atFirst, grow, fed}
+use Rattle.model.specs.PlainReplies.{plainReply, isExport}
+use Rattle.model.specs.Frame.{displaced, touched, numbersLeft, entriesLeft}
+use Rattle.model.specs.Chain.{State, engineIn, Call, Applied, Chain, leftBy, Fresh}
+use Rattle.model.specs.Demands.{refusalIn, Ends, fedBy, replay, madeIn, made, definitionOfSynth, replyIn, Same, StepHolds, EachHolds, Demand3}
+use Rattle.refinement.specs.Kept.{Kept}
+use Rattle.refinement.specs.Same.{kept-same}
 use Rattle.refinement.specs.Replay.{isDone, replayed}
-use Rattle.refinement.specs.Stepped.{kept, effected, accepted-is-done}
-use Rattle.sequence.specs.Sound.{never-one}
+use Rattle.refinement.specs.Stepped.{accepted-is-done}
 use Rattle.frame.specs.Ordered.{ordered-step}
 use Rattle.frame.specs.Untouched.{untouched-step}
 use Rattle.frame.specs.Tree.{tree-holds}
-use Rattle.sequence.specs.Fresh.{fresh-formed, fresh-kept, fresh-synths}
+use Rattle.sequence.specs.Ends.{unwritten, reply-left, demand1}
+use Rattle.sequence.specs.Sound.{never-one}
+use Rattle.sequence.specs.Fresh.{fresh-state, fresh-formed, fresh-kept, fresh-synths}
 use Rattle.sequence.specs.Made.{controls-made, tree-made}
 
--- what holds along the sequence: of the state, the plain tree, and what each synth's name meant
+-- what holds along the calls: of the state, the plain tree, and what each synth's name meant
 pub record Going (s : State) (p : Plain) (madeFrom : ℕ → Option Definition) : Type 0 where
   pub whole : formed (s .words) (s .arena) ≡ true
   pub same : Kept (engineIn s) p
   pub synths : (n : ℕ) (d : Definition) → definitionOfSynth n (view (engineIn s)) ≡ some d → madeFrom n ≡ some d
 
--- the answer is the table's
-fact : (c : Call) (s : State) → formed (s .words) (s .arena) ≡ true → answerTo c s ≡ answerIn (c .command) (c .bytes) (engineIn s) (length (c .out))
-unfolding answer
-fact c s h = rw h
+-- the reply that is written is the plain tree's
+module _ (q : Query) (bytes out : List ℕ) (e : Engine) (p : Plain) (k : Same e p) where
+  plain-reply : (a : Answer) → a ≡ queryAnswer q bytes e (length out) → (b : Bool) → isExport q ≡ b
+      → written a (reply q bytes e) out ≡ written a (pick b (reply q bytes e) (ifSome (plainReply q bytes p) (λ l. l) [])) out
+  plain-reply a h true x = refl
+  plain-reply a h false x = go (isAccepted a) refl
+    where
+      go : (y : Bool) → isAccepted a ≡ y → written a (reply q bytes e) out ≡ written a (ifSome (plainReply q bytes p) (λ l. l) []) out
+      go true y =
+          ap (λ (l : List ℕ). written a l out)
+          (sym (ap (λ (o : Option (List ℕ)). ifSome o (λ l. l) []) (k .replies q bytes (length out) x (ap isAccepted (sym h) ∙ y))))
+      go false y = unwritten a (reply q bytes e) out y ∙ sym (unwritten a (ifSome (plainReply q bytes p) (λ l. l) []) out y)
 
--- after a call that is accepted, and after one that is refused
-accepted-words : (c : Call) (s : State) → acceptedIn c s ≡ true
-    → after c s ≡ record { words = wordsAfter (c .command) (c .bytes) (s .words) (s .arena); arena = arenaAfter (c .command) (c .bytes) (s .words) (s .arena) }
-accepted-words c s h =
-    ap (λ (b : Bool). record { words = pick b (wordsAfter (c .command) (c .bytes) (s .words) (s .arena)) (s .words); arena = pick b (arenaAfter (c .command) (c .bytes) (s .words) (s .arena)) (s .arena) }) h
-
-refused-words : (c : Call) (s : State) → acceptedIn c s ≡ false → after c s ≡ s
-refused-words c s h =
-    ap (λ (b : Bool). record { words = pick b (wordsAfter (c .command) (c .bytes) (s .words) (s .arena)) (s .words); arena = pick b (arenaAfter (c .command) (c .bytes) (s .words) (s .arena)) (s .arena) }) h
+plain-written : (c : Command) (bytes out : List ℕ) (e : Engine) (p : Plain) → Same e p → (a : Answer) → a ≡ answerIn c bytes e (length out)
+    → written a (replyOf c bytes e) out ≡ written a (replyIn c bytes e p) out
+unfolding answerIn
+plain-written (command.Definitions c) bytes out e p k a h = refl
+plain-written (command.Tree c) bytes out e p k a h = refl
+plain-written (command.Controls c) bytes out e p k a h = refl
+plain-written (command.Buses c) bytes out e p k a h = refl
+plain-written (command.Query q) bytes out e p k a h = plain-reply q bytes out e p k a h (isExport q) refl
 
 -- the synths after an accepted command
 made-after : (c : Command) (bytes ws bs : List ℕ) (p : Plain) (room : ℕ) → AreBytes bytes → (h : formed ws bs ≡ true) → Kept (decode ws bs) p → Kept (effect c bytes (decode ws bs)) (grow c bytes p)
@@ -66,94 +80,96 @@ made-after (command.Buses c) bytes ws bs p room clean h k k′ a n d before old 
 made-after (command.Query q) bytes ws bs p room clean h k k′ a n d before old v = old v
 
 -- one call
-module _ (c : Call) (clean : AreBytes (c .bytes)) (s : State) (p : Plain) (madeFrom : ℕ → Option Definition) (g : Going s p madeFrom) where
+module _ (c : Call) (s : State) (a : Applied c s) (p : Plain) (madeFrom : ℕ → Option Definition) (g : Going s p madeFrom) where
   abbrev e : Engine
   e = engineIn s
 
   abbrev room : ℕ
   room = length (c .out)
 
+  ends : Ends c s
+  ends = demand1 c s a
+
   fit : Known (s .words) (s .arena)
   fit = known (s .words) (s .arena) (g .whole)
 
-  yes : acceptedIn c s ≡ true → isAccepted (answerIn (c .command) (c .bytes) e room) ≡ true
-  yes h = ap (λ (a : Answer). isAccepted a) (sym (fact c s (g .whole))) ∙ h
+  -- the answer is the table's
+  fact : c .answer ≡ answerIn (c .command) (c .bytes) (engineIn s) (length (c .out))
+  unfolding answer
+  fact = a .answers ∙ rw (g .whole)
 
-  -- the engine after an accepted call is its effect
-  effect-after : acceptedIn c s ≡ true → engineIn (after c s) ≡ effect (c .command) (c .bytes) e
-  effect-after h = ap engineIn (accepted-words c s h) ∙ effected (c .command) (c .bytes) (s .words) (s .arena) clean (g .whole) room (yes h)
+  yes : isAccepted (c .answer) ≡ true → isAccepted (answerIn (c .command) (c .bytes) (engineIn s) (length (c .out))) ≡ true
+  yes h = ap (λ (x : Answer). isAccepted x) (sym fact) ∙ h
 
-  kept-after : acceptedIn c s ≡ true → Kept (effect (c .command) (c .bytes) e) (grow (c .command) (c .bytes) p)
-  kept-after h = replayed (c .command) (c .bytes) (s .words) (s .arena) p clean fit (g .same) (known-sound (s .words) (s .arena) fit .many) room (accepted-is-done (c .command) (c .bytes) e room (yes h))
+  kept-after : isAccepted (c .answer) ≡ true → Kept (effect (c .command) (c .bytes) (engineIn s)) (grow (c .command) (c .bytes) p)
+  kept-after h = replayed (c .command) (c .bytes) (s .words) (s .arena) p (a .lentBytes) fit (g .same) (known-sound (s .words) (s .arena) fit .many) room (accepted-is-done (c .command) (c .bytes) e room (yes h))
 
   abbrev next-made : ℕ → Option Definition
-  next-made n = pick (acceptedIn c s) (madeIn (c .command) (c .bytes) e n (madeFrom n)) (madeFrom n)
+  next-made n = pick (isAccepted (c .answer)) (madeIn (c .command) (c .bytes) (engineIn s) n (madeFrom n)) (madeFrom n)
 
-  pub goes-on : Going (after c s) (fed (c .command) (c .bytes) (acceptedIn c s) p) next-made
-  goes-on = go (acceptedIn c s) refl
+  pub goes-on : Going (c .left) (fedBy c p) next-made
+  goes-on = go (isAccepted (c .answer)) refl
     where
-      go : (b : Bool) → acceptedIn c s ≡ b → Going (after c s) (fed (c .command) (c .bytes) (acceptedIn c s) p) next-made
+      go : (b : Bool) → isAccepted (c .answer) ≡ b → Going (c .left) (fedBy c p) next-made
       go true h = record {
-        whole = ap (λ (x : State). formed (x .words) (x .arena)) (accepted-words c s h) ∙ kept (c .command) (c .bytes) (s .words) (s .arena) clean (g .whole) room (yes h);
-        same = subst (λ (b : Bool). Kept (engineIn (after c s)) (fed (c .command) (c .bytes) b p)) (sym h) (subst (λ (x : Engine). Kept x (grow (c .command) (c .bytes) p)) (sym (effect-after h)) (kept-after h));
+        whole = ends .kept h;
+        same = subst (λ (b : Bool). Kept (engineIn (c .left)) (fed (c .command) (c .bytes) b p)) (sym h) (subst (λ (x : Engine). Kept x (grow (c .command) (c .bytes) p)) (sym (ends .effected h)) (kept-after h));
         synths = λ n d v.
             ap (λ (b : Bool). pick b (madeIn (c .command) (c .bytes) e n (madeFrom n)) (madeFrom n)) h
-            ∙ made-after (c .command) (c .bytes) (s .words) (s .arena) p room clean (g .whole) (g .same) (kept-after h) (accepted-is-done (c .command) (c .bytes) e room (yes h)) n d (madeFrom n) (g .synths n d)
-            (ap (λ (x : Engine). definitionOfSynth n (view x)) (sym (effect-after h)) ∙ v);
+            ∙ made-after (c .command) (c .bytes) (s .words) (s .arena) p room (a .lentBytes) (g .whole) (g .same) (kept-after h) (accepted-is-done (c .command) (c .bytes) e room (yes h)) n d (madeFrom n) (g .synths n d)
+            (ap (λ (x : Engine). definitionOfSynth n (view x)) (sym (ends .effected h)) ∙ v);
       }
       go false h = record {
-        whole = ap (λ (x : State). formed (x .words) (x .arena)) (refused-words c s h) ∙ g .whole;
-        same = subst (λ (b : Bool). Kept (engineIn (after c s)) (fed (c .command) (c .bytes) b p)) (sym h) (subst (λ (x : State). Kept (engineIn x) p) (sym (refused-words c s h)) (g .same));
+        whole = ap (λ (x : State). formed (x .words) (x .arena)) (ends .unchanged h .0) ∙ g .whole;
+        same = subst (λ (b : Bool). Kept (engineIn (c .left)) (fed (c .command) (c .bytes) b p)) (sym h) (subst (λ (x : State). Kept (engineIn x) p) (sym (ends .unchanged h .0)) (g .same));
         synths = λ n d v.
             ap (λ (b : Bool). pick b (madeIn (c .command) (c .bytes) e n (madeFrom n)) (madeFrom n)) h
-            ∙ g .synths n d (ap (λ (x : State). definitionOfSynth n (view (engineIn x))) (sym (refused-words c s h)) ∙ v);
+            ∙ g .synths n d (ap (λ (x : State). definitionOfSynth n (view (engineIn x))) (sym (ends .unchanged h .0)) ∙ v);
       }
 
   -- what demand 3 asks of one call
-  pub step-holds : StepHolds c s
+  pub step-holds : StepHolds c s p
   step-holds = record {
-    sound = λ h. never-one (c .command) (c .bytes) e room (ap refusalIn (sym (fact c s (g .whole))) ∙ h);
-    table = fact c s (g .whole);
-    ordered = go (acceptedIn c s) refl;
-    untouched = still (acceptedIn c s) refl;
+    sound = λ h. never-one (c .command) (c .bytes) e room (ap refusalIn (sym fact) ∙ h);
+    table = fact;
+    replied = reply-left c s a ∙ plain-written (c .command) (c .bytes) (c .out) e p (kept-same e p (g .same)) (c .answer) fact;
+    ordered = go (isAccepted (c .answer)) refl;
+    untouched = still (isAccepted (c .answer)) refl;
   }
     where
-      go : (b : Bool) → acceptedIn c s ≡ b → numbersLeft (displaced (c .command) e) (view e) ≡ numbersLeft (displaced (c .command) e) (view (engineIn (after c s)))
-      go true h = ordered-step (c .command) (c .bytes) (s .words) (s .arena) room clean (g .whole) (yes h) ∙ sym (ap (λ (x : Engine). numbersLeft (displaced (c .command) e) (view x)) (effect-after h))
-      go false h = sym (ap (λ (x : State). numbersLeft (displaced (c .command) e) (view (engineIn x))) (refused-words c s h))
+      go : (b : Bool) → isAccepted (c .answer) ≡ b → numbersLeft (displaced b (c .command) e) (view e) ≡ numbersLeft (displaced b (c .command) e) (view (engineIn (c .left)))
+      go true h = ordered-step (c .command) (c .bytes) (s .words) (s .arena) room (a .lentBytes) (g .whole) (yes h) ∙ sym (ap (λ (x : Engine). numbersLeft (displaced true (c .command) e) (view x)) (ends .effected h))
+      go false h = sym (ap (λ (x : State). numbersLeft (displaced false (c .command) e) (view (engineIn x))) (ends .unchanged h .0))
 
-      still : (b : Bool) → acceptedIn c s ≡ b → entriesLeft (touched (c .command) e) (e .nodes) (view e) ≡ entriesLeft (touched (c .command) e) (engineIn (after c s) .nodes) (view (engineIn (after c s)))
-      still true h = untouched-step (c .command) (c .bytes) (s .words) (s .arena) room clean (g .whole) (yes h) ∙ sym (ap (λ (x : Engine). entriesLeft (touched (c .command) e) (x .nodes) (view x)) (effect-after h))
-      still false h = sym (ap (λ (x : State). entriesLeft (touched (c .command) e) (engineIn x .nodes) (view (engineIn x))) (refused-words c s h))
+      still : (b : Bool) → isAccepted (c .answer) ≡ b → entriesLeft (touched b (c .command) e) (e .nodes) (view e) ≡ entriesLeft (touched b (c .command) e) (engineIn (c .left) .nodes) (view (engineIn (c .left)))
+      still true h = untouched-step (c .command) (c .bytes) (s .words) (s .arena) room (a .lentBytes) (g .whole) (yes h) ∙ sym (ap (λ (x : Engine). entriesLeft (touched true (c .command) e) (x .nodes) (view x)) (ends .effected h))
+      still false h = sym (ap (λ (x : State). entriesLeft (touched false (c .command) e) (engineIn x .nodes) (view (engineIn x))) (ends .unchanged h .0))
 
--- every call of a sequence, and what is kept at its end
-each-holds : (cs : List Call) → AllBytes cs → (s : State) (p : Plain) (madeFrom : ℕ → Option Definition) → Going s p madeFrom → EachHolds cs s
-unfolding EachHolds AllBytes
-each-holds [] b s p madeFrom g = tt
-each-holds (c ∷ cs) b s p madeFrom g = (
-  step-holds c (b .0) s p madeFrom g,
-  each-holds cs (b .1) (after c s) (fed (c .command) (c .bytes) (acceptedIn c s) p) (next-made c (b .0) s p madeFrom g) (goes-on c (b .0) s p madeFrom g),
-)
+-- every call of a chain, and what is kept at its end
+each-holds : (cs : List Call) (s : State) → Chain cs s → (p : Plain) (madeFrom : ℕ → Option Definition) → Going s p madeFrom → EachHolds cs s p
+unfolding Chain EachHolds
+each-holds [] s a p madeFrom g = tt
+each-holds (c ∷ cs) s a p madeFrom g = (step-holds c s (a .0) p madeFrom g, each-holds cs (c .left) (a .1) (fedBy c p) (next-made c s (a .0) p madeFrom g) (goes-on c s (a .0) p madeFrom g))
 
 pub record End (cs : List Call) (s : State) (p : Plain) (madeFrom : ℕ → Option Definition) : Type 0 where
-  pub going : Going (run cs s) (replay cs s p) (λ n. made cs s n (madeFrom n))
+  pub going : Going (leftBy cs s) (replay cs p) (λ n. made cs s n (madeFrom n))
 
-ends : (cs : List Call) → AllBytes cs → (s : State) (p : Plain) (madeFrom : ℕ → Option Definition) → Going s p madeFrom → End cs s p madeFrom
-unfolding run replay made AllBytes
-ends [] b s p madeFrom g = record { going = g }
-ends (c ∷ cs) b s p madeFrom g =
-    record { going = ends cs (b .1) (after c s) (fed (c .command) (c .bytes) (acceptedIn c s) p) (next-made c (b .0) s p madeFrom g) (goes-on c (b .0) s p madeFrom g) .going }
+at-end : (cs : List Call) (s : State) → Chain cs s → (p : Plain) (madeFrom : ℕ → Option Definition) → Going s p madeFrom → End cs s p madeFrom
+unfolding Chain leftBy replay made
+at-end [] s a p madeFrom g = record { going = g }
+at-end (c ∷ cs) s a p madeFrom g = record { going = at-end cs (c .left) (a .1) (fedBy c p) (next-made c s (a .0) p madeFrom g) (goes-on c s (a .0) p madeFrom g) .going }
 
-fresh-going : Going freshEngine atFirst (λ n. none)
-fresh-going = record { whole = fresh-formed; same = fresh-kept; synths = fresh-synths }
+fresh-going : (s : State) → Fresh s → Going s atFirst (λ n. none)
+fresh-going s f =
+    subst (λ (x : State). Going x atFirst (λ n. none)) (sym (fresh-state s f)) (record { whole = fresh-formed; same = fresh-kept; synths = fresh-synths })
 
--- Demand 3: one claim about every sequence of loads and commands from a fresh engine
-pub demand3 : (cs : List Call) → AllBytes cs → Demand3 cs
-demand3 cs b =
-    let g = ends cs b freshEngine atFirst (λ n. none) fresh-going .going in
+-- Demand 3: one claim about every chain of loads and commands from a fresh engine
+pub demand3 : (s : State) → Fresh s → (cs : List Call) → Chain cs s → Demand3 cs s
+demand3 s f cs a =
+    let g = at-end cs s a atFirst (λ n. none) (fresh-going s f) .going in
     record {
-      each = each-holds cs b freshEngine atFirst (λ n. none) fresh-going;
-      same = kept-same (engineIn (run cs freshEngine)) (replay cs freshEngine atFirst) (g .same);
-      tree = tree-holds (run cs freshEngine .words) (run cs freshEngine .arena) (g .whole);
+      each = each-holds cs s a atFirst (λ n. none) (fresh-going s f);
+      same = kept-same (engineIn (leftBy cs s)) (replay cs atFirst) (g .same);
+      tree = tree-holds (leftBy cs s .words) (leftBy cs s .arena) (g .whole);
       synths = g .synths;
     }

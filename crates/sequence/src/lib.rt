@@ -1,2 +1,1 @@
-// Demand 3: one claim about every sequence of calls from a fresh engine. It stands in specs/Theorem.antt.
-pub fn nothing() {}
+// Demand 1 and demand 3, of calls as the engine promises them. They stand in specs/Ends.antt and specs/Theorem.antt.

@@ -5,16 +5,10 @@ use mathlib.Core.List.{List}
 use lib.ListN.{length, replicate}
 use borrow.Author.Tests.{eq-eqb, ne-eqb}
 use Rattle.refusals.specs.declared.Refusal.the-variants.{BadState}
-use Rattle.model.specs.declared.Answer.{Answer}
 use Rattle.model.specs.declared.Answer.the-variants.{Done, Refused}
 use Rattle.model.specs.Layout.{wordsLength, arenaLength}
 use Rattle.model.specs.After.{freshState}
-use Rattle.model.specs.Apply.{freshAnswer, freshWords, freshArenas}
-
-pub record Freshly (ws bs : List ℕ) (a : Answer) (ws′ bs′ : List ℕ) : Type 0 where
-  pub answers : a ≡ freshAnswer ws bs
-  pub words : ws′ ≡ freshWords ws bs
-  pub arena : bs′ ≡ freshArenas ws bs
+use Rattle.model.specs.Apply.{freshAnswer, freshWords, freshArenas, Freshly}
 
 module _ (ws bs : List ℕ) where
   pub refused-size : (length ws ≡ wordsLength → ⊥) → Freshly ws bs (Refused BadState) ws bs

@@ -5,7 +5,7 @@ ghost use mathlib.Core.Path.{_≡_};
 ghost use lib.ListN.{length, replicate};
 ghost use Rattle.model.specs.Layout.{wordsLength};
 ghost use Rattle.model.specs.After.{freshState};
-ghost use Rattle.start.specs.Fresh.{Freshly};
+ghost use Rattle.model.specs.Apply.{Freshly};
 
 // Every word zero.
 fn zero_words(words: &mut [u32])

@@ -1,4 +1,6 @@
 pub mod Known
+pub mod Refusing
+pub mod Accepted
 pub mod Does
 pub mod Regions
 pub mod Decoded

@@ -1,2 +1,1 @@
 // What a well-formed engine is known to have: definitions and laws stand in specs/.
-pub fn nothing() {}

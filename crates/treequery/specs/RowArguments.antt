@@ -3,17 +3,14 @@ use Prim.Native.Nat.{ℕ, zero, suc, _+_, _*_, _≤_, _<_}
 use mathlib.Core.Bool.{Bool, true, false}
 use mathlib.Core.Path.{_≡_, refl, sym, ap, _∙_}
 use mathlib.Core.List.{List, [], _∷_, _++_, nil≢cons, head-eq-of-cons-eq}
-use mathlib.Core.Option.{Option, some}
 use native.Mathlib.Omega.{arith}
 use lib.ListN.{length, drop, getD}
 use lib.Seq.{getD-drop}
-use lib.Dec.{leb, eqb}
+use lib.Dec.{leb}
 use borrow.Author.Tests.{leb-true}
 use Rattle.words.specs.Choice.{pick, both-true}
 use Rattle.words.specs.Parts.{region}
 use Rattle.format.specs.Definition.{ParameterName, Definition}
-use Rattle.readable.specs.Lookup.{firstOf}
-use Rattle.readable.specs.Lookup as lookup
 use Rattle.nodes.specs.declared.Node.{Node}
 use Rattle.nodes.specs.Table.{rows, row-from, rows-end}
 use Rattle.nodes.specs.Place.{isGroup}
@@ -21,7 +18,7 @@ use Rattle.nodes.specs.Structure.{noNode}
 use Rattle.osc.specs.Message.{Argument, int, text}
 use Rattle.values.specs.Controls.{ControlValue}
 use Rattle.model.specs.Layout.{busCount, rowWords, nodesIn, nodesPlace, nodesWords, controlsIn}
-use Rattle.model.specs.Engine.{Slot, decode, definitionOf, controlsFrom, controlsOf, firstName}
+use Rattle.model.specs.Engine.{Slot, decode, definitionOf, controlsFrom, controlsOf}
 use Rattle.model.specs.View.{Row, viewRows}
 use Rattle.model.specs.Formed.{mappingsFormed, controlsFormed}
 use Rattle.model.specs.Replies.{controlArguments, flagged, kindArguments, rowsBelow, rowsAt, treeArguments}
@@ -81,12 +78,6 @@ pub controls-length : (i : ℕ) (names : List ParameterName) (l : List ControlVa
 unfolding controlArguments
 controls-length i names [] = refl
 controls-length i names (c ∷ l) = let e : length (controlArguments (i + 1) names l) ≡ 2 * length l = controls-length (i + 1) names l in omega arith
-
--- a lookup's first name is the model's
-pub first-same : (i : ℕ) (names : List ParameterName) → lookup.firstName i names ≡ firstName i names
-unfolding firstOf firstName
-first-same i [] = refl
-first-same i (p ∷ names) = ap (λ (o : Option (List ℕ)). pick (eqb (p .index) i) (some (p .name)) o) (first-same i names)
 
 -- a mapping word of a synth's own controls is at most 4,096
 mapping-few : (n j : ℕ) (us : List ℕ) → j < n → mappingsFormed n us ≡ true → getD us (2 * j + 1) 0 ≤ busCount

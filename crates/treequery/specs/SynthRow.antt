@@ -17,7 +17,8 @@ use Rattle.osc.specs.Message.{Argument, int, text}
 use Rattle.values.specs.Controls.{ControlValue}
 use Rattle.values.specs.ControlLaws.{word-mapping}
 use Rattle.model.specs.Layout.{busCount, rowWords, nodesPlace, controlsIn}
-use Rattle.model.specs.Engine.{decode, definitionOf, controlsOf, firstName}
+use Rattle.format.specs.Names.{firstName}
+use Rattle.model.specs.Engine.{decode, definitionOf, controlsOf}
 use Rattle.model.specs.Replies.{mappingArgument, labelArgument, controlArguments, flagged, noControl}
 use Rattle.controls.specs.Encoded.{frontIn, values-few}
 use Rattle.slots.specs.Slots.{slotBytes}
@@ -27,7 +28,7 @@ use Rattle.controls.specs.Asked.{controlIn, control-in}
 use Rattle.queries.specs.Held.{At, bounds, held-readable, held-name, held-front, held-first-name}
 use Rattle.treequery.specs.declared.piece.Piece.{Piece}
 use Rattle.treequery.specs.Pieces.{pieceArgument, isSmall, mostBytes}
-use Rattle.treequery.specs.RowArguments.{rowArguments, row-synth, controls-many, controls-length, first-same, mapping-low}
+use Rattle.treequery.specs.RowArguments.{rowArguments, row-synth, controls-many, controls-length, mapping-low}
 use Rattle.treequery.specs.Shown.{Shown}
 use Rattle.treequery.specs.Shapes.{labelIn, Shape}
 
@@ -139,7 +140,7 @@ module _ (ws bs : List ℕ) (i : ℕ) (a : At ws bs i) (single : isGroup (nodeIn
   control-left table j shape h =
       let low : j < 32 = omega (arith, synth-few) in
       let name : firstName j (d ws bs i .front .names) ≡ labelAt s (labelIn table (nodeIn ws i .slot) j) =
-      sym (first-same j (d ws bs i .front .names)) ∙ sym (held-first-name ws bs i a single j) ∙ shape .named j low in
+      sym (held-first-name ws bs i a single j) ∙ shape .named j low in
       let control : getD (cs ws bs i) j noControl ≡ controlIn (controlsIn ws) (nodeIn ws i .row) j =
       control-in (length (d ws bs i .front .values)) (controlsIn ws) (nodeIn ws i .row) j (rw front h) in
       controls-first j (d ws bs i .front .names) (cs ws bs i) (omega (arith, many))

@@ -41,7 +41,7 @@ at-deeper d e (node x b a) h =
     rw (ne-eqb e d (λ q. omega arith))
     (at-append d (flatten (e + 1) b) (flatten e a) ∙ ap₂ (λ (u v : List ℕ). u ++ v) (at-deeper d (e + 1) b (omega arith)) (at-deeper d e a h))
 
-at-tops : (d : ℕ) (f : Forest Node) → atDepth d (flatten d f) ≡ tops key f
+pub at-tops : (d : ℕ) (f : Forest Node) → atDepth d (flatten d f) ≡ tops key f
 unfolding atDepth flatten tops
 at-tops d none = refl
 at-tops d (node x b a) =

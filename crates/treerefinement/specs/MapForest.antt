@@ -1,4 +1,4 @@
--- Each edit of a plain tree commutes with a change of its items that keeps their numbers.
+-- Each edit of a plain tree commutes with a change of its items that keeps their numbers, and who stands where stays.
 use Prim.{Unit}
 use Prim.Native.Nat.{ℕ}
 use mathlib.Core.Bool.{Bool, true, false}
@@ -6,8 +6,9 @@ use mathlib.Core.Path.{_≡_, refl, ap, ap₂, _∙_}
 use mathlib.Core.List.{List, [], _∷_, _++_}
 use lib.Dec.{eqb}
 use Rattle.words.specs.Choice.{pick}
-use Rattle.nodes.specs.Forest.{Forest, none, node, mapForest, beside, prune, has, subtree, edit, free, freeBelow, freeDeep, change, putHead, putTail, putBefore, putAfter, putOver, placeBefore, placeAfter, placeHead, placeTail}
+use Rattle.nodes.specs.Forest.{Forest, none, node, mapForest, beside, prune, has, subtree, below, edit, free, freeBelow, freeDeep, change, putHead, putTail, putBefore, putAfter, putOver, placeBefore, placeAfter, placeHead, placeTail}
 use Rattle.nodes.specs.Order.{orderTree}
+use Rattle.nodes.specs.Structure.{noNode, tops, children, firstTop, lastTop, parentIn, previousIn, next, head, tail}
 
 -- a property of every item
 unfoldable pub Each : {A : Type 0} → (A → Type 0) → Forest A → Type 0
@@ -69,6 +70,67 @@ module _ {A B : Type 0} (g : A → B) where
         go true q = refl
         go false true = refl
         go false false = refl
+
+    -- who stands where
+    pub map-below : (n : ℕ) (f : Forest A) → below see n (mapForest g f) ≡ mapForest g (below look n f)
+    unfolding mapForest below
+    map-below n none = refl
+    map-below n (node x b a) =
+        ap₂ (λ (p q : Bool). pick p (mapForest g b) (pick q (below see n (mapForest g b)) (below see n (mapForest g a)))) (found n x) (map-has n b)
+        ∙ ap₂ (λ (u v : Forest B). pick (eqb (look x) n) (mapForest g b) (pick (has look n b) u v)) (map-below n b) (map-below n a)
+        ∙ go (eqb (look x) n) (has look n b)
+      where
+        go : (p q : Bool) → pick p (mapForest g b) (pick q (mapForest g (below look n b)) (mapForest g (below look n a))) ≡ mapForest g (pick p b (pick q (below look n b) (below look n a)))
+        go true q = refl
+        go false true = refl
+        go false false = refl
+
+    pub map-tops : (f : Forest A) → tops see (mapForest g f) ≡ tops look f
+    unfolding mapForest tops
+    map-tops none = refl
+    map-tops (node x b a) = ap₂ (λ (n : ℕ) (l : List ℕ). n ∷ l) (same x) (map-tops a)
+
+    map-first : (f : Forest A) → firstTop see (mapForest g f) ≡ firstTop look f
+    unfolding mapForest firstTop
+    map-first none = refl
+    map-first (node x b a) = same x
+
+    map-last : (p : ℕ) (f : Forest A) → lastTop see p (mapForest g f) ≡ lastTop look p f
+    unfolding mapForest lastTop
+    map-last p none = refl
+    map-last p (node x b a) = ap (λ (q : ℕ). lastTop see q (mapForest g a)) (same x) ∙ map-last (look x) a
+
+    pub map-parent : (p n : ℕ) (f : Forest A) → parentIn see p n (mapForest g f) ≡ parentIn look p n f
+    unfolding mapForest parentIn
+    map-parent p n none = refl
+    map-parent p n (node x b a) =
+        ap₂ (λ (i j : Bool). pick i p (pick j (parentIn see (see (g x)) n (mapForest g b)) (parentIn see p n (mapForest g a)))) (found n x) (map-has n b)
+        ∙ ap₂ (λ (u v : ℕ). pick (eqb (look x) n) p (pick (has look n b) u v)) (ap (λ (q : ℕ). parentIn see q n (mapForest g b)) (same x) ∙ map-parent (look x) n b) (map-parent p n a)
+
+    pub map-previous : (p n : ℕ) (f : Forest A) → previousIn see p n (mapForest g f) ≡ previousIn look p n f
+    unfolding mapForest previousIn
+    map-previous p n none = refl
+    map-previous p n (node x b a) =
+        ap₂ (λ (i j : Bool). pick i p (pick j (previousIn see noNode n (mapForest g b)) (previousIn see (see (g x)) n (mapForest g a)))) (found n x) (map-has n b)
+        ∙ ap₂ (λ (u v : ℕ). pick (eqb (look x) n) p (pick (has look n b) u v)) (map-previous noNode n b) (ap (λ (q : ℕ). previousIn see q n (mapForest g a)) (same x) ∙ map-previous (look x) n a)
+
+    pub map-next : (n : ℕ) (f : Forest A) → next see n (mapForest g f) ≡ next look n f
+    unfolding mapForest next
+    map-next n none = refl
+    map-next n (node x b a) =
+        ap₂ (λ (i j : Bool). pick i (firstTop see (mapForest g a)) (pick j (next see n (mapForest g b)) (next see n (mapForest g a)))) (found n x) (map-has n b)
+        ∙ ap (λ (q : ℕ). pick (eqb (look x) n) q (pick (has look n b) (next see n (mapForest g b)) (next see n (mapForest g a)))) (map-first a)
+        ∙ ap₂ (λ (u v : ℕ). pick (eqb (look x) n) (firstTop look a) (pick (has look n b) u v)) (map-next n b) (map-next n a)
+
+    module _ (n : ℕ) (f : Forest A) where
+      pub map-children : children see n (mapForest g f) ≡ children look n f
+      map-children = ap (λ (k : Forest B). tops see k) (map-below n f) ∙ map-tops (below look n f)
+
+      pub map-head : head see n (mapForest g f) ≡ head look n f
+      map-head = ap (λ (k : Forest B). firstTop see k) (map-below n f) ∙ map-first (below look n f)
+
+      pub map-tail : tail see n (mapForest g f) ≡ tail look n f
+      map-tail = ap (λ (k : Forest B). lastTop see noNode k) (map-below n f) ∙ map-last noNode (below look n f)
 
     -- one law for every edit
     module _ (n : ℕ) (h : A → Forest A → Forest A → Forest A) (k : B → Forest B → Forest B → Forest B)

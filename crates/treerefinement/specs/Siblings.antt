@@ -10,17 +10,27 @@ use borrow.Author.Tests.{lt-ltb, le-ltb, ltb-true, ltb-false, eq-eqb, ne-eqb}
 use Rattle.words.specs.Choice.{pick}
 use Rattle.nodes.specs.declared.Node.{Node}
 use Rattle.nodes.specs.Edit.{dropDeeper}
-use Rattle.nodes.specs.Forest.{Forest, none, node, flatten, has}
-use Rattle.nodes.specs.Structure.{noNode, firstOr, depthOf, lastBeside, previousOf, previousIn, previous, firstBeside, nextOf, tops, next, headOf, tailOf, head, tail, lastOr}
+use Rattle.nodes.specs.Forest.{Forest, none, node, flatten, has, below}
+use Rattle.nodes.specs.Structure.{noNode, firstOr, lastOr, depthOf, lastBeside, previousOf, previousIn, previous, firstBeside, nextOf, tops, firstTop, lastTop, next, headOf, tailOf, head, tail}
 use Rattle.treerefinement.specs.Flatten.{key, neither, Shallow, dropped}
 use Rattle.treerefinement.specs.Parent.{depthIn, depth-flatten, depth-least}
 use Rattle.treerefinement.specs.Family.{children-tree}
 
+first-tops : (f : Forest Node) → firstOr noNode (tops key f) ≡ firstTop key f
+unfolding tops firstOr firstTop
+first-tops none = refl
+first-tops (node x b a) = refl
+
+last-tops : (p : ℕ) (f : Forest Node) → lastOr p (tops key f) ≡ lastTop key p f
+unfolding tops lastOr lastTop
+last-tops p none = refl
+last-tops p (node x b a) = last-tops (x .number) a
+
 pub head-tree : (n : ℕ) (f : Forest Node) → headOf n (flatten 0 f) ≡ head key n f
-head-tree n f = ap (λ (l : List ℕ). firstOr noNode l) (children-tree n f)
+head-tree n f = ap (λ (l : List ℕ). firstOr noNode l) (children-tree n f) ∙ first-tops (below key n f)
 
 pub tail-tree : (n : ℕ) (f : Forest Node) → tailOf n (flatten 0 f) ≡ tail key n f
-tail-tree n f = ap (λ (l : List ℕ). lastOr noNode l) (children-tree n f)
+tail-tree n f = ap (λ (l : List ℕ). lastOr noNode l) (children-tree n f) ∙ last-tops noNode (below key n f)
 
 -- whose neighbour before it stands in the forest itself, or is none
 previous-inner : (n d p q : ℕ) (f : Forest Node) → d < depthIn d n f → previousIn key p n f ≡ previousIn key q n f
@@ -113,8 +123,8 @@ above-suc d none [] s = tt
 above-suc d none (r ∷ l) s = omega arith
 above-suc d (node x b a) rest s = omega arith
 
-first-top : (d : ℕ) (a : Forest Node) (rest : List Node) → Above d rest → firstBeside d (flatten d a ++ rest) ≡ firstOr noNode (tops key a)
-unfolding Above flatten firstBeside tops firstOr
+first-top : (d : ℕ) (a : Forest Node) (rest : List Node) → Above d rest → firstBeside d (flatten d a ++ rest) ≡ firstTop key a
+unfolding Above flatten firstBeside firstTop
 first-top d none [] s = refl
 first-top d none (r ∷ l) s = rw (ne-eqb (r .depth) d (λ q. omega arith))
 first-top d (node x b a) rest s = rw (eq-eqb d d refl)
@@ -145,7 +155,7 @@ next-flatten n d (node x b a) rest h s =
 
     go : (p q : Bool) → has key n b ≡ q → pick p true (pick q true (has key n a)) ≡ true
         → (has key n b ≡ true → nextOf n (flatten (d + 1) b ++ (flatten d a ++ rest)) ≡ next key n b) → (has key n a ≡ true → nextOf n (flatten d a ++ rest) ≡ next key n a)
-        → pick p (firstBeside d (dropDeeper d tail)) (nextOf n tail) ≡ pick p (firstOr noNode (tops key a)) (pick q (next key n b) (next key n a))
+        → pick p (firstBeside d (dropDeeper d tail)) (nextOf n tail) ≡ pick p (firstTop key a) (pick q (next key n b) (next key n a))
     go true q e u i j =
         ap (λ (l : List Node). firstBeside d (dropDeeper d l)) regroup
         ∙ ap (λ (l : List Node). firstBeside d l) (dropped d b a rest (above-shallow d rest s))

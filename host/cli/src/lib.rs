@@ -1,3 +1,4 @@
 //! The parts of the program `limudvek` that are tested apart from it.
 
+pub mod page;
 pub mod play;

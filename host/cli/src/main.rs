@@ -1,6 +1,6 @@
 //! The program `limudvek`: the commands that need the engine.
 
-use cli::play;
+use cli::{page, play};
 use std::env;
 use std::process::ExitCode;
 
@@ -13,8 +13,9 @@ fn main() -> ExitCode {
     let rest: Vec<_> = words.collect();
     match command.as_ref().and_then(|word| word.to_str()) {
         Some("play") if rest.len() == 1 => play::file(&rest[0], &mut engine::Engine::new()),
+        Some("page") if rest.len() == 1 => page::file(&rest[0], &mut engine::Engine::new()),
         _ => {
-            eprintln!("usage: limudvek play FILE");
+            eprintln!("usage: limudvek play FILE\n       limudvek page FILE");
             ExitCode::from(UNREADABLE)
         }
     }

@@ -1,8 +1,8 @@
 //! `limudvek play FILE`: sends a script's commands to an engine, one a line, and prints the answers.
 
-mod line;
-mod message;
-mod tree;
+pub(crate) mod line;
+pub(crate) mod message;
+pub(crate) mod tree;
 
 use limudvek::{refusal, show};
 use line::{Call, Line};
@@ -150,13 +150,13 @@ fn next_line(input: &mut impl BufRead) -> Result<Option<Vec<u8>>, Stopped> {
     }
 }
 
-struct Player<'a, D> {
-    engine: &'a mut D,
-    reply: Vec<u8>,
+pub(crate) struct Player<'a, D> {
+    pub(crate) engine: &'a mut D,
+    pub(crate) reply: Vec<u8>,
 }
 
 impl<D: Applies> Player<'_, D> {
-    fn new(engine: &mut D) -> Player<'_, D> {
+    pub(crate) fn new(engine: &mut D) -> Player<'_, D> {
         Player {
             engine,
             reply: vec![0; REPLY],
@@ -177,7 +177,7 @@ impl<D: Applies> Player<'_, D> {
         }
     }
 
-    fn line(
+    pub(crate) fn line(
         &mut self,
         line: Line,
         folder: &Path,
@@ -207,7 +207,7 @@ impl<D: Applies> Player<'_, D> {
     }
 
     /// Sends a command. Answers the refusal's number, or 0, and the place or the reply's length.
-    fn send(&mut self, call: &Call) -> (u32, usize) {
+    pub(crate) fn send(&mut self, call: &Call) -> (u32, usize) {
         let answer = self
             .engine
             .apply(call.op, call.numbers, &call.bytes, &mut self.reply);

@@ -1,11 +1,10 @@
 //! The proved engine's time as a multiple of the independent Rust engine's, for the same commands in
-//! one run: whole, with its state check (`apply`), and without it (`step`).
+//! one run: whole (`apply`), and with the time of its state check taken off (`step`).
 //!
-//! Run it from `host/`, after `./archives stepbench`, by `cargo run --release -p stepbench`.
+//! Run it from `host/`, after `./archives engine`, by `cargo run --release -p stepbench`.
 
 mod clock;
 mod commands;
-mod step;
 
 use clock::{least, SAMPLES};
 use commands::{commands, definition, definitions, engine_of};
@@ -15,8 +14,7 @@ use std::hint::black_box;
 
 const REPLY: usize = 1 << 20;
 
-/// The two runs of the proved engine, and room for a reply. The runs are a well-formed state: it
-/// is made by `State::of` and changed by the proved engine alone.
+/// The two runs of the proved engine, and room for a reply.
 #[derive(Clone)]
 struct State {
     words: Vec<u32>,
@@ -46,24 +44,11 @@ impl State {
         )
     }
 
-    fn step(&mut self, call: &Call) -> u64 {
-        // SAFETY: the state is well formed, as its struct says.
-        unsafe {
-            step::step(
-                call.op,
-                call.numbers,
-                &call.bytes,
-                &mut self.words,
-                &mut self.arena,
-                &mut self.reply,
-            )
-        }
+    /// The state check alone: `/n_run` with a flag of 2, which is refused right behind it.
+    fn check(&mut self) {
+        assert_eq!(self.apply(&Call::new(12, [0, 2, 0, 0, 0], b"")), 13);
     }
 }
-
-/// The ways into the proved engine that are timed.
-type Way = fn(&mut State, &Call) -> u64;
-const WAYS: [(&str, Way); 2] = [("apply", State::apply), ("step", State::step)];
 
 fn main() {
     println!("Proved engine against independent Rust engine, the same commands on the same state.");
@@ -72,10 +57,10 @@ fn main() {
     for nodes in [8, 64, 256] {
         println!();
         print!("{:44} {:>9}", format!("{nodes} nodes"), "Rust");
-        for (way, _) in WAYS {
-            print!(" {way:>9} {:>7}", "ratio");
-        }
-        println!();
+        println!(
+            " {:>9} {:>7} {:>9} {:>7}",
+            "apply", "ratio", "step", "ratio"
+        );
         for (name, calls) in commands(nodes) {
             measure(name, nodes, &calls);
         }
@@ -91,41 +76,35 @@ fn measure(name: &str, nodes: usize, calls: &[Call]) {
         let command = call.command().expect("it is known");
         packed(rust.apply(&command, &mut reply))
     };
-    let answers: Vec<u64> = calls.iter().map(&mut plain).collect();
-    let mut states = vec![State::of(&model); WAYS.len()];
-    for ((_, way), state) in WAYS.iter().zip(&mut states) {
-        for (call, answer) in calls.iter().zip(&answers) {
-            assert_eq!(way(state, call), *answer, "{call:?}");
-        }
+    let mut state = State::of(&model);
+    for call in calls {
+        assert_eq!(state.apply(call), plain(call), "{call:?}");
     }
-    assert!(states[0].words == states[1].words && states[0].arena == states[1].arena);
-    let plain: Box<dyn FnMut() + '_> = Box::new(|| {
-        for call in calls {
-            black_box(plain(call));
-        }
-    });
-    let proved = WAYS.iter().zip(&mut states).map(|((_, way), state)| {
-        let work: Box<dyn FnMut() + '_> = Box::new(|| {
+    let mut checked = state.clone();
+    let times = least(vec![
+        Box::new(|| {
             for call in calls {
-                black_box(way(state, call));
+                black_box(plain(call));
             }
-        });
-        work
-    });
-    let times = least(std::iter::once(plain).chain(proved).collect());
-    let times: Vec<f64> = times.iter().map(|time| time / calls.len() as f64).collect();
-    print!("{name:44} {:>9.0}", times[0]);
-    for time in &times[1..] {
-        print!(" {time:>9.0} {:>7.2}", time / times[0]);
-    }
-    println!();
+        }),
+        Box::new(|| {
+            for call in calls {
+                black_box(state.apply(call));
+            }
+        }),
+        Box::new(|| checked.check()),
+    ]);
+    let each = |time: f64| time / calls.len() as f64;
+    let (rust, apply) = (each(times[0]), each(times[1]));
+    let step = apply - times[2];
+    print!("{name:44} {rust:>9.0} {apply:>9.0} {:>7.2}", apply / rust);
+    println!(" {step:>9.0} {:>7.2}", step / rust);
 }
 
-/// A refused command on states that differ in one thing: where the check's time goes.
+/// The check of states that differ in one thing: where its time goes.
 fn checks() {
     println!();
-    let name = "/n_free of no node, refused";
-    println!("{name:44} {:>9} {:>9} {:>9}", "apply", "step", "check");
+    println!("{:44} {:>9}", "the state check alone", "check");
     let long = |count: usize| -> Vec<Definition> {
         let mut random = Random::new(1);
         let mut definitions: Vec<Definition> = (0..count)
@@ -169,15 +148,9 @@ fn checks() {
             engine_of(256, &long(32)),
         ),
     ];
-    let call = Call::new(5, [9999, 0, 0, 0, 0], b"");
     for (name, engine) in states {
-        let mut states = vec![State::of(&engine); WAYS.len()];
-        let works = WAYS.iter().zip(&mut states).map(|((_, way), state)| {
-            let work: Box<dyn FnMut() + '_> = Box::new(|| assert_eq!(way(state, &call), 17));
-            work
-        });
-        let times = least(works.collect());
-        let check = times[0] - times[1];
-        println!("{name:44} {:>9.0} {:>9.0} {check:>9.0}", times[0], times[1]);
+        let mut state = State::of(&engine);
+        let times = least(vec![Box::new(|| state.check())]);
+        println!("{name:44} {:>9.0}", times[0]);
     }
 }

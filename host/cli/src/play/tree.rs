@@ -6,23 +6,23 @@ use std::io::{self, Write};
 use std::slice::Iter;
 
 /// Where the parts lie in the words, by docs/LAYOUT.md.
-const ORDER_LENGTH: usize = 1;
-const RESIDENT: usize = 36;
-const NODE: usize = 68;
-const ORDER: usize = 1348;
-const CONTROL: usize = 1603;
-const BUS: usize = 17_987;
-const RECORD: usize = 5;
-const ROW: usize = 64;
+pub(crate) const ORDER_LENGTH: usize = 1;
+pub(crate) const RESIDENT: usize = 36;
+pub(crate) const NODE: usize = 68;
+pub(crate) const ORDER: usize = 1348;
+pub(crate) const CONTROL: usize = 1603;
+pub(crate) const BUS: usize = 17_987;
+pub(crate) const RECORD: usize = 5;
+pub(crate) const ROW: usize = 64;
 
 /// A node of a reply.
-struct Node {
-    number: i32,
-    depth: usize,
-    kind: Kind,
+pub(crate) struct Node {
+    pub(crate) number: i32,
+    pub(crate) depth: usize,
+    pub(crate) kind: Kind,
 }
 
-enum Kind {
+pub(crate) enum Kind {
     Group {
         children: i32,
     },
@@ -34,7 +34,7 @@ enum Kind {
 }
 
 /// The nodes of a `/g_queryTree.reply`, the group itself first.
-fn nodes(message: &Message) -> Option<Vec<Node>> {
+pub(crate) fn nodes(message: &Message) -> Option<Vec<Node>> {
     let mut arguments = message.arguments.iter();
     let with_controls = int(&mut arguments)? != 0;
     let mut nodes = Vec::new();

@@ -9,8 +9,9 @@ use Rattle.readable.specs.declared.found.Found.the-variants as found
 use Rattle.values.specs.Controls.{shownBy}
 use Rattle.model.specs.Layout.{controlsIn, busesIn}
 use Rattle.model.specs.Meaning.{startOf}
-use Rattle.controls.specs.Encoded.{frontIn, frontOnly, foundAt, values-few}
+use Rattle.readable.specs.Lookup.{foundAt}
 use Rattle.slots.specs.Slots.{slotBytes}
+use Rattle.controls.specs.Encoded.{frontIn, frontOnly, values-few}
 use Rattle.controls.specs.Ready.{nodeIn, synth-ready, synth-readable}
 use Rattle.controls.specs.Asked.{controlIn, read-none, read-past, read-there}
 use Rattle.controls.proofs.asked.read_key.Statement.{statement}

@@ -3,7 +3,7 @@ use borrow.Author.Needs.{needs}
 use Rattle.values.specs.declared.Key.{Key}
 use Rattle.values.specs.declared.Key.the-variants.{Name}
 use Rattle.model.specs.Meaning.{startOf}
-use Rattle.controls.specs.Encoded.{foundAt, frontOnly, index-fact}
+use Rattle.controls.specs.Encoded.{frontOnly, index-fact}
 use Rattle.controls.proofs.definition.control_start.Statement.{statement}
 use Rattle.controls.proofs.definition.control_start.Tie as tie
 
@@ -25,7 +25,7 @@ returns-2 : tie.Need-returns-2
 returns-2 c =
     let a = c .before .before .before .before .before .args in
     let named : a .key ≡ Name = cc in
-    ap foundAt (c .index-of .ensures)
+    c .index-of .ensures
     ∙ index-fact (a .name .now) (a .definition .now)
     ∙ sym (ap (λ (k : Key). startOf k (a .name .now) (frontOnly (a .definition .now))) named)
 

@@ -7,7 +7,8 @@ use mathlib.Core.Option.{Option, none, some}
 use lib.Dec.{leb}
 use Rattle.readable.specs.declared.found.Found.the-variants as found
 use Rattle.model.specs.Meaning.{startOf, hasControls}
-use Rattle.controls.specs.Encoded.{foundAt, frontOnly, has-past, has-within}
+use Rattle.readable.specs.Lookup.{foundAt}
+use Rattle.controls.specs.Encoded.{frontOnly, has-past, has-within}
 use Rattle.controls.proofs.definition.has_controls.Statement.{statement}
 use Rattle.controls.proofs.definition.has_controls.Tie as tie
 

@@ -3,7 +3,8 @@ use mathlib.Core.Option.{Option, none, some}
 use lib.ListN.{length}
 use Rattle.readable.specs.declared.found.Found.the-variants as found
 use Rattle.model.specs.Meaning.{startOf}
-use Rattle.controls.specs.Encoded.{frontIn, frontOnly, foundAt}
+use Rattle.readable.specs.Lookup.{foundAt}
+use Rattle.controls.specs.Encoded.{frontIn, frontOnly}
 use Rattle.controls.specs.Reach.{reachFrom}
 use mathlib.Core.Path.{_≡_, sym, ap, _∙_}
 use borrow.Author.Needs.{needs}

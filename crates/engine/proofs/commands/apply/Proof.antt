@@ -19,7 +19,9 @@ returns : tie.Need-returns
 returns c =
     let a = c .before .before .before .before .before .before .before .before .args in
     let check = c .before .well-formed in
-    does-bad (a .command) (a .bytes .now) (a .words .now) (a .arena .now) (a .reply .now) (sym (check .ensures) ∙ not-true (check .result) (c .if1 .taken))
+    let lent = c .before .before .before .before .before .before .before .shared-slice-known .given in
+    let kept = c .before .before .before .before .before .slice-known2 .given in
+    does-bad (a .command) (a .bytes .now) (a .words .now) (a .arena .now) (a .reply .now) (λ i. lent i .fits) (λ i. kept i .fits) (sym (check .ensures) ∙ not-true (check .result) (c .if1 .taken))
 
 step-requires : tie.Need-step-requires
 step-requires c κs =

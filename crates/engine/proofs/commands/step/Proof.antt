@@ -56,8 +56,10 @@ returns c =
     let s = c .before .before .before .before .before .before .before .before .before .before .before .before .before .before in
     let a = s .args in
     let fact = c .before .before .before .before .before .before .before .before .command .given in
+    let lent = c .before .before .before .before .before .before .before .before .before .before .before .before .before .shared-slice-known .given in
+    let kept = c .before .before .before .before .before .before .before .before .before .before .before .slice-known2 .given in
     rw (fact .1)
-    (definitions-do (a .bytes .now) (a .words .now) (a .arena .now) (a .reply .now) (c .before .before .before .before .definition-step .result) (fact .0 .0) _ _ (s .pre) (c .before .before .before .before .definition-step .ensures))
+    (definitions-do (a .bytes .now) (a .words .now) (a .arena .now) (a .reply .now) (c .before .before .before .before .definition-step .result) (λ i. lent i .fits) (λ i. kept i .fits) (fact .0 .0) _ _ (s .pre) (c .before .before .before .before .definition-step .ensures))
 
 same-length-3 : tie.Need-same-length-3
 same-length-3 c = search needs
@@ -70,8 +72,10 @@ returns-2 c =
     let s = c .before .before .before .before .before .before .before .before .before .before .before .before in
     let a = s .args in
     let fact = c .before .before .before .before .before .before .command2 .given in
+    let lent = c .before .before .before .before .before .before .before .before .before .before .before .shared-slice-known .given in
+    let kept = c .before .before .before .before .before .before .before .before .before .slice-known2 .given in
     rw (fact .1)
-    (tree-does (a .bytes .now) (a .words .now) (a .arena .now) (a .reply .now) (c .before .before .tree-step .result) (fact .0 .0) _ (s .pre) (c .before .before .tree-step .ensures))
+    (tree-does (a .bytes .now) (a .words .now) (a .arena .now) (a .reply .now) (c .before .before .tree-step .result) (λ i. lent i .fits) (λ i. kept i .fits) (fact .0 .0) _ (s .pre) (c .before .before .tree-step .ensures))
 
 same-length-5 : tie.Need-same-length-5
 same-length-5 c = search needs
@@ -84,8 +88,10 @@ returns-3 c =
     let s = c .before .before .before .before .before .before .before .before .before .before .before .before in
     let a = s .args in
     let fact = c .before .before .before .before .before .before .command3 .given in
+    let lent = c .before .before .before .before .before .before .before .before .before .before .before .shared-slice-known .given in
+    let kept = c .before .before .before .before .before .before .before .before .before .slice-known2 .given in
     rw (fact .1)
-    (controls-do (a .bytes .now) (a .words .now) (a .arena .now) (a .reply .now) (c .before .before .control-step .result) (fact .0 .0) _ (s .pre) (c .before .before .control-step .ensures))
+    (controls-do (a .bytes .now) (a .words .now) (a .arena .now) (a .reply .now) (c .before .before .control-step .result) (λ i. lent i .fits) (λ i. kept i .fits) (fact .0 .0) _ (s .pre) (c .before .before .control-step .ensures))
 
 same-length-7 : tie.Need-same-length-7
 same-length-7 c = search needs
@@ -95,8 +101,10 @@ returns-4 c =
     let s = c .before .before .before .before .before .before .before .before .before .before .before in
     let a = s .args in
     let fact = c .before .before .before .before .before .command4 .given in
+    let lent = c .before .before .before .before .before .before .before .before .before .before .shared-slice-known .given in
+    let kept = c .before .before .before .before .before .before .before .before .slice-known2 .given in
     rw (fact .1)
-    (buses-do (a .bytes .now) (a .words .now) (a .arena .now) (a .reply .now) (c .before .before .bus-step .result) (fact .0 .0) _ (s .pre) (c .before .before .bus-step .ensures (a .bytes .now) (a .arena .now)))
+    (buses-do (a .bytes .now) (a .words .now) (a .arena .now) (a .reply .now) (c .before .before .bus-step .result) (λ i. lent i .fits) (λ i. kept i .fits) (fact .0 .0) _ (s .pre) (c .before .before .bus-step .ensures (a .bytes .now) (a .arena .now)))
 
 same-length-8 : tie.Need-same-length-8
 same-length-8 c = search needs
@@ -112,8 +120,10 @@ returns-5 c =
     let s = c .before .before .before .before .before .before .before .before .before .before .before .before .before in
     let a = s .args in
     let fact = c .before .before .before .before .before .before .before .command5 .given in
+    let lent = c .before .before .before .before .before .before .before .before .before .before .before .before .shared-slice-known .given in
+    let kept = c .before .before .before .before .before .before .before .before .before .before .slice-known2 .given in
     rw (fact .1)
-    (query-does (a .bytes .now) (a .words .now) (a .arena .now) (a .reply .now) (c .before .before .query-step .result) (fact .0 .0) _ (s .pre) (c .before .before .query-step .ensures))
+    (query-does (a .bytes .now) (a .words .now) (a .arena .now) (a .reply .now) (c .before .before .query-step .result) (λ i. lent i .fits) (λ i. kept i .fits) (fact .0 .0) _ (s .pre) (c .before .before .query-step .ensures))
 
 pub step-spec : {M : Type 1} → statement M
 step-spec =

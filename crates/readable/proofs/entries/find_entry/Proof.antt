@@ -1,23 +1,26 @@
-use Prim.Native.Nat.{_-_, _≤_}
-use mathlib.Core.Path.{_≡_, sym, ap, _∙_}
+use Prim.Native.Nat.{ℕ, _-_, _≤_, _<_}
+use mathlib.Core.Option.{Option, none, some}
+use mathlib.Core.Path.{_≡_, refl, sym, ap, _∙_}
 use native.Mathlib.Omega.{arith}
-use borrow.Author.Needs.{needs}
 use native.Mathlib.Nat.{sub-zero}
-use Rattle.readable.specs.Lookup.{atNumber, firstNamed}
+use borrow.Author.Needs.{needs}
+use Rattle.format.specs.Names.{firstIndex}
 use Rattle.format.specs.Reader.{mostParameters}
-use Rattle.readable.specs.Entries.{Entries, entriesFrom, entries-turn, named-none, named-here, named-behind}
+use Rattle.readable.specs.Lookup.{foundAt}
+use Rattle.readable.specs.Entries.{Entries, entriesFrom, entries-turn, entries-past, named-none, named-here, named-behind, orLater, or-none}
 use Rattle.readable.proofs.entries.find_entry.Statement.{statement}
 use Rattle.readable.proofs.entries.find_entry.Tie as tie
 
 abbrev Inv-loop : tie.InvT-loop
-Inv-loop s first count name at₀ i₀ at i = (i ≤ count) × Entries s mostParameters (count - i) at × (firstNamed name (entriesFrom s (count - i) at) ≡ firstNamed name (entriesFrom s count first))
+Inv-loop s first count name found₀ at₀ i₀ found at i =
+    (i ≤ count) × Entries s mostParameters (count - i) at × (i < count → foundAt found ≡ none)
+    × (orLater (foundAt found) (firstIndex name (entriesFrom s (count - i) at)) ≡ firstIndex name (entriesFrom s count first))
 
 abbrev μ-loop : tie.MeasureT-loop
-μ-loop s first count name at₀ i₀ at i = count - i
+μ-loop s first count name found₀ at₀ i₀ found at i = count - i
 
 loop-holds : tie.Need-loop-holds Inv-loop μ-loop
-loop-holds c =
-    (omega arith, rw sub-zero (c .before .before .pre), rw sub-zero)
+loop-holds c = (omega arith, rw sub-zero (c .before .before .pre), λ h. refl, rw sub-zero)
 
 shared-slice-read-size : tie.Need-shared-slice-read-size Inv-loop μ-loop
 shared-slice-read-size c =
@@ -27,8 +30,7 @@ shared-slice-read-size c =
     omega (arith, t .within)
 
 cast-size : tie.Need-cast-size Inv-loop μ-loop
-cast-size c =
-    omega (arith, c .shared-slice-known3 .given (c .before .before .loop .at))
+cast-size c = omega (arith, c .shared-slice-known3 .given (c .before .before .loop .at))
 
 add-start : tie.Need-add-start Inv-loop μ-loop
 add-start c =
@@ -43,6 +45,16 @@ add-end c =
     let l = c .before .before .loop in
     let t = entries-turn (a .args .s .now) mostParameters (a .args .count) (l .i) (l .at) (omega arith) (l .inv .1) in
     omega (arith, t .within)
+
+add-at : tie.Need-add-at Inv-loop μ-loop
+add-at c =
+    let a = c .before .before .before .before .before in
+    let l = c .before .before .loop in
+    let t = entries-turn (a .args .s .now) mostParameters (a .args .count) (l .i) (l .at) (omega arith) (l .inv .1) in
+    omega (arith, t .within)
+
+add-i : tie.Need-add-i Inv-loop μ-loop
+add-i c = omega arith
 
 sub-same-name : tie.Need-sub-same-name Inv-loop μ-loop
 sub-same-name c = omega arith
@@ -62,8 +74,7 @@ part-same-name-end c =
     omega (arith, t .within)
 
 same-name-requires : tie.Need-same-name-requires Inv-loop μ-loop
-same-name-requires c κs =
-    search needs
+same-name-requires c κs = search needs
 
 word-at-requires : tie.Need-word-at-requires Inv-loop μ-loop
 word-at-requires c κs =
@@ -72,43 +83,45 @@ word-at-requires c κs =
     let t = entries-turn (a .args .s .now) mostParameters (a .args .count) (l .i) (l .at) (omega arith) (l .inv .1) in
     t .within
 
-returns : tie.Need-returns Inv-loop μ-loop
-returns c =
-    let a = c .before .before .before .before .before .before .before .before .before in
-    let l = c .before .before .before .before .before .before .loop in
-    let t = entries-turn (a .args .s .now) mostParameters (a .args .count) (l .i) (l .at) (omega arith) (l .inv .1) in
-    ap atNumber (c .word-at .ensures)
-    ∙ sym (named-here (a .args .s .now) (a .args .name .now) (a .args .count) (l .i) (l .at) t (c .before .before .same-name .ensures) (c .before .if1 .taken))
-    ∙ l .inv .2
-
-add-at : tie.Need-add-at Inv-loop μ-loop
-add-at c =
-    let a = c .before .before .before .before .before .before .before .before in
-    let l = c .before .before .before .before .before .loop in
-    let t = entries-turn (a .args .s .now) mostParameters (a .args .count) (l .i) (l .at) (omega arith) (l .inv .1) in
-    omega (arith, t .within)
-
-add-i : tie.Need-add-i Inv-loop μ-loop
-add-i c = omega arith
-
 loop-less : tie.Need-loop-less Inv-loop μ-loop
 loop-less c = omega arith
 
 loop-again : tie.Need-loop-again Inv-loop μ-loop
 loop-again c =
+    let a = c .before .before .before .before .before .before .before .before .before in
+    let l = c .before .before .before .before .before .before .loop in
+    let t = entries-turn (a .args .s .now) mostParameters (a .args .count) (l .i) (l .at) (omega arith) (l .inv .1) in
+    let first = ap (λ (f : Option ℕ). orLater f (firstIndex (a .args .name .now) (entriesFrom (a .args .s .now) (a .args .count - l .i) (l .at)))) (l .inv .2 (c .before .before .before .before .before .loop-test .taken)) in (
+      omega arith,
+      entries-past (a .args .s .now) mostParameters (a .args .count) _ (t .within),
+      λ h. absurd (omega arith),
+      ap some (c .word-at .ensures)
+      ∙ sym (named-here (a .args .s .now) (a .args .name .now) (a .args .count) (l .i) (l .at) t (c .before .before .same-name .ensures) (c .before .if1 .taken))
+      ∙ sym first
+      ∙ l .inv .3,
+    )
+
+loop-less-2 : tie.Need-loop-less-2 Inv-loop μ-loop
+loop-less-2 c = omega arith
+
+loop-again-2 : tie.Need-loop-again-2 Inv-loop μ-loop
+loop-again-2 c =
     let a = c .before .before .before .before .before .before .before .before in
     let l = c .before .before .before .before .before .loop in
     let t = entries-turn (a .args .s .now) mostParameters (a .args .count) (l .i) (l .at) (omega arith) (l .inv .1) in (
       omega arith,
       t .more,
-      sym (named-behind (a .args .s .now) (a .args .name .now) (a .args .count) (l .i) (l .at) t (c .before .same-name .ensures) (c .if1 .left)) ∙ l .inv .2,
+      λ h. l .inv .2 (omega arith),
+      sym (ap (orLater (foundAt (l .found))) (named-behind (a .args .s .now) (a .args .name .now) (a .args .count) (l .i) (l .at) t (c .before .same-name .ensures) (c .if1 .left))) ∙ l .inv .3,
     )
 
-returns-2 : tie.Need-returns-2 Inv-loop μ-loop
-returns-2 c =
+returns : tie.Need-returns Inv-loop μ-loop
+returns c =
     let a = c .before .before .before .before .args in
     let l = c .before .loop in
-    sym (named-none (a .s .now) (a .name .now) (a .count) (l .i) (l .at) (omega arith)) ∙ l .inv .2
+    sym (or-none (foundAt (l .found)))
+    ∙ sym (ap (orLater (foundAt (l .found))) (named-none (a .s .now) (a .name .now) (a .count) (l .i) (l .at) (omega arith)))
+    ∙ l .inv .3
 
 pub find-entry-spec : {M : Type 1} → statement M
 find-entry-spec =
@@ -121,14 +134,15 @@ find-entry-spec =
     cast-size
     add-start
     add-end
+    add-at
+    add-i
     sub-same-name
     part-same-name-start
     part-same-name-end
     same-name-requires
     word-at-requires
-    returns
-    add-at
-    add-i
     loop-less
     loop-again
-    returns-2)
+    loop-less-2
+    loop-again-2
+    returns)

@@ -26,7 +26,7 @@ returns c =
     let e = c .before .counts .ensures (k .front) (k .past) (k .reads) in
     let first = ap (λ (p : Counts). p .first) e in
     let many = ap (λ (p : Counts). p .names) e in
-    labels-front (a .args .s .now) (c .labels-from .result) (k .reads) (rw (first, many) at (c .labels-from .ensures))
+    labels-front (a .args .s .now) (c .labels-from .result) (k .reads) (omega arith) (front-entries (a .args .s .now) k) (rw (first, many) at (c .labels-from .ensures))
 
 pub labels-spec : {M : Type 1} → statement M
 labels-spec = tie.close (tie.spec counts-requires labels-from-requires returns)

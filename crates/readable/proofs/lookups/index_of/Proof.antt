@@ -1,5 +1,5 @@
 use Rattle.front.specs.declared.Counts.{Counts}
-use Rattle.readable.specs.Lookup.{firstNamed}
+use Rattle.format.specs.Names.{firstIndex}
 use Rattle.readable.specs.Readable.{parts, front-entries}
 use mathlib.Core.Path.{sym, ap, _∙_}
 use borrow.Author.Needs.{needs}
@@ -22,7 +22,7 @@ returns c =
     let k = a .pre in
     let e = c .before .counts .ensures (k .front) (k .past) (k .reads) in
     let found = rw (ap (λ (p : Counts). p .first) e, ap (λ (p : Counts). p .names) e) at (c .find-entry .ensures) in
-    found ∙ rw (k .reads) (ap (firstNamed (a .args .name .now)) (sym (parts (a .args .s .now) (k .reads) .names)))
+    found ∙ rw (k .reads) (ap (firstIndex (a .args .name .now)) (sym (parts (a .args .s .now) (k .reads) .names)))
 
 pub index-of-spec : {M : Type 1} → statement M
 index-of-spec = tie.close (tie.spec counts-requires find-entry-requires returns)

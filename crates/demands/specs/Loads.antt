@@ -1,0 +1,97 @@
+-- Demand 2: loads and exports by calls.
+use Prim.Native.Nat.{ℕ}
+use mathlib.Core.Path.{_≡_, refl, sym, ap, ap₂, _∙_, subst}
+use mathlib.Core.Bool.{true}
+use mathlib.Core.List.{List}
+use lib.ListN.{length}
+use lib.Dec.{ltb}
+use borrow.Author.Tests.{lt-ltb, le-ltb}
+use Rattle.words.specs.Choice.{pick}
+use Rattle.refusals.specs.declared.Refusal.the-variants.{NoRoom}
+use Rattle.model.specs.declared.Query.the-variants as query
+use Rattle.model.specs.declared.Command.{Command}
+use Rattle.model.specs.declared.Answer.{Answer}
+use Rattle.model.specs.declared.Answer.the-variants.{Done, Replied, Refused}
+use Rattle.model.specs.Engine.{Engine, decode}
+use Rattle.model.specs.Formed.{formed}
+use Rattle.model.specs.Checks.{firstOf}
+use Rattle.model.specs.Replies.{exportFile, replyTo, reply}
+use Rattle.model.specs.After.{wordsAfter, arenaAfter, freshState, freshArena}
+use Rattle.model.specs.Apply.{queryAnswer, answerIn, answer, isAccepted, written, replyOf, Does}
+use Rattle.model.specs.Chain.{State, engineIn, Call, Applied, Fresh}
+use Rattle.model.specs.Demands.{meaningIn, receive, export, Exports, Demand2}
+use Rattle.reload.specs.Theorem.{exported-file, accepted, meant-same}
+use Rattle.sequence.specs.Ends.{reply-left, demand1}
+use Rattle.sequence.specs.Fresh.{fresh-state, fresh-formed}
+
+export-reply : (bytes : List ℕ) (e : Engine) → reply query.Export bytes e ≡ exportFile (e .slots)
+unfolding replyTo
+export-reply bytes e = refl
+
+export-answer : (bytes : List ℕ) (e : Engine) (room : ℕ)
+    → answerIn export bytes e room ≡ pick (ltb room (length (exportFile (e .slots)))) (Refused NoRoom) (Replied (length (exportFile (e .slots))))
+unfolding answerIn queryAnswer firstOf replyTo
+export-answer bytes e room = refl
+
+-- an export in a well-formed state
+module _ (c : Call) (s : State) (whole : formed (s .words) (s .arena) ≡ true) (is : c .command ≡ export) (a : Applied c s) where
+  abbrev file : List ℕ
+  file = exportFile (engineIn s .slots)
+
+  answered : c .answer ≡ pick (ltb (length (c .out)) (length file)) (Refused NoRoom) (Replied (length file))
+  unfolding answer
+  answered =
+      a .answers
+      ∙ rw whole (ap (λ (k : Command). answerIn k (c .bytes) (engineIn s) (length (c .out))) is)
+      ∙ export-answer (c .bytes) (engineIn s) (length (c .out))
+
+  replied : c .reply ≡ written (c .answer) file (c .out)
+  replied =
+      reply-left c s a
+      ∙ ap (λ (k : Command). written (c .answer) (replyOf k (c .bytes) (engineIn s)) (c .out)) is
+      ∙ ap (λ (l : List ℕ). written (c .answer) l (c .out)) (export-reply (c .bytes) (engineIn s))
+
+  exports : Exports (exportFile (engineIn s .slots)) c
+  exports = record {
+    room = λ h.
+        let e : c .answer ≡ Replied (length file) = answered ∙ rw (le-ltb (length (c .out)) (length file) h) in
+        (e, replied ∙ ap (λ (x : Answer). written x file (c .out)) e);
+    noRoom = λ h.
+        let e : c .answer ≡ Refused NoRoom = answered ∙ rw (lt-ltb (length (c .out)) (length file) h) in
+        (e, replied ∙ ap (λ (x : Answer). written x file (c .out)) e);
+  }
+
+-- a load into a fresh engine
+abbrev Loads : List ℕ → Call → Type 0
+Loads file c = Does receive file freshState freshArena (c .out) (c .answer) (c .left .words) (c .left .arena) (c .reply)
+
+load-by : (c : Call) (s : State) → Fresh s → c .command ≡ receive → Applied c s → Loads (c .bytes) c
+load-by c s f is a =
+    subst (λ (x : State). Does receive (c .bytes) (x .words) (x .arena) (c .out) (c .answer) (c .left .words) (c .left .arena) (c .reply)) (fresh-state s f)
+    (subst (λ (k : Command). Does k (c .bytes) (s .words) (s .arena) (c .out) (c .answer) (c .left .words) (c .left .arena) (c .reply)) is a)
+
+module _ (file : List ℕ) (c : Call) (d : Loads file c) where
+  load-answer : c .answer ≡ answerIn receive file (decode freshState freshArena) 0
+  unfolding answer answerIn
+  load-answer = d .answers ∙ rw fresh-formed
+
+  load-left : c .answer ≡ Done → engineIn (c .left) ≡ decode (wordsAfter receive file freshState freshArena) (arenaAfter receive file freshState freshArena)
+  load-left h =
+      let g : isAccepted (answer receive file freshState freshArena (c .out)) ≡ true = ap isAccepted (sym (d .answers) ∙ h) in
+      ap₂ decode (d .words ∙ rw g) (d .arena ∙ rw g)
+
+pub demand2 : Demand2
+demand2 = record {
+  exported = λ s f load next is is′ a h.
+      let d = load-by load s f is (a .0) in
+      let left = ap (λ (e : Engine). exportFile (e .slots)) (load-left (load .bytes) load d h) ∙ exported-file (load .bytes) (d .lentBytes) (sym (load-answer (load .bytes) load d) ∙ h) in
+      subst (λ (l : List ℕ). Exports l next) left (exports next (load .left) (demand1 load s (a .0) .kept (ap isAccepted h)) is′ (a .1 .0));
+  loaded = λ s whole c is a. record {
+    file = exportFile (engineIn s .slots);
+    exports = exports c s whole is a;
+    loads = λ t f load is′ same a′.
+        let d = subst (λ (l : List ℕ). Loads l load) same (load-by load t f is′ a′) in
+        let h : load .answer ≡ Done = load-answer _ load d ∙ accepted (s .words) (s .arena) (a .lentArena) whole in
+        (h, λ name. ap (λ (e : Engine). meaningIn name e) (load-left _ load d h) ∙ meant-same (s .words) (s .arena) (a .lentArena) whole name);
+  };
+}
