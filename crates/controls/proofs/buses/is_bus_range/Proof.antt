@@ -16,11 +16,10 @@ returns c = sym (range-past (c .before .before .args .start) (c .before .before 
 wide-requires-2 : tie.Need-wide-requires-2
 wide-requires-2 c κs = search needs
 
-sub-result : tie.Need-sub-result
-sub-result c = search needs
-
 returns-2 : tie.Need-returns-2
-returns-2 c = ?
+returns-2 c =
+    let a = c .before .before .before .args in
+    ap₂ (λ (x y : ℕ). leb x (4096 - y)) (c .wide2 .ensures) (c .before .before .wide .ensures) ∙ sym (range-within (a .start) (a .count) (omega arith))
 
 pub is-bus-range-spec : {M : Type 1} → statement M
-is-bus-range-spec = tie.close (tie.spec wide-requires returns wide-requires-2 sub-result returns-2)
+is-bus-range-spec = tie.close (tie.spec wide-requires returns wide-requires-2 returns-2)

@@ -24,7 +24,9 @@ wide-requires : tie.Need-wide-requires
 wide-requires c κs = search needs
 
 returns : tie.Need-returns
-returns c = c .wide .ensures ∙ sym (slot-word (c .before .before .args .words .now) (c .before .before .args .place) (omega arith))
+returns c =
+    let a = c .before .before .before .args in
+    c .wide .ensures ∙ sym (slot-word (a .words .now) (a .place) (omega arith))
 
 pub node-slot-spec : {M : Type 1} → statement M
 node-slot-spec =

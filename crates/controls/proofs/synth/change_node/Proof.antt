@@ -26,7 +26,7 @@ part-change-row-end c = search needs
 
 change-row-requires : tie.Need-change-row-requires
 change-row-requires c κs =
-    let a = c .before .before .before in
+    let a = c .before .before .before .before in
     let ws = a .args .words .now in
     let row = c .before .node-row .ensures in
     let low = a .pre .2 in
@@ -39,7 +39,7 @@ same-length c = search needs
 
 returns : tie.Need-returns
 returns c =
-    let a = c .before .before .before .before .before .before in
+    let a = c .before .before .before .before .before .before .before in
     let ws = a .args .words .now in
     ap (λ (l : List ℕ). putControls l ws)
     (c .before .before .change-row .ensures

@@ -1,8 +1,8 @@
 use Prim.{tt}
-use Prim.Native.Nat.{ℕ, _+_, _*_}
-use mathlib.Core.Path.{ap}
+use Prim.Native.Nat.{ℕ, _*_, _<_}
+use mathlib.Core.Path.{ap, ap₂}
 use mathlib.Core.Logic.{⊎-elim}
-use lib.ListN.{length, getD}
+use lib.ListN.{length}
 use Prim.Native.Nat.{_-_}
 use mathlib.Core.Bool.{true, false}
 use mathlib.Core.Path.{_≡_, refl, sym, _∙_}
@@ -12,7 +12,8 @@ use lib.ListN.{drop}
 use Rattle.model.specs.Layout.{nodesIn, controlsIn}
 use Rattle.model.specs.Engine.{decode}
 use Rattle.model.specs.Formed.{mappingsFormed, controlsFormed}
-use Rattle.controls.specs.Formed.{nodeFormed, formed-group, formed-turn, formed-end, bounds-ready, synth-here}
+use Rattle.controls.specs.Formed.{nodeFormed, formed-turn, formed-end, synth-here}
+use Rattle.controls.specs.Ready.{nodeIn}
 use Rattle.words.specs.Parts.{region, region-length}
 use Rattle.controls.specs.Noted.{noted-none, noted-more}
 use Rattle.controls.specs.Reach.{unknown, controlsOn, Counted}
@@ -37,25 +38,63 @@ loop-holds : tie.Need-loop-holds Inv-loop μ-loop
 loop-holds c = (refl, noted-none _ _ unknown refl)
 
 node-is-group-requires : tie.Need-node-is-group-requires Inv-loop μ-loop
-node-is-group-requires c κs = ?
+node-is-group-requires c κs = let s = c .before .before .before .before .before .before in (s .pre .size, omega (arith, s .pre .few))
 
 node-slot-requires : tie.Need-node-slot-requires Inv-loop μ-loop
-node-slot-requires c κs = ?
+node-slot-requires c κs = let s = c .before .before .before .before .before .before .before .before in (s .pre .size, omega (arith, s .pre .few))
 
 mul-slot-controls : tie.Need-mul-slot-controls Inv-loop μ-loop
-mul-slot-controls c = ?
+mul-slot-controls c =
+    let s = c .before .before .before .before .before .before .before .before .before in
+    let ws = s .args .words .now in
+    let arena = s .args .arena .now in
+    let l = c .before .before .before .before .loop in
+    let single = sym (c .before .before .node-is-group .ensures) ∙ not-true (c .before .before .node-is-group .result) (c .before .if1 .taken) in
+    let h = synth-here ws arena (s .pre) (l .i) (omega arith) single in
+    omega (arith, h .bounds .slot single, c .node-slot .ensures)
 
 array-read-slot-controls : tie.Need-array-read-slot-controls Inv-loop μ-loop
-array-read-slot-controls c = ?
+array-read-slot-controls c =
+    let s = c .before .before .before .before .before .before .before .before .before in
+    let ws = s .args .words .now in
+    let arena = s .args .arena .now in
+    let l = c .before .before .before .before .loop in
+    let single = sym (c .before .before .node-is-group .ensures) ∙ not-true (c .before .before .node-is-group .result) (c .before .if1 .taken) in
+    let h = synth-here ws arena (s .pre) (l .i) (omega arith) single in
+    omega (arith, h .bounds .slot single, c .node-slot .ensures)
 
 slot-controls-requires : tie.Need-slot-controls-requires Inv-loop μ-loop
-slot-controls-requires c κs = ?
+slot-controls-requires c κs =
+    let s = c .before .before .before .before .before .before .before .before .before in
+    let ws = s .args .words .now in
+    let arena = s .args .arena .now in
+    let l = c .before .before .before .before .loop in
+    let single = sym (c .before .before .node-is-group .ensures) ∙ not-true (c .before .before .node-is-group .result) (c .before .if1 .taken) in
+    let h = synth-here ws arena (s .pre) (l .i) (omega arith) single in
+    let slot = c .node-slot .result in
+    let here : slot ≡ nodeIn ws (l .i) .slot = c .node-slot .ensures in
+    let low : slot < 32 = rw here (h .bounds .slot single) in
+    (s .pre .size, low, rw here (h .bounds .readable single), λ other. l .inv .1 .same 0 slot low other)
 
 mul-known : tie.Need-mul-known Inv-loop μ-loop
-mul-known c = ?
+mul-known c =
+    let s = c .before .before .before .before .before .before .before .before .before .before in
+    let ws = s .args .words .now in
+    let arena = s .args .arena .now in
+    let l = c .before .before .before .before .before .loop in
+    let single = sym (c .before .before .before .node-is-group .ensures) ∙ not-true (c .before .before .before .node-is-group .result) (c .before .before .if1 .taken) in
+    let h = synth-here ws arena (s .pre) (l .i) (omega arith) single in
+    omega (arith, h .bounds .slot single, c .before .node-slot .ensures)
 
 array-write-known : tie.Need-array-write-known Inv-loop μ-loop
-array-write-known c = ?
+array-write-known c =
+    let s = c .before .before .before .before .before .before .before .before .before .before in
+    let ws = s .args .words .now in
+    let arena = s .args .arena .now in
+    let l = c .before .before .before .before .before .loop in
+    let single = sym (c .before .before .before .node-is-group .ensures) ∙ not-true (c .before .before .before .node-is-group .result) (c .before .before .if1 .taken) in
+    let h = synth-here ws arena (s .pre) (l .i) (omega arith) single in
+    omega (arith, h .bounds .slot single, c .before .node-slot .ensures)
 
 sub-row-formed : tie.Need-sub-row-formed Inv-loop μ-loop
 sub-row-formed c = omega arith
@@ -64,16 +103,42 @@ part-row-formed-start : tie.Need-part-row-formed-start Inv-loop μ-loop
 part-row-formed-start c = omega arith
 
 part-row-formed-end : tie.Need-part-row-formed-end Inv-loop μ-loop
-part-row-formed-end c = ?
+part-row-formed-end c = omega (arith, c .before .before .before .before .before .before .before .before .before .before .pre .size)
 
 node-row-requires : tie.Need-node-row-requires Inv-loop μ-loop
-node-row-requires c κs = ?
+node-row-requires c κs = let s = c .before .before .before .before .before .before .before .before .before .before .before in (s .pre .size, omega (arith, s .pre .few))
 
 row-formed-requires : tie.Need-row-formed-requires Inv-loop μ-loop
-row-formed-requires c κs = ?
+row-formed-requires c κs =
+    let s = c .before .before .before .before .before .before .before .before .before .before .before .before in
+    let ws = s .args .words .now in
+    let arena = s .args .arena .now in
+    let l = c .before .before .before .before .before .before .before .loop in
+    let single = sym (c .before .before .before .before .before .node-is-group .ensures) ∙ not-true (c .before .before .before .before .before .node-is-group .result) (c .before .before .before .before .if1 .taken) in
+    let h = synth-here ws arena (s .pre) (l .i) (omega arith) single in
+    let low = h .bounds .row single in
+    let row = c .node-row .ensures in
+    let few = h .few in
+    let many : c .before .before .slot-controls .result ≡ controlsOn ws arena (nodeIn ws (l .i) .slot) = c .before .before .slot-controls .ensures ∙ ap (controlsOn ws arena) (c .before .before .before .node-slot .ensures) in
+    let long : length (region 1603 16384 ws) ≡ 16384 = region-length 1603 16384 ws (omega (arith, s .pre .size)) in
+    omega arith
 
 returns : tie.Need-returns Inv-loop μ-loop
-returns c = ?
+returns c =
+    let s = c .before .before .before .before .before .before .before .before .before .before .before .before .before .before in
+    let ws = s .args .words .now in
+    let arena = s .args .arena .now in
+    let l = c .before .before .before .before .before .before .before .before .before .loop in
+    let single = sym (c .before .before .before .before .before .before .before .node-is-group .ensures) ∙ not-true (c .before .before .before .before .before .before .before .node-is-group .result) (c .before .before .before .before .before .before .if1 .taken) in
+    let h = synth-here ws arena (s .pre) (l .i) (omega arith) single in
+    let turn = formed-turn ws arena (s .pre) (l .i) (omega arith) in
+    let many = c .before .before .before .before .slot-controls .ensures ∙ ap (controlsOn ws arena) (c .before .before .before .before .before .node-slot .ensures) in
+    let no-more : nodeFormed ws arena (l .i) ≡ false =
+    h .test
+    ∙ sym (ap₂ (λ (n row : ℕ). mappingsFormed n (drop (64 * row) (controlsIn ws))) many (c .before .before .node-row .ensures))
+    ∙ sym (c .before .row-formed .ensures)
+    ∙ not-true (c .before .row-formed .result) (c .if2 .taken) in
+    sym (rw no-more at turn) ∙ l .inv .0
 
 add-i : tie.Need-add-i Inv-loop μ-loop
 add-i c = omega arith
@@ -82,7 +147,29 @@ loop-less : tie.Need-loop-less Inv-loop μ-loop
 loop-less c = omega arith
 
 loop-again : tie.Need-loop-again Inv-loop μ-loop
-loop-again c = ?
+loop-again c =
+    let s = c .before .before .before .before .before .before .before .before in
+    let ws = s .args .words .now in
+    let arena = s .args .arena .now in
+    let l = c .before .before .before .loop in
+    let group = c .before .node-is-group in
+    let turn = formed-turn ws arena (s .pre) (l .i) (omega arith) in
+    ⊎-elim
+    (λ w.
+    let single = sym (group .ensures) ∙ not-true (group .result) (w .0 .taken) in
+    let h = synth-here ws arena (s .pre) (l .i) (omega arith) single in
+    let here : w .1 .result ≡ nodeIn ws (l .i) .slot = w .1 .ensures in
+    let more : nodeFormed ws arena (l .i) ≡ true =
+    h .test
+    ∙ sym (ap₂ (λ (n row : ℕ). mappingsFormed n (drop (64 * row) (controlsIn ws))) (w .2 .ensures ∙ ap (controlsOn ws arena) here) (w .4 .ensures))
+    ∙ sym (w .5 .ensures)
+    ∙ not-false (w .5 .result) (w .6 .left) in
+    let noted = noted-more _ _ (l .known) (l .inv .1) (w .1 .result) (w .2 .result) (rw here (h .bounds .slot single)) (w .2 .ensures) in
+    (sym (rw more at turn) ∙ l .inv .0, rw (w .7) noted))
+    (λ w.
+    let whole = sym (group .ensures) ∙ not-false (group .result) (w .0 .left) in
+    (sym (rw whole at turn) ∙ l .inv .0, rw (w .1) (l .inv .1)))
+    (c .if1 .came)
 
 returns-2 : tie.Need-returns-2 Inv-loop μ-loop
 returns-2 c =
