@@ -1,10 +1,10 @@
 // The demands as promises of calls: each function calls the engine and promises what a demand says of that. The demands stand in `model`, their proofs in specs/.
 use engine::apply;
+use engine::fresh;
 use model::Answer;
 use model::Command;
 use model::DefinitionCommand;
 use model::Query;
-use start::fresh;
 ghost use Rattle.demands.specs.Calls.{state, callOf, Called, RoundTrip};
 
 // Demand 1 of a call, and demand 3 of the calls before it with this one.
