@@ -32,7 +32,7 @@ use Rattle.model.specs.Effects.{effect, controlEffect, changeAll, changed}
 use Rattle.model.specs.After.{wordsAfter}
 use Rattle.model.specs.Apply.{answerIn, isAccepted}
 use Rattle.state.specs.Does.{WordsStep}
-use Rattle.tree.specs.Sizes.{depthAt, endAt}
+use Rattle.nodes.specs.Sizes.{depthAt, endAt}
 use Rattle.names.specs.Named.{Named, named-known, named-unknown, named-place}
 use Rattle.names.specs.Here.{named-here}
 use Rattle.controls.specs.declared.control.Change.{Change}

@@ -16,7 +16,8 @@ use Rattle.format.specs.Endings.{field-got}
 use Rattle.format.specs.RepeatLaws.{went-on, floats-end, got-value}
 use Rattle.format.specs.FieldLaws.{checked-got}
 use Rattle.format.specs.Sizes.{string-got, name-got, index-sized}
-use Rattle.units.specs.Units.{unitEnd, unitCounts, unit-shape, remembered}
+use Rattle.units.specs.Marks.{unitEnd, unitCounts}
+use Rattle.units.specs.Units.{unit-shape, remembered}
 
 module _ {A : Type 0} where
   -- readings that never go back

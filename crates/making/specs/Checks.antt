@@ -5,10 +5,10 @@ use mathlib.Core.Path.{_≡_, sym, ap, ap₂, _∙_}
 use mathlib.Core.List.{List}
 use native.Mathlib.Omega.{arith}
 use lib.Dec.{ltb, leb, eqb}
-use borrow.Author.Tests.{lt-ltb, le-ltb, le-leb, lt-leb}
+use borrow.Author.Tests.{le-ltb, le-leb, lt-leb}
 use Rattle.words.specs.Choice.{both}
 use Rattle.refusals.specs.declared.Refusal.{Refusal}
-use Rattle.refusals.specs.declared.Refusal.the-variants.{BadFlag, BadNumber, NumberLive, NoDefinition, NoNode, WrongKind, NodesFull, NoNumber}
+use Rattle.refusals.specs.declared.Refusal.the-variants.{BadNumber, NumberLive, NoDefinition, NoNode, WrongKind, NodesFull, NoNumber}
 use Rattle.nodes.specs.Table.{rows, rows-length}
 use Rattle.nodes.specs.Place.{lives, place, lives-place}
 use Rattle.nodes.specs.Formed.{noneLeft}
@@ -20,6 +20,8 @@ use Rattle.model.specs.Engine.{decode, residentOf}
 use Rattle.model.specs.Meaning.{minusOne, isNegative}
 use Rattle.model.specs.Checks.{firstOf, treeChecks, noResident}
 use Rattle.preservation.specs.TreeKept.{slots-many}
+use Rattle.tree.specs.declared.action.Action.{Action}
+use Rattle.tree.specs.Action.{numberOf, number-most}
 use Rattle.tree.specs.Add.{Room}
 use Rattle.treecommands.specs.declared.group.Spot.{Spot}
 use Rattle.treecommands.specs.declared.group.Spot.the-variants as spot
@@ -52,72 +54,69 @@ unfolding decode
 absent slot bytes ws bs h = ap₂ leb (slots-many slotCount (lengthsIn ws) (flagsIn ws) bs) (sym h)
 
 -- no check fires, and the target stands at its place, with room
-pub record Clear (number action : ℕ) (target : NodeArgument) (slot : ℕ) (ws : List ℕ) (at : ℕ) : Type 0 where
-  pub passed : (bytes bs : List ℕ) → Meant slot bytes ws bs → firstOf (treeChecks (tree.NewSynth number action target) bytes (decode ws bs)) Done ≡ Done
-  pub low : action ≤ 4
+pub record Clear (number : ℕ) (action : Action) (target : NodeArgument) (slot : ℕ) (ws : List ℕ) (at : ℕ) : Type 0 where
+  pub passed : (bytes bs : List ℕ) → Meant slot bytes ws bs → firstOf (treeChecks (tree.NewSynth number (numberOf action) target) bytes (decode ws bs)) Done ≡ Done
   pub there : slot < slotCount
   pub spot : NodeFound target ws at
   pub room : Room (nodeWords ws) (countIn ws) action at
 
-module _ (number action : ℕ) (target : NodeArgument) (slot : ℕ) (ws : List ℕ) where
+module _ (number : ℕ) (action : Action) (target : NodeArgument) (slot : ℕ) (ws : List ℕ) where
   abbrev pub Answers : Refusal → Type 0
-  Answers r = (bytes bs : List ℕ) → Meant slot bytes ws bs → firstOf (treeChecks (tree.NewSynth number action target) bytes (decode ws bs)) Done ≡ Refused r
+  Answers r = (bytes bs : List ℕ) → Meant slot bytes ws bs → firstOf (treeChecks (tree.NewSynth number (numberOf action) target) bytes (decode ws bs)) Done ≡ Refused r
 
   abbrev pub SynthPlaced : Spot → Type 0
   SynthPlaced (spot.At at) = Clear number action target slot ws at
   SynthPlaced (spot.Refused r) = Answers r
 
-  pub synth-action : 4 < action → Answers BadFlag
+  low : ltb 4 (numberOf action) ≡ false
+  low = le-ltb 4 (numberOf action) (number-most action)
+
+  pub synth-number : badNumber number ≡ true → Answers BadNumber
   unfolding firstOf
-  synth-action h bytes bs m = rw (lt-ltb 4 action h)
+  synth-number h bytes bs m = rw (low, h)
 
-  module _ (low : action ≤ 4) where
-    pub synth-number : badNumber number ≡ true → Answers BadNumber
-    unfolding firstOf
-    synth-number h bytes bs m = rw (le-ltb 4 action low, h)
+  module _ (good : badNumber number ≡ false) where
+    pub synth-live : liveIn number ws ≡ true → Answers NumberLive
+    unfolding firstOf decode
+    synth-live h bytes bs m = rw (low, good, h)
 
-    module _ (good : badNumber number ≡ false) where
-      pub synth-live : liveIn number ws ≡ true → Answers NumberLive
+    module _ (new : liveIn number ws ≡ false) where
+      pub synth-absent : slotCount ≤ slot → Answers NoDefinition
       unfolding firstOf decode
-      synth-live h bytes bs m = rw (le-ltb 4 action low, good, h)
+      synth-absent h bytes bs m = rw (low, good, new, absent slot bytes ws bs m ∙ le-leb slotCount slot h)
 
-      module _ (new : liveIn number ws ≡ false) where
-        pub synth-absent : slotCount ≤ slot → Answers NoDefinition
+      module _ (there : slot < slotCount) (k : Ready ws) (count : ℕ) (same : count ≡ countIn ws) (at : ℕ) (fact : Named target ws at) where
+        resident : (bytes bs : List ℕ) → Meant slot bytes ws bs → noResident bytes (decode ws bs) ≡ false
+        resident bytes bs m = absent slot bytes ws bs m ∙ lt-leb slotCount slot there
+
+        pub synth-unknown : count ≤ at → Answers NoNode
         unfolding firstOf decode
-        synth-absent h bytes bs m = rw (le-ltb 4 action low, good, new, absent slot bytes ws bs m ∙ le-leb slotCount slot h)
+        synth-unknown h bytes bs m = rw (low, good, new, resident bytes bs m, missing target ws at fact (omega arith))
 
-        module _ (there : slot < slotCount) (k : Ready ws) (count : ℕ) (same : count ≡ countIn ws) (at : ℕ) (fact : Named target ws at) where
-          resident : (bytes bs : List ℕ) → Meant slot bytes ws bs → noResident bytes (decode ws bs) ≡ false
-          resident bytes bs m = absent slot bytes ws bs m ∙ lt-leb slotCount slot there
+        module _ (live : at < count) where
+          f : NodeFound target ws at
+          f = found target ws at fact (omega arith)
 
-          pub synth-unknown : count ≤ at → Answers NoNode
+          pub synth-kind : badAt action ws at ≡ true → Answers WrongKind
           unfolding firstOf decode
-          synth-unknown h bytes bs m = rw (le-ltb 4 action low, good, new, resident bytes bs m, missing target ws at fact (omega arith))
+          synth-kind h bytes bs m = rw (low, good, new, resident bytes bs m, f .known, bad-target target ws k at f bs action ∙ h)
 
-          module _ (live : at < count) where
-            f : NodeFound target ws at
-            f = found target ws at fact (omega arith)
-
-            pub synth-kind : badAt action ws at ≡ true → Answers WrongKind
+          module _ (kind : badAt action ws at ≡ false) where
+            pub synth-spent : spent number (nextIn ws) ≡ true → Answers NoNumber
             unfolding firstOf decode
-            synth-kind h bytes bs m = rw (le-ltb 4 action low, good, new, resident bytes bs m, f .known, bad-target action target ws k at f bs ∙ h)
+            synth-spent h bytes bs m =
+                rw (low, good, new, resident bytes bs m, f .known, bad-target target ws k at f bs action ∙ kind, h)
 
-            module _ (kind : badAt action ws at ≡ false) where
-              pub synth-spent : spent number (nextIn ws) ≡ true → Answers NoNumber
+            module _ (left : spent number (nextIn ws) ≡ false) where
+              pub synth-full : fullAt action count ≡ true → Answers NodesFull
               unfolding firstOf decode
-              synth-spent h bytes bs m =
-                  rw (le-ltb 4 action low, good, new, resident bytes bs m, f .known, bad-target action target ws k at f bs ∙ kind, h)
+              synth-full h bytes bs m =
+                  rw (low, good, new, resident bytes bs m, f .known, bad-target target ws k at f bs action ∙ kind, left, is-full ws count same bs action ∙ h)
 
-              module _ (left : spent number (nextIn ws) ≡ false) where
-                pub synth-full : fullAt action count ≡ true → Answers NodesFull
-                unfolding firstOf decode
-                synth-full h bytes bs m =
-                    rw (le-ltb 4 action low, good, new, resident bytes bs m, f .known, bad-target action target ws k at f bs ∙ kind, left, is-full action ws count same bs ∙ h)
+              synth-passes : fullAt action count ≡ false → (bytes bs : List ℕ) → Meant slot bytes ws bs → firstOf (treeChecks (tree.NewSynth number (numberOf action) target) bytes (decode ws bs)) Done ≡ Done
+              unfolding firstOf decode
+              synth-passes h bytes bs m =
+                  rw (low, good, new, resident bytes bs m, f .known, bad-target target ws k at f bs action ∙ kind, left, is-full ws count same bs action ∙ h)
 
-                synth-passes : fullAt action count ≡ false → (bytes bs : List ℕ) → Meant slot bytes ws bs → firstOf (treeChecks (tree.NewSynth number action target) bytes (decode ws bs)) Done ≡ Done
-                unfolding firstOf decode
-                synth-passes h bytes bs m =
-                    rw (le-ltb 4 action low, good, new, resident bytes bs m, f .known, bad-target action target ws k at f bs ∙ kind, left, is-full action ws count same bs ∙ h)
-
-                pub synth-clear : fullAt action count ≡ false → Clear number action target slot ws at
-                synth-clear h = record { passed = synth-passes h; low = low; there = there; spot = f; room = room action ws k at (f .live) (rw same at h) }
+              pub synth-clear : fullAt action count ≡ false → Clear number action target slot ws at
+              synth-clear h = record { passed = synth-passes h; there = there; spot = f; room = room action ws k at (f .live) (rw same at h) }

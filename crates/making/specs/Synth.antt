@@ -6,7 +6,7 @@ use mathlib.Core.List.{List, [], _∷_}
 use native.Mathlib.Omega.{arith}
 use lib.ListN.{length, take, drop, getD, length-take}
 use lib.Dec.{leb, eqb}
-use borrow.Author.Tests.{leb-true}
+use borrow.Author.Tests.{lt-ltb, leb-true}
 use Rattle.words.specs.Choice.{both, both-true}
 use Rattle.words.specs.Parts.{region, put, region-length}
 use Rattle.refusals.specs.declared.Refusal.{Refusal}
@@ -16,7 +16,8 @@ use Rattle.format.specs.Definition.{Front, Definition}
 use Rattle.readable.specs.Readable.{Readable, whole-readable}
 use Rattle.nodes.specs.declared.Node.{Node}
 use Rattle.nodes.specs.Table.{rows, over}
-use Rattle.nodes.specs.Place.{lives, place}
+use Rattle.nodes.specs.Place.{lives}
+use Rattle.nodes.specs.Edit.{editAt}
 use Rattle.nodes.specs.Order.{order}
 use Rattle.nodes.specs.Formed.{mostNodes, mostRows, noneLeft, firstGiven}
 use Rattle.values.specs.declared.NodeArgument.{NodeArgument}
@@ -39,8 +40,9 @@ use Rattle.preservation.specs.Rows.{free-row}
 use Rattle.preservation.specs.Slots.{resident-found}
 use Rattle.preservation.specs.TreeSteps.{comes}
 use Rattle.preservation.specs.TreeKept.{known-sound}
-use Rattle.tree.specs.Sizes.{Leaves}
-use Rattle.tree.specs.Add as table
+use Rattle.tree.specs.declared.action.Action.{Action}
+use Rattle.tree.specs.Sizes.{Leaves, leaves-first}
+use Rattle.tree.specs.Action.{numberOf, addHere}
 use Rattle.slots.specs.Slots.{slotsOn, slotOn, slots-lent, part-word}
 use Rattle.definitions.specs.Slots.{Whole, Formed}
 use Rattle.definitions.specs.Retiring.{slot-is}
@@ -51,16 +53,16 @@ use Rattle.treecommands.specs.Finding.{meantIn}
 use Rattle.treecommands.specs.Settle.{settled, settled-tree, nodes-size, ready-left}
 use Rattle.treecommands.specs.Adding.{same-add, after-few}
 use Rattle.making.specs.Checks.{Meant, Clear, Answers}
-use Rattle.making.specs.Rows.{Standing}
+use Rattle.making.specs.Rows.{Standing, stayingAt, staying-first}
 use Rattle.making.specs.Parts.{put-again, header-put}
 
 -- no check fires on the name in the bytes
-pub record Ground (number action : ℕ) (target : NodeArgument) (at slot : ℕ) (bytes ws bs : List ℕ) : Type 0 where
+pub record Ground (number : ℕ) (action : Action) (target : NodeArgument) (at slot : ℕ) (bytes ws bs : List ℕ) : Type 0 where
   pub known : Known ws bs
   pub meant : Meant slot bytes ws bs
   pub clear : Clear number action target slot ws at
 
-pub record Fit (number action at slot : ℕ) (ws bs : List ℕ) : Type 0 where
+pub record Fit (number : ℕ) (action : Action) (at slot : ℕ) (ws bs : List ℕ) : Type 0 where
   pub target : NodeArgument
   pub bytes : List ℕ
   pub ground : Ground number action target at slot bytes ws bs
@@ -93,7 +95,7 @@ module _ (ws bs : List ℕ) (k : Known ws bs) (slot : ℕ) (low : slot < slotCou
       (whole-readable (slotOn (tableIn ws) bs slot .bytes)
       (record { definition = whole .definition; past = getD (tableIn ws) slot 0; reads = whole .read; short = rw lent-bytes (simp length-take (omega arith)) }))
 
-module _ (number action : ℕ) (target : NodeArgument) (at slot : ℕ) (bytes ws bs : List ℕ) (g : Ground number action target at slot bytes ws bs) where
+module _ (number : ℕ) (action : Action) (target : NodeArgument) (at slot : ℕ) (bytes ws bs : List ℕ) (g : Ground number action target at slot bytes ws bs) where
   k : Known ws bs
   k = g .known
 
@@ -102,20 +104,20 @@ module _ (number action : ℕ) (target : NodeArgument) (at slot : ℕ) (bytes ws
   n = meantIn target ws
 
   abbrev row : ℕ
-  row = freeRow (stayingNodes action n (nodesIn ws))
+  row = freeRow (stayingNodes (numberOf action) n (nodesIn ws))
 
   abbrev made : Node
   made = newSynth (numberFor number (nextIn ws)) slot row
 
   abbrev after : List Node
-  after = addBy action made n (nodesIn ws)
+  after = addBy (numberOf action) made n (nodesIn ws)
 
-  accepted : firstOf (treeChecks (tree.NewSynth number action target) bytes (decode ws bs)) Done ≡ Done
+  accepted : firstOf (treeChecks (tree.NewSynth number (numberOf action) target) bytes (decode ws bs)) Done ≡ Done
   accepted = g .clear .passed bytes bs (g .meant)
 
   few : length after ≤ mostNodes
   unfolding answerIn decode
-  few = rw (g .meant) (after-few (tree.NewSynth number action target) bytes ws bs k accepted)
+  few = rw (g .meant) (after-few (tree.NewSynth number (numberOf action) target) bytes ws bs k accepted)
 
   pub next-some : 1 ≤ nextIn ws
   next-some =
@@ -127,22 +129,22 @@ module _ (number action : ℕ) (target : NodeArgument) (at slot : ℕ) (bytes ws
   unfolding decode
   row-low =
       let e = decode ws bs in
-      let p0 = passed BadFlag (badAction action) _ accepted in
+      let p0 = passed BadFlag (badAction (numberOf action)) _ accepted in
       let p1 = passed BadNumber (both (isNegative number) (not (eqb number minusOne))) _ (p0 .1) in
       let p2 = passed NumberLive (both (not (eqb number minusOne)) (lives number (e .nodes))) _ (p1 .1) in
       let p3 = passed NoDefinition (noResident bytes e) _ (p2 .1) in
       let p4 = passed NoNode (not (known target e)) _ (p3 .1) in
-      let p5 = passed WrongKind (badTarget action target e) _ (p4 .1) in
+      let p5 = passed WrongKind (badTarget (numberOf action) target e) _ (p4 .1) in
       let p6 = passed NoNumber (both (eqb number minusOne) (eqb (e .next) noneLeft)) _ (p5 .1) in
-      let p7 = passed NodesFull (full action e) _ (p6 .1) in
-      free-row (stayingNodes action n (nodesIn ws))
-      (comes (lengthsIn ws) e (known-sound ws bs k) action target (p0 .0) (p4 .0) (p5 .0) (p7 .0) made refl .room)
+      let p7 = passed NodesFull (full (numberOf action) e) _ (p6 .1) in
+      free-row (stayingNodes (numberOf action) n (nodesIn ws))
+      (comes (lengthsIn ws) e (known-sound ws bs k) (numberOf action) target (p0 .0) (p4 .0) (p5 .0) (p7 .0) made refl .room)
       .0
 
   resident : slotAt (decode ws bs .slots) slot .resident ≡ true
   resident =
       let e = decode ws bs in
-      let p0 = passed BadFlag (badAction action) _ accepted in
+      let p0 = passed BadFlag (badAction (numberOf action)) _ accepted in
       let p1 = passed BadNumber (both (isNegative number) (not (eqb number minusOne))) _ (p0 .1) in
       let p2 = passed NumberLive (both (not (eqb number minusOne)) (lives number (e .nodes))) _ (p1 .1) in
       let p3 = passed NoDefinition (noResident bytes e) _ (p2 .1) in
@@ -153,21 +155,21 @@ module _ (number action : ℕ) (target : NodeArgument) (at slot : ℕ) (bytes ws
 
   pub standing : (count : ℕ) → count ≡ countIn ws → Standing (nodeWords ws) count at
   standing count same =
-      rw same (record { size = words-long ws (k .size); few = k .few; live = g .clear .spot .live; number = n; here = g .clear .spot .here })
+      rw same (record { size = words-long ws (k .size); few = k .few; live = g .clear .spot .live })
 
   -- the node region with the new node, as the table's function leaves it
-  module _ (count : ℕ) (same : count ≡ countIn ws) (taken : ℕ) (free : (m : ℕ) → at ≡ place m (rows count (nodeWords ws)) → taken ≡ freeRow (stayingNodes action m (rows count (nodeWords ws))))
+  module _ (count : ℕ) (same : count ≡ countIn ws) (taken : ℕ) (free : taken ≡ freeRow (stayingAt action at (rows count (nodeWords ws))))
       (next : ℕ) (counter : next ≡ nextIn ws) (given : ℕ) (named : given ≡ numberFor number next) (us : List ℕ) (many : ℕ)
-      (does : (m : ℕ) → at ≡ place m (rows count (nodeWords ws)) → Leaves (nodeWords ws) (table.addBy action (newSynth given slot taken ∷ []) m (rows count (nodeWords ws))) us many) where
+      (does : Leaves (nodeWords ws) (editAt at (addHere action (newSynth given slot taken ∷ [])) (rows count (nodeWords ws))) us many) where
     taken-row : taken ≡ row
-    taken-row = (rw same at free) n (g .clear .spot .here)
+    taken-row = (rw same at free) ∙ ap freeRow (staying-first action n at (nodesIn ws) (g .clear .spot .here))
 
     new : newSynth given slot taken ≡ made
     new = ap₂ (λ (i j : ℕ). newSynth i slot j) (named ∙ ap (λ (j : ℕ). numberFor number j) counter) taken-row
 
     left : Leaves (nodeWords ws) after us many
     left =
-        rw (← same-add action (g .clear .low) made n (nodesIn ws), ← new) ((rw same at does) n (g .clear .spot .here))
+        rw (← same-add action made n (nodesIn ws), ← new) (leaves-first (addHere action (newSynth given slot taken ∷ [])) (nodeWords ws) (nodesIn ws) us many at (rw same at does) n (g .clear .spot .here))
 
     pub synth-ready : (length (put nodesPlace nodesWords us ws) ≡ wordsLength) × (many ≤ mostNodes)
     synth-ready = ready-left ws (k .size) after few us many left
@@ -235,21 +237,26 @@ module _ (number action : ℕ) (target : NodeArgument) (at slot : ℕ) (bytes ws
             ∙ ap₂ (λ (j : ℕ) (cs : List ℕ). putControls (written j (frontIn (lentBytes slot size bs)) cs) mid) taken-row mid-controls
             ∙ ap₂ (λ (f : Front) (l : List ℕ). putControls (written row f (controlsIn ws)) l) (sym (resident-front ws bs k slot (g .clear .there) resident size sized)) mid-is
 
-        made-left : out ≡ putTree (synthMade number action n slot (decode ws bs)) ws
+        made-left : out ≡ putTree (synthMade number (numberOf action) n slot (decode ws bs)) ws
         unfolding decode
         made-left = out-is ∙ put-made (written row own (controlsIn ws))
 
-        pub synth-done : WordsStep (command.Tree (tree.NewSynth number action target)) bytes ws bs Done out
+        pub synth-done : WordsStep (command.Tree (tree.NewSynth number (numberOf action) target)) bytes ws bs Done out
         unfolding answerIn decode wordsAfter effect
         synth-done =
-            step-done (command.Tree (tree.NewSynth number action target)) bytes ws bs out accepted
-            (made-left ∙ ap (λ (s : ℕ). putTree (synthMade number action n s (decode ws bs)) ws) (g .meant))
+            step-done (command.Tree (tree.NewSynth number (numberOf action) target)) bytes ws bs out accepted
+            (made-left ∙ ap (λ (s : ℕ). putTree (synthMade number (numberOf action) n s (decode ws bs)) ws) (g .meant))
+
+-- a number that asks for no add action
+pub synth-unasked : (number action : ℕ) (target : NodeArgument) (bytes ws bs : List ℕ) → 4 < action → WordsStep (command.Tree (tree.NewSynth number action target)) bytes ws bs (Refused BadFlag) ws
+unfolding answerIn firstOf
+synth-unasked number action target bytes ws bs h = step-refused (command.Tree (tree.NewSynth number action target)) bytes ws bs BadFlag (rw (lt-ltb 4 action h))
 
 -- a refusal, and the ground for the rest
-module _ (number action : ℕ) (target : NodeArgument) (slot : ℕ) (bytes ws bs : List ℕ) (m : Meant slot bytes ws bs) where
-  pub synth-refused : (r : Refusal) → Answers number action target slot ws r → WordsStep (command.Tree (tree.NewSynth number action target)) bytes ws bs (Refused r) ws
+module _ (number : ℕ) (action : Action) (target : NodeArgument) (slot : ℕ) (bytes ws bs : List ℕ) (m : Meant slot bytes ws bs) where
+  pub synth-refused : (r : Refusal) → Answers number action target slot ws r → WordsStep (command.Tree (tree.NewSynth number (numberOf action) target)) bytes ws bs (Refused r) ws
   unfolding answerIn
-  synth-refused r h = step-refused (command.Tree (tree.NewSynth number action target)) bytes ws bs r (h bytes bs m)
+  synth-refused r h = step-refused (command.Tree (tree.NewSynth number (numberOf action) target)) bytes ws bs r (h bytes bs m)
 
 -- the slot that was found, in the table lent from the words
 pub meant-lent : (slot : ℕ) (bytes ws bs : List ℕ) → slot ≡ residentOf bytes (slotsOn (tableIn ws) bs) → Meant slot bytes ws bs

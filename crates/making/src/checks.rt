@@ -1,9 +1,10 @@
-// The checks of /s_new: 13, 14, 15, 16, 17, 18, 25, 20.
+// The checks of /s_new behind the add action's: 14, 15, 16, 17, 18, 25, 20.
 use crate::numbers::bad_number;
 use crate::numbers::is_live;
 use crate::numbers::is_spent;
 use names::node_place;
 use refusals::Refusal;
+use tree::Action;
 use treecommands::Spot;
 use treecommands::bad_target;
 use treecommands::is_full;
@@ -13,13 +14,10 @@ ghost use Rattle.treecommands.specs.Ready.{Ready};
 ghost use Rattle.making.specs.Checks.{SynthPlaced};
 
 // The place of a new synth's target, or the first refusal; the slot is that of the name's resident, 32 where there is none.
-pub fn synth_spot(number: u32, action: u32, target: NodeArgument, slot: u32, words: &[u32]) -> Spot
+pub fn synth_spot(number: u32, action: Action, target: NodeArgument, slot: u32, words: &[u32]) -> Spot
     requires { ⌜ Ready (now words) ⌝ }
     ensures { λ r. ⌜ SynthPlaced number action target slot (now (words .entry)) r ⌝ }
 {
-    if 4 < action {
-        return Spot::Refused(Refusal::BadFlag);
-    }
     if bad_number(number) {
         return Spot::Refused(Refusal::BadNumber);
     }

@@ -6,6 +6,8 @@ use crate::rows::row_for;
 use model::Answer;
 use nodes::Node;
 use slots::slot_bytes;
+use tree::Action;
+use tree::Asked;
 use treecommands::Spot;
 use treecommands::settle;
 use values::NodeArgument;
@@ -18,12 +20,13 @@ ghost use Rattle.model.specs.declared.Command.the-variants as command;
 ghost use Rattle.model.specs.declared.Answer.the-variants.{Done};
 ghost use Rattle.state.specs.Known.{Known};
 ghost use Rattle.state.specs.Does.{WordsStep};
+ghost use Rattle.tree.specs.Action.{numberOf};
 ghost use Rattle.making.specs.Synth.{Ground, Fit};
 
 // A new synth, which runs, put in by the add action, with its definition's initial values.
-fn put_synth(number: u32, action: u32, at: usize, slot: u32, words: &mut [u32], arena: &[u8])
+fn put_synth(number: u32, action: Action, at: usize, slot: u32, words: &mut [u32], arena: &[u8])
     requires { ⌜ Fit number action at slot (now words) (now arena) ⌝ }
-    ensures { λ r. ⌜ ((target : NodeArgument) (bytes : List ℕ) → Ground number action target at slot bytes (now (words .entry)) (now (arena .entry)) → WordsStep (command.Tree (tree.NewSynth number action target)) bytes (now (words .entry)) (now (arena .entry)) Done (now (words .exit))) ⌝ }
+    ensures { λ r. ⌜ ((target : NodeArgument) (bytes : List ℕ) → Ground number action target at slot bytes (now (words .entry)) (now (arena .entry)) → WordsStep (command.Tree (tree.NewSynth number (numberOf action) target)) bytes (now (words .entry)) (now (arena .entry)) Done (now (words .exit))) ⌝ }
 {
     let count = wide(words[0]);
     let next = words[2];
@@ -43,6 +46,29 @@ fn put_synth(number: u32, action: u32, at: usize, slot: u32, words: &mut [u32], 
     controls::initial_row(&mut words[1603..17987], row, definition);
 }
 
+// A new synth made by an add action.
+fn add_synth(
+    number: u32,
+    action: Action,
+    target: NodeArgument,
+    bytes: &[u8],
+    words: &mut [u32],
+    arena: &[u8],
+) -> Answer
+    requires { ⌜ Known (now words) (now arena) ⌝ }
+    ensures { λ r. ⌜ WordsStep (command.Tree (tree.NewSynth number (numberOf action) target)) (now (bytes .entry)) (now (words .entry)) (now (arena .entry)) r (now (words .exit)) ⌝ }
+{
+    let slot = definitions::find_resident(&words[4..68], arena, bytes);
+    let spot = synth_spot(number, action, target, slot, words);
+    match spot {
+        Spot::At(at) => {
+            put_synth(number, action, at, slot, words, arena);
+            Answer::Done
+        }
+        Spot::Refused(why) => Answer::Refused(why),
+    }
+}
+
 // /s_new; the definition's name is in the bytes.
 pub fn new_synth(
     number: u32,
@@ -55,13 +81,9 @@ pub fn new_synth(
     requires { ⌜ Known (now words) (now arena) ⌝ }
     ensures { λ r. ⌜ WordsStep (command.Tree (tree.NewSynth number action target)) (now (bytes .entry)) (now (words .entry)) (now (arena .entry)) r (now (words .exit)) ⌝ }
 {
-    let slot = definitions::find_resident(&words[4..68], arena, bytes);
-    let spot = synth_spot(number, action, target, slot, words);
-    match spot {
-        Spot::At(at) => {
-            put_synth(number, action, at, slot, words, arena);
-            Answer::Done
-        }
-        Spot::Refused(why) => Answer::Refused(why),
+    let asked = tree::add_action(action);
+    match asked {
+        Asked::Add(by) => add_synth(number, by, target, bytes, words, arena),
+        Asked::Refused(why) => Answer::Refused(why),
     }
 }

@@ -1,5 +1,5 @@
 -- The plain tree of paper 01, section "The plain tree". "It is fed each command with its arguments, a file as its bytes, and whether the command was accepted; nothing
--- from the engine's state." What each argument means is stated here anew, "none" is an `Option`, and what has no meaning changes nothing; docs/TRACE.md lists what is shared.
+-- from the engine's state." What arguments mean is stated here by itself: none is an `Option`, and a command on none changes nothing. docs/TRACE.md lists what is shared with the engine.
 use Prim.Native.Nat.{ℕ, zero, suc, _+_, _-_}
 use mathlib.Core.Bool.{Bool}
 use mathlib.Core.List.{List, [], _∷_, _++_, map}

@@ -1,6 +1,8 @@
--- The replies, of what the plain tree holds: paper 01, "Replies". All but export's, since the plain tree has no slots. How an address and arguments become bytes is
--- the format's (`osc` `Message`), and the addresses are the engine's.
+-- The replies, of what the plain tree holds: paper 01, "Replies". All but export's, since the plain tree has no slots. Only how an address and arguments become a
+-- message is shared with the engine: it is the format's (`osc` `Message`).
 use Prim.Native.Nat.{ℕ, zero, suc, _+_}
+use Prim.Native.Char.{code}
+use Prim.Native.String.{String, [] as end, _∷_ as _then_}
 use mathlib.Core.Bool.{Bool, true, false}
 use mathlib.Core.List.{List, [], _∷_, _++_}
 use mathlib.Core.Option.{Option, none, some}
@@ -21,8 +23,12 @@ use Rattle.values.specs.Controls.{ControlValue}
 use Rattle.model.specs.declared.Query.{Query}
 use Rattle.model.specs.declared.Query.the-variants as query
 use Rattle.model.specs.View.{Kind, group, synth, PlainNode}
-use Rattle.model.specs.Replies.{infoAddress, setAddress, busAddress, treeAddress, statusAddress}
 use Rattle.model.specs.Plain.{Plain, ifSome, minusOne, meantIn, numberIn, askedFor}
+
+-- the bytes of an address
+unfoldable pub bytesOf : String → List ℕ
+bytesOf end = []
+bytesOf (c then s) = code c ∷ bytesOf s
 
 -- the node of a number
 unfoldable pub nodeIn : ℕ → Forest PlainNode → Option PlainNode
@@ -61,7 +67,7 @@ abbrev pub controlShown : Key → List ℕ → List ℕ → ℕ → Kind → Opt
 controlShown key name buses n group = none
 controlShown key name buses n (synth d cs) =
     ifSome (askedFor key name d)
-    (λ i. ifSome (controlIn i cs) (λ c. some (message setAddress (int n ∷ (keyShown key name ∷ (float (floatRead buses (c .mapping) (c .own)) ∷ []))))) none) none
+    (λ i. ifSome (controlIn i cs) (λ c. some (message (bytesOf "/n_set") (int n ∷ (keyShown key name ∷ (float (floatRead buses (c .mapping) (c .own)) ∷ []))))) none) none
 
 -- "a control shows its first name or else its index": the names of the entries that have an index
 unfoldable pub namesAt : ℕ → List ParameterName → List (List ℕ)
@@ -104,7 +110,7 @@ nodesShown flag (node x b a) = (int (x .number) ∷ kindShown flag (length (tops
 -- "node ID of the requested group .. number of child nodes contained within the requested group"
 abbrev pub treeShown : ℕ → Forest PlainNode → ℕ → Kind → Option (List ℕ)
 treeShown flag f n group =
-    some (message treeAddress (int (flagShown flag) ∷ (int n ∷ (int (length (children numberIn n f)) ∷ nodesShown flag (below numberIn n f)))))
+    some (message (bytesOf "/g_queryTree.reply") (int (flagShown flag) ∷ (int n ∷ (int (length (children numberIn n f)) ∷ nodesShown flag (below numberIn n f)))))
 treeShown flag f n (synth d cs) = none
 
 -- "`/status` gives `/status.reply` with four integers only (H): units over live synths, synths, groups with the root, residents."
@@ -126,12 +132,12 @@ oneGroup (synth d cs) = 0
 
 -- the reply to a query, where the plain tree has one
 abbrev pub plainReply : Query → List ℕ → Plain → Option (List ℕ)
-plainReply (query.Node a) bytes p = aboutNode a p (λ x. some (message infoAddress (nodeInfo (p .tree) (x .number) (x .kind))))
+plainReply (query.Node a) bytes p = aboutNode a p (λ x. some (message (bytesOf "/n_info") (nodeInfo (p .tree) (x .number) (x .kind))))
 plainReply (query.Control a key) bytes p = aboutNode a p (λ x. controlShown key bytes (p .buses) (x .number) (x .kind))
-plainReply (query.Bus bus) bytes p = some (message busAddress (int bus ∷ (float (getD (p .buses) bus 0) ∷ [])))
+plainReply (query.Bus bus) bytes p = some (message (bytesOf "/c_set") (int bus ∷ (float (getD (p .buses) bus 0) ∷ [])))
 plainReply (query.Tree a flag) bytes p = aboutNode a p (λ x. treeShown flag (p .tree) (x .number) (x .kind))
 plainReply query.Status bytes p =
-    some (message statusAddress (int (sumOver unitsIn (p .tree)) ∷ (int (sumOver oneSynth (p .tree)) ∷ (int (sumOver oneGroup (p .tree)) ∷ (int (length (p .names)) ∷ [])))))
+    some (message (bytesOf "/status.reply") (int (sumOver unitsIn (p .tree)) ∷ (int (sumOver oneSynth (p .tree)) ∷ (int (sumOver oneGroup (p .tree)) ∷ (int (length (p .names)) ∷ [])))))
 plainReply query.Export bytes p = none
 
 abbrev pub isExport : Query → Bool

@@ -1,5 +1,5 @@
--- Edits of the table: one edit at a node, and by it free, the five add actions, moves, deep free and the run flag.
-use Prim.Native.Nat.{ℕ, _+_, _-_}
+-- Edits of the table: what each leaves in the place of a record and of all that follows it, and the same at the node with a number.
+use Prim.Native.Nat.{ℕ, zero, suc, _+_, _-_}
 use mathlib.Core.Bool.{Bool}
 use mathlib.Core.List.{List, [], _∷_, _++_}
 use lib.Dec.{ltb, eqb}
@@ -46,42 +46,85 @@ runOf n (r ∷ l) = pick (eqb (r .number) n) (sink (r .depth) (r ∷ takeDeeper 
 abbrev pub isBelow : ℕ → ℕ → List Node → Bool
 isBelow a b t = lives a (runOf b t)
 
+-- Edits at the record r that the records l follow: what stands there after each.
+-- "`/n_free` frees a whole subtree"
+abbrev pub freeHere : Node → List Node → List Node
+freeHere r l = dropDeeper (r .depth) l
+
+-- "`/g_freeAll` all below a group"
+abbrev pub freeAllHere : Node → List Node → List Node
+freeAllHere r l = r ∷ dropDeeper (r .depth) l
+
+-- "`/g_deepFree` the synths at any depth, groups staying"
+abbrev pub deepFreeHere : Node → List Node → List Node
+deepFreeHere r l = r ∷ (onlyGroups (takeDeeper (r .depth) l) ++ dropDeeper (r .depth) l)
+
+abbrev pub setRunHere : ℕ → Node → List Node → List Node
+setRunHere flag r l = withRun flag r ∷ l
+
+-- "Add actions: 0 head, 1 tail of the target group; 2 before, 3 after the target; 4 replaces the target, whose subtree is freed."
+-- The records xs that go in are given at depths from 0 on.
+abbrev pub headHere : List Node → Node → List Node → List Node
+headHere xs r l = r ∷ (lift (r .depth + 1) xs ++ l)
+
+abbrev pub tailHere : List Node → Node → List Node → List Node
+tailHere xs r l = r ∷ (takeDeeper (r .depth) l ++ (lift (r .depth + 1) xs ++ dropDeeper (r .depth) l))
+
+abbrev pub beforeHere : List Node → Node → List Node → List Node
+beforeHere xs r l = lift (r .depth) xs ++ r ∷ l
+
+abbrev pub afterHere : List Node → Node → List Node → List Node
+afterHere xs r l = r ∷ (takeDeeper (r .depth) l ++ (lift (r .depth) xs ++ dropDeeper (r .depth) l))
+
+abbrev pub overHere : List Node → Node → List Node → List Node
+overHere xs r l = lift (r .depth) xs ++ dropDeeper (r .depth) l
+
 -- the table with H in the place of the record of n and of all that follows it
 unfoldable pub editRows : ℕ → (Node → List Node → List Node) → List Node → List Node
 editRows n H [] = []
 editRows n H (r ∷ l) = pick (eqb (r .number) n) (H r l) (r ∷ editRows n H l)
 
--- "`/n_free` frees a whole subtree"
+-- the same at a place of the table
+unfoldable pub editAt : ℕ → (Node → List Node → List Node) → List Node → List Node
+editAt at H [] = []
+editAt zero H (r ∷ l) = H r l
+editAt (suc at) H (r ∷ l) = r ∷ editAt at H l
+
+-- each edit at the node n
 abbrev pub cut : ℕ → List Node → List Node
-cut n t = editRows n (λ r l. dropDeeper (r .depth) l) t
+cut n t = editRows n freeHere t
 
--- "`/g_freeAll` all below a group"
 abbrev pub cutBelow : ℕ → List Node → List Node
-cutBelow n t = editRows n (λ r l. r ∷ dropDeeper (r .depth) l) t
+cutBelow n t = editRows n freeAllHere t
 
--- "`/g_deepFree` the synths at any depth, groups staying"
 abbrev pub deepFree : ℕ → List Node → List Node
-deepFree n t = editRows n (λ r l. r ∷ (onlyGroups (takeDeeper (r .depth) l) ++ dropDeeper (r .depth) l)) t
+deepFree n t = editRows n deepFreeHere t
 
 abbrev pub setRun : ℕ → ℕ → List Node → List Node
-setRun n flag t = editRows n (λ r l. withRun flag r ∷ l) t
+setRun n flag t = editRows n (setRunHere flag) t
 
--- "Add actions: 0 head, 1 tail of the target group; 2 before, 3 after the target; 4 replaces the target, whose subtree is freed."
--- The records xs that go in are given at depths from 0 on.
 abbrev pub addHead : List Node → ℕ → List Node → List Node
-addHead xs n t = editRows n (λ r l. r ∷ (lift (r .depth + 1) xs ++ l)) t
+addHead xs n t = editRows n (headHere xs) t
 
 abbrev pub addTail : List Node → ℕ → List Node → List Node
-addTail xs n t = editRows n (λ r l. r ∷ (takeDeeper (r .depth) l ++ (lift (r .depth + 1) xs ++ dropDeeper (r .depth) l))) t
+addTail xs n t = editRows n (tailHere xs) t
 
 abbrev pub addBefore : List Node → ℕ → List Node → List Node
-addBefore xs n t = editRows n (λ r l. lift (r .depth) xs ++ r ∷ l) t
+addBefore xs n t = editRows n (beforeHere xs) t
 
 abbrev pub addAfter : List Node → ℕ → List Node → List Node
-addAfter xs n t = editRows n (λ r l. r ∷ (takeDeeper (r .depth) l ++ (lift (r .depth) xs ++ dropDeeper (r .depth) l))) t
+addAfter xs n t = editRows n (afterHere xs) t
 
 abbrev pub addOver : List Node → ℕ → List Node → List Node
-addOver xs n t = editRows n (λ r l. lift (r .depth) xs ++ dropDeeper (r .depth) l) t
+addOver xs n t = editRows n (overHere xs) t
+
+-- the record r put in by the add action with this number, of those from 0 to 4
+abbrev pub addBy : ℕ → Node → ℕ → List Node → List Node
+addBy zero r n t = addHead (r ∷ []) n t
+addBy (suc zero) r n t = addTail (r ∷ []) n t
+addBy (suc (suc zero)) r n t = addBefore (r ∷ []) n t
+addBy (suc (suc (suc zero))) r n t = addAfter (r ∷ []) n t
+addBy (suc (suc (suc (suc k)))) r n t = addOver (r ∷ []) n t
 
 -- "A move takes A's subtree out and puts it in where told."
 abbrev pub moveBefore : ℕ → ℕ → List Node → List Node

@@ -1,5 +1,5 @@
 -- The rules of a well-formed state on nodes, each as a test: what refusal 1 asks of the table, the next number and the latest synth.
-use Prim.Native.Nat.{ℕ, _+_}
+use Prim.Native.Nat.{ℕ, zero, suc, _+_}
 use mathlib.Core.Bool.{Bool, true, false}
 use mathlib.Core.List.{List, [], _∷_}
 use lib.ListN.{length}
@@ -71,6 +71,14 @@ allFormed next (r ∷ l) = both (fieldsFormed next r) (allFormed next l)
 unfoldable pub rowTaken : ℕ → List Node → Bool
 rowTaken k [] = false
 rowTaken k (r ∷ l) = either (pick (isGroup r) false (eqb (r .row) k)) (rowTaken k l)
+
+-- the lowest row from k on that no synth of the table has, of n rows; and of all rows, 256 where there is none
+unfoldable pub freeRowFrom : ℕ → ℕ → List Node → ℕ
+freeRowFrom zero k t = k
+freeRowFrom (suc n) k t = pick (rowTaken k t) (freeRowFrom n (k + 1) t) k
+
+abbrev pub freeRow : List Node → ℕ
+freeRow t = freeRowFrom mostRows 0 t
 
 -- no two synths have one row
 unfoldable pub rowsApart : List Node → Bool

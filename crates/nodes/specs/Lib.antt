@@ -1,5 +1,6 @@
 pub mod Table
 pub mod Place
+pub mod Sizes
 pub mod Edit
 pub mod Split
 pub mod Structure

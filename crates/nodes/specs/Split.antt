@@ -1,5 +1,5 @@
--- Edits by places: what each edit at a node is, in terms of the node's place and of the end of its run.
-use Prim.Native.Nat.{ℕ, suc, _+_, _*_, _<_}
+-- Edits by places: what each edit is, in terms of the record's place and of the end of its run, and that it is the edit at the node whose place it is.
+use Prim.Native.Nat.{ℕ, zero, suc, _+_, _*_, _<_}
 use mathlib.Core.Bool.{Bool, true, false}
 use mathlib.Core.Path.{_≡_, refl, sym, ap, ap₂, _∙_}
 use mathlib.Core.List.{List, [], _∷_, _++_, append-assoc, nil≢cons, head-eq-of-cons-eq, tail-eq-of-cons-eq}
@@ -10,7 +10,7 @@ use Rattle.words.specs.Choice.{pick, either-false}
 use Rattle.nodes.specs.declared.Node.{Node}
 use Rattle.nodes.specs.Table.{width, nodeFrom, rows, row-from}
 use Rattle.nodes.specs.Place.{lives, place, deeper}
-use Rattle.nodes.specs.Edit.{withRun, lift, sink, takeDeeper, dropDeeper, onlyGroups, runOf, editRows, cut, cutBelow, deepFree, setRun, addHead, addTail, addBefore, addAfter, addOver}
+use Rattle.nodes.specs.Edit.{withRun, lift, sink, takeDeeper, dropDeeper, onlyGroups, runOf, editRows, editAt, freeHere, freeAllHere, deepFreeHere, setRunHere, headHere, tailHere, beforeHere, afterHere, overHere}
 
 pub takeDeeper-at : (d : ℕ) (l : List Node) → takeDeeper d l ≡ take (deeper d l) l
 unfolding takeDeeper deeper
@@ -38,16 +38,25 @@ edit-none n H (r ∷ l) h =
     let w = either-false (eqb (r .number) n) (lives n l) h in
     ap₂ (λ (b : Bool) (m : List Node). pick b (H r l) (r ∷ m)) (w .0) (edit-none n H l (w .1))
 
-edit-split : (n : ℕ) (H : Node → List Node → List Node) (t : List Node) (r : Node) (rest : List Node) → drop (place n t) t ≡ r ∷ rest → editRows n H t ≡ take (place n t) t ++ H r rest
-unfolding editRows place
-edit-split n H [] r rest h = absurd (nil≢cons h)
-edit-split n H (x ∷ l) r rest h = go (edit-split n H l r rest) (eqb (x .number) n) h
+edit-place : (n : ℕ) (H : Node → List Node → List Node) (t : List Node) → editAt (place n t) H t ≡ editRows n H t
+unfolding editRows editAt place
+edit-place n H [] = refl
+edit-place n H (r ∷ l) = go (edit-place n H l) (eqb (r .number) n)
   where
-    go : (drop (place n l) l ≡ r ∷ rest → editRows n H l ≡ take (place n l) l ++ H r rest) → (b : Bool)
-        → drop (pick b 0 (suc (place n l))) (x ∷ l) ≡ r ∷ rest
-        → pick b (H x l) (x ∷ editRows n H l) ≡ take (pick b 0 (suc (place n l))) (x ∷ l) ++ H r rest
-    go ih true e = ap₂ (λ (y : Node) (m : List Node). H y m) (head-eq-of-cons-eq e) (tail-eq-of-cons-eq e)
-    go ih false e = ap (λ (m : List Node). x ∷ m) (ih e)
+    go : editAt (place n l) H l ≡ editRows n H l → (b : Bool) → editAt (pick b 0 (suc (place n l))) H (r ∷ l) ≡ pick b (H r l) (r ∷ editRows n H l)
+    go ih true = refl
+    go ih false = ap (λ (m : List Node). r ∷ m) ih
+
+-- a place that is a number's first: the edit there is the edit at the node with the number
+pub edit-first : (n at : ℕ) (H : Node → List Node → List Node) (t : List Node) → at ≡ place n t → editAt at H t ≡ editRows n H t
+edit-first n at H t here = ap (λ (j : ℕ). editAt j H t) here ∙ edit-place n H t
+
+edit-split : (at : ℕ) (H : Node → List Node → List Node) (t : List Node) (r : Node) (rest : List Node) → drop at t ≡ r ∷ rest → editAt at H t ≡ take at t ++ H r rest
+unfolding editAt
+edit-split zero H [] r rest h = absurd (nil≢cons h)
+edit-split zero H (x ∷ l) r rest h = ap₂ (λ (y : Node) (m : List Node). H y m) (head-eq-of-cons-eq h) (tail-eq-of-cons-eq h)
+edit-split (suc at) H [] r rest h = absurd (nil≢cons h)
+edit-split (suc at) H (x ∷ l) r rest h = ap (λ (m : List Node). x ∷ m) (edit-split at H l r rest h)
 
 run-split : (n : ℕ) (t : List Node) (r : Node) (rest : List Node) → drop (place n t) t ≡ r ∷ rest → runOf n t ≡ sink (r .depth) (r ∷ takeDeeper (r .depth) rest)
 unfolding runOf place
@@ -67,31 +76,26 @@ front t at k r h =
     ∙ ap (λ (l : List Node). l ++ take k (drop (at + 1) t)) (take-add at 1 t ∙ ap (λ (l : List Node). take at t ++ take 1 l) h)
     ∙ append-assoc (take at t) (r ∷ []) (take k (drop (at + 1) t))
 
--- the node n, found at the place at of the first c records of us, with d its depth and e the end of its run
-module _ (c : ℕ) (us : List ℕ) (n at : ℕ) (here : at ≡ place n (rows c us)) (live : at < c) where
-  found : drop (place n (rows c us)) (rows c us) ≡ nodeFrom us (width * at) ∷ drop (at + 1) (rows c us)
-  found = ap (λ (j : ℕ). drop j (rows c us)) (sym here) ∙ row-from c us at live
+-- the record at a place of the first c records of us, with d its depth and e the end of its run
+module _ (c : ℕ) (us : List ℕ) (at : ℕ) (live : at < c) where
+  edit-at : (H : Node → List Node → List Node) → editAt at H (rows c us) ≡ take at (rows c us) ++ H (nodeFrom us (width * at)) (drop (at + 1) (rows c us))
+  edit-at H = edit-split at H (rows c us) (nodeFrom us (width * at)) (drop (at + 1) (rows c us)) (row-from c us at live)
 
-  pub edit-at : (H : Node → List Node → List Node) → editRows n H (rows c us) ≡ take at (rows c us) ++ H (nodeFrom us (width * at)) (drop (at + 1) (rows c us))
-  edit-at H =
-      edit-split n H (rows c us) (nodeFrom us (width * at)) (drop (at + 1) (rows c us)) found
-      ∙ ap (λ (j : ℕ). take j (rows c us) ++ H (nodeFrom us (width * at)) (drop (at + 1) (rows c us))) (sym here)
+  pub setRun-at : (flag : ℕ) → editAt at (setRunHere flag) (rows c us) ≡ take at (rows c us) ++ withRun flag (nodeFrom us (width * at)) ∷ drop (at + 1) (rows c us)
+  setRun-at flag = edit-at (setRunHere flag)
 
-  pub setRun-at : (flag : ℕ) → setRun n flag (rows c us) ≡ take at (rows c us) ++ withRun flag (nodeFrom us (width * at)) ∷ drop (at + 1) (rows c us)
-  setRun-at flag = edit-at (λ r l. withRun flag r ∷ l)
-
-  pub addHead-at : (xs : List Node) → addHead xs n (rows c us) ≡ take (at + 1) (rows c us) ++ (lift (getD us (width * at + 1) 0 + 1) xs ++ drop (at + 1) (rows c us))
+  pub addHead-at : (xs : List Node) → editAt at (headHere xs) (rows c us) ≡ take (at + 1) (rows c us) ++ (lift (getD us (width * at + 1) 0 + 1) xs ++ drop (at + 1) (rows c us))
   addHead-at xs =
       let t = rows c us in
       let r = nodeFrom us (width * at) in
       let ys = lift (r .depth + 1) xs ++ drop (at + 1) t in
-      edit-at (λ r l. r ∷ (lift (r .depth + 1) xs ++ l))
+      edit-at (headHere xs)
       ∙ sym (append-assoc (take at t) (r ∷ []) ys)
       ∙ ap (λ (l : List Node). l ++ ys) (sym (take-add at 1 t ∙ ap (λ (l : List Node). take at t ++ take 1 l) (row-from c us at live)))
 
-  pub addBefore-at : (xs : List Node) → addBefore xs n (rows c us) ≡ take at (rows c us) ++ (lift (getD us (width * at + 1) 0) xs ++ drop at (rows c us))
+  pub addBefore-at : (xs : List Node) → editAt at (beforeHere xs) (rows c us) ≡ take at (rows c us) ++ (lift (getD us (width * at + 1) 0) xs ++ drop at (rows c us))
   addBefore-at xs =
-      edit-at (λ r l. lift (r .depth) xs ++ r ∷ l)
+      edit-at (beforeHere xs)
       ∙ ap (λ (l : List Node). take at (rows c us) ++ (lift (getD us (width * at + 1) 0) xs ++ l)) (sym (row-from c us at live))
 
   module _ (d e : ℕ) (deep : d ≡ getD us (width * at + 1) 0) (end : e ≡ at + 1 + deeper d (drop (at + 1) (rows c us))) where
@@ -112,24 +116,24 @@ module _ (c : ℕ) (us : List ℕ) (n at : ℕ) (here : at ≡ place n (rows c u
         ∙ sym (front t at (deeper d (drop (at + 1) t)) r (row-from c us at live))
         ∙ ap (λ (j : ℕ). take j t) (sym end)
 
-    pub cut-at : cut n (rows c us) ≡ take at (rows c us) ++ drop e (rows c us)
-    cut-at = edit-at (λ r l. dropDeeper (r .depth) l) ∙ ap (λ (l : List Node). take at (rows c us) ++ l) past
+    pub cut-at : editAt at freeHere (rows c us) ≡ take at (rows c us) ++ drop e (rows c us)
+    cut-at = edit-at freeHere ∙ ap (λ (l : List Node). take at (rows c us) ++ l) past
 
-    pub cutBelow-at : cutBelow n (rows c us) ≡ take (at + 1) (rows c us) ++ drop e (rows c us)
+    pub cutBelow-at : editAt at freeAllHere (rows c us) ≡ take (at + 1) (rows c us) ++ drop e (rows c us)
     cutBelow-at =
         let t = rows c us in
         let r = nodeFrom us (width * at) in
-        edit-at (λ r l. r ∷ dropDeeper (r .depth) l)
+        edit-at freeAllHere
         ∙ ap (λ (l : List Node). take at t ++ r ∷ l) past
         ∙ sym (append-assoc (take at t) (r ∷ []) (drop e t))
         ∙ ap (λ (l : List Node). l ++ drop e t) (sym (take-add at 1 t ∙ ap (λ (l : List Node). take at t ++ take 1 l) (row-from c us at live)))
 
-    pub deepFree-at : deepFree n (rows c us) ≡ take (at + 1) (rows c us) ++ (onlyGroups (take (deeper d (drop (at + 1) (rows c us))) (drop (at + 1) (rows c us))) ++ drop e (rows c us))
+    pub deepFree-at : editAt at deepFreeHere (rows c us) ≡ take (at + 1) (rows c us) ++ (onlyGroups (take (deeper d (drop (at + 1) (rows c us))) (drop (at + 1) (rows c us))) ++ drop e (rows c us))
     deepFree-at =
         let t = rows c us in
         let r = nodeFrom us (width * at) in
         let gs = onlyGroups (take (deeper d (drop (at + 1) t)) (drop (at + 1) t)) in
-        edit-at (λ r l. r ∷ (onlyGroups (takeDeeper (r .depth) l) ++ dropDeeper (r .depth) l))
+        edit-at deepFreeHere
         ∙ ap₂ (λ (a b : List Node). take at t ++ r ∷ (onlyGroups a ++ b)) (ap (λ (j : ℕ). takeDeeper j (drop (at + 1) t)) (sym deep) ∙ takeDeeper-at d (drop (at + 1) t)) past
         ∙ sym (append-assoc (take at t) (r ∷ []) (gs ++ drop e t))
         ∙ ap (λ (l : List Node). l ++ (gs ++ drop e t)) (sym (take-add at 1 t ∙ ap (λ (l : List Node). take at t ++ take 1 l) (row-from c us at live)))
@@ -144,27 +148,29 @@ module _ (c : ℕ) (us : List ℕ) (n at : ℕ) (here : at ≡ place n (rows c u
         let zs = dropDeeper (getD us (width * at + 1) 0) (drop (at + 1) t) in
         sym (append-assoc (take at t) (r ∷ xs) (ys ++ zs)) ∙ ap₂ (λ (a b : List Node). a ++ (ys ++ b)) upto past
 
-    pub addTail-at : (xs : List Node) → addTail xs n (rows c us) ≡ take e (rows c us) ++ (lift (d + 1) xs ++ drop e (rows c us))
+    pub addTail-at : (xs : List Node) → editAt at (tailHere xs) (rows c us) ≡ take e (rows c us) ++ (lift (d + 1) xs ++ drop e (rows c us))
     addTail-at xs =
-        edit-at (λ r l. r ∷ (takeDeeper (r .depth) l ++ (lift (r .depth + 1) xs ++ dropDeeper (r .depth) l)))
+        edit-at (tailHere xs)
         ∙ behind (lift (getD us (width * at + 1) 0 + 1) xs)
         ∙ ap (λ (j : ℕ). take e (rows c us) ++ (lift (j + 1) xs ++ drop e (rows c us))) (sym deep)
 
-    pub addAfter-at : (xs : List Node) → addAfter xs n (rows c us) ≡ take e (rows c us) ++ (lift d xs ++ drop e (rows c us))
+    pub addAfter-at : (xs : List Node) → editAt at (afterHere xs) (rows c us) ≡ take e (rows c us) ++ (lift d xs ++ drop e (rows c us))
     addAfter-at xs =
-        edit-at (λ r l. r ∷ (takeDeeper (r .depth) l ++ (lift (r .depth) xs ++ dropDeeper (r .depth) l)))
+        edit-at (afterHere xs)
         ∙ behind (lift (getD us (width * at + 1) 0) xs)
         ∙ ap (λ (j : ℕ). take e (rows c us) ++ (lift j xs ++ drop e (rows c us))) (sym deep)
 
-    pub addOver-at : (xs : List Node) → addOver xs n (rows c us) ≡ take at (rows c us) ++ (lift d xs ++ drop e (rows c us))
+    pub addOver-at : (xs : List Node) → editAt at (overHere xs) (rows c us) ≡ take at (rows c us) ++ (lift d xs ++ drop e (rows c us))
     addOver-at xs =
-        edit-at (λ r l. lift (r .depth) xs ++ dropDeeper (r .depth) l)
+        edit-at (overHere xs)
         ∙ ap₂ (λ (j : ℕ) (l : List Node). take at (rows c us) ++ (lift j xs ++ l)) (sym deep) past
 
-    pub runOf-at : runOf n (rows c us) ≡ sink d (nodeFrom us (width * at) ∷ take (deeper d (drop (at + 1) (rows c us))) (drop (at + 1) (rows c us)))
-    runOf-at =
-        let t = rows c us in
-        let r = nodeFrom us (width * at) in
-        run-split n t r (drop (at + 1) t) found
-        ∙ ap (λ (j : ℕ). sink j (r ∷ takeDeeper j (drop (at + 1) t))) (sym deep)
-        ∙ ap (λ (l : List Node). sink d (r ∷ l)) (takeDeeper-at d (drop (at + 1) t))
+-- the run of the node n, found at the place at
+pub runOf-at : (c : ℕ) (us : List ℕ) (n at : ℕ) → at ≡ place n (rows c us) → at < c → (d e : ℕ) → d ≡ getD us (width * at + 1) 0 → e ≡ at + 1 + deeper d (drop (at + 1) (rows c us))
+    → runOf n (rows c us) ≡ sink d (nodeFrom us (width * at) ∷ take (deeper d (drop (at + 1) (rows c us))) (drop (at + 1) (rows c us)))
+runOf-at c us n at here live d e deep end =
+    let t = rows c us in
+    let r = nodeFrom us (width * at) in
+    run-split n t r (drop (at + 1) t) (ap (λ (j : ℕ). drop j t) (sym here) ∙ row-from c us at live)
+    ∙ ap (λ (j : ℕ). sink j (r ∷ takeDeeper j (drop (at + 1) t))) (sym deep)
+    ∙ ap (λ (l : List Node). sink d (r ∷ l)) (takeDeeper-at d (drop (at + 1) t))

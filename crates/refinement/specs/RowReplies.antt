@@ -13,6 +13,7 @@ use lib.Dec.{eqb}
 use Rattle.words.specs.Choice.{pick}
 use Rattle.format.specs.Definition.{ParameterName, Definition}
 use Rattle.format.specs.Reader.{sameName}
+use Rattle.format.specs.Names.{firstIndex, firstName}
 use Rattle.nodes.specs.declared.Node.{Node}
 use Rattle.nodes.specs.Forest.{Forest, node, flatten, mapForest, has, below}
 use Rattle.nodes.specs.Forest as forest
@@ -28,12 +29,32 @@ use Rattle.values.specs.declared.Key.the-variants.{Index, Name}
 use Rattle.values.specs.declared.Mapping.{Mapping}
 use Rattle.values.specs.declared.Mapping.the-variants.{Unmapped, Bus}
 use Rattle.values.specs.Controls.{ControlValue, shown}
-use Rattle.model.specs.Engine.{firstIndex, firstName}
 use Rattle.model.specs.View.{Kind, group, synth, PlainNode, Row, isGroupKind, slotOfKind, shapeOf, shape}
 use Rattle.model.specs.Meaning.{startOf}
-use Rattle.model.specs.Replies.{infoAddress, treeAddress, plainNamed, infoKind, infoReply, keyArgument, noControl, mappingArgument, labelArgument, controlArguments, flagged, kindArguments, rowsBelow, rowsAt, treeArguments, subtreeRows, flagNumber, treeReply, unitsOf, unitCount, groupCount, synthCount}
+use Rattle.model.specs.Replies.{infoAddress, setAddress, busAddress, treeAddress, statusAddress, plainNamed, infoKind, infoReply, keyArgument, noControl, mappingArgument, labelArgument, controlArguments, flagged, kindArguments, rowsBelow, rowsAt, treeArguments, subtreeRows, flagNumber, treeReply, unitsOf, unitCount, groupCount, synthCount}
 use Rattle.model.specs.Plain.{ifSome, numberIn, indicesOf, firstIn, askedFor, plainRows}
-use Rattle.model.specs.PlainReplies.{nodeIn, groupInfo, nodeInfo, floatRead, controlIn, keyShown, namesAt, labelShown, mappingShown, controlsShown, included, kindShown, nodesShown, sumOver, unitsIn, oneSynth, oneGroup}
+use Rattle.model.specs.PlainReplies.{bytesOf, nodeIn, groupInfo, nodeInfo, floatRead, controlIn, keyShown, namesAt, labelShown, mappingShown, controlsShown, included, kindShown, nodesShown, sumOver, unitsIn, oneSynth, oneGroup}
+
+-- the addresses
+pub info-address : bytesOf "/n_info" ≡ infoAddress
+unfolding bytesOf
+info-address = refl
+
+pub set-address : bytesOf "/n_set" ≡ setAddress
+unfolding bytesOf
+set-address = refl
+
+pub bus-address : bytesOf "/c_set" ≡ busAddress
+unfolding bytesOf
+bus-address = refl
+
+pub tree-address : bytesOf "/g_queryTree.reply" ≡ treeAddress
+unfolding bytesOf
+tree-address = refl
+
+pub status-address : bytesOf "/status.reply" ≡ statusAddress
+unfolding bytesOf
+status-address = refl
 
 -- a plain node as a record of a table
 abbrev recordOf : PlainNode → Node

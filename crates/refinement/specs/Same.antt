@@ -35,13 +35,13 @@ use Rattle.model.specs.Engine.{Slot, Engine, definitionOf, controlsFrom, contro
 use Rattle.model.specs.View.{group, synth, PlainNode, Row, viewOf, viewRows, view}
 use Rattle.model.specs.Meaning.{meant, known, nodeNamed, node as nodeOf, startOf, hasControls, negativeKey, isNegative}
 use Rattle.model.specs.Checks.{Check, check, firstOf, notGroup, noControls}
-use Rattle.model.specs.Replies.{infoAddress, setAddress, treeAddress, statusAddress, plainNamed, infoReply, keyArgument, noControl, readAt, readControl, controlReply, busReply, treeReply, flagNumber, unitCount, synthCount, statusReply, replyTo, reply}
+use Rattle.model.specs.Replies.{infoAddress, setAddress, statusAddress, plainNamed, infoReply, keyArgument, noControl, readAt, readControl, controlReply, treeReply, flagNumber, unitCount, synthCount, statusReply, replyTo, reply}
 use Rattle.model.specs.Apply.{queryAnswer, isAccepted}
 use Rattle.model.specs.Plain.{Plain, ifSome, numberIn, isGroupNode, isOnNode, plainRows}
-use Rattle.model.specs.PlainReplies.{nodeIn, aboutNode, nodeInfo, floatRead, controlIn, keyShown, controlShown, flagShown, included, nodesShown, treeShown, sumOver, oneGroup, plainReply, isExport}
+use Rattle.model.specs.PlainReplies.{bytesOf, nodeIn, aboutNode, nodeInfo, floatRead, controlIn, keyShown, controlShown, flagShown, included, nodesShown, treeShown, sumOver, unitsIn, oneSynth, oneGroup, plainReply, isExport}
 use Rattle.model.specs.Demands.{Same}
 use Rattle.refinement.specs.Kept.{Kept, view-tree, group-kind, same-meant}
-use Rattle.refinement.specs.RowReplies.{info-rows, node-rows, same-start, same-read, same-key, control-in, tree-rows, units-rows, groups-rows, synths-rows}
+use Rattle.refinement.specs.RowReplies.{info-address, set-address, bus-address, tree-address, status-address, info-rows, node-rows, same-start, same-read, same-key, control-in, tree-rows, units-rows, groups-rows, synths-rows}
 
 -- a check that did not fire
 unfired : (r : Refusal) (b : Bool) (cs : List Check) (a : Answer) → isAccepted (firstOf (check r b ∷ cs) a) ≡ true → (b ≡ false) × (isAccepted (firstOf cs a) ≡ true)
@@ -125,9 +125,9 @@ module _ (e : Engine) (p : Plain) (k : Kept e p) where
 
     info : plainReply (query.Node a) [] p ≡ some (infoReply n (view e))
     info =
-        about (λ y. some (message infoAddress (nodeInfo (p .tree) (y .number) (y .kind))))
+        about (λ y. some (message (bytesOf "/n_info") (nodeInfo (p .tree) (y .number) (y .kind))))
         ∙ ap (λ (bs : List ℕ). some bs)
-        (ap (λ (m : ℕ). message infoAddress (nodeInfo (p .tree) m (x .kind))) number
+        (ap₂ (λ (address : List ℕ) (m : ℕ). message address (nodeInfo (p .tree) m (x .kind))) info-address number
         ∙ sym (ap (λ (l : List Row). infoReply n l) rows ∙ info-rows n (p .tree) there ∙ ap (λ (y : PlainNode). message infoAddress (nodeInfo (p .tree) n (y .kind))) named))
 
     abbrev d : Definition
@@ -140,6 +140,11 @@ module _ (e : Engine) (p : Plain) (k : Kept e p) where
       abbrev replied : Argument → ℕ → List ℕ
       replied asked value = message setAddress (int n ∷ (asked ∷ (float value ∷ [])))
 
+      -- the plain tree's reply, where the key starts at o
+      abbrev own : List ℕ → Option ℕ → Option (List ℕ)
+      own address o =
+          ifSome o (λ i. ifSome (controlIn i cs) (λ c. some (message address (int n ∷ (keyShown key bytes ∷ (float (floatRead (p .buses) (c .mapping) (c .own)) ∷ []))))) none) none
+
       fits : hasControls (startOf key bytes d) 1 d ≡ true
       fits =
           let w = either-false (either (negativeKey key) (isNegative 1)) _ has-control in
@@ -150,8 +155,7 @@ module _ (e : Engine) (p : Plain) (k : Kept e p) where
           ap (λ (y : PlainNode). replied (keyArgument key bytes) (readControl (e .buses) key bytes (y .kind))) seen
           ∙ ap (λ (g : Bool). replied (keyArgument key bytes) (readControl (e .buses) key bytes (pick g group (synth d cs)))) single
 
-      read : (o : Option ℕ) → hasControls o 1 d ≡ true
-          → ifSome o (λ i. ifSome (controlIn i cs) (λ c. some (replied (keyShown key bytes) (floatRead (p .buses) (c .mapping) (c .own)))) none) none ≡ some (replied (keyArgument key bytes) (readAt (e .buses) cs o))
+      read : (o : Option ℕ) → hasControls o 1 d ≡ true → own setAddress o ≡ some (replied (keyArgument key bytes) (readAt (e .buses) cs o))
       read none h = let z : _≡_ {A = Bool} false true = h in cc
       read (some i) h =
           let low : i + 1 ≤ length (d .front .values) = leb-true (i + 1) (length (d .front .values)) h in
@@ -165,7 +169,7 @@ module _ (e : Engine) (p : Plain) (k : Kept e p) where
       control =
           about (λ y. controlShown key bytes (p .buses) (y .number) (y .kind))
           ∙ ap₂ (λ (m : ℕ) (g : Bool). controlShown key bytes (p .buses) m (pick g group (synth d cs))) number single
-          ∙ ap (λ (o : Option ℕ). ifSome o (λ i. ifSome (controlIn i cs) (λ c. some (replied (keyShown key bytes) (floatRead (p .buses) (c .mapping) (c .own)))) none) none) (same-start key bytes d)
+          ∙ ap₂ (λ (address : List ℕ) (o : Option ℕ). own address o) set-address (same-start key bytes d)
           ∙ read (startOf key bytes d) fits
           ∙ ap (λ (bs : List ℕ). some bs) (sym sent)
 
@@ -174,12 +178,13 @@ module _ (e : Engine) (p : Plain) (k : Kept e p) where
         about (λ y. treeShown flag (p .tree) (y .number) (y .kind))
         ∙ ap₂ (λ (m : ℕ) (b : Bool). treeShown flag (p .tree) m (pick b group (synth d cs))) number (not-false (isGroup (nodeOf a e)) g)
         ∙ ap (λ (bs : List ℕ). some bs)
-        (ap (λ (f : ℕ). message treeAddress (int f ∷ (int n ∷ (int (length (children numberIn n (p .tree))) ∷ nodesShown flag (below numberIn n (p .tree)))))) (sym (same-flag flag))
+        (ap₂ (λ (address : List ℕ) (f : ℕ). message address (int f ∷ (int n ∷ (int (length (children numberIn n (p .tree))) ∷ nodesShown flag (below numberIn n (p .tree)))))) tree-address (sym (same-flag flag))
         ∙ sym (ap (λ (l : List Row). treeReply n (not (eqb flag 0)) l) rows ∙ tree-rows (not (eqb flag 0)) flag (same-included flag) n (p .tree) there))
 
   status : plainReply query.Status [] p ≡ some (statusReply (view e) (length (residents (e .slots))))
   status =
-      ap₂ (λ (u s : ℕ). some (message statusAddress (int u ∷ (int s ∷ (int (sumOver oneGroup (p .tree)) ∷ (int (length (p .names)) ∷ [])))))) (sym (units-rows (p .tree))) (sym (synths-rows (p .tree)))
+      ap (λ (address : List ℕ). some (message address (int (sumOver unitsIn (p .tree)) ∷ (int (sumOver oneSynth (p .tree)) ∷ (int (sumOver oneGroup (p .tree)) ∷ (int (length (p .names)) ∷ [])))))) status-address
+      ∙ ap₂ (λ (u s : ℕ). some (message statusAddress (int u ∷ (int s ∷ (int (sumOver oneGroup (p .tree)) ∷ (int (length (p .names)) ∷ [])))))) (sym (units-rows (p .tree))) (sym (synths-rows (p .tree)))
       ∙ ap₂ (λ (g m : ℕ). some (message statusAddress (int (unitCount (plainRows 0 (p .tree))) ∷ (int (synthCount (plainRows 0 (p .tree))) ∷ (int g ∷ (int m ∷ [])))))) (sym (groups-rows (p .tree))) (sym (k .nameCount))
       ∙ ap (λ (l : List Row). some (statusReply l (length (residents (e .slots))))) (sym rows)
 
@@ -192,7 +197,7 @@ module _ (e : Engine) (p : Plain) (k : Kept e p) where
       let p1 = unfired WrongKind (isGroup (nodeOf a e)) _ _ (p0 .1) in
       let p2 = unfired NoControl (noControls key 1 bytes a e) _ _ (p1 .1) in
       control a (p0 .0) key bytes (p1 .0) (p2 .0)
-  replies (query.Bus bus) bytes room x h = ap (λ (bs : List ℕ). some (busReply bus bs)) (sym (k .buses))
+  replies (query.Bus bus) bytes room x h = ap₂ (λ (address bs : List ℕ). some (message address (int bus ∷ (float (getD bs bus 0) ∷ [])))) bus-address (sym (k .buses))
   replies (query.Tree a flag) bytes room x h =
       let p0 = unfired NoNode (not (known a e)) _ _ h in
       let p1 = unfired WrongKind (notGroup a e) _ _ (p0 .1) in

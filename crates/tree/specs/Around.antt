@@ -15,7 +15,7 @@ use Rattle.nodes.specs.Place.{place, deeper}
 use Rattle.nodes.specs.Edit.{sink, dropDeeper}
 use Rattle.nodes.specs.Split.{dropDeeper-at, runOf-at}
 use Rattle.nodes.specs.Structure.{noNode, atDepth, childrenOf, depthOf, lastAbove, parentOf, lastBeside, previousOf, firstBeside, nextOf}
-use Rattle.tree.specs.Sizes.{depthAt, endAt}
+use Rattle.nodes.specs.Sizes.{depthAt, endAt}
 use Rattle.tree.specs.Depths.{rows-snoc}
 
 -- a number carried along some records
@@ -118,7 +118,21 @@ pub childNumbers-end : (n : ℕ) (us : List ℕ) (d i : ℕ) → n ≤ i → chi
 unfolding childNumbers
 childNumbers-end n us d i h = ap (λ (l : List Node). childNumbers d l) (rows-end n us i h)
 
--- the node n, found at the place at of the first c records of us
+-- of the record at a place: the last one before it that is less deep; the last one before it at its depth, with none less deep between them;
+-- what follows its run, where it is at its depth; and its children
+abbrev pub parentAt : List ℕ → ℕ → ℕ
+parentAt us at = along (above (depthAt us at)) noNode (rows at us)
+
+abbrev pub previousAt : List ℕ → ℕ → ℕ
+previousAt us at = along (beside (depthAt us at)) noNode (rows at us)
+
+abbrev pub nextAt : ℕ → List ℕ → ℕ → ℕ
+nextAt count us at = firstBeside (depthAt us at) (drop (endAt count us at) (rows count us))
+
+abbrev pub childrenAt : ℕ → List ℕ → ℕ → List ℕ
+childrenAt count us at = childNumbers (depthAt us at) (drop (at + 1) (rows count us))
+
+-- where the place is a number's first, those of the node with the number
 module _ (c : ℕ) (us : List ℕ) (n at : ℕ) (here : at ≡ place n (rows c us)) (live : at < c) where
   found : drop (place n (rows c us)) (rows c us) ≡ nodeFrom us (width * at) ∷ drop (at + 1) (rows c us)
   found = ap (λ (j : ℕ). drop j (rows c us)) (sym here) ∙ row-from c us at live
@@ -129,18 +143,18 @@ module _ (c : ℕ) (us : List ℕ) (n at : ℕ) (here : at ≡ place n (rows c u
   front : take (place n (rows c us)) (rows c us) ≡ rows at us
   front = ap (λ (j : ℕ). take j (rows c us)) (sym here) ∙ rows-take at c us (omega arith)
 
-  pub parentOf-at : parentOf n (rows c us) ≡ along (above (depthAt us at)) noNode (rows at us)
+  pub parentOf-at : parentOf n (rows c us) ≡ parentAt us at
   parentOf-at = lastAbove-along noNode (depthOf n (rows c us)) n (rows c us) ∙ ap₂ (λ (d : ℕ) (l : List Node). along (above d) noNode l) depthOf-at front
 
-  pub previousOf-at : previousOf n (rows c us) ≡ along (beside (depthAt us at)) noNode (rows at us)
+  pub previousOf-at : previousOf n (rows c us) ≡ previousAt us at
   previousOf-at = lastBeside-along noNode (depthOf n (rows c us)) n (rows c us) ∙ ap₂ (λ (d : ℕ) (l : List Node). along (beside d) noNode l) depthOf-at front
 
-  pub nextOf-at : nextOf n (rows c us) ≡ firstBeside (depthAt us at) (drop (endAt c us at) (rows c us))
+  pub nextOf-at : nextOf n (rows c us) ≡ nextAt c us at
   nextOf-at =
       nextOf-split n (rows c us) (nodeFrom us (width * at)) (drop (at + 1) (rows c us)) found
       ∙ ap (λ (l : List Node). firstBeside (depthAt us at) l) (dropDeeper-at (depthAt us at) (drop (at + 1) (rows c us)) ∙ drop-drop (deeper (depthAt us at) (drop (at + 1) (rows c us))) (at + 1) (rows c us))
 
-  pub childrenOf-at : childrenOf n (rows c us) ≡ childNumbers (depthAt us at) (drop (at + 1) (rows c us))
+  pub childrenOf-at : childrenOf n (rows c us) ≡ childrenAt c us at
   unfolding atDepth sink
   childrenOf-at =
       let d = depthAt us at in

@@ -14,7 +14,7 @@ use Rattle.nodes.specs.Place.{lives, place, deeper, end-most}
 use Rattle.nodes.specs.Edit.{sink, isBelow}
 use Rattle.nodes.specs.Split.{runOf-at}
 use Rattle.nodes.specs.Formed.{apart}
-use Rattle.tree.specs.Sizes.{depthAt, endAt}
+use Rattle.nodes.specs.Sizes.{depthAt, endAt}
 use Rattle.tree.specs.Places.{place-drop}
 use Rattle.tree.specs.Ends.{inRun}
 
@@ -107,18 +107,3 @@ isBelow-at c us m n a b here-a here-b live-a live-b once =
         let past = ltb-false a (endAt c us b) s in
         let on = place-drop m b t (omega arith) (omega (arith, size)) in
         rw (le-leb b a behind, s) (lives-front m (suc k) (drop b t) short ∙ le-ltb (place m (drop b t)) (suc k) (omega arith))
-
--- what is answered: by places, and by numbers where none stands twice
-pub record LiesBelow (us : List ℕ) (count a b : ℕ) (r : Bool) : Type 0 where
-  pub places : r ≡ inRun count us a b
-  pub numbers : (m n : ℕ) → a ≡ place m (rows count us) → b ≡ place n (rows count us) → apart (rows count us) ≡ true → r ≡ isBelow m n (rows count us)
-
--- two places in the table
-pub record TwoPlaces (us : List ℕ) (count a b : ℕ) : Type 0 where
-  pub room : width * count ≤ length us
-  pub few : count ≤ 256
-  pub live : a < count
-  pub other : b < count
-
-pub lies-below : (c : ℕ) (us : List ℕ) (a b : ℕ) (r : Bool) → a < c → b < c → r ≡ inRun c us a b → LiesBelow us c a b r
-lies-below c us a b r live-a live-b e = record { places = e; numbers = λ m n here-a here-b once. e ∙ sym (isBelow-at c us m n a b here-a here-b live-a live-b once) }

@@ -12,7 +12,11 @@ use Rattle.words.specs.Choice.{pick, both}
 use Rattle.nodes.specs.declared.Node.{Node}
 use Rattle.nodes.specs.Table.{width, nodeFrom, rows, row-from}
 use Rattle.nodes.specs.Place.{deeper, nested, end-most}
-use Rattle.tree.specs.Sizes.{depthAt, endAt}
+use Rattle.nodes.specs.Sizes.{depthAt, endAt}
+use Rattle.tree.specs.declared.action.Position.{Position}
+use Rattle.tree.specs.declared.action.Position.the-variants.{Head, Tail, Before, After}
+use Rattle.tree.specs.declared.add.Place.{Place}
+use Rattle.tree.specs.Add.{placeBy}
 use Rattle.tree.specs.MoveRun.{placeWithout}
 use Rattle.tree.specs.Places.{deeper-drop, deeper-all}
 
@@ -30,13 +34,13 @@ pub record Moving (us : List ℕ) (count a b : ℕ) : Type 0 where
   pub shallow : (i : ℕ) → i < count → depthAt us i ≤ 256
 
 -- a node and a place that is not inside its run
-pub record MoveTo (us : List ℕ) (count a place depth : ℕ) : Type 0 where
+pub record MoveTo (us : List ℕ) (count a : ℕ) (place : Place) : Type 0 where
   pub room : width * count ≤ length us
   pub few : count ≤ 256
   pub live : a < count
-  pub fits : place ≤ count
-  pub outside : a < place → endAt count us a ≤ place
-  pub deep : depth ≤ 257
+  pub fits : place .at ≤ count
+  pub outside : a < place .at → endAt count us a ≤ place .at
+  pub deep : place .depth ≤ 257
   pub shallow : (i : ℕ) → i < count → depthAt us i ≤ 256
 
 pub outside-run : (c : ℕ) (us : List ℕ) (a b : ℕ) → inRun c us b a ≡ false → a ≤ b → endAt c us a ≤ b
@@ -92,8 +96,8 @@ end-outside c us a b live outside h = go (ltb b a) refl
 
 -- a move's node and the place that it goes to: one that is not inside its run, or the end of the other's run
 module _ (us : List ℕ) (c a b : ℕ) (both : Moving us c a b) where
-  pub moveTo : (place depth : ℕ) → place ≤ c → (a < place → endAt c us a ≤ place) → depth ≤ depthAt us b + 1 → MoveTo us c a place depth
-  moveTo place depth fits outside deep = record {
+  moveTo : (place : Place) → place .at ≤ c → (a < place .at → endAt c us a ≤ place .at) → place .depth ≤ depthAt us b + 1 → MoveTo us c a place
+  moveTo place fits outside deep = record {
     room = both .room;
     few = both .few;
     live = both .live;
@@ -103,8 +107,14 @@ module _ (us : List ℕ) (c a b : ℕ) (both : Moving us c a b) where
     shallow = both .shallow;
   }
 
-  pub moveTo-end : (e depth : ℕ) → e ≡ endAt c us b → depth ≤ depthAt us b + 1 → MoveTo us c a e depth
-  moveTo-end e depth same deep =
-      moveTo e depth (omega (arith, both .target, end-most c us (depthAt us b) (b + 1) (omega (arith, both .target))))
-      (λ h. omega (arith, end-outside c us a b (both .target) (both .outside) (omega arith)))
-      deep
+  end-fits : endAt c us b ≤ c
+  end-fits = end-most c us (depthAt us b) (b + 1) (omega (arith, both .target))
+
+  end-past : a < endAt c us b → endAt c us a ≤ endAt c us b
+  end-past h = end-outside c us a b (both .target) (both .outside) h
+
+  pub move-place : (p : Position) → MoveTo us c a (placeBy p c us b)
+  move-place Head = moveTo (placeBy Head c us b) (omega (arith, both .target)) (λ h. omega (arith, both .outside (omega arith))) (omega arith)
+  move-place Tail = moveTo (placeBy Tail c us b) end-fits end-past (omega arith)
+  move-place Before = moveTo (placeBy Before c us b) (omega (arith, both .target)) (λ h. both .outside (omega arith)) (omega arith)
+  move-place After = moveTo (placeBy After c us b) end-fits end-past (omega arith)

@@ -1,5 +1,5 @@
--- A new synth takes the lowest row that no live synth has.
-use Prim.Native.Nat.{ℕ, zero, suc, _+_, _*_, _≤_, _<_}
+-- The lowest row of controls that no synth of the table has, found by a mark at each row that one has.
+use Prim.Native.Nat.{ℕ, suc, _+_, _*_, _≤_, _<_}
 use mathlib.Core.Bool.{Bool, true, false}
 use mathlib.Core.Path.{_≡_, refl, sym, ap, _∙_}
 use mathlib.Core.List.{List}
@@ -12,16 +12,11 @@ use Rattle.words.specs.Choice.{pick, either}
 use Rattle.nodes.specs.declared.Node.{Node}
 use Rattle.nodes.specs.Table.{width, nodeFrom, rows, rows-end, row-from}
 use Rattle.nodes.specs.Place.{isGroup}
-use Rattle.nodes.specs.Formed.{mostRows, rowTaken}
+use Rattle.nodes.specs.Formed.{mostRows, rowTaken, freeRowFrom}
 
--- the first row from k on that no synth of the table has, of n rows
-unfoldable pub freeFrom : ℕ → ℕ → List Node → ℕ
-freeFrom zero k t = k
-freeFrom (suc n) k t = pick (rowTaken k t) (freeFrom n (k + 1) t) k
-
--- 256 where there is none
-abbrev pub freeRow : List Node → ℕ
-freeRow t = freeFrom mostRows 0 t
+-- the record's row, or 256 for a group
+abbrev pub rowOr : Node → ℕ
+rowOr r = pick (isGroup r) mostRows (r .row)
 
 -- the record is a synth with the row k
 abbrev pub rowIs : ℕ → Node → Bool
@@ -50,10 +45,18 @@ marked-start n us k h = rw (getD-replicate 256 k false false h)
 pub marked-end : (marks : List Bool) (n : ℕ) (us : List ℕ) (i : ℕ) → n ≤ i → Marked marks n us i → (k : ℕ) → k < 256 → getD marks k false ≡ rowTaken k (rows n us)
 marked-end marks n us i h all k s = sym (either-none (getD marks k false)) ∙ ap (λ (b : Bool). either (getD marks k false) b) (sym (taken-end n us k i h)) ∙ all k s
 
--- a record whose row below 256, where it has one, is row
-module _ (marks : List Bool) (n : ℕ) (us : List ℕ) (i row : ℕ) (inside : i < n) (own : (k : ℕ) → k < 256 → eqb row k ≡ rowIs k (nodeFrom us (width * i))) (all : Marked marks n us i) where
+-- the row of a record is one below 256 where the record is a synth that has it
+row-is : (r : Node) (k : ℕ) → k < mostRows → eqb (rowOr r) k ≡ rowIs k r
+row-is r k h = go (isGroup r)
+  where
+    go : (b : Bool) → eqb (pick b mostRows (r .row)) k ≡ pick b false (eqb (r .row) k)
+    go true = ne-eqb mostRows k (λ e. omega arith)
+    go false = refl
+
+-- one record looked at
+module _ (marks : List Bool) (n : ℕ) (us : List ℕ) (i row : ℕ) (inside : i < n) (own : row ≡ rowOr (nodeFrom us (width * i))) (all : Marked marks n us i) where
   next : (k : ℕ) → k < 256 → either (getD marks k false) (either (eqb row k) (rowTaken k (drop (i + 1) (rows n us)))) ≡ rowTaken k (rows n us)
-  next k h = ap (λ (b : Bool). either (getD marks k false) (either b (rowTaken k (drop (i + 1) (rows n us))))) (own k h) ∙ ap (λ (b : Bool). either (getD marks k false) b) (sym (taken-turn n us k i inside)) ∙ all k h
+  next k h = ap (λ (b : Bool). either (getD marks k false) (either b (rowTaken k (drop (i + 1) (rows n us))))) (ap (λ (j : ℕ). eqb j k) own ∙ row-is (nodeFrom us (width * i)) k h) ∙ ap (λ (b : Bool). either (getD marks k false) b) (sym (taken-turn n us k i inside)) ∙ all k h
 
   pub marked-skip : 256 ≤ row → Marked marks n us (i + 1)
   marked-skip h k s = rw (ne-eqb row k (λ e. omega arith)) at (next k s)
@@ -78,14 +81,14 @@ module _ (marks : List Bool) (n : ℕ) (us : List ℕ) (i row : ℕ) (inside : i
 
 -- one row looked at
 module _ (n k : ℕ) (t : List Node) where
-  pub free-here : rowTaken k t ≡ false → freeFrom (suc n) k t ≡ k
-  unfolding freeFrom
-  free-here e = ap (λ (b : Bool). pick b (freeFrom n (k + 1) t) k) e
+  pub free-here : rowTaken k t ≡ false → freeRowFrom (suc n) k t ≡ k
+  unfolding freeRowFrom
+  free-here e = ap (λ (b : Bool). pick b (freeRowFrom n (k + 1) t) k) e
 
-  pub free-on : rowTaken k t ≡ true → freeFrom (suc n) k t ≡ freeFrom n (k + 1) t
-  unfolding freeFrom
-  free-on e = ap (λ (b : Bool). pick b (freeFrom n (k + 1) t) k) e
+  pub free-on : rowTaken k t ≡ true → freeRowFrom (suc n) k t ≡ freeRowFrom n (k + 1) t
+  unfolding freeRowFrom
+  free-on e = ap (λ (b : Bool). pick b (freeRowFrom n (k + 1) t) k) e
 
-pub free-end : (k : ℕ) (t : List Node) → freeFrom 0 k t ≡ k
-unfolding freeFrom
+pub free-end : (k : ℕ) (t : List Node) → freeRowFrom 0 k t ≡ k
+unfolding freeRowFrom
 free-end k t = refl

@@ -1,7 +1,8 @@
 pub mod Sizes
 pub mod Words
-pub mod Add
+pub mod Action
 pub mod Moves
+pub mod Add
 pub mod Depths
 pub mod MoveRun
 pub mod Places
@@ -11,3 +12,6 @@ pub mod Around
 pub mod Below
 pub mod FreeRow
 pub mod Shallow
+pub mod Over
+pub mod Sweep
+pub mod Deep

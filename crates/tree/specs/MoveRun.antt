@@ -9,6 +9,8 @@ use lib.Dec.{leb}
 use Rattle.words.specs.Choice.{pick}
 use Rattle.nodes.specs.declared.Node.{Node}
 use Rattle.nodes.specs.Table.{width, rows, encode, fill, rows-length, rows-take, rows-drop, encode-length, encode-append}
+use Rattle.nodes.specs.Sizes.{depthAt, endAt}
+use Rattle.tree.specs.declared.add.Place.{Place}
 use Rattle.tree.specs.Words.{whole, take-words, drop-words}
 use Rattle.tree.specs.Moves.{without, putIn, putIn-length}
 use Rattle.tree.specs.Depths.{relevel, releveled, relevel-length}
@@ -21,6 +23,11 @@ pub record Movable (us : List ℕ) (from to at old new : ℕ) : Type 0 where
   pub inside : width * (at + (to - from)) ≤ length us
   pub least : (i : ℕ) → from ≤ i → i < to → old ≤ getD us (width * i + 1) 0
   pub most : (i : ℕ) → from ≤ i → i < to → getD us (width * i + 1) 0 + new < 4294967296
+
+-- the words after: the run with its depths changed taken out, and put in at a place of what is left
+abbrev pub movedWords : ℕ → ℕ → ℕ → ℕ → ℕ → List ℕ → List ℕ
+movedWords from to at old new us =
+    putIn (width * at) (take (width * to - width * from) (drop (width * from) (releveled old new us from to))) (without (width * from) (width * to) (releveled old new us from to))
 
 -- the table after
 abbrev pub movedRun : ℕ → ℕ → ℕ → ℕ → ℕ → List Node → List Node
@@ -82,8 +89,7 @@ module _ (us : List ℕ) (c from to at old new : ℕ) (order : from ≤ to) (end
       ∙ sym (append-assoc (encode (take from t)) (encode (drop to t)) z)
       ∙ ap (λ (l : List ℕ). l ++ z) (sym (encode-append (take from t) (drop to t)))
 
-  pub move-run-words : putIn (width * at) (take (width * to - width * from) (drop (width * from) (releveled old new us from to))) (without (width * from) (width * to) (releveled old new us from to))
-      ≡ fill us (movedRun from to at old new (rows c us))
+  pub move-run-words : movedWords from to at old new us ≡ fill us (movedRun from to at old new (rows c us))
   unfolding after ys t z
   move-run-words =
       let w = without from to t in
@@ -100,3 +106,7 @@ module _ (us : List ℕ) (c from to at old new : ℕ) (order : from ≤ to) (end
 -- a place of the table as it is without the records from one place up to another
 abbrev pub placeWithout : ℕ → ℕ → ℕ → ℕ
 placeWithout from to p = pick (leb p from) p (p - (to - from))
+
+-- the table with the run of the record at the place a moved to another place
+abbrev pub movedTo : ℕ → List ℕ → ℕ → Place → List Node
+movedTo count us a p = movedRun a (endAt count us a) (placeWithout a (endAt count us a) (p .at)) (depthAt us a) (p .depth) (rows count us)

@@ -1,4 +1,4 @@
--- "A move takes A's subtree out and puts it in where told": each move by the places of both nodes and the ends of their runs.
+-- "A move takes A's subtree out and puts it in where told.": a move by the places of both nodes is the move of the nodes with their numbers.
 use Prim.Native.Nat.{ℕ, suc, _+_, _*_, _-_, _≤_, _<_}
 use mathlib.Core.Bool.{Bool, true, false}
 use mathlib.Core.Path.{_≡_, refl, sym, ap, ap₂, _∙_}
@@ -12,11 +12,15 @@ use Rattle.words.specs.Choice.{pick}
 use Rattle.nodes.specs.declared.Node.{Node}
 use Rattle.nodes.specs.Table.{width, nodeFrom, rows, fill, rows-length, rows-fill, row-from}
 use Rattle.nodes.specs.Place.{place, deeper, end-most}
-use Rattle.nodes.specs.Edit.{lift, sink, runOf, cut, addBefore, addAfter, addHead, addTail, moveBefore, moveAfter, moveHead, moveTail}
-use Rattle.nodes.specs.Split.{cut-at, runOf-at, addBefore-at, addAfter-at, addHead-at, addTail-at}
-use Rattle.tree.specs.Sizes.{depthAt, endAt}
+use Rattle.nodes.specs.Edit.{lift, sink, runOf, editRows, freeHere, cut}
+use Rattle.nodes.specs.Split.{edit-first, cut-at, runOf-at}
+use Rattle.nodes.specs.Sizes.{depthAt, endAt}
 use Rattle.tree.specs.Moves.{without, putIn, drop-take}
-use Rattle.tree.specs.MoveRun.{movedRun, placeWithout}
+use Rattle.tree.specs.declared.action.Position.{Position}
+use Rattle.tree.specs.declared.action.Position.the-variants.{Head, Tail, Before, After}
+use Rattle.tree.specs.Action.{putHere}
+use Rattle.tree.specs.Add.{placeBy, put-at}
+use Rattle.tree.specs.MoveRun.{placeWithout, movedTo}
 use Rattle.tree.specs.Places.{place-front, place-behind, place-drop, deeper-without}
 
 -- the nodes m and n, found at the places a and b of the first c records of us, where b is not in the run of a
@@ -164,43 +168,32 @@ module _ (c : ℕ) (us : List ℕ) (m n a b : ℕ) (here-a : a ≡ place m (rows
 
   gone : cut m (rows c us) ≡ rows c′ us′
   unfolding t e left
-  gone = cut-at c us m a here-a live-a (depthAt us a) e refl refl ∙ sym table
+  gone = sym (edit-first m a freeHere (rows c us) here-a) ∙ cut-at c us a live-a (depthAt us a) e refl refl ∙ sym table
 
   here-left : b′ ≡ place n (rows c′ us′)
   here-left = place-left ∙ ap (λ (l : List Node). place n l) (sym table)
 
-  end-here : placeWithout a e (endAt c us b) ≡ b′ + 1 + deeper (depthAt us b) (drop (b′ + 1) (rows c′ us′))
+  end-here : endAt c′ us′ b′ ≡ placeWithout a e (endAt c us b)
   unfolding rest
-  end-here = end-left ∙ ap (λ (l : List Node). b′ + 1 + deeper (depthAt us b) (drop (b′ + 1) l)) (sym table)
+  end-here = ap₂ (λ (d : ℕ) (l : List Node). b′ + 1 + deeper d (drop (b′ + 1) l)) (sym deep) table ∙ sym end-left
 
   next-left : b′ + 1 ≡ placeWithout a e (b + 1)
   next-left = cases (λ h. rw (le-leb (b + 1) a (omega arith)) (omega (arith, before h))) (λ h. rw (lt-leb (b + 1) a (omega (arith, e-past))) (omega (arith, behind h, e-past)))
 
-  pub moveBefore-at : moveBefore m n (rows c us) ≡ movedRun a (endAt c us a) (placeWithout a (endAt c us a) b) (depthAt us a) (depthAt us b) (rows c us)
-  unfolding xs t e left b′
-  moveBefore-at =
-      ap₂ (λ (ys l : List Node). addBefore ys n l) run gone
-      ∙ addBefore-at c′ us′ n b′ here-left live-left xs
-      ∙ ap₂ (λ (d : ℕ) (l : List Node). putIn b′ (lift d xs) l) (sym deep) table
+  -- a position by n there is the one by n here, without the run
+  by-left : (p : Position) → (placeBy p c′ us′ b′ .at ≡ placeWithout a e (placeBy p c us b .at)) × (placeBy p c′ us′ b′ .depth ≡ placeBy p c us b .depth)
+  unfolding b′
+  by-left Head = (next-left, ap (λ (d : ℕ). d + 1) (sym deep))
+  by-left Tail = (end-here, ap (λ (d : ℕ). d + 1) (sym deep))
+  by-left Before = (refl, sym deep)
+  by-left After = (end-here, sym deep)
 
-  pub moveHead-at : moveHead m n (rows c us) ≡ movedRun a (endAt c us a) (placeWithout a (endAt c us a) (b + 1)) (depthAt us a) (depthAt us b + 1) (rows c us)
+  pub move-first : (p : Position) → movedTo c us a (placeBy p c us b) ≡ editRows n (putHere p (runOf m (rows c us))) (cut m (rows c us))
   unfolding xs t e left
-  moveHead-at =
-      ap₂ (λ (ys l : List Node). addHead ys n l) run gone
-      ∙ addHead-at c′ us′ n b′ here-left live-left xs
-      ∙ ap₂ (λ (d : ℕ) (l : List Node). putIn (b′ + 1) (lift (d + 1) xs) l) (sym deep) table
-      ∙ ap (λ (k : ℕ). putIn k (lift (depthAt us b + 1) xs) left) next-left
-
-  pub moveAfter-at : moveAfter m n (rows c us) ≡ movedRun a (endAt c us a) (placeWithout a (endAt c us a) (endAt c us b)) (depthAt us a) (depthAt us b) (rows c us)
-  unfolding xs t e left
-  moveAfter-at =
-      ap₂ (λ (ys l : List Node). addAfter ys n l) run gone
-      ∙ addAfter-at c′ us′ n b′ here-left live-left (depthAt us b) (placeWithout a e (endAt c us b)) deep end-here xs
-      ∙ ap (λ (l : List Node). putIn (placeWithout a e (endAt c us b)) (lift (depthAt us b) xs) l) table
-
-  pub moveTail-at : moveTail m n (rows c us) ≡ movedRun a (endAt c us a) (placeWithout a (endAt c us a) (endAt c us b)) (depthAt us a) (depthAt us b + 1) (rows c us)
-  unfolding xs t e left
-  moveTail-at =
-      ap₂ (λ (ys l : List Node). addTail ys n l) run gone
-      ∙ addTail-at c′ us′ n b′ here-left live-left (depthAt us b) (placeWithout a e (endAt c us b)) deep end-here xs
-      ∙ ap (λ (l : List Node). putIn (placeWithout a e (endAt c us b)) (lift (depthAt us b + 1) xs) l) table
+  move-first p =
+      sym
+      (ap₂ (λ (ys l : List Node). editRows n (putHere p ys) l) run gone
+      ∙ sym (edit-first n b′ (putHere p xs) (rows c′ us′) here-left)
+      ∙ put-at c′ us′ b′ live-left p xs
+      ∙ ap₂ (λ (i d : ℕ). putIn i (lift d xs) (rows c′ us′)) (by-left p .0) (by-left p .1)
+      ∙ ap (λ (l : List Node). putIn (placeWithout a e (placeBy p c us b .at)) (lift (placeBy p c us b .depth) xs) l) table)

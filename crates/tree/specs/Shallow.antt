@@ -13,8 +13,9 @@ use Rattle.nodes.specs.declared.Node.{Node}
 use Rattle.nodes.specs.Table.{width, nodeFrom, rows, row-from}
 use Rattle.nodes.specs.Place.{isGroup}
 use Rattle.nodes.specs.Formed.{reach, steps, rooted}
-use Rattle.tree.specs.Sizes.{depthAt}
-use Rattle.tree.specs.Add.{Target, Room}
+use Rattle.nodes.specs.Sizes.{depthAt}
+use Rattle.tree.specs.declared.action.Action.{Action}
+use Rattle.tree.specs.Add.{Target, Room, grows}
 use Rattle.tree.specs.Ends.{inRun, Moving, outside-run}
 
 reach-most : (r : Node) → reach r ≤ r .depth + 1
@@ -77,5 +78,5 @@ module _ (c : ℕ) (us : List ℕ) (root : rooted (rows c us) ≡ true) where
       shallow = λ i h. omega (arith, depth-most i h);
     }
 
-  pub addable : (action at : ℕ) → width * c + pick (eqb action 4) 0 width ≤ length us → c ≤ 256 → at < c → Room us c action at
+  pub addable : (action : Action) (at : ℕ) → width * c + grows action ≤ length us → c ≤ 256 → at < c → Room us c action at
   addable action at room few live = record { room = room; few = few; live = live; shallow = omega (arith, depth-most at live) }

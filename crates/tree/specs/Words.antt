@@ -7,6 +7,8 @@ use lib.ListN.{length, take, drop, take-append-drop, length-append, length-take,
 use lib.Seq.{take-at, drop-at, drop-drop, drop-append-add, length-take-le}
 use Rattle.nodes.specs.declared.Node.{Node}
 use Rattle.nodes.specs.Table.{width, rows, wordsOf, encode, over, fill, rows-length, rows-fill, encode-rows, encode-length, encode-append}
+use Rattle.nodes.specs.Edit.{setRunHere, editAt}
+use Rattle.nodes.specs.Split.{setRun-at}
 use Rattle.tree.specs.Sizes.{Leaves}
 
 -- a table's words, and what is past them
@@ -76,6 +78,7 @@ leaves-then us s l mid after k j h g more = record {
   size = g .size;
 }
 
--- nothing changed
-pub leaves-same : (us : List ℕ) (n : ℕ) → width * n ≤ length us → Leaves us (rows n us) us n
-leaves-same us n h = record { words = whole n us h ∙ ap (λ (k : ℕ). encode (rows n us) ++ drop (width * k) us) (sym (rows-length n us)); size = sym (rows-length n us) }
+-- a run flag set: as many records as before
+pub run-leaves : (us : List ℕ) (count at flag : ℕ) → at < count → (after : List ℕ) → after ≡ fill us (editAt at (setRunHere flag) (rows count us)) → Leaves us (editAt at (setRunHere flag) (rows count us)) after count
+run-leaves us count at flag live after e =
+    record { words = e; size = sym (ap length (setRun-at count us at live flag) ∙ simp (length-append, length-take, length-drop, rows-length) (omega arith)) }

@@ -1,37 +1,49 @@
 // Adding a node by an add action.
+use crate::action::Action;
+use crate::action::Position;
 use crate::change::insert;
 use crate::change::remove;
 use crate::search::subtree_end;
+use layout::DEPTH;
+use layout::RECORD;
 use nodes::Node;
-use refusals::Refusal;
 ghost use mathlib.Core.Path.{_≡_};
 ghost use mathlib.Core.List.{_∷_, []};
-ghost use Prim.Native.Nat.{ℕ};
 ghost use Rattle.nodes.specs.Table.{rows};
-ghost use Rattle.nodes.specs.Place.{place};
-ghost use Rattle.nodes.specs.Edit.{level, addOver};
-ghost use Rattle.tree.specs.Sizes.{Placed, Leaves, depthAt, endAt};
-ghost use Rattle.tree.specs.Add.{Target, Room, addPlace, addBy};
+ghost use Rattle.nodes.specs.Edit.{level, editAt, overHere};
+ghost use Rattle.tree.specs.Sizes.{Placed, Leaves};
+ghost use Rattle.tree.specs.Action.{addHere};
+ghost use Rattle.tree.specs.Add.{Target, Room, placeBy};
 
-// Where a new record goes and its depth, or the refusal.
-pub enum Place {
-    At(usize, u32),
-    Refused(Refusal),
+// Where a record goes, and the depth that it has there.
+pub struct Place {
+    pub at: usize,
+    pub depth: u32,
 }
 
-// Where an add action puts a new record; at is the target's place.
-pub fn add_place(nodes: &[u32], count: usize, action: u32, at: usize) -> Place
+// The place at a position by the node at another place.
+pub fn place_by(nodes: &[u32], count: usize, position: Position, at: usize) -> Place
     requires { ⌜ Target (now nodes) count at ⌝ }
-    ensures { λ r. ⌜ r ≡ addPlace action at (depthAt (now (nodes .entry)) at) (endAt count (now (nodes .entry)) at) ⌝ }
+    ensures { λ r. ⌜ r ≡ placeBy position count (now (nodes .entry)) at ⌝ }
 {
-    let depth = nodes[5 * at + 1];
-    match action {
-        0 => Place::At(at + 1, depth + 1),
-        1 => Place::At(subtree_end(nodes, count, at), depth + 1),
-        2 => Place::At(at, depth),
-        3 => Place::At(subtree_end(nodes, count, at), depth),
-        4 => Place::At(at, depth),
-        5..=4294967295 => Place::Refused(Refusal::BadFlag),
+    let depth = nodes[RECORD * at + DEPTH];
+    match position {
+        Position::Head => Place {
+            at: at + 1,
+            depth: depth + 1,
+        },
+        Position::Tail => Place {
+            at: subtree_end(nodes, count, at),
+            depth: depth + 1,
+        },
+        Position::Before => Place {
+            at: at,
+            depth: depth,
+        },
+        Position::After => Place {
+            at: subtree_end(nodes, count, at),
+            depth: depth,
+        },
     }
 }
 
@@ -48,28 +60,28 @@ fn at_depth(node: Node, depth: u32) -> Node
     }
 }
 
-// Action 4: the target's run taken out, and the new record in its place.
+// The run at a place taken out, and the new record put in there.
 fn replace(nodes: &mut [u32], count: usize, at: usize, node: Node) -> usize
     requires { ⌜ Placed (now nodes) count at ⌝ }
-    ensures { λ r. ⌜ ((n : ℕ) → at ≡ place n (rows count (now (nodes .entry))) → Leaves (now (nodes .entry)) (addOver (level 0 node ∷ []) n (rows count (now (nodes .entry)))) (now (nodes .exit)) r) ⌝ }
+    ensures { λ r. ⌜ Leaves (now (nodes .entry)) (editAt at (overHere (level 0 node ∷ [])) (rows count (now (nodes .entry)))) (now (nodes .exit)) r ⌝ }
 {
-    let depth = nodes[5 * at + 1];
+    let depth = nodes[RECORD * at + DEPTH];
     let end = subtree_end(nodes, count, at);
     let left = remove(nodes, count, at, end);
     insert(nodes, left, at, at_depth(node, depth))
 }
 
-// A node put in by an add action; at is the target's place. A number that is no add action changes nothing.
-pub fn add_node(nodes: &mut [u32], count: usize, action: u32, at: usize, node: Node) -> usize
+// A node put in by an add action on the node at a place.
+pub fn add_node(nodes: &mut [u32], count: usize, action: Action, at: usize, node: Node) -> usize
     requires { ⌜ Room (now nodes) count action at ⌝ }
-    ensures { λ r. ⌜ ((n : ℕ) → at ≡ place n (rows count (now (nodes .entry))) → Leaves (now (nodes .entry)) (addBy action (level 0 node ∷ []) n (rows count (now (nodes .entry)))) (now (nodes .exit)) r) ⌝ }
+    ensures { λ r. ⌜ Leaves (now (nodes .entry)) (editAt at (addHere action (level 0 node ∷ [])) (rows count (now (nodes .entry)))) (now (nodes .exit)) r ⌝ }
 {
-    if action == 4 {
-        return replace(nodes, count, at, node);
-    }
-    let put = add_place(nodes, count, action, at);
-    match put {
-        Place::At(place, depth) => insert(nodes, count, place, at_depth(node, depth)),
-        Place::Refused(_why) => count,
+    match action {
+        Action::Put(position) => {
+            let to = place_by(nodes, count, position, at);
+            let place = to.at;
+            insert(nodes, count, place, at_depth(node, to.depth))
+        }
+        Action::Replace => replace(nodes, count, at, node),
     }
 }

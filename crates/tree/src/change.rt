@@ -4,14 +4,14 @@ use crate::runs::node_at;
 use crate::runs::open_gap;
 use crate::runs::put_node;
 use crate::search::subtree_end;
+use layout::RECORD;
 use nodes::Node;
 ghost use mathlib.Core.Path.{_≡_};
 ghost use mathlib.Core.List.{_∷_, _++_};
-ghost use Prim.Native.Nat.{ℕ, _+_, _*_, _≤_};
+ghost use Prim.Native.Nat.{_+_, _*_, _≤_};
 ghost use lib.ListN.{length, take, drop};
 ghost use Rattle.nodes.specs.Table.{width, rows, fill};
-ghost use Rattle.nodes.specs.Place.{place};
-ghost use Rattle.nodes.specs.Edit.{cut, cutBelow, setRun};
+ghost use Rattle.nodes.specs.Edit.{editAt, freeHere, freeAllHere, setRunHere};
 ghost use Rattle.tree.specs.Sizes.{Placed, Leaves};
 
 // A record put in at a place.
@@ -19,7 +19,7 @@ pub fn insert(nodes: &mut [u32], count: usize, at: usize, node: Node) -> usize
     requires { ⌜ (at ≤ count) × (width * count + width ≤ length (now nodes)) ⌝ }
     ensures { λ r. ⌜ Leaves (now (nodes .entry)) (take at (rows count (now (nodes .entry))) ++ node ∷ drop at (rows count (now (nodes .entry)))) (now (nodes .exit)) r ⌝ }
 {
-    open_gap(nodes, 5 * at, 5, 5 * count);
+    open_gap(nodes, RECORD * at, RECORD, RECORD * count);
     put_node(nodes, at, node);
     count + 1
 }
@@ -29,14 +29,14 @@ pub fn remove(nodes: &mut [u32], count: usize, from: usize, to: usize) -> usize
     requires { ⌜ (from ≤ to) × ((to ≤ count) × (width * count ≤ length (now nodes))) ⌝ }
     ensures { λ r. ⌜ Leaves (now (nodes .entry)) (take from (rows count (now (nodes .entry))) ++ drop to (rows count (now (nodes .entry)))) (now (nodes .exit)) r ⌝ }
 {
-    close_gap(nodes, 5 * from, 5 * to, 5 * count);
+    close_gap(nodes, RECORD * from, RECORD * to, RECORD * count);
     count - (to - from)
 }
 
 // The node at this place taken out with all below it.
 pub fn cut(nodes: &mut [u32], count: usize, at: usize) -> usize
     requires { ⌜ Placed (now nodes) count at ⌝ }
-    ensures { λ r. ⌜ ((n : ℕ) → at ≡ place n (rows count (now (nodes .entry))) → Leaves (now (nodes .entry)) (cut n (rows count (now (nodes .entry)))) (now (nodes .exit)) r) ⌝ }
+    ensures { λ r. ⌜ Leaves (now (nodes .entry)) (editAt at freeHere (rows count (now (nodes .entry)))) (now (nodes .exit)) r ⌝ }
 {
     let end = subtree_end(nodes, count, at);
     remove(nodes, count, at, end)
@@ -45,7 +45,7 @@ pub fn cut(nodes: &mut [u32], count: usize, at: usize) -> usize
 // All below the node at this place taken out.
 pub fn cut_below(nodes: &mut [u32], count: usize, at: usize) -> usize
     requires { ⌜ Placed (now nodes) count at ⌝ }
-    ensures { λ r. ⌜ ((n : ℕ) → at ≡ place n (rows count (now (nodes .entry))) → Leaves (now (nodes .entry)) (cutBelow n (rows count (now (nodes .entry)))) (now (nodes .exit)) r) ⌝ }
+    ensures { λ r. ⌜ Leaves (now (nodes .entry)) (editAt at freeAllHere (rows count (now (nodes .entry)))) (now (nodes .exit)) r ⌝ }
 {
     let end = subtree_end(nodes, count, at);
     remove(nodes, count, at + 1, end)
@@ -54,7 +54,7 @@ pub fn cut_below(nodes: &mut [u32], count: usize, at: usize) -> usize
 // The run flag of the node at this place set.
 pub fn set_run(nodes: &mut [u32], count: usize, at: usize, flag: u32)
     requires { ⌜ Placed (now nodes) count at ⌝ }
-    ensures { λ r. ⌜ ((n : ℕ) → at ≡ place n (rows count (now (nodes .entry))) → now (nodes .exit) ≡ fill (now (nodes .entry)) (setRun n flag (rows count (now (nodes .entry))))) ⌝ }
+    ensures { λ r. ⌜ now (nodes .exit) ≡ fill (now (nodes .entry)) (editAt at (setRunHere flag) (rows count (now (nodes .entry)))) ⌝ }
 {
     let node = node_at(nodes, at);
     put_node(

@@ -1,26 +1,26 @@
 // The node table in the lent node region: looking at it and changing it, with the count by value in and out.
+mod action;
 mod add;
 mod change;
+mod deep;
 mod moves;
 mod rows;
 mod runs;
 mod search;
 mod structure;
 
-pub use add::Place;
+pub use action::Action;
+pub use action::Asked;
+pub use action::Position;
+pub use action::add_action;
 pub use add::add_node;
-pub use add::add_place;
 pub use change::cut;
 pub use change::cut_below;
-pub use change::insert;
-pub use change::remove;
 pub use change::set_run;
-pub use moves::move_after;
-pub use moves::move_before;
-pub use moves::move_head;
-pub use moves::move_tail;
+pub use deep::deep_free;
+pub use moves::move_node;
 pub use rows::free_row;
-pub use runs::node_at;
+pub use runs::copy_words;
 pub use search::find;
 pub use search::subtree_end;
 pub use structure::child_count;

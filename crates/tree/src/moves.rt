@@ -1,19 +1,22 @@
 // A run of records moved to another place, with its new depths.
+use crate::action::Position;
+use crate::add::Place;
+use crate::add::place_by;
 use crate::runs::close_gap;
 use crate::runs::copy_words;
 use crate::runs::open_gap;
 use crate::search::subtree_end;
+use layout::DEPTH;
+use layout::RECORD;
 ghost use mathlib.Core.Path.{_≡_};
-ghost use Prim.Native.Nat.{ℕ, _+_, _-_, _*_, _≤_, _<_};
+ghost use Prim.Native.Nat.{_+_, _-_, _≤_, _<_};
 ghost use lib.ListN.{length, take, drop};
-ghost use Rattle.nodes.specs.Place.{place};
-ghost use Rattle.nodes.specs.Edit.{moveBefore, moveAfter, moveHead, moveTail};
-ghost use Rattle.tree.specs.Sizes.{depthAt, endAt};
-ghost use Rattle.tree.specs.Ends.{MoveTo, Moving};
-ghost use Rattle.tree.specs.Depths.{Levels, releveled};
-ghost use Rattle.nodes.specs.Table.{width, rows, fill};
-ghost use Rattle.tree.specs.MoveRun.{Movable, movedRun, placeWithout};
+ghost use Rattle.nodes.specs.Table.{fill};
+ghost use Rattle.tree.specs.Add.{placeBy};
 ghost use Rattle.tree.specs.Moves.{without, putIn, Opened};
+ghost use Rattle.tree.specs.Depths.{Levels, releveled};
+ghost use Rattle.tree.specs.MoveRun.{Movable, movedWords, movedTo, placeWithout};
+ghost use Rattle.tree.specs.Ends.{MoveTo, Moving};
 
 // Room made at a place for the words from `from` up to `to`: those between come over them.
 fn make_room(words: &mut [u32], from: usize, to: usize, at: usize)
@@ -58,7 +61,7 @@ fn set_depths(nodes: &mut [u32], from: usize, to: usize, old: u32, new: u32)
 {
     let mut i = from;
     while i < to {
-        let at = 5 * i + 1;
+        let at = RECORD * i + DEPTH;
         nodes[at] = nodes[at] - old + new;
         i += 1;
     }
@@ -67,10 +70,10 @@ fn set_depths(nodes: &mut [u32], from: usize, to: usize, old: u32, new: u32)
 // The records from `from` up to `to` taken out, and put in at a place of those that are left, from the depth `old` to the depth `new`.
 fn move_run(nodes: &mut [u32], from: usize, to: usize, at: usize, old: u32, new: u32)
     requires { ⌜ Movable (now nodes) from to at old new ⌝ }
-    ensures { λ r. ⌜ ((count : ℕ) → to ≤ count → at + (to - from) ≤ count → width * count ≤ length (now (nodes .entry)) → now (nodes .exit) ≡ fill (now (nodes .entry)) (movedRun from to at old new (rows count (now (nodes .entry))))) ⌝ }
+    ensures { λ r. ⌜ now (nodes .exit) ≡ movedWords from to at old new (now (nodes .entry)) ⌝ }
 {
     set_depths(nodes, from, to, old, new);
-    move_words(nodes, 5 * from, 5 * to, 5 * at);
+    move_words(nodes, RECORD * from, RECORD * to, RECORD * at);
 }
 
 // A place of the table as it is without the records from `from` up to `to`, which it is not inside of.
@@ -85,51 +88,22 @@ fn place_without(place: usize, from: usize, to: usize) -> usize
     }
 }
 
-// The run of the node at a place moved to another place, which is not inside the run, to stand there at a depth.
-fn move_to(nodes: &mut [u32], count: usize, at: usize, place: usize, depth: u32)
-    requires { ⌜ MoveTo (now nodes) count at place depth ⌝ }
-    ensures { λ r. ⌜ now (nodes .exit) ≡ fill (now (nodes .entry)) (movedRun at (endAt count (now (nodes .entry)) at) (placeWithout at (endAt count (now (nodes .entry)) at) place) (depthAt (now (nodes .entry)) at) depth (rows count (now (nodes .entry)))) ⌝ }
+// The run of the node at a place moved to another place, which is not inside the run.
+fn move_to(nodes: &mut [u32], count: usize, at: usize, place: Place)
+    requires { ⌜ MoveTo (now nodes) count at place ⌝ }
+    ensures { λ r. ⌜ now (nodes .exit) ≡ fill (now (nodes .entry)) (movedTo count (now (nodes .entry)) at place) ⌝ }
 {
     let end = subtree_end(nodes, count, at);
-    let old = nodes[5 * at + 1];
-    let to = place_without(place, at, end);
-    move_run(nodes, at, end, to, old, depth);
+    let old = nodes[RECORD * at + DEPTH];
+    let to = place_without(place.at, at, end);
+    move_run(nodes, at, end, to, old, place.depth);
 }
 
-// The node at the place a moved, with all below it, before the node at the place b.
-pub fn move_before(nodes: &mut [u32], count: usize, a: usize, b: usize)
+// The node at the place a moved, with all below it, to a position by the node at the place b.
+pub fn move_node(nodes: &mut [u32], count: usize, a: usize, position: Position, b: usize)
     requires { ⌜ Moving (now nodes) count a b ⌝ }
-    ensures { λ r. ⌜ ((m n : ℕ) → a ≡ place m (rows count (now (nodes .entry))) → b ≡ place n (rows count (now (nodes .entry))) → now (nodes .exit) ≡ fill (now (nodes .entry)) (moveBefore m n (rows count (now (nodes .entry))))) ⌝ }
+    ensures { λ r. ⌜ now (nodes .exit) ≡ fill (now (nodes .entry)) (movedTo count (now (nodes .entry)) a (placeBy position count (now (nodes .entry)) b)) ⌝ }
 {
-    let depth = nodes[5 * b + 1];
-    move_to(nodes, count, a, b, depth);
-}
-
-// The same, after it.
-pub fn move_after(nodes: &mut [u32], count: usize, a: usize, b: usize)
-    requires { ⌜ Moving (now nodes) count a b ⌝ }
-    ensures { λ r. ⌜ ((m n : ℕ) → a ≡ place m (rows count (now (nodes .entry))) → b ≡ place n (rows count (now (nodes .entry))) → now (nodes .exit) ≡ fill (now (nodes .entry)) (moveAfter m n (rows count (now (nodes .entry))))) ⌝ }
-{
-    let depth = nodes[5 * b + 1];
-    let end = subtree_end(nodes, count, b);
-    move_to(nodes, count, a, end, depth);
-}
-
-// The same, to the head of the group at the place b.
-pub fn move_head(nodes: &mut [u32], count: usize, a: usize, b: usize)
-    requires { ⌜ Moving (now nodes) count a b ⌝ }
-    ensures { λ r. ⌜ ((m n : ℕ) → a ≡ place m (rows count (now (nodes .entry))) → b ≡ place n (rows count (now (nodes .entry))) → now (nodes .exit) ≡ fill (now (nodes .entry)) (moveHead m n (rows count (now (nodes .entry))))) ⌝ }
-{
-    let depth = nodes[5 * b + 1] + 1;
-    move_to(nodes, count, a, b + 1, depth);
-}
-
-// The same, to its tail.
-pub fn move_tail(nodes: &mut [u32], count: usize, a: usize, b: usize)
-    requires { ⌜ Moving (now nodes) count a b ⌝ }
-    ensures { λ r. ⌜ ((m n : ℕ) → a ≡ place m (rows count (now (nodes .entry))) → b ≡ place n (rows count (now (nodes .entry))) → now (nodes .exit) ≡ fill (now (nodes .entry)) (moveTail m n (rows count (now (nodes .entry))))) ⌝ }
-{
-    let depth = nodes[5 * b + 1] + 1;
-    let end = subtree_end(nodes, count, b);
-    move_to(nodes, count, a, end, depth);
+    let to = place_by(nodes, count, position, b);
+    move_to(nodes, count, a, to);
 }

@@ -1,4 +1,9 @@
 // Records and runs of words in the region: read, written, moved up and down.
+use layout::DEPTH;
+use layout::RECORD;
+use layout::ROW;
+use layout::RUN;
+use layout::SLOT;
 use nodes::Node;
 ghost use mathlib.Core.Path.{_≡_};
 ghost use Prim.Native.Nat.{_+_, _-_, _*_, _≤_, _<_};
@@ -11,13 +16,13 @@ pub fn node_at(nodes: &[u32], at: usize) -> Node
     requires { ⌜ width * at + width ≤ length (now nodes) ⌝ }
     ensures { λ r. ⌜ r ≡ nodeFrom (now (nodes .entry)) (width * at) ⌝ }
 {
-    let from = 5 * at;
+    let from = RECORD * at;
     Node {
         number: nodes[from],
-        depth: nodes[from + 1],
-        run: nodes[from + 2],
-        slot: nodes[from + 3],
-        row: nodes[from + 4],
+        depth: nodes[from + DEPTH],
+        run: nodes[from + RUN],
+        slot: nodes[from + SLOT],
+        row: nodes[from + ROW],
     }
 }
 
@@ -26,12 +31,12 @@ pub fn put_node(nodes: &mut [u32], at: usize, node: Node)
     requires { ⌜ width * at + width ≤ length (now nodes) ⌝ }
     ensures { λ r. ⌜ now (nodes .exit) ≡ over (width * at) (wordsOf node) (now (nodes .entry)) ⌝ }
 {
-    let from = 5 * at;
+    let from = RECORD * at;
     nodes[from] = node.number;
-    nodes[from + 1] = node.depth;
-    nodes[from + 2] = node.run;
-    nodes[from + 3] = node.slot;
-    nodes[from + 4] = node.row;
+    nodes[from + DEPTH] = node.depth;
+    nodes[from + RUN] = node.run;
+    nodes[from + SLOT] = node.slot;
+    nodes[from + ROW] = node.row;
 }
 
 // The words from `from` up to `end` moved up by `gap`.

@@ -1,8 +1,11 @@
 // Looking along the table: a node by its number, and the end of a node's run.
+use layout::DEPTH;
+use layout::RECORD;
 ghost use mathlib.Core.Path.{_≡_};
 ghost use Rattle.nodes.specs.Table.{rows};
 ghost use Rattle.nodes.specs.Place.{place};
-ghost use Rattle.tree.specs.Sizes.{TableFits, Placed, endAt};
+ghost use Rattle.nodes.specs.Sizes.{TableFits, endAt};
+ghost use Rattle.tree.specs.Sizes.{Placed};
 
 // The place of the node with this number, or the count.
 pub fn find(nodes: &[u32], count: usize, number: u32) -> usize
@@ -11,7 +14,7 @@ pub fn find(nodes: &[u32], count: usize, number: u32) -> usize
 {
     let mut i = 0;
     while i < count {
-        if nodes[5 * i] == number {
+        if nodes[RECORD * i] == number {
             return i;
         }
         i += 1;
@@ -24,10 +27,10 @@ pub fn subtree_end(nodes: &[u32], count: usize, at: usize) -> usize
     requires { ⌜ Placed (now nodes) count at ⌝ }
     ensures { λ r. ⌜ r ≡ endAt count (now (nodes .entry)) at ⌝ }
 {
-    let depth = nodes[5 * at + 1];
+    let depth = nodes[RECORD * at + DEPTH];
     let mut i = at + 1;
     while i < count {
-        if nodes[5 * i + 1] <= depth {
+        if nodes[RECORD * i + DEPTH] <= depth {
             return i;
         }
         i += 1;

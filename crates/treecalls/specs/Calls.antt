@@ -1,5 +1,5 @@
 -- What the calls from another language answer and leave: each tests what it is lent, and where a test fails it is refused and changes nothing.
-use Prim.Native.Nat.{ℕ, _+_, _*_}
+use Prim.Native.Nat.{ℕ, zero, suc, _+_, _*_}
 use mathlib.Core.Bool.{Bool, true, not}
 use mathlib.Core.Path.{_≡_}
 use mathlib.Core.List.{List, [], _∷_}
@@ -9,11 +9,10 @@ use Rattle.words.specs.Choice.{pick, both}
 use Rattle.nodes.specs.declared.Node.{Node}
 use Rattle.nodes.specs.Table.{width, rows, fill}
 use Rattle.nodes.specs.Place.{lives, place}
-use Rattle.nodes.specs.Edit.{isBelow, moveBefore, moveAfter, moveHead, moveTail}
+use Rattle.nodes.specs.Sizes.{depthAt}
+use Rattle.nodes.specs.Edit.{level, isBelow, addBy, moveBefore, moveAfter, moveHead, moveTail}
 use Rattle.nodes.specs.Formed.{mostNodes, apart}
 use Rattle.nodes.specs.Order.{order}
-use Rattle.tree.specs.Sizes.{depthAt}
-use Rattle.tree.specs.Add.{addBy}
 use Rattle.tree.specs.Ends.{inRun}
 use Rattle.order.specs.Order.{mostOrder, orderWords}
 
@@ -29,7 +28,11 @@ bit b = pick b 1 0
 abbrev pub tabled : List ℕ → ℕ → Bool
 tabled us count = both (leb count mostNodes) (leb (width * count) (length us))
 
--- and the node n is one of them
+-- the place of the node n, or the count where there is none
+abbrev pub placeOf : List ℕ → ℕ → ℕ → ℕ
+placeOf us count n = pick (tabled us count) (place n (rows count us)) count
+
+-- the node n is one of them
 abbrev pub known : List ℕ → ℕ → ℕ → Bool
 known us count n = both (tabled us count) (lives n (rows count us))
 
@@ -54,18 +57,19 @@ pub record Changed (us : List ℕ) (ready : Bool) (t : List Node) (many r : ℕ)
 abbrev pub Edits : (ℕ → List Node → List Node) → List ℕ → ℕ → ℕ → ℕ → List ℕ → Type 0
 Edits e us count n r after = Changed us (known us count n) (e n (rows count us)) (length (e n (rows count us))) r after
 
--- adding asks for a record's room, which action 4 makes itself, and for a depth that can be one more
+-- adding asks for an action from 0 to 4, for a record's room, which action 4 makes itself, and for a depth that can be one more
 abbrev pub addable : List ℕ → ℕ → ℕ → ℕ → Bool
 addable us count action n =
-    both (known us count n)
-    (both (ltb (depthAt us (place n (rows count us))) 4294967295) (leb (width * count + pick (eqb action 4) 0 width) (length us)))
+    both (leb action 4)
+    (both (known us count n)
+    (both (ltb (depthAt us (place n (rows count us))) 4294967295) (leb (width * count + pick (eqb action 4) 0 width) (length us))))
 
 -- a new node, which the action puts at its depth
 abbrev pub newNode : ℕ → ℕ → ℕ → ℕ → Node
 newNode number run slot row = record { number = number; depth = 0; run = run; slot = slot; row = row }
 
 abbrev pub Adds : ℕ → Node → List ℕ → ℕ → ℕ → ℕ → List ℕ → Type 0
-Adds action x us count n r after = Changed us (addable us count action n) (addBy action (x ∷ []) n (rows count us)) (length (addBy action (x ∷ []) n (rows count us))) r after
+Adds action x us count n r after = Changed us (addable us count action n) (addBy action (level 0 x) n (rows count us)) (length (addBy action (level 0 x) n (rows count us))) r after
 
 -- every depth is at most 256
 unfoldable pub shallow : List Node → Bool
@@ -82,11 +86,11 @@ movable us count a b =
 abbrev pub isWay : ℕ → Bool
 isWay how = leb how 3
 
-unfoldable pub moveBy : ℕ → ℕ → ℕ → List Node → List Node
-moveBy how a b t =
-    pick (eqb how 0) (moveBefore a b t)
-    (pick (eqb how 1) (moveAfter a b t)
-    (pick (eqb how 2) (moveHead a b t) (moveTail a b t)))
+abbrev pub moveBy : ℕ → ℕ → ℕ → List Node → List Node
+moveBy zero a b t = moveBefore a b t
+moveBy (suc zero) a b t = moveAfter a b t
+moveBy (suc (suc zero)) a b t = moveHead a b t
+moveBy (suc (suc (suc how))) a b t = moveTail a b t
 
 abbrev pub Moves : ℕ → List ℕ → ℕ → ℕ → ℕ → ℕ → List ℕ → Type 0
 Moves how us count a b r after = Changed us (both (isWay how) (movable us count a b)) (moveBy how a b (rows count us)) count r after

@@ -1,21 +1,29 @@
 -- Calls that move a node: what the tests tell, and what is left.
-use Prim.Native.Nat.{ℕ, _≤_, _<_}
+use Prim.Native.Nat.{ℕ, zero, suc, _≤_, _<_}
 use mathlib.Core.Bool.{Bool, true, false, not}
-use mathlib.Core.Path.{_≡_, sym, _∙_}
+use mathlib.Core.Path.{_≡_, sym, ap, _∙_}
 use mathlib.Core.List.{List}
+use native.Mathlib.Omega.{arith}
 use borrow.Author.Tests.{le-leb, lt-leb}
 use Rattle.words.specs.Choice.{both}
 use Rattle.nodes.specs.declared.Node.{Node}
 use Rattle.nodes.specs.Table.{rows, fill}
-use Rattle.nodes.specs.Place.{place}
-use Rattle.nodes.specs.Edit.{moveBefore, moveAfter, moveHead, moveTail}
+use Rattle.nodes.specs.Edit.{runOf, editRows, cut}
+use Rattle.tree.specs.declared.action.Position.{Position}
+use Rattle.tree.specs.declared.action.Position.the-variants.{Head, Tail, Before, After}
+use Rattle.tree.specs.Sizes.{TwoPlaces}
+use Rattle.tree.specs.Action.{putHere}
+use Rattle.tree.specs.Add.{placeBy}
+use Rattle.tree.specs.MoveRun.{movedTo}
+use Rattle.tree.specs.Moved.{move-first}
 use Rattle.tree.specs.Ends.{inRun, Moving, outside-run}
-use Rattle.tree.specs.Below.{TwoPlaces}
 use Rattle.treecalls.specs.Calls.{refused, known, isWay, movable, moveBy, Moves, shallow}
 use Rattle.treecalls.specs.Found.{Stands, both-false}
 use Rattle.treecalls.specs.Shallow.{shallow-all}
 use Rattle.treecalls.specs.declared.moving.Pair.{Pair}
-use Rattle.treecalls.specs.declared.moving.Pair.the-variants.{At, Nowhere}
+use Rattle.treecalls.specs.declared.moving.Pair.the-variants as pair
+use Rattle.treecalls.specs.declared.moving.Way.{Way}
+use Rattle.treecalls.specs.declared.moving.Way.the-variants.{To, Nowhere}
 use Rattle.treecalls.specs.Changing.{unchanged, changed}
 
 -- the nodes a and b stand at places such that a can be moved to b
@@ -26,8 +34,8 @@ pub record Clear (us : List ℕ) (count a b i j : ℕ) : Type 0 where
   pub ready : movable us count a b ≡ true
 
 abbrev pub Cleared : List ℕ → ℕ → ℕ → ℕ → Pair → Type 0
-Cleared us count a b (At i j) = Clear us count a b i j
-Cleared us count a b Nowhere = movable us count a b ≡ false
+Cleared us count a b (pair.At i j) = Clear us count a b i j
+Cleared us count a b pair.Nowhere = movable us count a b ≡ false
 
 module _ (us : List ℕ) (count a b : ℕ) where
   pub no-first : known us count a ≡ false → movable us count a b ≡ false
@@ -67,38 +75,43 @@ module _ (us : List ℕ) (count a b : ℕ) where
           ready = movable-at ∙ rw (apart, flat);
         }
 
--- the four ways to move
-module _ (how a b : ℕ) (t : List Node) where
-  pub move-before : how ≡ 0 → moveBefore a b t ≡ moveBy how a b t
-  unfolding moveBy
-  move-before e = rw e
+-- the position that a number says
+abbrev pub wayOf : ℕ → Way
+wayOf zero = To Before
+wayOf (suc zero) = To After
+wayOf (suc (suc zero)) = To Head
+wayOf (suc (suc (suc zero))) = To Tail
+wayOf (suc (suc (suc (suc how)))) = Nowhere
 
-  pub move-after : how ≡ 1 → moveAfter a b t ≡ moveBy how a b t
-  unfolding moveBy
-  move-after e = rw e
+way-move : (how : ℕ) (p : Position) → wayOf how ≡ To p → (a b : ℕ) (t : List Node) → (how ≤ 3) × (editRows b (putHere p (runOf a t)) (cut a t) ≡ moveBy how a b t)
+way-move zero p e a b t = let same : Before ≡ p = cc in (omega arith, rw (← same))
+way-move (suc zero) p e a b t = let same : After ≡ p = cc in (omega arith, rw (← same))
+way-move (suc (suc zero)) p e a b t = let same : Head ≡ p = cc in (omega arith, rw (← same))
+way-move (suc (suc (suc zero))) p e a b t = let same : Tail ≡ p = cc in (omega arith, rw (← same))
+way-move (suc (suc (suc (suc how)))) p e a b t = let z : _≡_ {A = ℕ} 0 1 = cc in absurd (omega arith)
 
-  pub move-head : how ≡ 2 → moveHead a b t ≡ moveBy how a b t
-  unfolding moveBy
-  move-head e = rw e
-
-  pub move-tail : how ≡ 3 → moveTail a b t ≡ moveBy how a b t
-  unfolding moveBy
-  move-tail e = rw e
+no-way : (how : ℕ) → wayOf how ≡ Nowhere → 3 < how
+no-way zero e = let z : _≡_ {A = ℕ} 0 1 = cc in absurd (omega arith)
+no-way (suc zero) e = let z : _≡_ {A = ℕ} 0 1 = cc in absurd (omega arith)
+no-way (suc (suc zero)) e = let z : _≡_ {A = ℕ} 0 1 = cc in absurd (omega arith)
+no-way (suc (suc (suc zero))) e = let z : _≡_ {A = ℕ} 0 1 = cc in absurd (omega arith)
+no-way (suc (suc (suc (suc how)))) e = omega arith
 
 -- a move
 module _ (how : ℕ) (us : List ℕ) (count a b : ℕ) where
-  pub move-way : 3 < how → Moves how us count a b refused us
-  move-way h = unchanged us (both (isWay how) (movable us count a b)) (moveBy how a b (rows count us)) count (rw (lt-leb how 3 h))
+  pub move-nowhere : wayOf how ≡ Nowhere → Moves how us count a b refused us
+  move-nowhere h = unchanged us (both (isWay how) (movable us count a b)) (moveBy how a b (rows count us)) count (rw (lt-leb how 3 (no-way how h)))
 
-  module _ (h : how ≤ 3) where
+  module _ (p : Position) (h : wayOf how ≡ To p) where
     ready-at : both (isWay how) (movable us count a b) ≡ movable us count a b
-    ready-at = rw (le-leb how 3 h)
+    ready-at = rw (le-leb how 3 (way-move how p h a b (rows count us) .0))
 
     pub move-refused : movable us count a b ≡ false → Moves how us count a b refused us
     move-refused q = unchanged us (both (isWay how) (movable us count a b)) (moveBy how a b (rows count us)) count (ready-at ∙ q)
 
-    pub move-done : (i j : ℕ) → Clear us count a b i j → (after : List ℕ)
-        → ((m n : ℕ) → i ≡ place m (rows count us) → j ≡ place n (rows count us) → after ≡ fill us (moveBy how m n (rows count us)))
-        → Moves how us count a b count after
+    pub move-done : (i j : ℕ) → Clear us count a b i j → (after : List ℕ) → after ≡ fill us (movedTo count us i (placeBy p count us j)) → Moves how us count a b count after
     move-done i j c after does =
-        changed us (both (isWay how) (movable us count a b)) (moveBy how a b (rows count us)) count (ready-at ∙ c .ready) after (does a b (c .first .here) (c .second .here))
+        changed us (both (isWay how) (movable us count a b)) (moveBy how a b (rows count us)) count (ready-at ∙ c .ready) after
+        (does
+        ∙ ap (λ (t : List Node). fill us t)
+        (move-first count us a b i j (c .first .here) (c .second .here) (c .first .live) (c .second .live) (c .moving .outside) p ∙ way-move how p h a b (rows count us) .1))

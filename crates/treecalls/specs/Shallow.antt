@@ -11,7 +11,7 @@ use Rattle.words.specs.Choice.{both, both-true}
 use Rattle.nodes.specs.declared.Node.{Node}
 use Rattle.nodes.specs.Table.{width, nodeFrom, rows, rows-end, row-from}
 use Rattle.nodes.specs.Formed.{mostNodes}
-use Rattle.tree.specs.Sizes.{depthAt}
+use Rattle.nodes.specs.Sizes.{depthAt}
 use Rattle.treecalls.specs.Calls.{shallow}
 use Rattle.treecalls.specs.Found.{both-false}
 

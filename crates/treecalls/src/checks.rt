@@ -2,6 +2,7 @@
 use crate::places::REFUSED;
 use crate::places::answer_bit;
 use crate::places::has_table;
+use layout::MOST_ORDER;
 ghost use mathlib.Core.Path.{_≡_};
 ghost use lib.ListN.{length};
 ghost use lib.Dec.{eqb};
@@ -19,7 +20,7 @@ pub extern "C" fn tree_order(nodes: &[u32], count: usize, order: &mut [u32]) -> 
     if !has_table(nodes, count) {
         return REFUSED;
     }
-    if order.len() != 255 {
+    if order.len() != MOST_ORDER {
         return REFUSED;
     }
     let fresh = order::running_order(nodes, count);
@@ -28,7 +29,7 @@ pub extern "C" fn tree_order(nodes: &[u32], count: usize, order: &mut [u32]) -> 
     many as u64
 }
 
-// Whether a table of 1,280 words is well nodesFormed: 1, or 0.
+// Whether a table of 1,280 words is well formed: 1, or 0.
 #[no_mangle]
 pub extern "C" fn tree_formed(nodes: &[u32], count: usize, next: u32, latest: u32) -> u64
     ensures { λ r. ⌜ r ≡ bit (both (eqb (length (now (nodes .entry))) 1280) (nodesFormed next latest (rows count (now (nodes .entry))))) ⌝ }
@@ -47,7 +48,7 @@ pub extern "C" fn tree_same_order(kept: &[u32], many: usize, nodes: &[u32], coun
     if !has_table(nodes, count) {
         return 0;
     }
-    if kept.len() != 255 {
+    if kept.len() != MOST_ORDER {
         return 0;
     }
     answer_bit(order::same_order(kept, many, nodes, count))

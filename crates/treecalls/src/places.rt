@@ -1,8 +1,9 @@
 // What every call tests first: the words hold the table, and the number stands in it.
+use layout::MOST_NODES;
+use layout::RECORD;
 use tree::find;
 ghost use mathlib.Core.Path.{_≡_};
-ghost use Rattle.treecalls.specs.Calls.{tabled, bit};
-ghost use Rattle.treecalls.specs.Found.{PlaceFound};
+ghost use Rattle.treecalls.specs.Calls.{tabled, placeOf, bit};
 
 // The answer of a call that is refused.
 pub const REFUSED: u64 = 4294967296;
@@ -11,15 +12,15 @@ pub const REFUSED: u64 = 4294967296;
 pub fn has_table(nodes: &[u32], count: usize) -> bool
     ensures { λ r. ⌜ r ≡ tabled (now (nodes .entry)) count ⌝ }
 {
-    if 256 < count {
+    if MOST_NODES < count {
         return false;
     }
-    5 * count <= nodes.len()
+    RECORD * count <= nodes.len()
 }
 
 // The place of the node with this number; the count where the words hold no such node.
 pub fn place_of(nodes: &[u32], count: usize, number: u32) -> usize
-    ensures { λ r. ⌜ PlaceFound (now (nodes .entry)) count number r ⌝ }
+    ensures { λ r. ⌜ r ≡ placeOf (now (nodes .entry)) count number ⌝ }
 {
     if !has_table(nodes, count) {
         return count;

@@ -8,8 +8,8 @@ use lib.ListN.{length}
 use Rattle.words.specs.Parts.{put}
 use Rattle.refusals.specs.declared.Refusal.the-variants.{NoNode, WrongKind}
 use Rattle.nodes.specs.Table.{rows}
-use Rattle.nodes.specs.Place.{isGroup, place}
-use Rattle.nodes.specs.Edit.{cutBelow, deepFree}
+use Rattle.nodes.specs.Place.{isGroup}
+use Rattle.nodes.specs.Edit.{editAt, freeAllHere, deepFreeHere, cutBelow, deepFree}
 use Rattle.nodes.specs.Formed.{mostNodes}
 use Rattle.treerefinement.specs.Tally.{cutBelow-within, deepFree-within}
 use Rattle.values.specs.declared.NodeArgument.{NodeArgument}
@@ -75,20 +75,20 @@ module _ (g : NodeArgument) (ws : List ℕ) (k : Ready ws) (count : ℕ) (same :
     deep-few : length (deepFree (meantIn g ws) (nodesIn ws)) ≤ mostNodes
     deep-few = left-few ws (deepFree (meantIn g ws) (nodesIn ws)) k (deepFree-within (meantIn g ws) (nodesIn ws))
 
-    module _ (us : List ℕ) (many : ℕ) (does : (m : ℕ) → at ≡ place m (rows count (nodeWords ws)) → Leaves (nodeWords ws) (cutBelow m (rows count (nodeWords ws))) us many) where
+    module _ (us : List ℕ) (many : ℕ) (does : Leaves (nodeWords ws) (editAt at freeAllHere (rows count (nodeWords ws))) us many) where
       pub all-ready : (length (put nodesPlace nodesWords us ws) ≡ wordsLength) × (many ≤ mostNodes)
-      all-ready = edited-ready g ws k count same at group-at cutBelow all-few us many does
+      all-ready = edited-ready g ws k count same at group-at freeAllHere all-few us many does
 
       pub all-done : (out : List ℕ) → not (isGroup (nodeIn ws at)) ≡ false → out ≡ renewed many (put nodesPlace nodesWords us ws) → Steps (tree.FreeAll g) ws Done out
       unfolding answerIn decode wordsAfter effect
       all-done out b o bytes bs =
-          step-done (command.Tree (tree.FreeAll g)) bytes ws bs out (group-right b bs) (edited-left g ws k count same at group-at cutBelow all-few us many does out o bs)
+          step-done (command.Tree (tree.FreeAll g)) bytes ws bs out (group-right b bs) (edited-left g ws k count same at group-at freeAllHere all-few us many does out o bs)
 
-    module _ (us : List ℕ) (many : ℕ) (does : (m : ℕ) → at ≡ place m (rows count (nodeWords ws)) → Leaves (nodeWords ws) (deepFree m (rows count (nodeWords ws))) us many) where
+    module _ (us : List ℕ) (many : ℕ) (does : Leaves (nodeWords ws) (editAt at deepFreeHere (rows count (nodeWords ws))) us many) where
       pub deep-ready : (length (put nodesPlace nodesWords us ws) ≡ wordsLength) × (many ≤ mostNodes)
-      deep-ready = edited-ready g ws k count same at group-at deepFree deep-few us many does
+      deep-ready = edited-ready g ws k count same at group-at deepFreeHere deep-few us many does
 
       pub deep-done : (out : List ℕ) → not (isGroup (nodeIn ws at)) ≡ false → out ≡ renewed many (put nodesPlace nodesWords us ws) → Steps (tree.DeepFree g) ws Done out
       unfolding answerIn decode wordsAfter effect
       deep-done out b o bytes bs =
-          step-done (command.Tree (tree.DeepFree g)) bytes ws bs out (group-right b bs) (edited-left g ws k count same at group-at deepFree deep-few us many does out o bs)
+          step-done (command.Tree (tree.DeepFree g)) bytes ws bs out (group-right b bs) (edited-left g ws k count same at group-at deepFreeHere deep-few us many does out o bs)

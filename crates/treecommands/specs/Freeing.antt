@@ -1,6 +1,6 @@
 -- /n_run and /n_free.
 use Prim.Native.Nat.{ℕ, _≤_, _<_}
-use mathlib.Core.Path.{_≡_, sym, _∙_}
+use mathlib.Core.Path.{_≡_}
 use mathlib.Core.List.{List}
 use native.Mathlib.Omega.{arith}
 use lib.ListN.{length}
@@ -8,8 +8,7 @@ use borrow.Author.Tests.{lt-ltb, le-ltb}
 use Rattle.words.specs.Parts.{put}
 use Rattle.refusals.specs.declared.Refusal.the-variants.{BadFlag, NoNode, WrongKind}
 use Rattle.nodes.specs.Table.{rows, rows-length, fill}
-use Rattle.nodes.specs.Place.{place}
-use Rattle.nodes.specs.Edit.{cut, setRun}
+use Rattle.nodes.specs.Edit.{editAt, freeHere, setRunHere, cut, setRun}
 use Rattle.nodes.specs.Formed.{mostNodes}
 use Rattle.treerefinement.specs.Tally.{cut-within}
 use Rattle.treerefinement.specs.Keep.{setRun-length}
@@ -26,6 +25,7 @@ use Rattle.model.specs.After.{wordsAfter}
 use Rattle.model.specs.Apply.{answerIn}
 use Rattle.state.specs.Does.{step-refused, step-done}
 use Rattle.tree.specs.Sizes.{Leaves}
+use Rattle.tree.specs.Words.{run-leaves}
 use Rattle.names.specs.Named.{Named}
 use Rattle.treecommands.specs.Ready.{Ready, nodeWords}
 use Rattle.treecommands.specs.Finding.{meantIn, NodeFound, found, missing, is-root, not-root}
@@ -43,23 +43,17 @@ module _ (n : NodeArgument) (flag : ℕ) (ws : List ℕ) where
     unfolding answerIn firstOf decode
     run-unknown h bytes bs = step-refused (command.Tree (tree.Run n flag)) bytes ws bs NoNode (rw (le-ltb 1 flag low, missing n ws at fact (omega arith)))
 
-    module _ (us : List ℕ) (live : at < count) (does : (m : ℕ) → at ≡ place m (rows count (nodeWords ws)) → us ≡ fill (nodeWords ws) (setRun m flag (rows count (nodeWords ws)))) where
+    module _ (us : List ℕ) (live : at < count) (does : us ≡ fill (nodeWords ws) (editAt at (setRunHere flag) (rows count (nodeWords ws)))) where
       run-at : NodeFound n ws at
       run-at = found n ws at fact (omega arith)
-
-      size : (m : ℕ) → length (setRun m flag (rows count (nodeWords ws))) ≡ count
-      size m = setRun-length m flag (rows count (nodeWords ws)) ∙ rows-length count (nodeWords ws)
 
       run-few : length (setRun (meantIn n ws) flag (nodesIn ws)) ≤ mostNodes
       run-few = omega (arith, setRun-length (meantIn n ws) flag (nodesIn ws), rows-length (countIn ws) (nodeWords ws), k .few)
 
-      left : (m : ℕ) → at ≡ place m (rows count (nodeWords ws)) → Leaves (nodeWords ws) (setRun m flag (rows count (nodeWords ws))) us count
-      left m h = record { words = does m h; size = sym (size m) }
-
       pub run-done : (out : List ℕ) → out ≡ renewed count (put nodesPlace nodesWords us ws) → Steps (tree.Run n flag) ws Done out
       unfolding answerIn firstOf decode wordsAfter effect
       run-done out o bytes bs =
-          step-done (command.Tree (tree.Run n flag)) bytes ws bs out (rw (le-ltb 1 flag low, run-at .known)) (edited-left n ws k count same at run-at (λ m t. setRun m flag t) run-few us count left out o bs)
+          step-done (command.Tree (tree.Run n flag)) bytes ws bs out (rw (le-ltb 1 flag low, run-at .known)) (edited-left n ws k count same at run-at (setRunHere flag) run-few us count (run-leaves (nodeWords ws) count at flag live us does) out o bs)
 
 -- /n_free
 module _ (n : NodeArgument) (ws : List ℕ) (k : Ready ws) (count : ℕ) (same : count ≡ countIn ws) (at : ℕ) (fact : Named n ws at) where
@@ -75,14 +69,14 @@ module _ (n : NodeArgument) (ws : List ℕ) (k : Ready ws) (count : ℕ) (same :
     unfolding answerIn firstOf decode
     free-root z bytes bs = step-refused (command.Tree (tree.Free n)) bytes ws bs WrongKind (rw (free-at .known, is-root n ws at free-at k z))
 
-    module _ (us : List ℕ) (many : ℕ) (does : (m : ℕ) → at ≡ place m (rows count (nodeWords ws)) → Leaves (nodeWords ws) (cut m (rows count (nodeWords ws))) us many) where
+    module _ (us : List ℕ) (many : ℕ) (does : Leaves (nodeWords ws) (editAt at freeHere (rows count (nodeWords ws))) us many) where
       free-few : length (cut (meantIn n ws) (nodesIn ws)) ≤ mostNodes
       free-few = left-few ws (cut (meantIn n ws) (nodesIn ws)) k (cut-within (meantIn n ws) (nodesIn ws))
 
       pub free-ready : (length (put nodesPlace nodesWords us ws) ≡ wordsLength) × (many ≤ mostNodes)
-      free-ready = edited-ready n ws k count same at free-at cut free-few us many does
+      free-ready = edited-ready n ws k count same at free-at freeHere free-few us many does
 
       pub free-done : (out : List ℕ) → (at ≡ 0 → ⊥) → out ≡ renewed many (put nodesPlace nodesWords us ws) → Steps (tree.Free n) ws Done out
       unfolding answerIn firstOf decode wordsAfter effect
       free-done out z o bytes bs =
-          step-done (command.Tree (tree.Free n)) bytes ws bs out (rw (free-at .known, not-root n ws at free-at k z)) (edited-left n ws k count same at free-at cut free-few us many does out o bs)
+          step-done (command.Tree (tree.Free n)) bytes ws bs out (rw (free-at .known, not-root n ws at free-at k z)) (edited-left n ws k count same at free-at freeHere free-few us many does out o bs)

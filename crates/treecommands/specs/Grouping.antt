@@ -5,6 +5,7 @@ use mathlib.Core.Path.{_≡_, ap, _∙_}
 use mathlib.Core.List.{List, [], _∷_}
 use native.Mathlib.Omega.{arith}
 use lib.ListN.{length}
+use lib.Dec.{ltb}
 use borrow.Author.Tests.{lt-ltb, le-ltb, le-leb, lt-leb}
 use Rattle.words.specs.Parts.{put}
 use Rattle.refusals.specs.declared.Refusal.{Refusal}
@@ -12,6 +13,7 @@ use Rattle.refusals.specs.declared.Refusal.the-variants.{BadFlag, BadNumber, Nu
 use Rattle.nodes.specs.declared.Node.{Node}
 use Rattle.nodes.specs.Table.{rows}
 use Rattle.nodes.specs.Place.{lives, place}
+use Rattle.nodes.specs.Edit.{editRows, editAt}
 use Rattle.nodes.specs.Place as nodes
 use Rattle.nodes.specs.Formed.{mostNodes}
 use Rattle.values.specs.declared.NodeArgument.{NodeArgument}
@@ -26,9 +28,10 @@ use Rattle.model.specs.Effects.{withNodes, addBy, newGroup, effect}
 use Rattle.model.specs.After.{putTree, wordsAfter}
 use Rattle.model.specs.Apply.{answerIn}
 use Rattle.state.specs.Does.{step-refused, step-done}
+use Rattle.tree.specs.declared.action.Action.{Action}
 use Rattle.tree.specs.Sizes.{Leaves}
+use Rattle.tree.specs.Action.{numberOf, addHere, number-most}
 use Rattle.tree.specs.Add.{Room}
-use Rattle.tree.specs.Add as table
 use Rattle.treecommands.specs.declared.group.Spot.{Spot}
 use Rattle.treecommands.specs.declared.group.Spot.the-variants as spot
 use Rattle.names.specs.Named.{Named}
@@ -39,89 +42,91 @@ use Rattle.treecommands.specs.Steps.{Steps, edited-ready, edited-left}
 use Rattle.treecommands.specs.Adding.{badAt, fullAt, bad-target, is-full, room, same-add, after-few}
 
 -- no check fires, and the target stands at its place, with room
-pub record GroupGround (number action : ℕ) (target : NodeArgument) (ws : List ℕ) (at : ℕ) : Type 0 where
-  pub passed : (bytes bs : List ℕ) → firstOf (treeChecks (tree.NewGroup number action target) bytes (decode ws bs)) Done ≡ Done
-  pub low : action ≤ 4
+pub record GroupGround (number : ℕ) (action : Action) (target : NodeArgument) (ws : List ℕ) (at : ℕ) : Type 0 where
+  pub passed : (bytes bs : List ℕ) → firstOf (treeChecks (tree.NewGroup number (numberOf action) target) bytes (decode ws bs)) Done ≡ Done
   pub spot : NodeFound target ws at
   pub room : Room (nodeWords ws) (countIn ws) action at
 
-abbrev pub GroupPlaced : ℕ → ℕ → NodeArgument → List ℕ → Spot → Type 0
+abbrev pub GroupPlaced : ℕ → Action → NodeArgument → List ℕ → Spot → Type 0
 GroupPlaced number action target ws (spot.At at) = GroupGround number action target ws at
-GroupPlaced number action target ws (spot.Refused r) = (bytes bs : List ℕ) → firstOf (treeChecks (tree.NewGroup number action target) bytes (decode ws bs)) Done ≡ Refused r
+GroupPlaced number action target ws (spot.Refused r) = (bytes bs : List ℕ) → firstOf (treeChecks (tree.NewGroup number (numberOf action) target) bytes (decode ws bs)) Done ≡ Refused r
 
 -- its checks, one after the other
-module _ (number action : ℕ) (target : NodeArgument) (ws : List ℕ) where
+module _ (number : ℕ) (action : Action) (target : NodeArgument) (ws : List ℕ) where
   abbrev pub Answers : Refusal → Type 0
-  Answers r = (bytes bs : List ℕ) → firstOf (treeChecks (tree.NewGroup number action target) bytes (decode ws bs)) Done ≡ Refused r
+  Answers r = (bytes bs : List ℕ) → firstOf (treeChecks (tree.NewGroup number (numberOf action) target) bytes (decode ws bs)) Done ≡ Refused r
 
-  pub group-action : 4 < action → Answers BadFlag
+  low : ltb 4 (numberOf action) ≡ false
+  low = le-ltb 4 (numberOf action) (number-most action)
+
+  pub group-negative : firstNegative ≤ number → Answers BadNumber
   unfolding firstOf
-  group-action h bytes bs = rw (lt-ltb 4 action h)
+  group-negative h bytes bs = rw (low, le-leb firstNegative number h)
 
-  module _ (low : action ≤ 4) where
-    pub group-negative : firstNegative ≤ number → Answers BadNumber
-    unfolding firstOf
-    group-negative h bytes bs = rw (le-ltb 4 action low, le-leb firstNegative number h)
+  module _ (k : Ready ws) (count : ℕ) (same : count ≡ countIn ws) (positive : number < firstNegative) (seen : ℕ) (fact : seen ≡ place number (rows count (nodeWords ws))) where
+    pub group-live : seen < count → Answers NumberLive
+    unfolding firstOf decode
+    group-live h bytes bs =
+        let here : lives number (nodesIn ws) ≡ true = rw same at (nodes.found count (nodeWords ws) number (omega arith)) in
+        rw (low, lt-leb firstNegative number positive, here)
 
-    module _ (k : Ready ws) (count : ℕ) (same : count ≡ countIn ws) (positive : number < firstNegative) (seen : ℕ) (fact : seen ≡ place number (rows count (nodeWords ws))) where
-      pub group-live : seen < count → Answers NumberLive
+    module _ (new : count ≤ seen) (at : ℕ) (at-target : Named target ws at) where
+      fresh : lives number (nodesIn ws) ≡ false
+      fresh = rw same at (nodes.not-found count (nodeWords ws) number (omega arith))
+
+      pub group-unknown : count ≤ at → Answers NoNode
       unfolding firstOf decode
-      group-live h bytes bs =
-          let here : lives number (nodesIn ws) ≡ true = rw same at (nodes.found count (nodeWords ws) number (omega arith)) in
-          rw (le-ltb 4 action low, lt-leb firstNegative number positive, here)
+      group-unknown h bytes bs = rw (low, lt-leb firstNegative number positive, fresh, missing target ws at at-target (omega arith))
 
-      module _ (new : count ≤ seen) (at : ℕ) (at-target : Named target ws at) where
-        fresh : lives number (nodesIn ws) ≡ false
-        fresh = rw same at (nodes.not-found count (nodeWords ws) number (omega arith))
+      module _ (live : at < count) where
+        f : NodeFound target ws at
+        f = found target ws at at-target (omega arith)
 
-        pub group-unknown : count ≤ at → Answers NoNode
+        pub group-kind : badAt action ws at ≡ true → Answers WrongKind
         unfolding firstOf decode
-        group-unknown h bytes bs = rw (le-ltb 4 action low, lt-leb firstNegative number positive, fresh, missing target ws at at-target (omega arith))
+        group-kind h bytes bs =
+            rw (low, lt-leb firstNegative number positive, fresh, f .known, bad-target target ws k at f bs action ∙ h)
 
-        module _ (live : at < count) where
-          f : NodeFound target ws at
-          f = found target ws at at-target (omega arith)
-
-          pub group-kind : badAt action ws at ≡ true → Answers WrongKind
+        module _ (kind : badAt action ws at ≡ false) where
+          pub group-full : fullAt action count ≡ true → Answers NodesFull
           unfolding firstOf decode
-          group-kind h bytes bs =
-              rw (le-ltb 4 action low, lt-leb firstNegative number positive, fresh, f .known, bad-target action target ws k at f bs ∙ h)
+          group-full h bytes bs =
+              rw (low, lt-leb firstNegative number positive, fresh, f .known, bad-target target ws k at f bs action ∙ kind, is-full ws count same bs action ∙ h)
 
-          module _ (kind : badAt action ws at ≡ false) where
-            pub group-full : fullAt action count ≡ true → Answers NodesFull
-            unfolding firstOf decode
-            group-full h bytes bs =
-                rw (le-ltb 4 action low, lt-leb firstNegative number positive, fresh, f .known, bad-target action target ws k at f bs ∙ kind, is-full action ws count same bs ∙ h)
+          group-passes : fullAt action count ≡ false → (bytes bs : List ℕ) → firstOf (treeChecks (tree.NewGroup number (numberOf action) target) bytes (decode ws bs)) Done ≡ Done
+          unfolding firstOf decode
+          group-passes h bytes bs =
+              rw (low, lt-leb firstNegative number positive, fresh, f .known, bad-target target ws k at f bs action ∙ kind, is-full ws count same bs action ∙ h)
 
-            group-passes : fullAt action count ≡ false → (bytes bs : List ℕ) → firstOf (treeChecks (tree.NewGroup number action target) bytes (decode ws bs)) Done ≡ Done
-            unfolding firstOf decode
-            group-passes h bytes bs =
-                rw (le-ltb 4 action low, lt-leb firstNegative number positive, fresh, f .known, bad-target action target ws k at f bs ∙ kind, is-full action ws count same bs ∙ h)
+          pub group-ground : fullAt action count ≡ false → GroupGround number action target ws at
+          group-ground h = record { passed = group-passes h; spot = f; room = room action ws k at (f .live) (rw same at h) }
 
-            pub group-ground : fullAt action count ≡ false → GroupGround number action target ws at
-            group-ground h = record { passed = group-passes h; low = low; spot = f; room = room action ws k at (f .live) (rw same at h) }
+-- a number that asks for no add action
+pub group-unasked : (number action : ℕ) (target : NodeArgument) (ws : List ℕ) → 4 < action → Steps (tree.NewGroup number action target) ws (Refused BadFlag) ws
+unfolding answerIn firstOf
+group-unasked number action target ws h bytes bs = step-refused (command.Tree (tree.NewGroup number action target)) bytes ws bs BadFlag (rw (lt-ltb 4 action h))
 
 -- the words after it
-module _ (number action : ℕ) (target : NodeArgument) (ws : List ℕ) where
-  pub group-refused : (r : Refusal) → Answers number action target ws r → Steps (tree.NewGroup number action target) ws (Refused r) ws
+module _ (number : ℕ) (action : Action) (target : NodeArgument) (ws : List ℕ) where
+  pub group-refused : (r : Refusal) → Answers number action target ws r → Steps (tree.NewGroup number (numberOf action) target) ws (Refused r) ws
   unfolding answerIn
-  group-refused r h bytes bs = step-refused (command.Tree (tree.NewGroup number action target)) bytes ws bs r (h bytes bs)
+  group-refused r h bytes bs = step-refused (command.Tree (tree.NewGroup number (numberOf action) target)) bytes ws bs r (h bytes bs)
 
   module _ (k : Ready ws) (count : ℕ) (same : count ≡ countIn ws) (at : ℕ) (g : GroupGround number action target ws at) (us : List ℕ) (many : ℕ)
-      (does : (m : ℕ) → at ≡ place m (rows count (nodeWords ws)) → Leaves (nodeWords ws) (table.addBy action (newGroup number ∷ []) m (rows count (nodeWords ws))) us many) where
-    added : (m : ℕ) (t : List Node) → table.addBy action (newGroup number ∷ []) m t ≡ addBy action (newGroup number) m t
-    added m t = same-add action (g .low) (newGroup number) m t
+      (does : Leaves (nodeWords ws) (editAt at (addHere action (newGroup number ∷ [])) (rows count (nodeWords ws))) us many) where
+    added : editRows (meantIn target ws) (addHere action (newGroup number ∷ [])) (nodesIn ws) ≡ addBy (numberOf action) (newGroup number) (meantIn target ws) (nodesIn ws)
+    added = same-add action (newGroup number) (meantIn target ws) (nodesIn ws)
 
-    few : length (table.addBy action (newGroup number ∷ []) (meantIn target ws) (nodesIn ws)) ≤ mostNodes
+    few : length (editRows (meantIn target ws) (addHere action (newGroup number ∷ [])) (nodesIn ws)) ≤ mostNodes
     unfolding answerIn decode
-    few = rw (added (meantIn target ws) (nodesIn ws)) (after-few (tree.NewGroup number action target) [] ws (k .arena) (k .known) (g .passed [] (k .arena)))
+    few = rw added (after-few (tree.NewGroup number (numberOf action) target) [] ws (k .arena) (k .known) (g .passed [] (k .arena)))
 
     pub group-ready : (length (put nodesPlace nodesWords us ws) ≡ wordsLength) × (many ≤ mostNodes)
-    group-ready = edited-ready target ws k count same at (g .spot) (λ m t. table.addBy action (newGroup number ∷ []) m t) few us many does
+    group-ready = edited-ready target ws k count same at (g .spot) (addHere action (newGroup number ∷ [])) few us many does
 
-    pub group-done : (out : List ℕ) → out ≡ renewed many (put nodesPlace nodesWords us ws) → Steps (tree.NewGroup number action target) ws Done out
+    pub group-done : (out : List ℕ) → out ≡ renewed many (put nodesPlace nodesWords us ws) → Steps (tree.NewGroup number (numberOf action) target) ws Done out
     unfolding answerIn decode wordsAfter effect
     group-done out o bytes bs =
-        step-done (command.Tree (tree.NewGroup number action target)) bytes ws bs out (g .passed bytes bs)
-        (edited-left target ws k count same at (g .spot) (λ m t. table.addBy action (newGroup number ∷ []) m t) few us many does out o bs
-        ∙ ap (λ (t : List Node). putTree (withNodes t (decode ws bs)) ws) (added (meantIn target ws) (nodesIn ws)))
+        step-done (command.Tree (tree.NewGroup number (numberOf action) target)) bytes ws bs out (g .passed bytes bs)
+        (edited-left target ws k count same at (g .spot) (addHere action (newGroup number ∷ [])) few us many does out o bs
+        ∙ ap (λ (t : List Node). putTree (withNodes t (decode ws bs)) ws) added)

@@ -1,16 +1,16 @@
 -- A move accepted: the words after it.
 use Prim.Native.Nat.{ℕ, _≤_}
 use mathlib.Core.Bool.{true}
-use mathlib.Core.Path.{_≡_, refl, sym, _∙_}
+use mathlib.Core.Path.{_≡_, refl, sym, ap, _∙_}
 use mathlib.Core.List.{List}
 use native.Mathlib.Omega.{arith}
 use lib.ListN.{length}
 use Rattle.words.specs.Parts.{put}
 use Rattle.refusals.specs.declared.Refusal.{Refusal}
 use Rattle.nodes.specs.declared.Node.{Node}
-use Rattle.nodes.specs.Table.{rows, rows-length, fill}
-use Rattle.nodes.specs.Place.{lives, place, found}
-use Rattle.nodes.specs.Edit.{cut, moveBefore, moveAfter, moveHead, moveTail}
+use Rattle.nodes.specs.Table.{rows-length, fill}
+use Rattle.nodes.specs.Place.{lives, found}
+use Rattle.nodes.specs.Edit.{runOf, editRows, cut}
 use Rattle.nodes.specs.Formed.{mostNodes}
 use Rattle.treerefinement.specs.Tally.{Same, tally-length, moveHead-same, moveTail-same, moveBefore-same, moveAfter-same}
 use Rattle.values.specs.declared.NodeArgument.{NodeArgument}
@@ -25,7 +25,13 @@ use Rattle.model.specs.Checks.{Check}
 use Rattle.model.specs.Apply.{answerIn}
 use Rattle.state.specs.Does.{step-refused, step-done}
 use Rattle.preservation.specs.TreeSteps.{still-lives}
+use Rattle.tree.specs.declared.action.Position.{Position}
+use Rattle.tree.specs.declared.action.Position.the-variants.{Head, Tail, Before, After}
 use Rattle.tree.specs.Sizes.{Leaves}
+use Rattle.tree.specs.Action.{putHere}
+use Rattle.tree.specs.Add.{placeBy}
+use Rattle.tree.specs.MoveRun.{movedTo}
+use Rattle.tree.specs.Moved.{move-first}
 use Rattle.treecommands.specs.Ready.{Ready, nodeWords}
 use Rattle.treecommands.specs.Finding.{meantIn}
 use Rattle.treecommands.specs.Settle.{renewed, renewed-left}
@@ -35,17 +41,21 @@ use Rattle.treecommands.specs.Sighting.{besideChecks, intoChecks, Answer
 same-length : {after before : List Node} → Same after before → length after ≡ length before
 same-length {after} {before} s = sym (tally-length after) ∙ s .sum (λ r. true) (λ d r. refl) ∙ tally-length before
 
--- by the move e, which keeps every node
+-- a node moved to a position by another, as the plain edits have it
+abbrev movedBy : Position → ℕ → ℕ → List Node → List Node
+movedBy p m n t = editRows n (putHere p (runOf m t)) (cut m t)
+
+-- by a move, which keeps every node
 module _ (checks : Engine → List Check) (moved to : NodeArgument) (ws : List ℕ) (k : Ready ws) (count : ℕ) (same : count ≡ countIn ws) (i j : ℕ) (c : Clear checks moved to ws i j) where
   pub place-lives : lives (meantIn to ws) (cut (meantIn moved ws) (nodesIn ws)) ≡ true
   place-lives =
       still-lives (meantIn moved ws) (meantIn to ws) (nodesIn ws)
       (found (countIn ws) (nodeWords ws) (meantIn to ws) (omega (arith, c .second .here, c .second .live))) (c .apart)
 
-  module _ (e : ℕ → ℕ → List Node → List Node) (all : Same (e (meantIn moved ws) (meantIn to ws) (nodesIn ws)) (nodesIn ws)) (us : List ℕ)
-      (does : (m n : ℕ) → i ≡ place m (rows count (nodeWords ws)) → j ≡ place n (rows count (nodeWords ws)) → us ≡ fill (nodeWords ws) (e m n (rows count (nodeWords ws)))) where
+  module _ (p : Position) (all : Same (movedBy p (meantIn moved ws) (meantIn to ws) (nodesIn ws)) (nodesIn ws)) (us : List ℕ)
+      (does : us ≡ fill (nodeWords ws) (movedTo count (nodeWords ws) i (placeBy p count (nodeWords ws) j))) where
     abbrev t : List Node
-    t = e (meantIn moved ws) (meantIn to ws) (nodesIn ws)
+    t = movedBy p (meantIn moved ws) (meantIn to ws) (nodesIn ws)
 
     size : length t ≡ countIn ws
     size = same-length all ∙ rows-length (countIn ws) (nodeWords ws)
@@ -54,7 +64,13 @@ module _ (checks : Engine → List Check) (moved to : NodeArgument) (ws : List �
     few = omega (arith, size, k .few)
 
     left : Leaves (nodeWords ws) t us count
-    left = record { words = (rw same at does) (meantIn moved ws) (meantIn to ws) (c .first .here) (c .second .here); size = same ∙ sym size }
+    left = record {
+      words =
+          (rw same at does)
+          ∙ ap (λ (l : List Node). fill (nodeWords ws) l)
+          (move-first (countIn ws) (nodeWords ws) (meantIn moved ws) (meantIn to ws) i j (c .first .here) (c .second .here) (c .first .live) (c .second .live) (c .moving .outside) p);
+      size = same ∙ sym size;
+    }
 
     moved-left : (out : List ℕ) → out ≡ renewed count (put nodesPlace nodesWords us ws) → (bs : List ℕ) → out ≡ putTree (withNodes t (decode ws bs)) ws
     moved-left out o bs = o ∙ renewed-left ws (k .size) t few bs us count left
@@ -82,34 +98,34 @@ module _ (a b : NodeArgument) (ws : List ℕ) where
       stays : lives (meantIn b ws) (cut (meantIn a ws) (nodesIn ws)) ≡ true
       stays = place-lives (besideChecks a b) a b ws k count same i j c
 
-      module _ (does : (m n : ℕ) → i ≡ place m (rows count (nodeWords ws)) → j ≡ place n (rows count (nodeWords ws)) → us ≡ fill (nodeWords ws) (moveBefore m n (rows count (nodeWords ws)))) where
+      module _ (does : us ≡ fill (nodeWords ws) (movedTo count (nodeWords ws) i (placeBy Before count (nodeWords ws) j))) where
         pub before-done : (out : List ℕ) → out ≡ renewed count (put nodesPlace nodesWords us ws) → Steps (tree.Before a b) ws Done out
         unfolding answerIn decode wordsAfter effect
         before-done out o bytes bs =
             step-done (command.Tree (tree.Before a b)) bytes ws bs out (c .passed bs)
-            (moved-left (besideChecks a b) a b ws k count same i j c moveBefore (moveBefore-same (meantIn a ws) (meantIn b ws) (nodesIn ws) stays) us does out o bs)
+            (moved-left (besideChecks a b) a b ws k count same i j c Before (moveBefore-same (meantIn a ws) (meantIn b ws) (nodesIn ws) stays) us does out o bs)
 
-      module _ (does : (m n : ℕ) → i ≡ place m (rows count (nodeWords ws)) → j ≡ place n (rows count (nodeWords ws)) → us ≡ fill (nodeWords ws) (moveAfter m n (rows count (nodeWords ws)))) where
+      module _ (does : us ≡ fill (nodeWords ws) (movedTo count (nodeWords ws) i (placeBy After count (nodeWords ws) j))) where
         pub after-done : (out : List ℕ) → out ≡ renewed count (put nodesPlace nodesWords us ws) → Steps (tree.After a b) ws Done out
         unfolding answerIn decode wordsAfter effect
         after-done out o bytes bs =
             step-done (command.Tree (tree.After a b)) bytes ws bs out (c .passed bs)
-            (moved-left (besideChecks a b) a b ws k count same i j c moveAfter (moveAfter-same (meantIn a ws) (meantIn b ws) (nodesIn ws) stays) us does out o bs)
+            (moved-left (besideChecks a b) a b ws k count same i j c After (moveAfter-same (meantIn a ws) (meantIn b ws) (nodesIn ws) stays) us does out o bs)
 
     module _ (c : Clear (intoChecks b a) a b ws i j) (us : List ℕ) where
       stays-in : lives (meantIn b ws) (cut (meantIn a ws) (nodesIn ws)) ≡ true
       stays-in = place-lives (intoChecks b a) a b ws k count same i j c
 
-      module _ (does : (m n : ℕ) → i ≡ place m (rows count (nodeWords ws)) → j ≡ place n (rows count (nodeWords ws)) → us ≡ fill (nodeWords ws) (moveHead m n (rows count (nodeWords ws)))) where
+      module _ (does : us ≡ fill (nodeWords ws) (movedTo count (nodeWords ws) i (placeBy Head count (nodeWords ws) j))) where
         pub head-done : (out : List ℕ) → out ≡ renewed count (put nodesPlace nodesWords us ws) → Steps (tree.Head b a) ws Done out
         unfolding answerIn decode wordsAfter effect
         head-done out o bytes bs =
             step-done (command.Tree (tree.Head b a)) bytes ws bs out (c .passed bs)
-            (moved-left (intoChecks b a) a b ws k count same i j c moveHead (moveHead-same (meantIn a ws) (meantIn b ws) (nodesIn ws) stays-in) us does out o bs)
+            (moved-left (intoChecks b a) a b ws k count same i j c Head (moveHead-same (meantIn a ws) (meantIn b ws) (nodesIn ws) stays-in) us does out o bs)
 
-      module _ (does : (m n : ℕ) → i ≡ place m (rows count (nodeWords ws)) → j ≡ place n (rows count (nodeWords ws)) → us ≡ fill (nodeWords ws) (moveTail m n (rows count (nodeWords ws)))) where
+      module _ (does : us ≡ fill (nodeWords ws) (movedTo count (nodeWords ws) i (placeBy Tail count (nodeWords ws) j))) where
         pub tail-done : (out : List ℕ) → out ≡ renewed count (put nodesPlace nodesWords us ws) → Steps (tree.Tail b a) ws Done out
         unfolding answerIn decode wordsAfter effect
         tail-done out o bytes bs =
             step-done (command.Tree (tree.Tail b a)) bytes ws bs out (c .passed bs)
-            (moved-left (intoChecks b a) a b ws k count same i j c moveTail (moveTail-same (meantIn a ws) (meantIn b ws) (nodesIn ws) stays-in) us does out o bs)
+            (moved-left (intoChecks b a) a b ws k count same i j c Tail (moveTail-same (meantIn a ws) (meantIn b ws) (nodesIn ws) stays-in) us does out o bs)

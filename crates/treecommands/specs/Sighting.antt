@@ -13,9 +13,9 @@ use Rattle.model.specs.Layout.{countIn, nodesIn}
 use Rattle.model.specs.Engine.{Engine, decode}
 use Rattle.model.specs.Meaning.{meant, known}
 use Rattle.model.specs.Checks.{Check, check, firstOf, isRoot, notGroup, inside}
-use Rattle.tree.specs.Ends.{Moving}
 use Rattle.tree.specs.Shallow.{moving}
-use Rattle.tree.specs.Below.{LiesBelow}
+use Rattle.tree.specs.Ends.{inRun, Moving}
+use Rattle.tree.specs.Below.{isBelow-at}
 use Rattle.treecommands.specs.declared.moves.Pair.{Pair}
 use Rattle.treecommands.specs.declared.moves.Pair.the-variants as pair
 use Rattle.names.specs.Named.{Named}
@@ -57,10 +57,10 @@ abbrev pub PairFound : (Engine → List Check) → NodeArgument → NodeArgument
 PairFound checks moved to ws (pair.At a b) = Clear checks moved to ws a b
 PairFound checks moved to ws (pair.Refused r) = Answers checks ws r
 
--- whether the place named lies inside the moved node, as it was fact
-module _ (moved to : NodeArgument) (ws : List ℕ) (k : Ready ws) (count : ℕ) (same : count ≡ countIn ws) (a b : ℕ) (f : NodeFound moved ws a) (g : NodeFound to ws b) (r : Bool) (fact : LiesBelow (nodeWords ws) count b a r) where
+-- whether the place named lies inside the moved node, as it was found
+module _ (moved to : NodeArgument) (ws : List ℕ) (k : Ready ws) (count : ℕ) (same : count ≡ countIn ws) (a b : ℕ) (f : NodeFound moved ws a) (g : NodeFound to ws b) (r : Bool) (fact : r ≡ inRun count (nodeWords ws) b a) where
   pub fact-inside : r ≡ isBelow (meantIn to ws) (meantIn moved ws) (nodesIn ws)
-  fact-inside = (rw same at (fact .numbers)) (meantIn to ws) (meantIn moved ws) (g .here) (f .here) (k .tree .distinct)
+  fact-inside = (rw same at fact) ∙ sym (isBelow-at (countIn ws) (nodeWords ws) (meantIn to ws) (meantIn moved ws) b a (g .here) (f .here) (g .live) (f .live) (k .tree .distinct))
 
   pub clear : (checks : Engine → List Check) → r ≡ false → ((bs : List ℕ) → firstOf (checks (decode ws bs)) Done ≡ Done) → Clear checks moved to ws a b
   clear checks q p = record {
@@ -68,7 +68,7 @@ module _ (moved to : NodeArgument) (ws : List ℕ) (k : Ready ws) (count : ℕ) 
     first = f;
     second = g;
     apart = sym fact-inside ∙ q;
-    moving = moving (countIn ws) (nodeWords ws) (k .tree .root) (rw (words-long ws (k .size)) (omega (arith, k .few))) (k .few) a b (f .live) (g .live) (sym (rw same at (fact .places)) ∙ q);
+    moving = moving (countIn ws) (nodeWords ws) (k .tree .root) (rw (words-long ws (k .size)) (omega (arith, k .few))) (k .few) a b (f .live) (g .live) (sym (rw same at fact) ∙ q);
   }
 
 -- /n_before and /n_after
@@ -98,7 +98,7 @@ module _ (a b : NodeArgument) (ws : List ℕ) (k : Ready ws) (count : ℕ) (same
         unfolding firstOf decode
         beside-root-2 z bs = rw (f .known, g .known, not-root a ws i f k deep-a, is-root b ws j g k z)
 
-        module _ (deep-b : j ≡ 0 → ⊥) (r : Bool) (fact : LiesBelow (nodeWords ws) count j i r) where
+        module _ (deep-b : j ≡ 0 → ⊥) (r : Bool) (fact : r ≡ inRun count (nodeWords ws) j i) where
           pub beside-inside : r ≡ true → Answers (besideChecks a b) ws InsideItself
           unfolding firstOf decode
           beside-inside q bs =

@@ -11,7 +11,7 @@ use Rattle.model.specs.declared.Answer.the-variants.{Done}
 use Rattle.model.specs.Layout.{countIn}
 use Rattle.model.specs.Engine.{decode}
 use Rattle.model.specs.Checks.{firstOf}
-use Rattle.tree.specs.Below.{LiesBelow}
+use Rattle.tree.specs.Ends.{inRun}
 use Rattle.names.specs.Named.{Named}
 use Rattle.treecommands.specs.Ready.{Ready, nodeWords, nodeIn}
 use Rattle.treecommands.specs.Finding.{NodeFound, found, missing, is-root, not-root, named-here}
@@ -43,7 +43,7 @@ module _ (b a : NodeArgument) (ws : List ℕ) (k : Ready ws) (count : ℕ) (same
         unfolding firstOf decode
         into-root z bs = rw (g .known, f .known, named-here b ws j g, group, is-root a ws i f k z)
 
-        module _ (deep-a : i ≡ 0 → ⊥) (r : Bool) (fact : LiesBelow (nodeWords ws) count j i r) where
+        module _ (deep-a : i ≡ 0 → ⊥) (r : Bool) (fact : r ≡ inRun count (nodeWords ws) j i) where
           pub into-inside : r ≡ true → Answers (intoChecks b a) ws InsideItself
           unfolding firstOf decode
           into-inside q bs =

@@ -7,7 +7,7 @@ use lib.ListN.{length}
 use Rattle.words.specs.Parts.{put}
 use Rattle.nodes.specs.declared.Node.{Node}
 use Rattle.nodes.specs.Table.{rows, rows-length}
-use Rattle.nodes.specs.Place.{place}
+use Rattle.nodes.specs.Edit.{editRows, editAt}
 use Rattle.nodes.specs.Formed.{mostNodes}
 use Rattle.treerefinement.specs.Tally.{Within}
 use Rattle.treerefinement.specs.Keep.{within-length}
@@ -20,7 +20,7 @@ use Rattle.model.specs.Engine.{decode}
 use Rattle.model.specs.Effects.{withNodes}
 use Rattle.model.specs.After.{putTree}
 use Rattle.state.specs.Does.{WordsStep}
-use Rattle.tree.specs.Sizes.{Leaves}
+use Rattle.tree.specs.Sizes.{Leaves, leaves-first}
 use Rattle.treecommands.specs.Ready.{Ready, nodeWords}
 use Rattle.treecommands.specs.Finding.{meantIn, NodeFound}
 use Rattle.treecommands.specs.Settle.{renewed, ready-left, renewed-left}
@@ -34,13 +34,13 @@ left-few ws t k w = omega (arith, within-length w, k .few, rows-length (countIn 
 
 -- the node that an argument names, found at a place, and the node region edited there: what the rest asks, and what it leaves
 module _ (a : NodeArgument) (ws : List ℕ) (k : Ready ws) (count : ℕ) (same : count ≡ countIn ws) (at : ℕ) (f : NodeFound a ws at)
-    (e : ℕ → List Node → List Node) (few : length (e (meantIn a ws) (nodesIn ws)) ≤ mostNodes) (us : List ℕ) (many : ℕ)
-    (does : (m : ℕ) → at ≡ place m (rows count (nodeWords ws)) → Leaves (nodeWords ws) (e m (rows count (nodeWords ws))) us many) where
-  left : Leaves (nodeWords ws) (e (meantIn a ws) (nodesIn ws)) us many
-  left = (rw same at does) (meantIn a ws) (f .here)
+    (H : Node → List Node → List Node) (few : length (editRows (meantIn a ws) H (nodesIn ws)) ≤ mostNodes) (us : List ℕ) (many : ℕ)
+    (does : Leaves (nodeWords ws) (editAt at H (rows count (nodeWords ws))) us many) where
+  left : Leaves (nodeWords ws) (editRows (meantIn a ws) H (nodesIn ws)) us many
+  left = leaves-first H (nodeWords ws) (nodesIn ws) us many at (rw same at does) (meantIn a ws) (f .here)
 
   pub edited-ready : (length (put nodesPlace nodesWords us ws) ≡ wordsLength) × (many ≤ mostNodes)
-  edited-ready = ready-left ws (k .size) (e (meantIn a ws) (nodesIn ws)) few us many left
+  edited-ready = ready-left ws (k .size) (editRows (meantIn a ws) H (nodesIn ws)) few us many left
 
-  pub edited-left : (out : List ℕ) → out ≡ renewed many (put nodesPlace nodesWords us ws) → (bs : List ℕ) → out ≡ putTree (withNodes (e (meantIn a ws) (nodesIn ws)) (decode ws bs)) ws
-  edited-left out o bs = o ∙ renewed-left ws (k .size) (e (meantIn a ws) (nodesIn ws)) few bs us many left
+  pub edited-left : (out : List ℕ) → out ≡ renewed many (put nodesPlace nodesWords us ws) → (bs : List ℕ) → out ≡ putTree (withNodes (editRows (meantIn a ws) H (nodesIn ws)) (decode ws bs)) ws
+  edited-left out o bs = o ∙ renewed-left ws (k .size) (editRows (meantIn a ws) H (nodesIn ws)) few bs us many left

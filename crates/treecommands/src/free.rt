@@ -77,7 +77,7 @@ pub fn deep_free(group: NodeArgument, words: &mut [u32]) -> Answer
     if is_synth(words, at) {
         return Answer::Refused(Refusal::WrongKind);
     }
-    let left = deep::deep_free(&mut words[68..1348], count, at);
+    let left = tree::deep_free(&mut words[68..1348], count, at);
     renew(words, left);
     Answer::Done
 }

@@ -6,9 +6,12 @@ use model::Answer;
 use names::node_place;
 use nodes::Node;
 use refusals::Refusal;
+use tree::Action;
+use tree::Asked;
 use values::NodeArgument;
 use words::wide;
 ghost use Rattle.model.specs.declared.TreeCommand.{TreeCommand};
+ghost use Rattle.tree.specs.Action.{numberOf};
 ghost use Rattle.treecommands.specs.Ready.{Ready};
 ghost use Rattle.treecommands.specs.Steps.{Steps};
 ghost use Rattle.treecommands.specs.Grouping.{GroupPlaced};
@@ -19,14 +22,11 @@ pub enum Spot {
     Refused(Refusal),
 }
 
-// The checks of /g_new.
-fn group_spot(number: u32, action: u32, target: NodeArgument, words: &[u32]) -> Spot
+// The checks of /g_new behind the add action's.
+fn group_spot(number: u32, action: Action, target: NodeArgument, words: &[u32]) -> Spot
     requires { ⌜ Ready (now words) ⌝ }
     ensures { λ r. ⌜ GroupPlaced number action target (now (words .entry)) r ⌝ }
 {
-    if 4 < action {
-        return Spot::Refused(Refusal::BadFlag);
-    }
     if 2147483648 <= number {
         return Spot::Refused(Refusal::BadNumber);
     }
@@ -47,10 +47,10 @@ fn group_spot(number: u32, action: u32, target: NodeArgument, words: &[u32]) -> 
     Spot::At(at)
 }
 
-// /g_new
-pub fn new_group(number: u32, action: u32, target: NodeArgument, words: &mut [u32]) -> Answer
+// A new group put in by an add action.
+fn add_group(number: u32, action: Action, target: NodeArgument, words: &mut [u32]) -> Answer
     requires { ⌜ Ready (now words) ⌝ }
-    ensures { λ r. ⌜ Steps (TreeCommand.NewGroup number action target) (now (words .entry)) r (now (words .exit)) ⌝ }
+    ensures { λ r. ⌜ Steps (TreeCommand.NewGroup number (numberOf action) target) (now (words .entry)) r (now (words .exit)) ⌝ }
 {
     let spot = group_spot(number, action, target, words);
     match spot {
@@ -68,5 +68,17 @@ pub fn new_group(number: u32, action: u32, target: NodeArgument, words: &mut [u3
             Answer::Done
         }
         Spot::Refused(why) => Answer::Refused(why),
+    }
+}
+
+// /g_new
+pub fn new_group(number: u32, action: u32, target: NodeArgument, words: &mut [u32]) -> Answer
+    requires { ⌜ Ready (now words) ⌝ }
+    ensures { λ r. ⌜ Steps (TreeCommand.NewGroup number action target) (now (words .entry)) r (now (words .exit)) ⌝ }
+{
+    let asked = tree::add_action(action);
+    match asked {
+        Asked::Add(by) => add_group(number, by, target, words),
+        Asked::Refused(why) => Answer::Refused(why),
     }
 }

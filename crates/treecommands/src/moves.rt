@@ -4,6 +4,7 @@ use crate::place::is_synth;
 use model::Answer;
 use names::node_place;
 use refusals::Refusal;
+use tree::Position;
 use values::NodeArgument;
 use words::wide;
 ghost use Rattle.model.specs.declared.TreeCommand.{TreeCommand};
@@ -78,7 +79,7 @@ pub fn move_before(node: NodeArgument, place: NodeArgument, words: &mut [u32]) -
     match pair {
         Pair::At(a, b) => {
             let count = wide(words[0]);
-            tree::move_before(&mut words[68..1348], count, a, b);
+            tree::move_node(&mut words[68..1348], count, a, Position::Before, b);
             renew(words, count);
             Answer::Done
         }
@@ -95,7 +96,7 @@ pub fn move_after(node: NodeArgument, place: NodeArgument, words: &mut [u32]) ->
     match pair {
         Pair::At(a, b) => {
             let count = wide(words[0]);
-            tree::move_after(&mut words[68..1348], count, a, b);
+            tree::move_node(&mut words[68..1348], count, a, Position::After, b);
             renew(words, count);
             Answer::Done
         }
@@ -112,7 +113,7 @@ pub fn move_head(group: NodeArgument, node: NodeArgument, words: &mut [u32]) -> 
     match pair {
         Pair::At(a, b) => {
             let count = wide(words[0]);
-            tree::move_head(&mut words[68..1348], count, a, b);
+            tree::move_node(&mut words[68..1348], count, a, Position::Head, b);
             renew(words, count);
             Answer::Done
         }
@@ -129,7 +130,7 @@ pub fn move_tail(group: NodeArgument, node: NodeArgument, words: &mut [u32]) -> 
     match pair {
         Pair::At(a, b) => {
             let count = wide(words[0]);
-            tree::move_tail(&mut words[68..1348], count, a, b);
+            tree::move_node(&mut words[68..1348], count, a, Position::Tail, b);
             renew(words, count);
             Answer::Done
         }

@@ -14,7 +14,7 @@ use Rattle.nodes.specs.declared.Node.{Node}
 use Rattle.nodes.specs.Table.{width, rows, rows-length, rows-take}
 use Rattle.nodes.specs.Place.{deeper, deeper-most, isGroup}
 use Rattle.nodes.specs.Structure.{childCount}
-use Rattle.tree.specs.Sizes.{endAt}
+use Rattle.nodes.specs.Sizes.{endAt}
 use Rattle.osc.specs.Message.{int, message}
 use Rattle.values.specs.declared.NodeArgument.{NodeArgument}
 use Rattle.model.specs.declared.Query.the-variants as query

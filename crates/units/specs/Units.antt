@@ -1,6 +1,6 @@
--- Units by their shape: how many outputs a unit has and where it ends, from its counts alone; and the outputs of the units before one.
+-- Units one after the other: the outputs of the units before one, and the turns of the loop that reads them.
 use Prim.{tt}
-use Prim.Native.Nat.{ℕ, zero, suc, _+_, _*_, _-_, _/_, _≤_, _<_}
+use Prim.Native.Nat.{ℕ, zero, suc, _+_, _-_, _%_, _≤_, _<_}
 use mathlib.Core.Bool.{Bool, true, false}
 use mathlib.Core.Path.{_≡_, refl, sym, ap, _∙_}
 use mathlib.Core.List.{List, [], _∷_, _++_}
@@ -8,7 +8,7 @@ use mathlib.Core.Logic.{⊎-elim}
 use native.Mathlib.Omega.{arith}
 use native.Mathlib.Nat.{eq-or-lt-of-le, sub-zero}
 use native.Mathlib.Numerals.{add-one}
-use lib.ListN.{length, getD, set, length-set, length-append, List·getD-append}
+use lib.ListN.{length, getD, set, take, length-set, length-append, List·getD-append}
 use lib.Seq.{getD-at, getD-set-same, getD-set-other}
 use lib.Dec.{ltb, eqb}
 use borrow.Author.Tests.{eq-eqb, ne-eqb, lt-ltb, le-ltb}
@@ -18,25 +18,11 @@ use Rattle.faults.specs.declared.Fault.the-variants.{BadIndex}
 use Rattle.format.specs.Read.{Read, got, bad, andThen, repeat, ending, mapRead}
 use Rattle.format.specs.Fields.{word, int16, name, count, rate, integer, indexBelow}
 use Rattle.format.specs.Definition.{constant, output, UnitSpec}
-use Rattle.format.specs.Reader.{input, readUnit, readUnits, minusOne, sizeLimit}
+use Rattle.format.specs.Reader.{input, readUnit, readUnits, minusOne}
 use Rattle.format.specs.Endings.{then-got, then-bad, mapped-got, fact-then, fact-ending, ending-fact, ending-keeps, FixedSize, repeat-got, field-got}
 use Rattle.format.specs.RepeatLaws.{went-on}
+use Rattle.units.specs.Marks.{unitCounts, unitOutputs, unitEnd, unitPlace, place-up, mostMarks, Marked, Marking, marking-same, marking-next}
 use Rattle.format.specs.Sizes.{index-sized, rate-sized, count-got, name-got}
-
--- behind a unit's class and rate: the counts of its inputs and outputs, the special index, the inputs and the rates
-unfoldable pub unitCounts : List ℕ → ℕ → ℕ
-unitCounts s at = at + 2 + getD s at 0
-
-unfoldable pub unitOutputs : List ℕ → ℕ → ℕ
-unitOutputs s at = word s (unitCounts s at + 4)
-
-unfoldable pub unitEnd : List ℕ → ℕ → ℕ
-unitEnd s at = unitCounts s at + 10 + 8 * word s (unitCounts s at) + unitOutputs s at
-
--- where the unit number n starts, where the first one starts at a place
-unfoldable pub unitPlace : List ℕ → ℕ → ℕ → ℕ
-unitPlace s start zero = start
-unitPlace s start (suc n) = unitEnd s (unitPlace s start n)
 
 -- how many outputs each of the first n units has
 unfoldable pub outsFrom : List ℕ → ℕ → ℕ → List ℕ
@@ -57,17 +43,6 @@ outs-at s start (suc n) u h =
     (λ same. rw same (getD-at (outsFrom s start n) _ [] 0 n (outs-length s start n)))
     (λ less. List·getD-append (outsFrom s start n) _ 0 u (rw outs-length less) ∙ outs-at s start n u less)
     (eq-or-lt-of-le most)
-
-pub place-up : (s : List ℕ) (start u n : ℕ) → u ≤ n → unitPlace s start u ≤ unitPlace s start n
-unfolding unitPlace unitEnd unitCounts
-place-up s start u zero h =
-    let e : u ≡ 0 = omega arith in
-    rw e (omega arith)
-place-up s start u (suc n) h =
-    ⊎-elim
-    (λ same. rw same (omega arith))
-    (λ less. omega (arith, place-up s start u n (omega arith)))
-    (eq-or-lt-of-le h)
 
 -- an input takes eight bytes
 pub input-sized : (k : ℕ) (outs s : List ℕ) → FixedSize (input k outs s) 8 (length s)
@@ -154,15 +129,16 @@ unfolding readUnits
 skip-units k s n outs at =
     ending-fact _ (readUnit k outs s at) _ _ (λ u next. ending-keeps (readUnits k s n (outs ++ (length (u .outputs) ∷ [])) next) (λ us. u ∷ us))
 
--- How many units' outputs are remembered while a definition is read. A unit takes at least 12 bytes, and a definition 20 besides: a name of one byte, four
--- counts of four bytes and one of two. So a definition within the size limit has fewer units than this (`units-remembered` of Forward).
+-- The outputs of the last so many units are remembered while a definition is read. A unit takes at least 12 bytes, and a definition 20 besides: a name of one
+-- byte, four counts of four bytes and one of two. So a definition within the size limit has fewer units than this (`units-remembered` of `files`).
 abbrev pub remembered : ℕ
-remembered = (sizeLimit - 20) / 12 + 1
+remembered = 256
 
--- what is known of the units before one: they lie in the file, and the outputs of the first of them are in outs
-pub record Remembered (s : List ℕ) (start units : ℕ) (outs : List ℕ) : Type 0 where
+-- what is known of the units before one: they lie in the file, the outputs of the last of them are in outs, and marks has places of some
+pub record Remembered (s : List ℕ) (start units : ℕ) (outs : List ℕ) (stride : ℕ) (marks : List ℕ) : Type 0 where
   pub within : 0 < units → unitPlace s start units ≤ length s
-  pub known : (u : ℕ) → u < units → u < remembered → getD outs u 0 ≡ unitOutputs s (unitPlace s start u)
+  pub known : (u : ℕ) → u < units → units ≤ u + remembered → getD outs (u % remembered) 0 ≡ unitOutputs s (unitPlace s start u)
+  pub marked : Marked s start stride marks
 
 -- the ways through an input
 pub input-cut : (k : ℕ) (outs s : List ℕ) (at : ℕ) {q : Fault} {place : ℕ} → integer s at ≡ bad q place → ending (input k outs s at) ≡ bad q place
@@ -182,66 +158,84 @@ pub input-bad : (k : ℕ) (outs s : List ℕ) (at : ℕ) {u next : ℕ} → inte
 input-bad k outs s at {u} {next} e h l = rw (e, ne-eqb u minusOne h, le-ltb u (length outs) l)
 
 -- The turns of a loop that reads units one by one, behind i of them: what is left to read, from the present place, reads as the whole does from the first.
-pub record Standing (k : ℕ) (s : List ℕ) (start count : ℕ) (outs : List ℕ) (at i : ℕ) : Type 0 where
+pub record Standing (k : ℕ) (s : List ℕ) (start count : ℕ) (outs : List ℕ) (stride : ℕ) (marks : List ℕ) (known at i : ℕ) : Type 0 where
   pub most : i ≤ count
   pub here : at ≡ unitPlace s start i
   pub sized : length outs ≡ remembered
-  pub known : Remembered s start i outs
+  pub room : known ≤ length marks
+  pub few : length marks ≤ mostMarks
+  pub before : Remembered s start i outs stride (take known marks)
   pub left : ending (readUnits k s (count - i) (outsFrom s start i) at) ≡ ending (readUnits k s count [] start)
 
-pub stands-first : (k : ℕ) (s : List ℕ) (start count : ℕ) (outs : List ℕ) → length outs ≡ remembered → Standing k s start count outs start 0
+pub stands-first : (k : ℕ) (s : List ℕ) (start count : ℕ) (outs : List ℕ) (stride : ℕ) (marks : List ℕ) → length outs ≡ remembered → 0 < stride → length marks ≤ mostMarks
+    → Standing k s start count outs stride marks 0 start 0
 unfolding unitPlace outsFrom
-stands-first k s start count outs h = record {
+stands-first k s start count outs stride marks h p l = record {
   most = omega arith;
   here = refl;
   sized = h;
-  known = record { within = λ l. absurd (omega arith); known = λ u l m. absurd (omega arith) };
+  room = omega arith;
+  few = l;
+  before = record {
+    within = λ l. absurd (omega arith);
+    known = λ u l m. absurd (omega arith);
+    marked = record { steps = p; placed = λ n l. absurd (omega arith) };
+  };
   left = rw sub-zero;
 }
 
-module _ (k : ℕ) (s : List ℕ) (start count : ℕ) {outs : List ℕ} {at i : ℕ} (st : Standing k s start count outs at i) where
-  pub stands-shaped : {o next : ℕ} → skipUnit k (outsFrom s start i) s at ≡ got o next → Shaped s (unitPlace s start i) o next
+module _ (k : ℕ) (s : List ℕ) (start count : ℕ) {outs : List ℕ} {stride : ℕ} {marks : List ℕ} {known at i : ℕ} (st : Standing k s start count outs stride marks known at i) where
+  -- the unit at the place may be marked
+  pub stands-marked : {marks' : List ℕ} {known' : ℕ} → Marking marks marks' known stride i (at - start) known' → Standing k s start count outs stride marks' known' at i
+  unfolding unitPlace
+  stands-marked {marks'} {known'} m =
+      let place : start + (at - start) ≡ unitPlace s start i = omega (arith, st .here, place-up s start 0 i (omega arith)) in
+      let next = marking-next s start (st .room) place m (st .before .marked) in
+      record {
+        most = st .most;
+        here = st .here;
+        sized = st .sized;
+        room = next .room;
+        few = omega (arith, marking-same m, st .few);
+        before = record { within = st .before .within; known = st .before .known; marked = next .marked };
+        left = st .left;
+      }
+
+  stands-shaped : {o next : ℕ} → skipUnit k (outsFrom s start i) s at ≡ got o next → Shaped s (unitPlace s start i) o next
   stands-shaped {o} {next} e = rw (st .here) at (unit-shape k (outsFrom s start i) s at (skip-unit k (outsFrom s start i) s at ∙ e))
 
-  pub stands-turn : i < count → ending (readUnits k s (count - i) (outsFrom s start i) at)
+  stands-turn : i < count → ending (readUnits k s (count - i) (outsFrom s start i) at)
       ≡ andThen (skipUnit k (outsFrom s start i) s at) (λ o next. ending (readUnits k s (count - suc i) (outsFrom s start i ++ (o ∷ [])) next))
   stands-turn l =
       let more : count - i ≡ suc (count - suc i) = omega arith in
       rw more (skip-units k s (count - suc i) (outsFrom s start i) at
       ∙ ap (λ (r : Read ℕ). andThen r (λ o next. ending (readUnits k s (count - suc i) (outsFrom s start i ++ (o ∷ [])) next))) (skip-unit k (outsFrom s start i) s at))
 
-  pub stands-next : {o next : ℕ} (outs' : List ℕ) → i < count → skipUnit k (outsFrom s start i) s at ≡ got o next
-      → length outs' ≡ remembered → ((u : ℕ) → u < i → getD outs' u 0 ≡ getD outs u 0) → (i < remembered → getD outs' i 0 ≡ o)
-      → Standing k s start count outs' next (i + 1)
+  pub stands-next : {o next : ℕ} → i < count → skipUnit k (outsFrom s start i) s at ≡ got o next
+      → Standing k s start count (set outs (i % remembered) o) stride marks known next (i + 1)
   unfolding unitPlace outsFrom
-  stands-next {o} {next} outs' l e h same new =
+  stands-next {o} {next} l e =
       let shape = stands-shaped e in
       rw add-one record {
         most = omega arith;
         here = shape .past;
-        sized = h;
-        known = record {
+        sized = length-set outs (i % remembered) o ∙ st .sized;
+        room = st .room;
+        few = st .few;
+        before = record {
           within = λ m. omega (arith, shape .past, shape .within);
           known = λ u m n.
               let upto : u ≤ i = omega arith in
               ⊎-elim
-              (λ last. rw last (new (omega arith) ∙ shape .outputs))
-              (λ less. same u less ∙ st .known .known u less n)
+              (λ last. rw last (getD-set-same outs (i % remembered) o 0 (rw (st .sized) (omega arith)) ∙ shape .outputs))
+              (λ less. getD-set-other outs (i % remembered) (u % remembered) o 0 (λ same. omega arith) ∙ st .before .known u less (omega arith))
               (eq-or-lt-of-le upto);
+          marked = st .before .marked;
         };
         left = ap (λ (x : ℕ). ending (readUnits k s (count - suc i) (outsFrom s start i ++ (x ∷ [])) next)) (sym (shape .outputs))
             ∙ sym (stands-turn l ∙ then-got (λ o next. ending (readUnits k s (count - suc i) (outsFrom s start i ++ (o ∷ [])) next)) e)
             ∙ st .left;
       }
-
-  -- a unit whose outputs are remembered, and one past those
-  pub stands-set : {o next : ℕ} → i < count → i < remembered → skipUnit k (outsFrom s start i) s at ≡ got o next → Standing k s start count (set outs i o) next (i + 1)
-  stands-set {o} l m e =
-      stands-next (set outs i o) l e (length-set outs i o ∙ st .sized) (λ u h. getD-set-other outs i u o 0 (λ same. omega arith))
-      (λ h. getD-set-same outs i o 0 (rw (st .sized) m))
-
-  pub stands-past : {o next : ℕ} → i < count → remembered ≤ i → skipUnit k (outsFrom s start i) s at ≡ got o next → Standing k s start count outs next (i + 1)
-  stands-past l m e = stands-next outs l e (st .sized) (λ u h. refl) (λ h. absurd (omega arith))
 
   pub stands-bad : {q : Fault} {place : ℕ} → i < count → skipUnit k (outsFrom s start i) s at ≡ bad q place → ending (readUnits k s count [] start) ≡ bad q place
   stands-bad l e =

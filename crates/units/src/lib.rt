@@ -7,8 +7,8 @@ use fields::Text;
 use fields::word_at;
 use format::HIGHEST;
 use format::MINUS_ONE;
-use format::SIZE_LIMIT;
-ghost use Prim.Native.Nat.{suc, _≤_};
+use words::wide;
+ghost use Prim.Native.Nat.{_≤_, _<_};
 ghost use mathlib.Core.Path.{_≡_};
 ghost use mathlib.Core.List.{[]};
 ghost use lib.ListN.{length};
@@ -16,12 +16,16 @@ ghost use Rattle.fields.specs.Answers.{numberOf, stepOf};
 ghost use Rattle.format.specs.Fields.{rate, indexBelow};
 ghost use Rattle.format.specs.Read.{ending, repeat};
 ghost use Rattle.format.specs.Reader.{input, readUnits};
-ghost use Rattle.units.specs.Units.{unitCounts, unitOutputs, unitEnd, unitPlace, outsFrom, skipUnit, Remembered};
+ghost use Rattle.units.specs.Marks.{unitCounts, unitOutputs, unitEnd, unitPlace, mostMarks, Marked, Marking};
+ghost use Rattle.units.specs.Units.{outsFrom, skipUnit, Remembered};
 
-// How many units' outputs are remembered: a unit takes at least 12 bytes and a definition 20 besides, so a
-// definition within the size limit has fewer units than this. The outputs of a unit past these are found by a
-// walk from the first unit, in time that is linear in the unit's number.
-const REMEMBERED: usize = (SIZE_LIMIT - 20) / 12 + 1;
+// The outputs of the last so many units are remembered. A unit takes at least 12 bytes and a definition 20 besides,
+// so a definition within the size limit has fewer units than this.
+const REMEMBERED: usize = 256;
+
+// A definition of more units has marks besides, at most so many: where every so many units start. The outputs of a unit
+// further back are found by a walk from its mark.
+const MOST_MARKS: usize = 65536;
 
 // The place of the counts of the unit at a place.
 fn unit_counts(s: &[u8], at: usize) -> usize
@@ -52,9 +56,9 @@ fn unit_end(s: &[u8], at: usize) -> usize
     counts + 10 + 8 * inputs as usize + outputs as usize
 }
 
-// How many outputs a unit has, by a walk from the first.
-fn far_outputs(s: &[u8], start: usize, unit: u32) -> u32
-    requires { ⌜ unitPlace (now s) start (suc unit) ≤ length (now s) ⌝ }
+// How many outputs the unit so many units behind the one at a place has.
+fn outputs_behind(s: &[u8], start: usize, unit: u32) -> u32
+    requires { ⌜ unitEnd (now s) (unitPlace (now s) start unit) ≤ length (now s) ⌝ }
     ensures { λ r. ⌜ r ≡ unitOutputs (now (s .entry)) (unitPlace (now (s .entry)) start unit) ⌝ }
 {
     let mut at = start;
@@ -64,6 +68,18 @@ fn far_outputs(s: &[u8], start: usize, unit: u32) -> u32
         i += 1;
     }
     unit_outputs(s, at)
+}
+
+// How many outputs a unit has, by a walk from its mark.
+fn far_outputs(s: &[u8], start: usize, unit: u32, stride: u32, marks: &[u32]) -> u32
+    requires { ⌜ (unitEnd (now s) (unitPlace (now s) start unit) ≤ length (now s)) × Marked (now s) start stride (now marks) ⌝ }
+    ensures { λ r. ⌜ r ≡ unitOutputs (now (s .entry)) (unitPlace (now (s .entry)) start unit) ⌝ }
+{
+    let index = wide(unit / stride);
+    if index < marks.len() {
+        return outputs_behind(s, start + wide(marks[index]), unit % stride);
+    }
+    outputs_behind(s, start, unit)
 }
 
 // An index below a bound.
@@ -94,8 +110,10 @@ fn read_input(
     start: usize,
     units: u32,
     outs: &[u32; REMEMBERED],
+    stride: u32,
+    marks: &[u32],
 ) -> Step
-    requires { ⌜ Remembered (now s) start units (now outs) ⌝ }
+    requires { ⌜ Remembered (now s) start units (now outs) stride (now marks) ⌝ }
     ensures { λ r. ⌜ stepOf r ≡ ending (input constants (outsFrom (now (s .entry)) start units) (now (s .entry)) (cursor .at)) ⌝ }
 {
     let at = cursor.at;
@@ -107,11 +125,10 @@ fn read_input(
             if units <= unit {
                 return Step::Bad(Fault::BadIndex, at);
             }
-            let index = unit as usize;
-            if index < REMEMBERED {
-                return read_index(s, next, outs[index]);
+            if wide(units - unit) <= REMEMBERED {
+                return read_index(s, next, outs[wide(unit) % REMEMBERED]);
             }
-            read_index(s, next, far_outputs(s, start, unit))
+            read_index(s, next, far_outputs(s, start, unit, stride, marks))
         }
         Number::Bad(refusal, place) => Step::Bad(refusal, place),
     }
@@ -126,14 +143,25 @@ fn read_inputs(
     start: usize,
     units: u32,
     outs: &[u32; REMEMBERED],
+    stride: u32,
+    marks: &[u32],
 ) -> Step
-    requires { ⌜ Remembered (now s) start units (now outs) ⌝ }
+    requires { ⌜ Remembered (now s) start units (now outs) stride (now marks) ⌝ }
     ensures { λ r. ⌜ stepOf r ≡ ending (repeat (input constants (outsFrom (now (s .entry)) start units) (now (s .entry))) count (cursor .at)) ⌝ }
 {
     let mut at = cursor.at;
     let mut i = 0;
     while i < count {
-        match read_input(s, Cursor { at: at }, constants, start, units, outs) {
+        match read_input(
+            s,
+            Cursor { at: at },
+            constants,
+            start,
+            units,
+            outs,
+            stride,
+            marks,
+        ) {
             Step::Next(next) => {
                 at = next.at;
             }
@@ -174,8 +202,10 @@ fn read_unit(
     start: usize,
     units: u32,
     outs: &[u32; REMEMBERED],
+    stride: u32,
+    marks: &[u32],
 ) -> Number
-    requires { ⌜ Remembered (now s) start units (now outs) ⌝ }
+    requires { ⌜ Remembered (now s) start units (now outs) stride (now marks) ⌝ }
     ensures { λ r. ⌜ numberOf r ≡ skipUnit constants (outsFrom (now (s .entry)) start units) (now (s .entry)) (cursor .at) ⌝ }
 {
     let p1 = match cursor.name(s) {
@@ -199,7 +229,17 @@ fn read_unit(
                         return Number::Bad(refusal, place);
                     }
                 };
-                let p6 = match read_inputs(s, p5, inputs, constants, start, units, outs) {
+                let p6 = match read_inputs(
+                    s,
+                    p5,
+                    inputs,
+                    constants,
+                    start,
+                    units,
+                    outs,
+                    stride,
+                    marks,
+                ) {
                     Step::Next(next) => next,
                     Step::Bad(refusal, place) => {
                         return Number::Bad(refusal, place);
@@ -216,22 +256,56 @@ fn read_unit(
     }
 }
 
-// So many units, the first of a definition.
-pub fn read_units(s: &[u8], cursor: Cursor, constants: u32, count: u32) -> Step
+// Marks the unit at a place, so many bytes behind the first one, if it is the next to be marked and there is room: how many are marked.
+fn mark_unit(marks: &mut [u32], known: usize, stride: u32, unit: u32, place: usize) -> usize
+    requires { ⌜ (known ≤ length (now marks)) × (length (now marks) ≤ mostMarks) ⌝ }
+    ensures { λ r. ⌜ Marking (now (marks .entry)) (now (marks .exit)) known stride unit place r ⌝ }
+{
+    if known * wide(stride) != wide(unit) {
+        return known;
+    }
+    if marks.len() <= known {
+        return known;
+    }
+    if 0xFFFF_FFFF < place {
+        return known;
+    }
+    marks[known] = place as u32;
+    known + 1
+}
+
+// So many units, the first of a definition, with room for marks of every so many.
+fn read_marked(
+    s: &[u8],
+    cursor: Cursor,
+    constants: u32,
+    count: u32,
+    stride: u32,
+    marks: &mut [u32],
+) -> Step
+    requires { ⌜ (0 < stride) × (length (now marks) ≤ mostMarks) ⌝ }
     ensures { λ r. ⌜ stepOf r ≡ ending (readUnits constants (now (s .entry)) count [] (cursor .at)) ⌝ }
 {
     let start = cursor.at;
     let mut outs = [0; REMEMBERED];
+    let mut known = 0;
     let mut at = start;
     let mut i = 0;
     while i < count {
-        match read_unit(s, Cursor { at: at }, constants, start, i, &outs) {
+        known = mark_unit(marks, known, stride, i, at - start);
+        match read_unit(
+            s,
+            Cursor { at: at },
+            constants,
+            start,
+            i,
+            &outs,
+            stride,
+            &marks[..known],
+        ) {
             Number::Value(outputs, next) => {
                 at = next.at;
-                let index = i as usize;
-                if index < REMEMBERED {
-                    outs[index] = outputs;
-                }
+                outs[wide(i) % REMEMBERED] = outputs;
             }
             Number::Bad(refusal, place) => {
                 return Step::Bad(refusal, place);
@@ -240,4 +314,33 @@ pub fn read_units(s: &[u8], cursor: Cursor, constants: u32, count: u32) -> Step
         i += 1;
     }
     Step::Next(Cursor { at: at })
+}
+
+// So many units can't all be remembered, and stand in so many bytes.
+fn read_many(s: &[u8], cursor: Cursor, constants: u32, count: u32, room: usize) -> Step
+    ensures { λ r. ⌜ stepOf r ≡ ending (readUnits constants (now (s .entry)) count [] (cursor .at)) ⌝ }
+{
+    let stride = room / 12 / MOST_MARKS + 1;
+    let mut marks = [0u32; MOST_MARKS];
+    if 0xFFFF_FFFF < stride {
+        return read_marked(s, cursor, constants, count, 0xFFFF_FFFF, &mut marks);
+    }
+    read_marked(s, cursor, constants, count, stride as u32, &mut marks)
+}
+
+// So many units, the first of a definition.
+pub fn read_units(s: &[u8], cursor: Cursor, constants: u32, count: u32) -> Step
+    ensures { λ r. ⌜ stepOf r ≡ ending (readUnits constants (now (s .entry)) count [] (cursor .at)) ⌝ }
+{
+    let at = cursor.at;
+    if REMEMBERED < wide(count) {
+        if at < s.len() {
+            let room = s.len() - at;
+            if 12 * REMEMBERED < room {
+                return read_many(s, cursor, constants, count, room);
+            }
+        }
+    }
+    let mut marks = [0u32; 1];
+    read_marked(s, cursor, constants, count, 1, &mut marks)
 }

@@ -1,65 +1,81 @@
-use Prim.Native.Nat.{suc, _-_, _≤_}
-use mathlib.Core.Path.{_≡_, refl, ap, _∙_}
+use Prim.Native.Nat.{ℕ, _+_, _/_, _%_, _<_}
+use mathlib.Core.Path.{_≡_, ap, _∙_}
 use native.Mathlib.Omega.{arith}
-use native.Mathlib.Numerals.{add-one}
-use Rattle.units.specs.Units.{unitOutputs, unitEnd, unitPlace, place-up}
-use native.Mathlib.Nat.{le-trans}
+use borrow.Author.Needs.{needs}
+use lib.ListN.{length, getD}
+use Rattle.units.specs.Marks.{unitCounts, unitOutputs, unitEnd, unitPlace, mark-place, mark-within}
 use Rattle.units.proofs.far_outputs.Statement.{statement}
 use Rattle.units.proofs.far_outputs.Tie as tie
 
-abbrev Inv-loop : tie.InvT-loop
-Inv-loop s start unit at₀ i₀ at i = (i ≤ unit) × (at ≡ unitPlace s start i)
+div-wide : tie.Need-div-wide
+div-wide c = search needs
 
-abbrev μ-loop : tie.MeasureT-loop
-μ-loop s start unit at₀ i₀ at i = unit - i
+wide-requires : tie.Need-wide-requires
+wide-requires c κs = search needs
 
-loop-holds : tie.Need-loop-holds Inv-loop μ-loop
-unfolding unitPlace
-loop-holds c = (omega arith, refl)
+mul-wide : tie.Need-mul-wide
+mul-wide c = search needs
 
-unit-end-requires : tie.Need-unit-end-requires Inv-loop μ-loop
-unfolding unitPlace
-unit-end-requires c κs =
-    let a = c .before .before .before .args in
-    let i = c .before .loop .i in
-    rw (c .before .loop .inv .1) (le-trans (place-up (a .s .now) (a .start) (suc i) (suc (a .unit)) (omega arith)) (c .before .before .before .pre))
+shared-slice-read-wide : tie.Need-shared-slice-read-wide
+shared-slice-read-wide c = search needs
 
-add-i : tie.Need-add-i Inv-loop μ-loop
-add-i c = omega arith
+wide-requires-2 : tie.Need-wide-requires-2
+wide-requires-2 c κs = search needs
 
-loop-less : tie.Need-loop-less Inv-loop μ-loop
-loop-less c = omega arith
+add-outputs-behind : tie.Need-add-outputs-behind
+unfolding unitEnd unitCounts
+add-outputs-behind c =
+    let a = c .before .before .before .before .before .before in
+    let m = a .args .marks .now in
+    let k = a .args .unit / a .args .stride in
+    let index : c .before .before .before .wide .result ≡ k = c .before .before .before .wide .ensures in
+    let low : k < length m = rw index at (c .before .before .if1 .taken) in
+    let place : c .wide2 .result ≡ getD m k 0 = c .wide2 .ensures ∙ ap (λ (n : ℕ). getD m n 0) index in
+    omega (arith, mark-within (a .args .s .now) (a .args .start) (a .args .stride) m (a .args .unit) (a .pre .1) low)
 
-loop-again : tie.Need-loop-again Inv-loop μ-loop
-unfolding unitPlace
-loop-again c =
-    let a = c .before .before .before .before .args in
-    let i = c .before .before .loop .i in
-    (omega arith, rw add-one (c .unit-end .ensures ∙ ap (unitEnd (a .s .now)) (c .before .before .loop .inv .1)))
+rem-outputs-behind : tie.Need-rem-outputs-behind
+rem-outputs-behind c = search needs
 
-unit-outputs-requires : tie.Need-unit-outputs-requires Inv-loop μ-loop
-unfolding unitPlace
-unit-outputs-requires c κs =
-    let same : c .before .loop .i ≡ c .before .before .before .args .unit = omega arith in
-    rw (c .before .loop .inv .1, same) (c .before .before .before .pre)
+outputs-behind-requires : tie.Need-outputs-behind-requires
+outputs-behind-requires c κs =
+    let a = c .before .before .before .before .before .before in
+    let m = a .args .marks .now in
+    let k = a .args .unit / a .args .stride in
+    let index : c .before .before .before .wide .result ≡ k = c .before .before .before .wide .ensures in
+    let low : k < length m = rw index at (c .before .before .if1 .taken) in
+    let place : c .wide2 .result ≡ getD m k 0 = c .wide2 .ensures ∙ ap (λ (n : ℕ). getD m n 0) index in
+    rw (place, mark-place (a .args .s .now) (a .args .start) (a .args .stride) m (a .args .unit) (a .pre .1) low) (a .pre .0)
 
-returns : tie.Need-returns Inv-loop μ-loop
+returns : tie.Need-returns
 returns c =
-    let a = c .before .before .before .before .args in
-    let same : c .before .before .loop .i ≡ a .unit = omega arith in
-    c .unit-outputs .ensures
-    ∙ ap (unitOutputs (a .s .now)) (c .before .before .loop .inv .1 ∙ ap (unitPlace (a .s .now) (a .start)) same)
+    let a = c .before .before .before .before .before .before .before in
+    let m = a .args .marks .now in
+    let k = a .args .unit / a .args .stride in
+    let index : c .before .before .before .before .wide .result ≡ k = c .before .before .before .before .wide .ensures in
+    let low : k < length m = rw index at (c .before .before .before .if1 .taken) in
+    let place : c .before .wide2 .result ≡ getD m k 0 = c .before .wide2 .ensures ∙ ap (λ (n : ℕ). getD m n 0) index in
+    c .outputs-behind .ensures
+    ∙ ap (unitOutputs (a .args .s .now)) (ap (λ (p : ℕ). unitPlace (a .args .s .now) (a .args .start + p) (a .args .unit % a .args .stride)) place
+    ∙ mark-place (a .args .s .now) (a .args .start) (a .args .stride) m (a .args .unit) (a .pre .1) low)
+
+outputs-behind-requires-2 : tie.Need-outputs-behind-requires-2
+outputs-behind-requires-2 c κs = search needs
+
+returns-2 : tie.Need-returns-2
+returns-2 c = search needs
 
 pub far-outputs-spec : {M : Type 1} → statement M
 far-outputs-spec =
     tie.close
     (tie.spec
-    Inv-loop
-    μ-loop
-    loop-holds
-    unit-end-requires
-    add-i
-    loop-less
-    loop-again
-    unit-outputs-requires
-    returns)
+    div-wide
+    wide-requires
+    mul-wide
+    shared-slice-read-wide
+    wide-requires-2
+    add-outputs-behind
+    rem-outputs-behind
+    outputs-behind-requires
+    returns
+    outputs-behind-requires-2
+    returns-2)

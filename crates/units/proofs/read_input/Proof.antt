@@ -1,11 +1,13 @@
-use Prim.Native.Nat.{ℕ, suc, _<_}
+use Prim.Native.Nat.{ℕ, suc, _%_, _<_}
 use mathlib.Core.Path.{sym, ap, _∙_}
 use native.Mathlib.Omega.{arith}
-use borrow.Author.Needs.{needs}
-use Rattle.units.specs.Units.{outsFrom, outs-length, outs-at, place-up, input-cut, input-constant, input-output, input-bad}
-use Rattle.format.specs.Read.{ending}
-use Rattle.format.specs.Fields.{indexBelow}
 use native.Mathlib.Nat.{le-trans}
+use borrow.Author.Needs.{needs}
+use lib.ListN.{getD}
+use Rattle.format.specs.Fields.{indexBelow}
+use Rattle.format.specs.Read.{ending}
+use Rattle.units.specs.Marks.{unitPlace, place-up}
+use Rattle.units.specs.Units.{remembered, outsFrom, outs-length, outs-at, input-cut, input-constant, input-output, input-bad}
 use Rattle.units.proofs.read_input.Statement.{statement}
 use Rattle.units.proofs.read_input.Tie as tie
 
@@ -20,18 +22,24 @@ read-index-requires c κs = search needs
 
 returns : tie.Need-returns
 returns c =
-    let a = c .before .before .before .before .before .before .before .args in
+    let a = c .before .before .before .before .before .before .before .before .args in
     let read = sym (rw (c .before .before .before .unit .given .1) at (c .before .before .before .before .before .int32 .ensures)) in
     c .read-index .ensures ∙ sym (input-constant (a .constants) (outsFrom (a .s .now) (a .start) (a .units)) (a .s .now) (a .cursor .at) read (c .before .if1 .taken))
 
 returns-2 : tie.Need-returns-2
 returns-2 c =
-    let a = c .before .before .before .before .before .before .before .args in
+    let a = c .before .before .before .before .before .before .before .before .args in
     let read = sym (rw (c .before .before .before .unit .given .1) at (c .before .before .before .before .before .int32 .ensures)) in
     sym (input-bad (a .constants) (outsFrom (a .s .now) (a .start) (a .units)) (a .s .now) (a .cursor .at) read (c .before .if1 .left) (rw outs-length (omega arith)))
 
-cast-index : tie.Need-cast-index
-cast-index c = search needs
+sub-wide : tie.Need-sub-wide
+sub-wide c = search needs
+
+wide-requires : tie.Need-wide-requires
+wide-requires c κs = search needs
+
+wide-requires-2 : tie.Need-wide-requires-2
+wide-requires-2 c κs = search needs
 
 mul-read-index : tie.Need-mul-read-index
 mul-read-index c = search needs
@@ -44,21 +52,22 @@ read-index-requires-2 c κs = search needs
 
 returns-3 : tie.Need-returns-3
 returns-3 c =
-    let a = c .before .before .before .before .before .before .before .before .before .before .args in
-    let u = c .before .before .before .before .before .before .unit .given .0 .0 in
-    let read = sym (rw (c .before .before .before .before .before .before .unit .given .1) at (c .before .before .before .before .before .before .before .before .int32 .ensures)) in
-    let less : u < a .units = omega arith in
-    let known = outs-at (a .s .now) (a .start) (a .units) u less in
-    let fact = c .before .before .before .before .before .before .before .before .before .before .pre .known u less (c .before .before .if3 .taken) in
+    let a = c .before .before .before .before .before .before .before .before .before .before .before .before .before in
+    let u = c .before .before .before .before .before .before .before .before .unit .given .0 .0 in
+    let read = sym (rw (c .before .before .before .before .before .before .before .before .unit .given .1) at (c .before .before .before .before .before .before .before .before .before .before .int32 .ensures)) in
+    let less : u < a .args .units = omega arith in
+    let known = outs-at (a .args .s .now) (a .args .start) (a .args .units) u less in
+    let fact = a .pre .known u less (omega (arith, c .before .before .before .before .wide .ensures, c .before .before .before .if3 .taken)) in
     c .read-index2 .ensures
-    ∙ ap (λ (b : ℕ). ending (indexBelow b (a .s .now) (c .before .before .before .before .before .before .unit .given .0 .1 .0 .at))) (fact ∙ sym known)
-    ∙ sym (input-output (a .constants) (outsFrom (a .s .now) (a .start) (a .units)) (a .s .now) (a .cursor .at) read (c .before .before .before .before .if1 .left) (rw outs-length less))
+    ∙ ap (λ (b : ℕ). ending (indexBelow b (a .args .s .now) (c .before .before .before .before .before .before .before .before .unit .given .0 .1 .0 .at))) (ap (λ (n : ℕ). getD (a .args .outs .now) (n % remembered) 0) (c .before .before .wide2 .ensures) ∙ fact ∙ sym known)
+    ∙ sym (input-output (a .args .constants) (outsFrom (a .args .s .now) (a .args .start) (a .args .units)) (a .args .s .now) (a .args .cursor .at) read (c .before .before .before .before .before .before .if1 .left) (rw outs-length less))
 
 far-outputs-requires : tie.Need-far-outputs-requires
+unfolding unitPlace
 far-outputs-requires c κs =
-    let a = c .before .before .before .before .before .before .before .before .args in
-    let u = c .before .before .before .before .unit .given .0 .0 in
-    le-trans (place-up (a .s .now) (a .start) (suc u) (a .units) (omega arith)) (c .before .before .before .before .before .before .before .before .pre .within (omega arith))
+    let a = c .before .before .before .before .before .before .before .before .before .before in
+    let u = c .before .before .before .before .before .unit .given .0 .0 in
+    (le-trans (place-up (a .args .s .now) (a .args .start) (suc u) (a .args .units) (omega arith)) (a .pre .within (omega arith)), a .pre .marked)
 
 read-index-requires-3 : tie.Need-read-index-requires-3
 read-index-requires-3 c κs = search needs
@@ -68,18 +77,18 @@ enum-known-refusal c = search needs
 
 returns-4 : tie.Need-returns-4
 returns-4 c =
-    let a = c .before .before .before .before .before .before .before .before .before .before .args in
-    let u = c .before .before .before .before .before .before .unit .given .0 .0 in
-    let read = sym (rw (c .before .before .before .before .before .before .unit .given .1) at (c .before .before .before .before .before .before .before .before .int32 .ensures)) in
-    let less : u < a .units = omega arith in
-    let known = outs-at (a .s .now) (a .start) (a .units) u less in
+    let a = c .before .before .before .before .before .before .before .before .before .before .before .before in
+    let u = c .before .before .before .before .before .before .before .unit .given .0 .0 in
+    let read = sym (rw (c .before .before .before .before .before .before .before .unit .given .1) at (c .before .before .before .before .before .before .before .before .before .int32 .ensures)) in
+    let less : u < a .args .units = omega arith in
+    let known = outs-at (a .args .s .now) (a .args .start) (a .args .units) u less in
     c .read-index3 .ensures
-    ∙ ap (λ (b : ℕ). ending (indexBelow b (a .s .now) (c .before .before .before .before .before .before .unit .given .0 .1 .0 .at))) (c .before .far-outputs .ensures ∙ sym known)
-    ∙ sym (input-output (a .constants) (outsFrom (a .s .now) (a .start) (a .units)) (a .s .now) (a .cursor .at) read (c .before .before .before .before .if1 .left) (rw outs-length less))
+    ∙ ap (λ (b : ℕ). ending (indexBelow b (a .args .s .now) (c .before .before .before .before .before .before .before .unit .given .0 .1 .0 .at))) (c .before .far-outputs .ensures ∙ sym known)
+    ∙ sym (input-output (a .args .constants) (outsFrom (a .args .s .now) (a .args .start) (a .args .units)) (a .args .s .now) (a .args .cursor .at) read (c .before .before .before .before .before .if1 .left) (rw outs-length less))
 
 returns-5 : tie.Need-returns-5
 returns-5 c =
-    let a = c .before .before .before .before .before .args in
+    let a = c .before .before .before .before .before .before .args in
     let read = sym (rw (c .before .refusal .given .1) at (c .before .before .before .int32 .ensures)) in
     sym (input-cut (a .constants) (outsFrom (a .s .now) (a .start) (a .units)) (a .s .now) (a .cursor .at) read)
 
@@ -92,7 +101,9 @@ read-input-spec =
     read-index-requires
     returns
     returns-2
-    cast-index
+    sub-wide
+    wide-requires
+    wide-requires-2
     mul-read-index
     element-copy-out-read-index
     read-index-requires-2

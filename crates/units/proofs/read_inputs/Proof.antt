@@ -12,16 +12,16 @@ use Rattle.units.proofs.read_inputs.Statement.{statement}
 use Rattle.units.proofs.read_inputs.Tie as tie
 
 abbrev Inv-loop : tie.InvT-loop
-Inv-loop s count constants start units outs at₀ i₀ at i = (i ≤ count) × (ending (repeat (input constants (outsFrom s start units) s) (count - i) at) ≡ ending (repeat (input constants (outsFrom s start units) s) count at₀))
+Inv-loop s count constants start units outs stride marks at₀ i₀ at i = (i ≤ count) × (ending (repeat (input constants (outsFrom s start units) s) (count - i) at) ≡ ending (repeat (input constants (outsFrom s start units) s) count at₀))
 
 abbrev μ-loop : tie.MeasureT-loop
-μ-loop s count constants start units outs at₀ i₀ at i = count - i
+μ-loop s count constants start units outs stride marks at₀ i₀ at i = count - i
 
 loop-holds : tie.Need-loop-holds Inv-loop μ-loop
 loop-holds c = (omega arith, rw sub-zero)
 
 read-input-requires : tie.Need-read-input-requires Inv-loop μ-loop
-read-input-requires c κs = c .before .before .before .pre
+read-input-requires c κs = c .before .before .before .before .pre
 
 enum-known-next : tie.Need-enum-known-next Inv-loop μ-loop
 enum-known-next c = search needs
@@ -31,7 +31,7 @@ enum-known-refusal c = search needs
 
 returns : tie.Need-returns Inv-loop μ-loop
 returns c =
-    let a = c .before .before .before .before .before .before .before .args in
+    let a = c .before .before .before .before .before .before .before .before .args in
     let l = c .before .before .before .before .before .loop in
     let found = sym (rw (c .before .refusal .given .1) at (c .before .before .before .read-input .ensures)) in
     sym (repeat-bad (input (a .constants) (outsFrom (a .s .now) (a .start) (a .units)) (a .s .now)) (a .count) (l .i) (l .at) (omega arith) found) ∙ l .inv .1
@@ -44,14 +44,14 @@ loop-less c = omega arith
 
 loop-again : tie.Need-loop-again Inv-loop μ-loop
 loop-again c =
-    let a = c .before .before .before .before .before .before .before .args in
+    let a = c .before .before .before .before .before .before .before .before .args in
     let l = c .before .before .before .before .before .loop in
     let found = sym (rw (c .before .next .given .1) at (c .before .before .before .read-input .ensures)) in
     (omega arith, sym (repeat-next (input (a .constants) (outsFrom (a .s .now) (a .start) (a .units)) (a .s .now)) (a .count) (l .i) (l .at) (omega arith) found) ∙ l .inv .1)
 
 returns-2 : tie.Need-returns-2 Inv-loop μ-loop
 returns-2 c =
-    let a = c .before .before .before .args in
+    let a = c .before .before .before .before .args in
     let l = c .before .loop in
     sym (ending-none (input (a .constants) (outsFrom (a .s .now) (a .start) (a .units)) (a .s .now)) (a .count) (l .i) (l .at) (omega arith)) ∙ l .inv .1
 

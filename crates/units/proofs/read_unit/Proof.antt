@@ -67,7 +67,7 @@ returns-3 c =
     rw (e1, e2, e3, e4, e5)
 
 read-inputs-requires : tie.Need-read-inputs-requires
-read-inputs-requires c κs = c .before .before .before .before .before .before .before .before .before .before .before .before .before .before .before .before .before .before .before .before .before .pre
+read-inputs-requires c κs = c .before .before .before .before .before .before .before .before .before .before .before .before .before .before .before .before .before .before .before .before .before .before .pre
 
 enum-known-next-4 : tie.Need-enum-known-next-4
 enum-known-next-4 c = search needs

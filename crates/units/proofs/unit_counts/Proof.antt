@@ -1,6 +1,6 @@
 use mathlib.Core.Path.{refl}
 use native.Mathlib.Omega.{arith}
-use Rattle.units.specs.Units.{unitCounts, unitEnd}
+use Rattle.units.specs.Marks.{unitCounts, unitEnd}
 use Rattle.units.proofs.unit_counts.Statement.{statement}
 use Rattle.units.proofs.unit_counts.Tie as tie
 

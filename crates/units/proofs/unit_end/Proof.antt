@@ -2,7 +2,7 @@ use Prim.Native.Nat.{ℕ}
 use mathlib.Core.Path.{ap, _∙_}
 use native.Mathlib.Omega.{arith}
 use borrow.Author.Needs.{needs}
-use Rattle.units.specs.Units.{unitEnd}
+use Rattle.units.specs.Marks.{unitEnd}
 use Rattle.format.specs.Fields.{word}
 use Rattle.units.proofs.unit_end.Statement.{statement}
 use Rattle.units.proofs.unit_end.Tie as tie

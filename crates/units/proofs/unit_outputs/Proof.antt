@@ -2,7 +2,7 @@ use Prim.Native.Nat.{ℕ, _+_}
 use mathlib.Core.Path.{ap, _∙_}
 use native.Mathlib.Omega.{arith}
 use borrow.Author.Needs.{needs}
-use Rattle.units.specs.Units.{unitOutputs, unitEnd}
+use Rattle.units.specs.Marks.{unitOutputs, unitEnd}
 use Rattle.format.specs.Fields.{word}
 use Rattle.units.proofs.unit_outputs.Statement.{statement}
 use Rattle.units.proofs.unit_outputs.Tie as tie

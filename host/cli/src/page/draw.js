@@ -4,6 +4,9 @@ const lines = Array.from(document.querySelectorAll('#lines > .step'));
 const last = lines.length;
 let present = 0;
 
+/* Whether the present command stays in view when the tree is scrolled. */
+const wide = matchMedia('(min-width: 760px)');
+
 /* The answers that are drawn, and after how many steps. */
 let drawn = {count: -1, answers: null};
 
@@ -126,6 +129,8 @@ function go(to) {
   item.setAttribute('aria-current', 'step');
   const pane = $('lines');
   pane.scrollTop += item.getBoundingClientRect().top - pane.getBoundingClientRect().top - pane.clientHeight / 3;
+  const marked = wide.matches && $('tree').querySelector('.came, .moved, .freed, .changed');
+  if (marked) marked.scrollIntoView({block: 'nearest'});
   $('line').textContent = 'line ' + item.value;
   $('said').textContent = item.querySelector('code').firstChild.data.trim();
   $('answer').textContent = item.querySelector('samp').textContent;

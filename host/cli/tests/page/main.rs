@@ -344,6 +344,8 @@ fn two_thousand_commands_on_256_nodes_stay_under_5_mb() {
         let data = data(&pieces(&page.html));
         assert_eq!(data.list_at("steps").len(), 2000);
         assert!(!page.html.contains("step refused"), "{what}");
+        // Long answers are cut where all would be too much, and say so.
+        assert_eq!(page.html.contains("which play prints"), what == "trees");
     }
     let (script, _) = random(seed(), Theme::Crowd, 2000, &folder);
     let page = made(script.as_bytes(), folder.path());

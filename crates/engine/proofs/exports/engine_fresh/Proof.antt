@@ -4,7 +4,7 @@ use native.Mathlib.Omega.{arith}
 use borrow.Author.Needs.{needs}
 use Rattle.model.specs.Apply.{freshAnswer}
 use Rattle.engine.specs.Numbers.{callNumber}
-use Rattle.engine.specs.Calls.{fresh-number, fresh-small}
+use Rattle.engine.specs.Calls.{fresh-small}
 use Rattle.engine.proofs.exports.engine_fresh.Statement.{statement}
 use Rattle.engine.proofs.exports.engine_fresh.Tie as tie
 
@@ -28,13 +28,8 @@ same-length-2 c = search needs
 
 returns : tie.Need-returns
 returns c =
-    let a = c .before .before .before .before .before .before .before .before .before .before .args in
-    let made = c .before .before .before .before .before .fresh .ensures in
-    record {
-      number = c .call-number .ensures ∙ ap callNumber (made .answers) ∙ fresh-number (a .words .now) (a .arena .now);
-      words = made .words;
-      arena = made .arena;
-    }
+    let fresh = c .before .before .before .before .before .fresh in
+    record { answer = fresh .result; number = c .call-number .ensures; made = fresh .ensures }
 
 pub engine-fresh-spec : {M : Type 1} → statement M
 engine-fresh-spec =

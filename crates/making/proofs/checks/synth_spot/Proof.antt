@@ -2,35 +2,30 @@
 use native.Mathlib.Omega.{arith}
 use borrow.Author.Needs.{needs}
 use mathlib.Core.Path.{sym, _∙_}
-use Rattle.making.specs.Checks.{synth-action, synth-number, synth-live, synth-absent, synth-unknown, synth-kind, synth-spent, synth-full, synth-clear}
+use Rattle.making.specs.Checks.{synth-number, synth-live, synth-absent, synth-unknown, synth-kind, synth-spent, synth-full, synth-clear}
 use Rattle.making.proofs.checks.synth_spot.Statement.{statement}
 use Rattle.making.proofs.checks.synth_spot.Tie as tie
-
-returns : tie.Need-returns
-returns c =
-    let a = c .before .before .args in
-    synth-action (a .number) (a .action) (a .target) (a .slot) (a .words .now) (c .if1 .taken)
 
 bad-number-requires : tie.Need-bad-number-requires
 bad-number-requires c κs = search needs
 
-returns-2 : tie.Need-returns-2
-returns-2 c =
-    let a = c .before .before .before .before .args in
-    synth-number (a .number) (a .action) (a .target) (a .slot) (a .words .now) (omega arith) (sym (c .before .bad-number .ensures) ∙ c .if2 .taken)
+returns : tie.Need-returns
+returns c =
+    let a = c .before .before .before .args in
+    synth-number (a .number) (a .action) (a .target) (a .slot) (a .words .now) (sym (c .before .bad-number .ensures) ∙ c .if1 .taken)
 
 is-live-requires : tie.Need-is-live-requires
 is-live-requires c κs = search needs
 
+returns-2 : tie.Need-returns-2
+returns-2 c =
+    let a = c .before .before .before .before .before .args in
+    synth-live (a .number) (a .action) (a .target) (a .slot) (a .words .now) (sym (c .before .before .before .bad-number .ensures) ∙ c .before .before .if1 .left) (sym (c .before .is-live .ensures) ∙ c .if2 .taken)
+
 returns-3 : tie.Need-returns-3
 returns-3 c =
     let a = c .before .before .before .before .before .before .args in
-    synth-live (a .number) (a .action) (a .target) (a .slot) (a .words .now) (omega arith) (sym (c .before .before .before .bad-number .ensures) ∙ c .before .before .if2 .left) (sym (c .before .is-live .ensures) ∙ c .if3 .taken)
-
-returns-4 : tie.Need-returns-4
-returns-4 c =
-    let a = c .before .before .before .before .before .before .before .args in
-    synth-absent (a .number) (a .action) (a .target) (a .slot) (a .words .now) (omega arith) (sym (c .before .before .before .before .bad-number .ensures) ∙ c .before .before .before .if2 .left) (sym (c .before .before .is-live .ensures) ∙ c .before .if3 .left) (c .if4 .taken)
+    synth-absent (a .number) (a .action) (a .target) (a .slot) (a .words .now) (sym (c .before .before .before .before .bad-number .ensures) ∙ c .before .before .before .if1 .left) (sym (c .before .before .is-live .ensures) ∙ c .before .if2 .left) (c .if3 .taken)
 
 shared-slice-read-wide : tie.Need-shared-slice-read-wide
 shared-slice-read-wide c = search needs
@@ -41,18 +36,18 @@ wide-requires c κs = search needs
 node-place-requires : tie.Need-node-place-requires
 node-place-requires c κs = search needs
 
-returns-5 : tie.Need-returns-5
-returns-5 c =
-    let a = c .before .before .before .before .before .before .before .before .before .before .before .args in
-    synth-unknown (a .number) (a .action) (a .target) (a .slot) (a .words .now) (omega arith) (sym (c .before .before .before .before .before .before .before .before .bad-number .ensures) ∙ c .before .before .before .before .before .before .before .if2 .left) (sym (c .before .before .before .before .before .before .is-live .ensures) ∙ c .before .before .before .before .before .if3 .left) (omega arith) (c .before .before .before .before .before .before .before .before .before .before .before .pre) (c .before .before .wide .result) (c .before .before .wide .ensures) (c .before .node-place .result) (c .before .node-place .ensures) (c .if5 .taken)
+returns-4 : tie.Need-returns-4
+returns-4 c =
+    let a = c .before .before .before .before .before .before .before .before .before .before .args in
+    synth-unknown (a .number) (a .action) (a .target) (a .slot) (a .words .now) (sym (c .before .before .before .before .before .before .before .before .bad-number .ensures) ∙ c .before .before .before .before .before .before .before .if1 .left) (sym (c .before .before .before .before .before .before .is-live .ensures) ∙ c .before .before .before .before .before .if2 .left) (omega arith) (c .before .before .before .before .before .before .before .before .before .before .pre) (c .before .before .wide .result) (c .before .before .wide .ensures) (c .before .node-place .result) (c .before .node-place .ensures) (c .if4 .taken)
 
 bad-target-requires : tie.Need-bad-target-requires
 bad-target-requires c κs = search needs
 
-returns-6 : tie.Need-returns-6
-returns-6 c =
-    let a = c .before .before .before .before .before .before .before .before .before .before .before .before .before .args in
-    synth-kind (a .number) (a .action) (a .target) (a .slot) (a .words .now) (omega arith) (sym (c .before .before .before .before .before .before .before .before .before .before .bad-number .ensures) ∙ c .before .before .before .before .before .before .before .before .before .if2 .left) (sym (c .before .before .before .before .before .before .before .before .is-live .ensures) ∙ c .before .before .before .before .before .before .before .if3 .left) (omega arith) (c .before .before .before .before .before .before .before .before .before .before .before .before .before .pre) (c .before .before .before .before .wide .result) (c .before .before .before .before .wide .ensures) (c .before .before .before .node-place .result) (c .before .before .before .node-place .ensures) (omega arith) (sym (c .before .bad-target .ensures) ∙ c .if6 .taken)
+returns-5 : tie.Need-returns-5
+returns-5 c =
+    let a = c .before .before .before .before .before .before .before .before .before .before .before .before .args in
+    synth-kind (a .number) (a .action) (a .target) (a .slot) (a .words .now) (sym (c .before .before .before .before .before .before .before .before .before .before .bad-number .ensures) ∙ c .before .before .before .before .before .before .before .before .before .if1 .left) (sym (c .before .before .before .before .before .before .before .before .is-live .ensures) ∙ c .before .before .before .before .before .before .before .if2 .left) (omega arith) (c .before .before .before .before .before .before .before .before .before .before .before .before .pre) (c .before .before .before .before .wide .result) (c .before .before .before .before .wide .ensures) (c .before .before .before .node-place .result) (c .before .before .before .node-place .ensures) (omega arith) (sym (c .before .bad-target .ensures) ∙ c .if5 .taken)
 
 shared-slice-read-is-spent : tie.Need-shared-slice-read-is-spent
 shared-slice-read-is-spent c = search needs
@@ -60,43 +55,42 @@ shared-slice-read-is-spent c = search needs
 is-spent-requires : tie.Need-is-spent-requires
 is-spent-requires c κs = search needs
 
-returns-7 : tie.Need-returns-7
-returns-7 c =
-    let a = c .before .before .before .before .before .before .before .before .before .before .before .before .before .before .before .before .args in
-    synth-spent (a .number) (a .action) (a .target) (a .slot) (a .words .now) (omega arith) (sym (c .before .before .before .before .before .before .before .before .before .before .before .before .before .bad-number .ensures) ∙ c .before .before .before .before .before .before .before .before .before .before .before .before .if2 .left) (sym (c .before .before .before .before .before .before .before .before .before .before .before .is-live .ensures) ∙ c .before .before .before .before .before .before .before .before .before .before .if3 .left) (omega arith) (c .before .before .before .before .before .before .before .before .before .before .before .before .before .before .before .before .pre) (c .before .before .before .before .before .before .before .wide .result) (c .before .before .before .before .before .before .before .wide .ensures) (c .before .before .before .before .before .before .node-place .result) (c .before .before .before .before .before .before .node-place .ensures) (omega arith) (sym (c .before .before .before .before .bad-target .ensures) ∙ c .before .before .before .if6 .left) (sym (c .before .is-spent .ensures) ∙ c .if7 .taken)
+returns-6 : tie.Need-returns-6
+returns-6 c =
+    let a = c .before .before .before .before .before .before .before .before .before .before .before .before .before .before .before .args in
+    synth-spent (a .number) (a .action) (a .target) (a .slot) (a .words .now) (sym (c .before .before .before .before .before .before .before .before .before .before .before .before .before .bad-number .ensures) ∙ c .before .before .before .before .before .before .before .before .before .before .before .before .if1 .left) (sym (c .before .before .before .before .before .before .before .before .before .before .before .is-live .ensures) ∙ c .before .before .before .before .before .before .before .before .before .before .if2 .left) (omega arith) (c .before .before .before .before .before .before .before .before .before .before .before .before .before .before .before .pre) (c .before .before .before .before .before .before .before .wide .result) (c .before .before .before .before .before .before .before .wide .ensures) (c .before .before .before .before .before .before .node-place .result) (c .before .before .before .before .before .before .node-place .ensures) (omega arith) (sym (c .before .before .before .before .bad-target .ensures) ∙ c .before .before .before .if5 .left) (sym (c .before .is-spent .ensures) ∙ c .if6 .taken)
 
 is-full-requires : tie.Need-is-full-requires
 is-full-requires c κs = search needs
 
+returns-7 : tie.Need-returns-7
+returns-7 c =
+    let a = c .before .before .before .before .before .before .before .before .before .before .before .before .before .before .before .before .before .args in
+    synth-full (a .number) (a .action) (a .target) (a .slot) (a .words .now) (sym (c .before .before .before .before .before .before .before .before .before .before .before .before .before .before .before .bad-number .ensures) ∙ c .before .before .before .before .before .before .before .before .before .before .before .before .before .before .if1 .left) (sym (c .before .before .before .before .before .before .before .before .before .before .before .before .before .is-live .ensures) ∙ c .before .before .before .before .before .before .before .before .before .before .before .before .if2 .left) (omega arith) (c .before .before .before .before .before .before .before .before .before .before .before .before .before .before .before .before .before .pre) (c .before .before .before .before .before .before .before .before .before .wide .result) (c .before .before .before .before .before .before .before .before .before .wide .ensures) (c .before .before .before .before .before .before .before .before .node-place .result) (c .before .before .before .before .before .before .before .before .node-place .ensures) (omega arith) (sym (c .before .before .before .before .before .before .bad-target .ensures) ∙ c .before .before .before .before .before .if5 .left) (sym (c .before .before .before .is-spent .ensures) ∙ c .before .before .if6 .left) (sym (c .before .is-full .ensures) ∙ c .if7 .taken)
+
 returns-8 : tie.Need-returns-8
 returns-8 c =
-    let a = c .before .before .before .before .before .before .before .before .before .before .before .before .before .before .before .before .before .before .args in
-    synth-full (a .number) (a .action) (a .target) (a .slot) (a .words .now) (omega arith) (sym (c .before .before .before .before .before .before .before .before .before .before .before .before .before .before .before .bad-number .ensures) ∙ c .before .before .before .before .before .before .before .before .before .before .before .before .before .before .if2 .left) (sym (c .before .before .before .before .before .before .before .before .before .before .before .before .before .is-live .ensures) ∙ c .before .before .before .before .before .before .before .before .before .before .before .before .if3 .left) (omega arith) (c .before .before .before .before .before .before .before .before .before .before .before .before .before .before .before .before .before .before .pre) (c .before .before .before .before .before .before .before .before .before .wide .result) (c .before .before .before .before .before .before .before .before .before .wide .ensures) (c .before .before .before .before .before .before .before .before .node-place .result) (c .before .before .before .before .before .before .before .before .node-place .ensures) (omega arith) (sym (c .before .before .before .before .before .before .bad-target .ensures) ∙ c .before .before .before .before .before .if6 .left) (sym (c .before .before .before .is-spent .ensures) ∙ c .before .before .if7 .left) (sym (c .before .is-full .ensures) ∙ c .if8 .taken)
-
-returns-9 : tie.Need-returns-9
-returns-9 c =
-    let a = c .before .before .before .before .before .before .before .before .before .before .before .before .before .before .before .before .before .before .args in
-    synth-clear (a .number) (a .action) (a .target) (a .slot) (a .words .now) (omega arith) (sym (c .before .before .before .before .before .before .before .before .before .before .before .before .before .before .before .bad-number .ensures) ∙ c .before .before .before .before .before .before .before .before .before .before .before .before .before .before .if2 .left) (sym (c .before .before .before .before .before .before .before .before .before .before .before .before .before .is-live .ensures) ∙ c .before .before .before .before .before .before .before .before .before .before .before .before .if3 .left) (omega arith) (c .before .before .before .before .before .before .before .before .before .before .before .before .before .before .before .before .before .before .pre) (c .before .before .before .before .before .before .before .before .before .wide .result) (c .before .before .before .before .before .before .before .before .before .wide .ensures) (c .before .before .before .before .before .before .before .before .node-place .result) (c .before .before .before .before .before .before .before .before .node-place .ensures) (omega arith) (sym (c .before .before .before .before .before .before .bad-target .ensures) ∙ c .before .before .before .before .before .if6 .left) (sym (c .before .before .before .is-spent .ensures) ∙ c .before .before .if7 .left) (sym (c .before .is-full .ensures) ∙ c .if8 .left)
+    let a = c .before .before .before .before .before .before .before .before .before .before .before .before .before .before .before .before .before .args in
+    synth-clear (a .number) (a .action) (a .target) (a .slot) (a .words .now) (sym (c .before .before .before .before .before .before .before .before .before .before .before .before .before .before .before .bad-number .ensures) ∙ c .before .before .before .before .before .before .before .before .before .before .before .before .before .before .if1 .left) (sym (c .before .before .before .before .before .before .before .before .before .before .before .before .before .is-live .ensures) ∙ c .before .before .before .before .before .before .before .before .before .before .before .before .if2 .left) (omega arith) (c .before .before .before .before .before .before .before .before .before .before .before .before .before .before .before .before .before .pre) (c .before .before .before .before .before .before .before .before .before .wide .result) (c .before .before .before .before .before .before .before .before .before .wide .ensures) (c .before .before .before .before .before .before .before .before .node-place .result) (c .before .before .before .before .before .before .before .before .node-place .ensures) (omega arith) (sym (c .before .before .before .before .before .before .bad-target .ensures) ∙ c .before .before .before .before .before .if5 .left) (sym (c .before .before .before .is-spent .ensures) ∙ c .before .before .if6 .left) (sym (c .before .is-full .ensures) ∙ c .if7 .left)
 
 pub synth-spot-spec : {M : Type 1} → statement M
 synth-spot-spec =
     tie.close
     (tie.spec
-    returns
     bad-number-requires
-    returns-2
+    returns
     is-live-requires
+    returns-2
     returns-3
-    returns-4
     shared-slice-read-wide
     wide-requires
     node-place-requires
-    returns-5
+    returns-4
     bad-target-requires
-    returns-6
+    returns-5
     shared-slice-read-is-spent
     is-spent-requires
-    returns-7
+    returns-6
     is-full-requires
-    returns-8
-    returns-9)
+    returns-7
+    returns-8)

@@ -1,34 +1,35 @@
--- `making::rows::row_for` meets its contract.
+-- `making::rows::row_for` meets its contract: each case is the definition's.
 use native.Mathlib.Omega.{arith}
 use borrow.Author.Needs.{needs}
-use mathlib.Core.Path.{_∙_}
-use borrow.Author.Tests.{eq-eqb, ne-eqb}
-use Rattle.making.specs.Rows.{same-free}
+use mathlib.Core.Path.{_≡_, _∙_}
 use Rattle.nodes.specs.Table.{rows}
+use Rattle.tree.specs.declared.action.Action.the-variants.{Put, Replace}
+use Rattle.making.specs.Rows.{same-free}
 use Rattle.making.proofs.rows.row_for.Statement.{statement}
 use Rattle.making.proofs.rows.row_for.Tie as tie
+
+enum-known-action : tie.Need-enum-known-action
+enum-known-action c = search needs
+
+free-row-requires : tie.Need-free-row-requires
+free-row-requires c κs = let p = c .before .before .before .before .pre in record { room = omega (arith, p .size, p .few); few = p .few }
+
+enum-told : tie.Need-enum-told
+enum-told c = search needs
 
 row-without-requires : tie.Need-row-without-requires
 row-without-requires c κs = search needs
 
 returns : tie.Need-returns
 returns c =
-    λ n here.
-    rw (eq-eqb (c .before .before .before .args .action) 4 (c .before .if1 .taken)) (c .row-without .ensures n here)
-
-free-row-requires : tie.Need-free-row-requires
-free-row-requires c κs = record { room = omega (arith, c .before .before .pre .size, c .before .before .pre .few); few = c .before .before .pre .few }
+    let a = c .before .before .before .before .before .args in
+    let case : a .action ≡ Put (c .before .before .action .given .0 .0) = cc in
+    rw case (c .free-row .ensures ∙ same-free (rows (a .count) (a .nodes .now)))
 
 returns-2 : tie.Need-returns-2
 returns-2 c =
-    λ n here.
-    rw (ne-eqb (c .before .before .before .args .action) 4 (c .before .if1 .left)) (c .free-row .ensures ∙ same-free (rows (c .before .before .before .args .count) (c .before .before .before .args .nodes .now)))
+    let case : c .before .before .before .before .args .action ≡ Replace = cc in
+    rw case (c .row-without .ensures)
 
 pub row-for-spec : {M : Type 1} → statement M
-row-for-spec =
-    tie.close
-    (tie.spec
-    row-without-requires
-    returns
-    free-row-requires
-    returns-2)
+row-for-spec = tie.close (tie.spec enum-known-action free-row-requires enum-told row-without-requires returns returns-2)

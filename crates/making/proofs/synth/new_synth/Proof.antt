@@ -1,80 +1,41 @@
--- `making::synth::new_synth` meets its contract: the checks' refusal, or the new synth.
-use native.Mathlib.Omega.{arith}
+-- `making::synth::new_synth` meets its contract: by the action that the number asks for, or refused.
 use borrow.Author.Needs.{needs}
 use mathlib.Core.Path.{_≡_}
-use Rattle.treecommands.specs.declared.group.Spot.the-variants as spot
-use Rattle.treecommands.specs.Ready.{ready}
-use Rattle.making.specs.Checks.{Clear, Answers}
-use Rattle.making.specs.Synth.{synth-refused, meant-lent, table-formed}
+use Rattle.tree.specs.declared.action.Asked.the-variants.{Add, Refused}
+use Rattle.tree.specs.Action.{actionOf, asked-number, asked-refused}
+use Rattle.making.specs.Synth.{synth-unasked}
 use Rattle.making.proofs.synth.new_synth.Statement.{statement}
 use Rattle.making.proofs.synth.new_synth.Tie as tie
 
-sub-find-resident : tie.Need-sub-find-resident
-sub-find-resident c = search needs
+add-action-requires : tie.Need-add-action-requires
+add-action-requires c κs = search needs
 
-part-find-resident-start : tie.Need-part-find-resident-start
-part-find-resident-start c = search needs
+enum-known-asked : tie.Need-enum-known-asked
+enum-known-asked c = search needs
 
-part-find-resident-end : tie.Need-part-find-resident-end
-part-find-resident-end c = omega (arith, c .before .before .before .before .pre .size)
+add-synth-requires : tie.Need-add-synth-requires
+add-synth-requires c κs = search needs
 
-find-resident-requires : tie.Need-find-resident-requires
-find-resident-requires c κs = table-formed (c .before .before .before .before .before .args .words .now) (c .before .before .before .before .before .args .arena .now) (c .before .before .before .before .before .pre)
-
-synth-spot-requires : tie.Need-synth-spot-requires
-synth-spot-requires c κs = ready (c .before .before .before .before .before .before .before .args .words .now) (c .before .before .before .before .before .before .before .args .arena .now) (c .before .before .before .before .before .before .before .pre)
-
-enum-known-spot : tie.Need-enum-known-spot
-enum-known-spot c = search needs
-
-put-synth-requires : tie.Need-put-synth-requires
-put-synth-requires c κs =
-    let a = c .before .before .before .before .before .before .before .before .before .before .before .before .args in
-    let fact : c .before .before .before .before .synth-spot .result ≡ spot.At (c .before .before .spot .given .0 .0) = c .before .before .spot .given .1 in
-    let clear : Clear (a .number) (a .action) (a .target) (c .before .before .before .before .before .before .find-resident .result) (a .words .now) (c .before .before .spot .given .0 .0) = rw fact at (c .before .before .before .before .synth-spot .ensures) in
-    record {
-      target = a .target;
-      bytes = a .bytes .now;
-      ground = record { known = c .before .before .before .before .before .before .before .before .before .before .before .before .pre; meant = meant-lent (c .before .before .before .before .before .before .find-resident .result) (a .bytes .now) (a .words .now) (a .arena .now) (c .before .before .before .before .before .before .find-resident .ensures); clear = clear };
-    }
-
-enum-known-spot-2 : tie.Need-enum-known-spot-2
-enum-known-spot-2 c = search needs
+enum-known-asked-2 : tie.Need-enum-known-asked-2
+enum-known-asked-2 c = search needs
 
 same-length : tie.Need-same-length
 same-length c = search needs
 
 returns : tie.Need-returns
 returns c =
-    let a = c .before .before .before .before .before .before .before .before .before .before .before .before .before .before .before .args in
-    let fact : c .before .before .before .before .before .before .before .synth-spot .result ≡ spot.At (c .before .before .before .before .before .spot .given .0 .0) = c .before .before .before .before .before .spot .given .1 in
-    let clear : Clear (a .number) (a .action) (a .target) (c .before .before .before .before .before .before .before .before .before .find-resident .result) (a .words .now) (c .before .before .before .before .before .spot .given .0 .0) = rw fact at (c .before .before .before .before .before .before .before .synth-spot .ensures) in
-    c .before .before .put-synth .ensures (a .target) (a .bytes .now)
-    (record { known = c .before .before .before .before .before .before .before .before .before .before .before .before .before .before .before .pre; meant = meant-lent (c .before .before .before .before .before .before .before .before .before .find-resident .result) (a .bytes .now) (a .words .now) (a .arena .now) (c .before .before .before .before .before .before .before .before .before .find-resident .ensures); clear = clear })
-
-same-length-2 : tie.Need-same-length-2
-same-length-2 c = search needs
+    let a = c .before .before .before .before .before .before .before .before .before .before .before .args in
+    let by = c .before .before .before .before .before .asked .given .0 .0 in
+    let fact : actionOf (a .action) ≡ Add by = cc in
+    rw (asked-number (a .action) by fact) (c .before .before .add-synth .ensures)
 
 returns-2 : tie.Need-returns-2
 returns-2 c =
-    let a = c .before .before .before .before .before .before .before .before .before .before .before .args in
-    let fact : c .before .before .before .synth-spot .result ≡ spot.Refused (c .before .spot2 .given .0 .0) = c .before .spot2 .given .1 in
-    let answers : Answers (a .number) (a .action) (a .target) (c .before .before .before .before .before .find-resident .result) (a .words .now) (c .before .spot2 .given .0 .0) = rw fact at (c .before .before .before .synth-spot .ensures) in
-    synth-refused (a .number) (a .action) (a .target) (c .before .before .before .before .before .find-resident .result) (a .bytes .now) (a .words .now) (a .arena .now) (meant-lent (c .before .before .before .before .before .find-resident .result) (a .bytes .now) (a .words .now) (a .arena .now) (c .before .before .before .before .before .find-resident .ensures)) (c .before .spot2 .given .0 .0) answers
+    let a = c .before .before .before .before .before .before .before .args in
+    let why = c .before .asked2 .given .0 .0 in
+    let fact : actionOf (a .action) ≡ Refused why = cc in
+    let refused = asked-refused (a .action) why fact in
+    rw (refused .1) (synth-unasked (a .number) (a .action) (a .target) (a .bytes .now) (a .words .now) (a .arena .now) (refused .0))
 
 pub new-synth-spec : {M : Type 1} → statement M
-new-synth-spec =
-    tie.close
-    (tie.spec
-    sub-find-resident
-    part-find-resident-start
-    part-find-resident-end
-    find-resident-requires
-    synth-spot-requires
-    enum-known-spot
-    put-synth-requires
-    enum-known-spot-2
-    same-length
-    returns
-    same-length-2
-    returns-2)
+new-synth-spec = tie.close (tie.spec add-action-requires enum-known-asked add-synth-requires enum-known-asked-2 same-length returns returns-2)

@@ -1,15 +1,15 @@
 use Prim.Native.Nat.{ℕ, _+_, _*_}
-use mathlib.Core.Path.{_≡_, subst}
-use mathlib.Core.List.{[], _∷_}
+use mathlib.Core.Path.{_≡_, sym, ap, _∙_}
+use mathlib.Core.List.{List, [], _∷_}
 use native.Mathlib.Omega.{arith}
 use borrow.Author.Needs.{needs}
 use borrow.Author.Tests.{eq-eqb, ne-eqb}
 use lib.ListN.{getD}
 use Rattle.words.specs.Parts.{region}
 use Rattle.refusals.specs.declared.Refusal.the-variants.{NoNode}
-use Rattle.nodes.specs.Table.{rows}
 use Rattle.nodes.specs.Place.{groupSlot, place}
-use Rattle.nodes.specs.Structure.{headOf, tailOf, nextOf}
+use Rattle.nodes.specs.Structure.{noNode, firstOr, lastOr, headOf, tailOf, nextOf}
+use Rattle.tree.specs.Around.{nextAt, childrenAt, parentOf-at, previousOf-at, nextOf-at, childrenOf-at}
 use Rattle.model.specs.declared.Query.the-variants as query
 use Rattle.model.specs.Layout.{countIn, nodesIn, nodesPlace, nodesWords}
 use Rattle.model.specs.Replies.{infoAddress}
@@ -109,11 +109,12 @@ returns-2 c =
     let a : At ws bs at = record { state = s .pre; live = omega (arith, w .ensures) } in
     let m : ℕ = nodeIn ws at .number in
     let here : at ≡ place m (nodesIn ws) = here-number (s .args .node) ws bs at (n .ensures) a in
-    let next : c .before .before .before .before .before .before .before .before .before .before .before .next-of .result ≡ nextOf m (nodesIn ws) = subst (λ (k : ℕ). (j : ℕ) → at ≡ place j (rows k us) → c .before .before .before .before .before .before .before .before .before .before .before .next-of .result ≡ nextOf j (rows k us)) (w .ensures) (c .before .before .before .before .before .before .before .before .before .before .before .next-of .ensures) m here in
+    let next : c .before .before .before .before .before .before .before .before .before .before .before .next-of .result ≡ nextOf m (nodesIn ws) = c .before .before .before .before .before .before .before .before .before .before .before .next-of .ensures ∙ ap (λ (k : ℕ). nextAt k us at) (w .ensures) ∙ sym (nextOf-at (countIn ws) us m at here (a .live)) in
     let around : Around m (nodesIn ws) (c .before .before .before .before .before .before .before .before .before .before .before .before .before .parent-of .result) (c .before .before .before .before .before .before .before .before .before .before .before .before .previous-of .result) (c .before .before .before .before .before .before .before .before .before .before .before .next-of .result) =
-    record { isParent = c .before .before .before .before .before .before .before .before .before .before .before .before .before .parent-of .ensures (countIn ws) m (a .live) here; isPrevious = c .before .before .before .before .before .before .before .before .before .before .before .before .previous-of .ensures (countIn ws) m (a .live) here; isNext = next } in
-    let head : c .before .before .before .before .before .before .before .before .head-of .result ≡ headOf m (nodesIn ws) = subst (λ (k : ℕ). (j : ℕ) → at ≡ place j (rows k us) → c .before .before .before .before .before .before .before .before .head-of .result ≡ headOf j (rows k us)) (w .ensures) (c .before .before .before .before .before .before .before .before .head-of .ensures) m here in
-    let tail : c .before .before .before .before .before .before .before .tail-of .result ≡ tailOf m (nodesIn ws) = subst (λ (k : ℕ). (j : ℕ) → at ≡ place j (rows k us) → c .before .before .before .before .before .before .before .tail-of .result ≡ tailOf j (rows k us)) (w .ensures) (c .before .before .before .before .before .before .before .tail-of .ensures) m here in
+    record { isParent = c .before .before .before .before .before .before .before .before .before .before .before .before .before .parent-of .ensures ∙ sym (parentOf-at (countIn ws) us m at here (a .live)); isPrevious = c .before .before .before .before .before .before .before .before .before .before .before .before .previous-of .ensures ∙ sym (previousOf-at (countIn ws) us m at here (a .live)); isNext = next } in
+    let children = ap (λ (k : ℕ). childrenAt k us at) (w .ensures) ∙ sym (childrenOf-at (countIn ws) us m at here (a .live)) in
+    let head : c .before .before .before .before .before .before .before .before .head-of .result ≡ headOf m (nodesIn ws) = c .before .before .before .before .before .before .before .before .head-of .ensures ∙ ap (λ (l : List ℕ). firstOr noNode l) children in
+    let tail : c .before .before .before .before .before .before .before .tail-of .result ≡ tailOf m (nodesIn ws) = c .before .before .before .before .before .before .before .tail-of .ensures ∙ ap (λ (l : List ℕ). lastOr noNode l) children in
     reply-sent (query.Node (s .args .node)) (s .args .bytes .now) ws bs (s .args .out .now)
     (wordMessage infoAddress groupTags (m ∷ (c .before .before .before .before .before .before .before .before .before .before .before .before .before .parent-of .result ∷ (c .before .before .before .before .before .before .before .before .before .before .before .before .previous-of .result ∷ (c .before .before .before .before .before .before .before .before .before .before .before .next-of .result ∷ (1 ∷ (c .before .before .before .before .before .before .before .before .head-of .result ∷ (c .before .before .before .before .before .before .before .tail-of .result ∷ []))))))))
     (c .before .before .send-words .result) (c .before .before .send-words .last .0)
@@ -148,9 +149,9 @@ returns-3 c =
     let a : At ws bs at = record { state = s .pre; live = omega (arith, w .ensures) } in
     let m : ℕ = nodeIn ws at .number in
     let here : at ≡ place m (nodesIn ws) = here-number (s .args .node) ws bs at (n .ensures) a in
-    let next : c .before .before .before .before .before .before .before .before .before .next-of .result ≡ nextOf m (nodesIn ws) = subst (λ (k : ℕ). (j : ℕ) → at ≡ place j (rows k us) → c .before .before .before .before .before .before .before .before .before .next-of .result ≡ nextOf j (rows k us)) (w .ensures) (c .before .before .before .before .before .before .before .before .before .next-of .ensures) m here in
+    let next : c .before .before .before .before .before .before .before .before .before .next-of .result ≡ nextOf m (nodesIn ws) = c .before .before .before .before .before .before .before .before .before .next-of .ensures ∙ ap (λ (k : ℕ). nextAt k us at) (w .ensures) ∙ sym (nextOf-at (countIn ws) us m at here (a .live)) in
     let around : Around m (nodesIn ws) (c .before .before .before .before .before .before .before .before .before .before .before .parent-of .result) (c .before .before .before .before .before .before .before .before .before .before .previous-of .result) (c .before .before .before .before .before .before .before .before .before .next-of .result) =
-    record { isParent = c .before .before .before .before .before .before .before .before .before .before .before .parent-of .ensures (countIn ws) m (a .live) here; isPrevious = c .before .before .before .before .before .before .before .before .before .before .previous-of .ensures (countIn ws) m (a .live) here; isNext = next } in
+    record { isParent = c .before .before .before .before .before .before .before .before .before .before .before .parent-of .ensures ∙ sym (parentOf-at (countIn ws) us m at here (a .live)); isPrevious = c .before .before .before .before .before .before .before .before .before .before .previous-of .ensures ∙ sym (previousOf-at (countIn ws) us m at here (a .live)); isNext = next } in
     reply-sent (query.Node (s .args .node)) (s .args .bytes .now) ws bs (s .args .out .now)
     (wordMessage infoAddress synthTags (m ∷ (c .before .before .before .before .before .before .before .before .before .before .before .parent-of .result ∷ (c .before .before .before .before .before .before .before .before .before .before .previous-of .result ∷ (c .before .before .before .before .before .before .before .before .before .next-of .result ∷ (0 ∷ []))))))
     (c .before .before .send-words2 .result) (c .before .before .send-words2 .last .0)

@@ -96,9 +96,9 @@ loop-again c =
       entries-past (a .args .s .now) mostParameters (a .args .count) _ (t .within),
       λ h. absurd (omega arith),
       ap some (c .word-at .ensures)
-      ∙ sym (named-here (a .args .s .now) (a .args .name .now) (a .args .count) (l .i) (l .at) t (c .before .before .same-name .ensures) (c .before .if1 .taken))
-      ∙ sym first
-      ∙ l .inv .3,
+          ∙ sym (named-here (a .args .s .now) (a .args .name .now) (a .args .count) (l .i) (l .at) t (c .before .before .same-name .ensures) (c .before .if1 .taken))
+          ∙ sym first
+          ∙ l .inv .3,
     )
 
 loop-less-2 : tie.Need-loop-less-2 Inv-loop μ-loop

@@ -1,20 +1,42 @@
--- `tree::add::add_node` meets its contract: a record put in at the place that the add action names, or over the target.
-use mathlib.Core.Path.{_≡_, refl, sym, ap, _∙_}
-use Prim.Native.Nat.{_+_, _*_}
+-- `tree::add::add_node` meets its contract: a record put in at the position's place, or over the target.
+use mathlib.Core.Path.{_≡_, sym, ap, _∙_}
 use mathlib.Core.List.{List, [], _∷_, _++_}
 use native.Mathlib.Omega.{arith}
-use borrow.Author.Needs.{needs}
-use borrow.Author.Tests.{ne-eqb}
-use lib.ListN.{take, drop, getD}
+use lib.ListN.{take, drop}
 use Rattle.nodes.specs.declared.Node.{Node}
-use Rattle.nodes.specs.Table.{width, rows}
-use Rattle.nodes.specs.Place.{deeper, end-most}
-use Rattle.nodes.specs.Edit.{level}
-use Rattle.tree.specs.Words.{leaves-same}
-use Rattle.tree.specs.Add.{addPlace, addBy, place-most, addBy-at, addBy-over, addBy-refused, lift-one}
-use Rattle.tree.specs.declared.add.Place.the-variants.{At, Refused}
+use Rattle.nodes.specs.Table.{rows}
+use Rattle.nodes.specs.Edit.{level, lift, editAt}
+use Rattle.tree.specs.declared.action.Action.the-variants.{Put, Replace}
+use Rattle.tree.specs.declared.add.Place.{Place}
+use Rattle.tree.specs.Action.{putHere}
+use Rattle.tree.specs.Moves.{putIn}
+use Rattle.tree.specs.Add.{place-most, put-at, lift-one}
+use borrow.Author.Needs.{needs}
 use Rattle.tree.proofs.add.add_node.Statement.{statement}
 use Rattle.tree.proofs.add.add_node.Tie as tie
+
+enum-known-action : tie.Need-enum-known-action
+enum-known-action c = search needs
+
+place-by-requires : tie.Need-place-by-requires
+place-by-requires c κs = search needs
+
+at-depth-requires : tie.Need-at-depth-requires
+at-depth-requires c κs = search needs
+
+insert-requires : tie.Need-insert-requires
+insert-requires c κs =
+    let s = c .before .before .before .before .before .before .before .before in
+    let a = s .args in
+    let p = c .before .before .before .before .before .action .given .0 .0 in
+    let case : a .action ≡ Put p = cc in
+    let room = rw case at (s .pre .room) in
+    let same = c .before .before .place-by .ensures in
+    let inside = place-most (a .count) (a .nodes .now) (a .at) (omega arith) p in
+    (rw same inside, omega arith)
+
+enum-told : tie.Need-enum-told
+enum-told c = search needs
 
 replace-requires : tie.Need-replace-requires
 replace-requires c κs = search needs
@@ -23,86 +45,39 @@ same-length : tie.Need-same-length
 same-length c = search needs
 
 returns : tie.Need-returns
-returns c = λ n here.
-    let a = c .before .before .before .before .before .before .args in
+returns c =
+    let a = c .before .before .before .before .before .before .before .before .before .before .before .args in
     let us = a .nodes .now in
-    let d = getD us (width * a .at + 1) 0 in
-    let case : a .action ≡ 4 = omega arith in
-    rw (case, addBy-over (a .count) us n (a .at) here (omega arith) d (a .at + 1 + deeper d (drop (a .at + 1) (rows (a .count) us))) refl refl) (c .before .before .replace .ensures n here)
-
-add-place-requires : tie.Need-add-place-requires
-add-place-requires c κs = search needs
-
-enum-known-put : tie.Need-enum-known-put
-enum-known-put c = search needs
-
-at-depth-requires : tie.Need-at-depth-requires
-at-depth-requires c κs = search needs
-
-insert-requires : tie.Need-insert-requires
-insert-requires c κs =
-    let b = c .before .before .before in
-    let s = b .before .before .before .before .before .before in
-    let a = s .args in
-    let us = a .nodes .now in
-    let d = getD us (width * a .at + 1) 0 in
-    let e = a .at + 1 + deeper d (drop (a .at + 1) (rows (a .count) us)) in
-    let found : addPlace (a .action) (a .at) d e ≡ At (b .put .given .0 .0) (b .put .given .0 .1 .0) = sym (b .before .before .add-place .ensures) ∙ b .put .given .1 in
-    let inside = place-most (a .action) (a .at) d e (b .put .given .0 .0) (b .put .given .0 .1 .0) (a .count) found (omega arith) (end-most (a .count) us d (a .at + 1) (omega arith)) in
-    let room = rw (ne-eqb (a .action) 4 (b .before .before .before .before .if1 .left)) at (s .pre .room) in
-    omega arith
-
-enum-known-put-2 : tie.Need-enum-known-put-2
-enum-known-put-2 c = search needs
+    let t = rows (a .count) us in
+    let p = c .before .before .before .before .before .before .before .before .action .given .0 .0 in
+    let case : a .action ≡ Put p = cc in
+    let to = c .before .before .before .before .before .place-by in
+    let xs = level 0 (a .node) ∷ [] in
+    let meant : editAt (a .at) (putHere p xs) t ≡ take (to .result .at) t ++ c .before .before .before .at-depth .result ∷ drop (to .result .at) t =
+    put-at (a .count) us (a .at) (omega arith) p xs
+    ∙ ap (λ (q : Place). putIn (q .at) (lift (q .depth) xs) t) (sym (to .ensures))
+    ∙ ap (λ (l : List Node). putIn (to .result .at) l t) (lift-one (to .result .depth) (a .node) ∙ ap (λ (r : Node). r ∷ []) (sym (c .before .before .before .at-depth .ensures))) in
+    rw (case, meant) (c .before .before .insert .ensures)
 
 same-length-2 : tie.Need-same-length-2
 same-length-2 c = search needs
 
 returns-2 : tie.Need-returns-2
-returns-2 c = λ n here.
-    let w = c .before .before in
-    let b = w .before .before .before .before in
-    let s = b .before .before .before .before .before .before in
-    let a = s .args in
-    let us = a .nodes .now in
-    let t = rows (a .count) us in
-    let d = getD us (width * a .at + 1) 0 in
-    let e = a .at + 1 + deeper d (drop (a .at + 1) t) in
-    let p = b .put .given .0 .0 in
-    let k = b .put .given .0 .1 .0 in
-    let found : addPlace (a .action) (a .at) d e ≡ At p k = sym (b .before .before .add-place .ensures) ∙ b .put .given .1 in
-    let xs = level 0 (a .node) ∷ [] in
-    let meant : addBy (a .action) xs n t ≡ take p t ++ w .before .at-depth .result ∷ drop p t =
-    addBy-at (a .count) us n (a .at) here (omega arith) d e refl refl (a .action) p k xs found (ne-eqb (a .action) 4 (b .before .before .before .before .if1 .left))
-    ∙ ap (λ (l : List Node). take p t ++ (l ++ drop p t)) (lift-one k (a .node) ∙ ap (λ (r : Node). r ∷ []) (sym (w .before .at-depth .ensures))) in
-    rw meant (w .insert .ensures)
-
-same-length-3 : tie.Need-same-length-3
-same-length-3 c = search needs
-
-returns-3 : tie.Need-returns-3
-returns-3 c = λ n here.
-    let b = c .before in
-    let a = b .before .before .before .before .before .before .args in
-    let us = a .nodes .now in
-    let d = getD us (width * a .at + 1) 0 in
-    let e = a .at + 1 + deeper d (drop (a .at + 1) (rows (a .count) us)) in
-    let found : addPlace (a .action) (a .at) d e ≡ Refused (b .put2 .given .0 .0) = sym (b .before .before .add-place .ensures) ∙ b .put2 .given .1 in
-    rw (addBy-refused (a .count) us n (a .at) here (omega arith) d e refl refl (a .action) (b .put2 .given .0 .0) (level 0 (a .node) ∷ []) found) (leaves-same us (a .count) (omega arith))
+returns-2 c =
+    let case : c .before .before .before .before .before .before .before .args .action ≡ Replace = cc in
+    rw case (c .before .before .replace .ensures)
 
 pub add-node-spec : {M : Type 1} → statement M
 add-node-spec =
     tie.close
     (tie.spec
+    enum-known-action
+    place-by-requires
+    at-depth-requires
+    insert-requires
+    enum-told
     replace-requires
     same-length
     returns
-    add-place-requires
-    enum-known-put
-    at-depth-requires
-    insert-requires
-    enum-known-put-2
     same-length-2
-    returns-2
-    same-length-3
-    returns-3)
+    returns-2)

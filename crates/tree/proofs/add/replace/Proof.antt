@@ -9,7 +9,7 @@ use borrow.Author.Needs.{needs}
 use Rattle.nodes.specs.declared.Node.{Node}
 use Rattle.nodes.specs.Table.{width, rows, rows-length}
 use Rattle.nodes.specs.Place.{end-most}
-use Rattle.nodes.specs.Edit.{level, addOver}
+use Rattle.nodes.specs.Edit.{level, editAt, overHere}
 use Rattle.nodes.specs.Split.{addOver-at}
 use Rattle.tree.specs.Words.{leaves-rows, leaves-then}
 use Rattle.tree.specs.Add.{lift-one}
@@ -52,7 +52,7 @@ same-length : tie.Need-same-length
 same-length c = search needs
 
 returns : tie.Need-returns
-returns c = λ n here.
+returns c =
     let b = c .before .before in
     let f = b .before .before .before .before .before in
     let g = f .before .before .subtree-end in
@@ -68,8 +68,8 @@ returns c = λ n here.
     let put : take (a .at) (rows (f .remove .result) (f .remove .last .0)) ++ b .before .at-depth .result ∷ drop (a .at) (rows (f .remove .result) (f .remove .last .0)) ≡ l =
     ap₂ (λ (m : List Node) (r : Node). take (a .at) m ++ r ∷ drop (a .at) m) kept (b .before .at-depth .ensures)
     ∙ ap₂ (λ (x y : List Node). x ++ level d (a .node) ∷ y) (take-at (take (a .at) t) (drop e t) (a .at) front) (drop-at (take (a .at) t) (drop e t) (a .at) front) in
-    let meant : addOver (level 0 (a .node) ∷ []) n t ≡ l =
-    addOver-at (a .count) us n (a .at) here (omega arith) d e refl (g .ensures) (level 0 (a .node) ∷ [])
+    let meant : editAt (a .at) (overHere (level 0 (a .node) ∷ [])) t ≡ l =
+    addOver-at (a .count) us (a .at) (omega arith) d e refl (g .ensures) (level 0 (a .node) ∷ [])
     ∙ ap (λ (x : List Node). take (a .at) t ++ (x ++ drop e t)) (lift-one d (a .node)) in
     rw meant (leaves-then us s l (f .remove .last .0) (b .insert .last .0) (f .remove .result) (b .insert .result) (f .remove .ensures) (rw put at (b .insert .ensures)) (simp length-append (omega arith)))
 

@@ -22,12 +22,12 @@ same-length : tie.Need-same-length
 same-length c = search needs
 
 returns : tie.Need-returns
-returns c = λ n here.
+returns c =
     let a = c .before .before .before .before .before .before .before .args in
     let us = a .nodes .now in
     let d = getD us (width * a .at + 1) 0 in
     let e = c .before .before .before .before .subtree-end in
-    rw (cut-at (a .count) us n (a .at) here (omega arith) d (e .result) refl (e .ensures)) (c .before .before .remove .ensures)
+    rw (cut-at (a .count) us (a .at) (omega arith) d (e .result) refl (e .ensures)) (c .before .before .remove .ensures)
 
 pub cut-spec : {M : Type 1} → statement M
 cut-spec = tie.close (tie.spec subtree-end-requires remove-requires same-length returns)

@@ -22,13 +22,13 @@ same-length : tie.Need-same-length
 same-length c = search needs
 
 returns : tie.Need-returns
-returns c = λ n here.
+returns c =
     let a = c .before .before .before .before .before .before .before .args in
     let us = a .nodes .now in
     c .before .before .put-node .ensures
     ∙ ap (λ (r : Node). over (width * a .at) (wordsOf (withRun (a .flag) r)) us) (c .before .before .before .before .node-at .ensures)
     ∙ put-words us (a .count) (a .at) (withRun (a .flag) (nodeFrom us (width * a .at))) (omega arith) (omega arith)
-    ∙ ap (λ (l : List Node). fill us l) (sym (setRun-at (a .count) us n (a .at) here (omega arith) (a .flag)))
+    ∙ ap (λ (l : List Node). fill us l) (sym (setRun-at (a .count) us (a .at) (omega arith) (a .flag)))
 
 pub set-run-spec : {M : Type 1} → statement M
 set-run-spec = tie.close (tie.spec node-at-requires put-node-requires same-length returns)

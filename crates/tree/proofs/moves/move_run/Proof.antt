@@ -1,12 +1,10 @@
--- `tree::moves::move_run` meets its contract: one law of the words.
+-- `tree::moves::move_run` meets its contract: what the two functions leave, one after the other.
 use Prim.Native.Nat.{ℕ, _*_, _-_}
 use mathlib.Core.Path.{ap, _∙_}
 use mathlib.Core.List.{List}
-use native.Mathlib.Omega.{arith}
 use borrow.Author.Needs.{needs}
 use lib.ListN.{take, drop}
 use Rattle.tree.specs.Moves.{without, putIn}
-use Rattle.tree.specs.MoveRun.{move-run-words}
 use Rattle.tree.proofs.moves.move_run.Statement.{statement}
 use Rattle.tree.proofs.moves.move_run.Tie as tie
 
@@ -29,11 +27,10 @@ same-length : tie.Need-same-length
 same-length c = search needs
 
 returns : tie.Need-returns
-returns c = λ count end inside room.
+returns c =
     let a = c .before .before .before .before .before .before .before .before .before .args in
     c .before .before .move-words .ensures
     ∙ ap (λ (l : List ℕ). putIn (5 * a .at) (take (5 * a .to - 5 * a .from) (drop (5 * a .from) l)) (without (5 * a .from) (5 * a .to) l)) (c .before .before .before .before .before .before .set-depths .ensures)
-    ∙ move-run-words (a .nodes .now) count (a .from) (a .to) (a .at) (a .old) (a .new) (omega arith) end inside room
 
 pub move-run-spec : {M : Type 1} → statement M
 move-run-spec =

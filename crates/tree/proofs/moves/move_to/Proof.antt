@@ -5,8 +5,8 @@ use native.Mathlib.Omega.{arith}
 use borrow.Author.Needs.{needs}
 use Rattle.nodes.specs.Table.{rows, fill}
 use Rattle.nodes.specs.Place.{end-most}
-use Rattle.tree.specs.Sizes.{depthAt}
-use Rattle.tree.specs.MoveRun.{movedRun, placeWithout}
+use Rattle.nodes.specs.Sizes.{depthAt}
+use Rattle.tree.specs.MoveRun.{movedRun, placeWithout, move-run-words}
 use Rattle.tree.specs.Ends.{placeWithout-fits, run-least}
 use Rattle.tree.proofs.moves.move_to.Statement.{statement}
 use Rattle.tree.proofs.moves.move_to.Tie as tie
@@ -39,7 +39,7 @@ move-run-requires c κs =
     let us = a .nodes .now in
     let e = c .before .before .before .subtree-end in
     let most = end-most (a .count) us (depthAt us (a .at)) (a .at + 1) (omega arith) in
-    let fit = placeWithout-fits (a .at) (e .result) (a .place) (a .count) (omega arith) (omega arith) (omega arith) (λ h. omega (arith, e .ensures, s .pre .outside h)) in record {
+    let fit = placeWithout-fits (a .at) (e .result) (a .place .at) (a .count) (omega arith) (omega arith) (omega arith) (λ h. omega (arith, e .ensures, s .pre .outside h)) in record {
       order = omega arith;
       few = omega arith;
       room = omega arith;
@@ -59,9 +59,10 @@ returns c =
     let us = a .nodes .now in
     let e = f .before .before .subtree-end in
     let most = end-most (a .count) us (depthAt us (a .at)) (a .at + 1) (omega arith) in
-    let fit = placeWithout-fits (a .at) (e .result) (a .place) (a .count) (omega arith) (omega arith) (omega arith) (λ h. omega (arith, e .ensures, s .pre .outside h)) in
-    c .before .before .move-run .ensures (a .count) (omega arith) (omega (arith, f .place-without .ensures)) (s .pre .room)
-    ∙ ap₂ (λ (j k : ℕ). fill us (movedRun (a .at) j k (depthAt us (a .at)) (a .depth) (rows (a .count) us))) (e .ensures) (f .place-without .ensures ∙ ap (λ (j : ℕ). placeWithout (a .at) j (a .place)) (e .ensures))
+    let fit = placeWithout-fits (a .at) (e .result) (a .place .at) (a .count) (omega arith) (omega arith) (omega arith) (λ h. omega (arith, e .ensures, s .pre .outside h)) in
+    c .before .before .move-run .ensures
+    ∙ move-run-words us (a .count) (a .at) (e .result) (f .place-without .result) (depthAt us (a .at)) (a .place .depth) (omega arith) (omega arith) (omega (arith, f .place-without .ensures)) (s .pre .room)
+    ∙ ap₂ (λ (j k : ℕ). fill us (movedRun (a .at) j k (depthAt us (a .at)) (a .place .depth) (rows (a .count) us))) (e .ensures) (f .place-without .ensures ∙ ap (λ (j : ℕ). placeWithout (a .at) j (a .place .at)) (e .ensures))
 
 pub move-to-spec : {M : Type 1} → statement M
 move-to-spec =

@@ -6,13 +6,13 @@ use mathlib.Core.Path.{_≡_, refl, sym, ap, _∙_}
 use native.Mathlib.Omega.{arith}
 use lib.ListN.{getD}
 use Rattle.nodes.specs.Table.{rows}
-use Rattle.nodes.specs.Formed.{rowTaken}
-use Rattle.tree.specs.FreeRow.{freeFrom, free-here, free-on, free-end}
+use Rattle.nodes.specs.Formed.{rowTaken, freeRowFrom}
+use Rattle.tree.specs.FreeRow.{free-here, free-on, free-end}
 use Rattle.tree.proofs.rows.free_row.Statement.{statement}
 use Rattle.tree.proofs.rows.free_row.Tie as tie
 
 abbrev Inv-loop : tie.InvT-loop
-Inv-loop nodes count marks row₀ row = (row ≤ 256) × (freeFrom (256 - row) row (rows count nodes) ≡ freeFrom 256 0 (rows count nodes))
+Inv-loop nodes count marks row₀ row = (row ≤ 256) × (freeRowFrom (256 - row) row (rows count nodes) ≡ freeRowFrom 256 0 (rows count nodes))
 
 abbrev μ-loop : tie.MeasureT-loop
 μ-loop nodes count marks row₀ row = 256 - row
@@ -37,7 +37,7 @@ returns c =
     let row = l .loop .row in
     let more : 256 - row ≡ suc (255 - row) = omega arith in
     let clear : rowTaken row t ≡ false = sym (l .before .taken-rows .ensures row (omega arith)) ∙ ap (λ (k : ℕ). getD (l .before .taken-rows .result) k false) (sym (c .before .wide .ensures)) ∙ not-true _ (c .if1 .taken) in
-    sym (free-here (255 - row) row t clear) ∙ ap (λ (k : ℕ). freeFrom k row t) (sym more) ∙ l .loop .inv .1
+    sym (free-here (255 - row) row t clear) ∙ ap (λ (k : ℕ). freeRowFrom k row t) (sym more) ∙ l .loop .inv .1
 
 add-row : tie.Need-add-row Inv-loop μ-loop
 add-row c = omega arith
@@ -54,7 +54,7 @@ loop-again c =
     let more : 256 - row ≡ suc (255 - row) = omega arith in
     let fewer : 256 - (row + 1) ≡ 255 - row = omega arith in
     let taken : rowTaken row t ≡ true = sym (l .before .taken-rows .ensures row (omega arith)) ∙ ap (λ (k : ℕ). getD (l .before .taken-rows .result) k false) (sym (c .before .wide .ensures)) ∙ not-false _ (c .if1 .left) in
-    (omega arith, rw fewer (sym (free-on (255 - row) row t taken) ∙ ap (λ (k : ℕ). freeFrom k row t) (sym more) ∙ l .loop .inv .1))
+    (omega arith, rw fewer (sym (free-on (255 - row) row t taken) ∙ ap (λ (k : ℕ). freeRowFrom k row t) (sym more) ∙ l .loop .inv .1))
 
 returns-2 : tie.Need-returns-2 Inv-loop μ-loop
 returns-2 c =
@@ -63,7 +63,7 @@ returns-2 c =
     let t = rows (a .count) (a .nodes .now) in
     let row = l .loop .row in
     let none : 256 - row ≡ 0 = omega arith in
-    sym (free-end row t) ∙ ap (λ (k : ℕ). freeFrom k row t) (sym none) ∙ l .loop .inv .1
+    sym (free-end row t) ∙ ap (λ (k : ℕ). freeRowFrom k row t) (sym none) ∙ l .loop .inv .1
 
 pub free-row-spec : {M : Type 1} → statement M
 free-row-spec =

@@ -1,8 +1,5 @@
 -- `tree::rows::row_at` meets its contract.
-use lib.Dec.{eqb}
-use Prim.Native.Nat.{ℕ, _+_, _*_}
-use mathlib.Core.Path.{ap}
-use native.Mathlib.Omega.{arith}
+use Prim.Native.Nat.{_+_, _*_}
 use borrow.Author.Needs.{needs}
 use borrow.Author.Tests.{eq-eqb, ne-eqb}
 use lib.ListN.{getD}
@@ -22,7 +19,7 @@ shared-slice-read-if1 : tie.Need-shared-slice-read-if1
 shared-slice-read-if1 c = search needs
 
 returns : tie.Need-returns
-returns c = λ k h. rw (eq-eqb (getD (c .before .before .before .args .nodes .now) (5 * c .before .before .before .args .at + 3) 0) 32 (c .if1 .taken)) (ne-eqb 256 k (λ e. omega arith))
+returns c = rw (eq-eqb (getD (c .before .before .before .args .nodes .now) (5 * c .before .before .before .args .at + 3) 0) 32 (c .if1 .taken))
 
 mul-wide : tie.Need-mul-wide
 mul-wide c = search needs
@@ -40,9 +37,9 @@ wide-requires : tie.Need-wide-requires
 wide-requires c κs = search needs
 
 returns-2 : tie.Need-returns-2
-returns-2 c = λ k h.
+returns-2 c =
     let a = c .before .before .before .before .before .args in
-    rw (ne-eqb (getD (a .nodes .now) (5 * a .at + 3) 0) 32 (c .before .before .if1 .left)) (ap (λ (x : ℕ). eqb x k) (c .wide .ensures))
+    rw (ne-eqb (getD (a .nodes .now) (5 * a .at + 3) 0) 32 (c .before .before .if1 .left)) (c .wide .ensures)
 
 pub row-at-spec : {M : Type 1} → statement M
 row-at-spec =

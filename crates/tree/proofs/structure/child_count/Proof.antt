@@ -5,7 +5,7 @@ use mathlib.Core.Path.{_≡_, ap}
 use native.Mathlib.Omega.{arith}
 use lib.ListN.{length, drop, getD}
 use Rattle.nodes.specs.Table.{rows}
-use Rattle.tree.specs.Around.{childNumbers, childNumbers-stop, childNumbers-child, childNumbers-skip, childNumbers-end, childrenOf-at}
+use Rattle.tree.specs.Around.{childNumbers, childNumbers-stop, childNumbers-child, childNumbers-skip, childNumbers-end}
 use Rattle.tree.proofs.structure.child_count.Statement.{statement}
 use Rattle.tree.proofs.structure.child_count.Tie as tie
 
@@ -46,13 +46,13 @@ shared-slice-read-other : tie.Need-shared-slice-read-other Inv-loop μ-loop
 shared-slice-read-other c = omega arith
 
 returns : tie.Need-returns Inv-loop μ-loop
-returns c = λ n here.
+returns c =
     let l = c .before .before .before in
     let a = l .before .before .args in
     let us = a .nodes .now in
     let d = getD us (5 * a .at + 1) 0 in
     let none = ap length (childNumbers-stop (a .count) us d (l .loop .i) (omega arith) (c .if1 .taken)) in
-    omega (arith, ap length (childrenOf-at (a .count) us n (a .at) here (omega arith)))
+    omega arith
 
 sub-if2 : tie.Need-sub-if2 Inv-loop μ-loop
 sub-if2 c = omega arith
@@ -78,13 +78,13 @@ loop-again c =
     (c .if2 .came)
 
 returns-2 : tie.Need-returns-2 Inv-loop μ-loop
-returns-2 c = λ n here.
+returns-2 c =
     let l = c .before in
     let a = l .before .before .args in
     let us = a .nodes .now in
     let d = getD us (5 * a .at + 1) 0 in
     let none = ap length (childNumbers-end (a .count) us d (l .loop .i) (omega arith)) in
-    omega (arith, ap length (childrenOf-at (a .count) us n (a .at) here (omega arith)))
+    omega arith
 
 pub child-count-spec : {M : Type 1} → statement M
 child-count-spec =

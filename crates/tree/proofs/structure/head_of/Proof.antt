@@ -6,7 +6,7 @@ use native.Mathlib.Omega.{arith}
 use lib.ListN.{drop, getD}
 use Rattle.nodes.specs.Table.{rows}
 use Rattle.nodes.specs.Structure.{noNode, firstOr}
-use Rattle.tree.specs.Around.{childNumbers, childNumbers-stop, childNumbers-child, childNumbers-skip, childNumbers-end, childrenOf-at}
+use Rattle.tree.specs.Around.{childNumbers, childNumbers-stop, childNumbers-child, childNumbers-skip, childNumbers-end}
 use Rattle.tree.proofs.structure.head_of.Statement.{statement}
 use Rattle.tree.proofs.structure.head_of.Tie as tie
 
@@ -48,14 +48,13 @@ shared-slice-read-other c = omega arith
 
 returns : tie.Need-returns Inv-loop μ-loop
 unfolding firstOr
-returns c = λ n here.
+returns c =
     let l = c .before .before .before in
     let a = l .before .before .args in
     let us = a .nodes .now in
     let d = getD us (5 * a .at + 1) 0 in
     ap (λ (k : List ℕ). firstOr noNode k) (sym (childNumbers-stop (a .count) us d (l .loop .i) (omega arith) (c .if1 .taken)))
     ∙ l .loop .inv .1
-    ∙ ap (λ (k : List ℕ). firstOr noNode k) (sym (childrenOf-at (a .count) us n (a .at) here (omega arith)))
 
 sub-if2 : tie.Need-sub-if2 Inv-loop μ-loop
 sub-if2 c = omega arith
@@ -71,14 +70,13 @@ shared-slice-read-result c = omega arith
 
 returns-2 : tie.Need-returns-2 Inv-loop μ-loop
 unfolding firstOr
-returns-2 c = λ n here.
+returns-2 c =
     let l = c .before .before .before .before .before in
     let a = l .before .before .args in
     let us = a .nodes .now in
     let d = getD us (5 * a .at + 1) 0 in
     ap (λ (k : List ℕ). firstOr noNode k) (sym (childNumbers-child (a .count) us d (l .loop .i) (omega arith) (omega arith) (c .before .if2 .taken)))
     ∙ l .loop .inv .1
-    ∙ ap (λ (k : List ℕ). firstOr noNode k) (sym (childrenOf-at (a .count) us n (a .at) here (omega arith)))
 
 add-i-2 : tie.Need-add-i-2 Inv-loop μ-loop
 add-i-2 c = omega arith
@@ -96,14 +94,13 @@ loop-again c =
 
 returns-3 : tie.Need-returns-3 Inv-loop μ-loop
 unfolding firstOr
-returns-3 c = λ n here.
+returns-3 c =
     let l = c .before in
     let a = l .before .before .args in
     let us = a .nodes .now in
     let d = getD us (5 * a .at + 1) 0 in
     ap (λ (k : List ℕ). firstOr noNode k) (sym (childNumbers-end (a .count) us d (l .loop .i) (omega arith)))
     ∙ l .loop .inv .1
-    ∙ ap (λ (k : List ℕ). firstOr noNode k) (sym (childrenOf-at (a .count) us n (a .at) here (omega arith)))
 
 pub head-of-spec : {M : Type 1} → statement M
 head-of-spec =

@@ -1,23 +1,16 @@
 -- `tree::structure::next_of` meets its contract: what follows the run, where it is at the node's depth.
--- with the end as it was found
-use Prim.Native.Nat.{ℕ, _<_}
-use mathlib.Core.Path.{_≡_, sym, ap, _∙_}
-use mathlib.Core.List.{List}
+use Prim.Native.Nat.{ℕ}
+use mathlib.Core.Path.{sym, ap, _∙_}
 use native.Mathlib.Omega.{arith}
 use borrow.Author.Needs.{needs}
 use borrow.Author.Tests.{eq-eqb, ne-eqb}
 use lib.ListN.{drop}
 use Rattle.nodes.specs.Table.{rows}
-use Rattle.nodes.specs.Structure.{firstBeside, nextOf}
-use Rattle.tree.specs.Around.{nextOf-at, beside-turn, beside-end}
-use Rattle.nodes.specs.Place.{place}
-use Rattle.tree.specs.Sizes.{depthAt, endAt}
+use Rattle.nodes.specs.Structure.{firstBeside}
+use Rattle.tree.specs.Around.{beside-turn, beside-end}
+use Rattle.nodes.specs.Sizes.{depthAt}
 use Rattle.tree.proofs.structure.next_of.Statement.{statement}
 use Rattle.tree.proofs.structure.next_of.Tie as tie
-
--- with the end as it was found
-next-at : (c : ℕ) (us : List ℕ) (n at e : ℕ) → at ≡ place n (rows c us) → at < c → e ≡ endAt c us at → nextOf n (rows c us) ≡ firstBeside (depthAt us at) (drop e (rows c us))
-next-at c us n at e here live end = nextOf-at c us n at here live ∙ ap (λ (k : ℕ). firstBeside (depthAt us at) (drop k (rows c us))) (sym end)
 
 subtree-end-requires : tie.Need-subtree-end-requires
 subtree-end-requires c κs = search needs
@@ -56,25 +49,25 @@ shared-slice-read-result : tie.Need-shared-slice-read-result
 shared-slice-read-result c = search needs
 
 returns : tie.Need-returns
-returns c = λ n here.
+returns c =
     let e = c .before .before .before .before .before .subtree-end in
     let a = c .before .before .before .before .before .before .before .args in
     let us = a .nodes .now in
-    sym (next-at (a .count) us n (a .at) (e .result) here (omega arith) (e .ensures) ∙ rw (eq-eqb (depthAt us (e .result)) (depthAt us (a .at)) (c .before .if2 .taken)) at (beside-turn (a .count) us (depthAt us (a .at)) (e .result) (omega arith)))
+    sym (ap (λ (k : ℕ). firstBeside (depthAt us (a .at)) (drop k (rows (a .count) us))) (sym (e .ensures)) ∙ rw (eq-eqb (depthAt us (e .result)) (depthAt us (a .at)) (c .before .if2 .taken)) at (beside-turn (a .count) us (depthAt us (a .at)) (e .result) (omega arith)))
 
 returns-2 : tie.Need-returns-2
-returns-2 c = λ n here.
+returns-2 c =
     let e = c .before .before .before .before .subtree-end in
     let a = c .before .before .before .before .before .before .args in
     let us = a .nodes .now in
-    sym (next-at (a .count) us n (a .at) (e .result) here (omega arith) (e .ensures) ∙ rw (ne-eqb (depthAt us (e .result)) (depthAt us (a .at)) (c .if2 .left)) at (beside-turn (a .count) us (depthAt us (a .at)) (e .result) (omega arith)))
+    sym (ap (λ (k : ℕ). firstBeside (depthAt us (a .at)) (drop k (rows (a .count) us))) (sym (e .ensures)) ∙ rw (ne-eqb (depthAt us (e .result)) (depthAt us (a .at)) (c .if2 .left)) at (beside-turn (a .count) us (depthAt us (a .at)) (e .result) (omega arith)))
 
 returns-3 : tie.Need-returns-3
-returns-3 c = λ n here.
+returns-3 c =
     let e = c .before .subtree-end in
     let a = c .before .before .before .args in
     let us = a .nodes .now in
-    sym (next-at (a .count) us n (a .at) (e .result) here (omega arith) (e .ensures) ∙ beside-end (a .count) us (depthAt us (a .at)) (e .result) (omega arith))
+    sym (ap (λ (k : ℕ). firstBeside (depthAt us (a .at)) (drop k (rows (a .count) us))) (sym (e .ensures)) ∙ beside-end (a .count) us (depthAt us (a .at)) (e .result) (omega arith))
 
 pub next-of-spec : {M : Type 1} → statement M
 next-of-spec =

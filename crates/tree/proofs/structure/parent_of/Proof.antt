@@ -6,7 +6,7 @@ use borrow.Author.Tests.{lt-ltb, le-ltb}
 use lib.ListN.{getD}
 use Rattle.nodes.specs.Table.{rows}
 use Rattle.nodes.specs.Structure.{noNode}
-use Rattle.tree.specs.Around.{along, above, along-start, along-back, parentOf-at}
+use Rattle.tree.specs.Around.{along, above, along-start, along-back}
 use Rattle.tree.proofs.structure.parent_of.Statement.{statement}
 use Rattle.tree.proofs.structure.parent_of.Tie as tie
 
@@ -56,14 +56,14 @@ shared-slice-read-result : tie.Need-shared-slice-read-result Inv-loop μ-loop
 shared-slice-read-result c = omega arith
 
 returns : tie.Need-returns Inv-loop μ-loop
-returns c = λ count n live here.
+returns c =
     let l = c .before .before .before .before in
     let a = l .before .before .args in
     let us = a .nodes .now in
     let d = getD us (5 * a .at + 1) 0 in
     let step : along (above d) noNode (rows (l .loop .i) us) ≡ getD us (5 * (l .loop .i - 1)) 0 =
     rw (lt-ltb (getD us (5 * (l .loop .i - 1) + 1) 0) d (c .before .if1 .taken)) at (along-back (above d) noNode (l .loop .i) us (omega arith)) in
-    sym step ∙ l .loop .inv .1 ∙ sym (parentOf-at count us n (a .at) here live)
+    sym step ∙ l .loop .inv .1
 
 loop-less : tie.Need-loop-less Inv-loop μ-loop
 loop-less c = omega arith
@@ -78,13 +78,13 @@ loop-again c =
     rw (le-ltb (getD us (5 * (l .loop .i - 1) + 1) 0) d (c .if1 .left)) at (along-back (above d) noNode (l .loop .i) us (omega arith)) in (omega arith, sym step ∙ l .loop .inv .1)
 
 returns-2 : tie.Need-returns-2 Inv-loop μ-loop
-returns-2 c = λ count n live here.
+returns-2 c =
     let l = c .before in
     let a = l .before .before .args in
     let us = a .nodes .now in
     let d = getD us (5 * a .at + 1) 0 in
     let none : l .loop .i ≡ 0 = omega arith in
-    sym (along-start (above d) noNode us) ∙ ap (λ (k : ℕ). along (above d) noNode (rows k us)) (sym none) ∙ l .loop .inv .1 ∙ sym (parentOf-at count us n (a .at) here live)
+    sym (along-start (above d) noNode us) ∙ ap (λ (k : ℕ). along (above d) noNode (rows k us)) (sym none) ∙ l .loop .inv .1
 
 pub parent-of-spec : {M : Type 1} → statement M
 parent-of-spec =

@@ -6,7 +6,7 @@ use borrow.Author.Tests.{lt-ltb, le-ltb, eq-eqb, ne-eqb}
 use lib.ListN.{getD}
 use Rattle.nodes.specs.Table.{rows}
 use Rattle.nodes.specs.Structure.{noNode}
-use Rattle.tree.specs.Around.{along, beside, along-start, along-back, previousOf-at}
+use Rattle.tree.specs.Around.{along, beside, along-start, along-back}
 use Rattle.tree.proofs.structure.previous_of.Statement.{statement}
 use Rattle.tree.proofs.structure.previous_of.Tie as tie
 
@@ -47,14 +47,14 @@ shared-slice-read-other : tie.Need-shared-slice-read-other Inv-loop μ-loop
 shared-slice-read-other c = omega arith
 
 returns : tie.Need-returns Inv-loop μ-loop
-returns c = λ count n live here.
+returns c =
     let l = c .before .before .before in
     let a = l .before .before .args in
     let us = a .nodes .now in
     let d = getD us (5 * a .at + 1) 0 in
     let step : along (beside d) noNode (rows (l .loop .i) us) ≡ noNode =
     rw (lt-ltb (getD us (5 * (l .loop .i - 1) + 1) 0) d (c .if1 .taken)) at (along-back (beside d) noNode (l .loop .i) us (omega arith)) in
-    sym step ∙ l .loop .inv .1 ∙ sym (previousOf-at count us n (a .at) here live)
+    sym step ∙ l .loop .inv .1
 
 mul-result : tie.Need-mul-result Inv-loop μ-loop
 mul-result c = omega arith
@@ -66,7 +66,7 @@ shared-slice-read-result : tie.Need-shared-slice-read-result Inv-loop μ-loop
 shared-slice-read-result c = omega arith
 
 returns-2 : tie.Need-returns-2 Inv-loop μ-loop
-returns-2 c = λ count n live here.
+returns-2 c =
     let l = c .before .before .before .before .before in
     let a = l .before .before .args in
     let us = a .nodes .now in
@@ -74,7 +74,7 @@ returns-2 c = λ count n live here.
     let other = getD us (5 * (l .loop .i - 1) + 1) 0 in
     let step : along (beside d) noNode (rows (l .loop .i) us) ≡ getD us (5 * (l .loop .i - 1)) 0 =
     rw (le-ltb other d (omega arith), eq-eqb other d (c .before .if2 .taken)) at (along-back (beside d) noNode (l .loop .i) us (omega arith)) in
-    sym step ∙ l .loop .inv .1 ∙ sym (previousOf-at count us n (a .at) here live)
+    sym step ∙ l .loop .inv .1
 
 loop-less : tie.Need-loop-less Inv-loop μ-loop
 loop-less c = omega arith
@@ -90,13 +90,13 @@ loop-again c =
     rw (le-ltb other d (omega arith), ne-eqb other d (c .if2 .left)) at (along-back (beside d) noNode (l .loop .i) us (omega arith)) in (omega arith, sym step ∙ l .loop .inv .1)
 
 returns-3 : tie.Need-returns-3 Inv-loop μ-loop
-returns-3 c = λ count n live here.
+returns-3 c =
     let l = c .before in
     let a = l .before .before .args in
     let us = a .nodes .now in
     let d = getD us (5 * a .at + 1) 0 in
     let none : l .loop .i ≡ 0 = omega arith in
-    sym (along-start (beside d) noNode us) ∙ ap (λ (k : ℕ). along (beside d) noNode (rows k us)) (sym none) ∙ l .loop .inv .1 ∙ sym (previousOf-at count us n (a .at) here live)
+    sym (along-start (beside d) noNode us) ∙ ap (λ (k : ℕ). along (beside d) noNode (rows k us)) (sym none) ∙ l .loop .inv .1
 
 pub previous-of-spec : {M : Type 1} → statement M
 previous-of-spec =

@@ -7,7 +7,7 @@ use native.Mathlib.Omega.{arith}
 use lib.ListN.{drop, getD}
 use Rattle.nodes.specs.Table.{rows}
 use Rattle.nodes.specs.Structure.{noNode, lastOr}
-use Rattle.tree.specs.Around.{childNumbers, childNumbers-stop, childNumbers-child, childNumbers-skip, childNumbers-end, childrenOf-at}
+use Rattle.tree.specs.Around.{childNumbers, childNumbers-stop, childNumbers-child, childNumbers-skip, childNumbers-end}
 use Rattle.tree.proofs.structure.tail_of.Statement.{statement}
 use Rattle.tree.proofs.structure.tail_of.Tie as tie
 
@@ -49,14 +49,13 @@ shared-slice-read-other c = omega arith
 
 returns : tie.Need-returns Inv-loop μ-loop
 unfolding lastOr
-returns c = λ n here.
+returns c =
     let l = c .before .before .before in
     let a = l .before .before .args in
     let us = a .nodes .now in
     let d = getD us (5 * a .at + 1) 0 in
     ap (λ (k : List ℕ). lastOr (l .loop .last) k) (sym (childNumbers-stop (a .count) us d (l .loop .i) (omega arith) (c .if1 .taken)))
     ∙ l .loop .inv .1
-    ∙ ap (λ (k : List ℕ). lastOr noNode k) (sym (childrenOf-at (a .count) us n (a .at) here (omega arith)))
 
 sub-if2 : tie.Need-sub-if2 Inv-loop μ-loop
 sub-if2 c = omega arith
@@ -94,14 +93,13 @@ loop-again c =
 
 returns-2 : tie.Need-returns-2 Inv-loop μ-loop
 unfolding lastOr
-returns-2 c = λ n here.
+returns-2 c =
     let l = c .before in
     let a = l .before .before .args in
     let us = a .nodes .now in
     let d = getD us (5 * a .at + 1) 0 in
     ap (λ (k : List ℕ). lastOr (l .loop .last) k) (sym (childNumbers-end (a .count) us d (l .loop .i) (omega arith)))
     ∙ l .loop .inv .1
-    ∙ ap (λ (k : List ℕ). lastOr noNode k) (sym (childrenOf-at (a .count) us n (a .at) here (omega arith)))
 
 pub tail-of-spec : {M : Type 1} → statement M
 tail-of-spec =

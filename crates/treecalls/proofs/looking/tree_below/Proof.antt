@@ -1,6 +1,7 @@
 -- `treecalls::looking::tree_below` meets its contract.
 use native.Mathlib.Omega.{arith}
 use borrow.Author.Needs.{needs}
+use Rattle.treecalls.specs.Found.{stands, missing}
 use Rattle.treecalls.specs.Moving.{two-places}
 use Rattle.treecalls.specs.Looking.{below-first, below-second, below-done}
 use Rattle.treecalls.proofs.looking.tree_below.Statement.{statement}
@@ -12,7 +13,7 @@ place-of-requires c κs = search needs
 returns : tie.Need-returns
 returns c =
     let a = c .before .before .before .args in
-    below-first (a .nodes .now) (a .count) (a .a) (a .b) (c .before .place-of .ensures .missing (c .if1 .taken))
+    below-first (a .nodes .now) (a .count) (a .a) (a .b) (missing (a .nodes .now) (a .count) (a .a) (c .before .place-of .result) (c .before .place-of .ensures) (c .if1 .taken))
 
 place-of-requires-2 : tie.Need-place-of-requires-2
 place-of-requires-2 c κs = search needs
@@ -20,14 +21,14 @@ place-of-requires-2 c κs = search needs
 returns-2 : tie.Need-returns-2
 returns-2 c =
     let a = c .before .before .before .before .before .args in
-    let s = c .before .before .before .place-of .ensures .stands (omega arith) in
-    below-second (a .nodes .now) (a .count) (a .a) (a .b) (s .there) (c .before .place-of2 .ensures .missing (c .if2 .taken))
+    let s = stands (a .nodes .now) (a .count) (a .a) (c .before .before .before .place-of .result) (c .before .before .before .place-of .ensures) (omega arith) in
+    below-second (a .nodes .now) (a .count) (a .a) (a .b) (s .there) (missing (a .nodes .now) (a .count) (a .b) (c .before .place-of2 .result) (c .before .place-of2 .ensures) (c .if2 .taken))
 
 lies-below-requires : tie.Need-lies-below-requires
 lies-below-requires c κs =
     let a = c .before .before .before .before .before .args in
-    let s = c .before .before .before .place-of .ensures .stands (omega arith) in
-    let t = c .before .place-of2 .ensures .stands (omega arith) in
+    let s = stands (a .nodes .now) (a .count) (a .a) (c .before .before .before .place-of .result) (c .before .before .before .place-of .ensures) (omega arith) in
+    let t = stands (a .nodes .now) (a .count) (a .b) (c .before .place-of2 .result) (c .before .place-of2 .ensures) (omega arith) in
     two-places (a .nodes .now) (a .count) (a .b) (a .a) (c .before .place-of2 .result) (c .before .before .before .place-of .result) t s
 
 answer-bit-requires : tie.Need-answer-bit-requires
@@ -36,8 +37,8 @@ answer-bit-requires c κs = search needs
 returns-3 : tie.Need-returns-3
 returns-3 c =
     let a = c .before .before .before .before .before .before .before .args in
-    let s = c .before .before .before .before .before .place-of .ensures .stands (omega arith) in
-    let t = c .before .before .before .place-of2 .ensures .stands (omega arith) in
+    let s = stands (a .nodes .now) (a .count) (a .a) (c .before .before .before .before .before .place-of .result) (c .before .before .before .before .before .place-of .ensures) (omega arith) in
+    let t = stands (a .nodes .now) (a .count) (a .b) (c .before .before .before .place-of2 .result) (c .before .before .before .place-of2 .ensures) (omega arith) in
     below-done (a .nodes .now) (a .count) (a .a) (a .b) (c .before .before .before .before .before .place-of .result) (c .before .before .before .place-of2 .result) s t (c .before .lies-below .result) (c .before .lies-below .ensures) (c .answer-bit .result) (c .answer-bit .ensures)
 
 pub tree-below-spec : {M : Type 1} → statement M

@@ -1,17 +1,17 @@
--- `treecalls::moving::tree_move` meets its contract.
+-- `treecalls::moving::tree_move` meets its contract: by the way that the number says and the places that were found, or refused.
 use mathlib.Core.Path.{_≡_}
-use native.Mathlib.Omega.{arith}
+use Rattle.treecalls.specs.declared.moving.Pair.the-variants as pair
+use Rattle.treecalls.specs.declared.moving.Way.the-variants.{To, Nowhere}
+use Rattle.treecalls.specs.Moving.{Clear, wayOf, move-nowhere, move-refused, move-done}
 use borrow.Author.Needs.{needs}
-use Rattle.treecalls.specs.declared.moving.Pair.the-variants.{At, Nowhere}
-use Rattle.treecalls.specs.Moving.{Clear}
-use Rattle.treecalls.specs.Moving.{move-way, move-refused, move-done}
 use Rattle.treecalls.proofs.moving.tree_move.Statement.{statement}
 use Rattle.treecalls.proofs.moving.tree_move.Tie as tie
 
-returns : tie.Need-returns
-returns c =
-    let a = c .before .before .args in
-    move-way (a .how) (a .nodes .now) (a .count) (a .a) (a .b) (c .if1 .taken)
+way-of-requires : tie.Need-way-of-requires
+way-of-requires c κs = search needs
+
+enum-known-way : tie.Need-enum-known-way
+enum-known-way c = search needs
 
 pair-of-requires : tie.Need-pair-of-requires
 pair-of-requires c κs = search needs
@@ -19,38 +19,65 @@ pair-of-requires c κs = search needs
 enum-known-pair : tie.Need-enum-known-pair
 enum-known-pair c = search needs
 
-move-by-requires : tie.Need-move-by-requires
-move-by-requires c κs =
-    let a = c .before .before .before .before .before .before .before .before .args in
+move-node-requires : tie.Need-move-node-requires
+move-node-requires c κs =
+    let a = c .before .before .before .before .before .before .before .before .before .before .before .args in
     let i = c .before .before .pair .given .0 .0 in
     let j = c .before .before .pair .given .0 .1 .0 in
-    let fact : c .before .before .before .before .pair-of .result ≡ At i j = c .before .before .pair .given .1 in
+    let fact : c .before .before .before .before .pair-of .result ≡ pair.At i j = c .before .before .pair .given .1 in
     let clear : Clear (a .nodes .now) (a .count) (a .a) (a .b) i j = rw fact at (c .before .before .before .before .pair-of .ensures) in
-    (omega arith, clear .moving)
+    clear .moving
 
 enum-told : tie.Need-enum-told
 enum-told c = search needs
 
+enum-told-2 : tie.Need-enum-told-2
+enum-told-2 c = search needs
+
 same-length : tie.Need-same-length
 same-length c = search needs
 
-returns-2 : tie.Need-returns-2
-returns-2 c =
-    let a = c .before .before .before .before .before .before .before .before .before .before .before .args in
+returns : tie.Need-returns
+returns c =
+    let a = c .before .before .before .before .before .before .before .before .before .before .before .before .before .before .args in
+    let p = c .before .before .before .before .before .before .before .before .before .before .way .given .0 .0 in
+    let way : wayOf (a .how) ≡ To p = cc in
     let i = c .before .before .before .before .before .pair .given .0 .0 in
     let j = c .before .before .before .before .before .pair .given .0 .1 .0 in
-    let fact : c .before .before .before .before .before .before .before .pair-of .result ≡ At i j = c .before .before .before .before .before .pair .given .1 in
+    let fact : c .before .before .before .before .before .before .before .pair-of .result ≡ pair.At i j = c .before .before .before .before .before .pair .given .1 in
     let clear : Clear (a .nodes .now) (a .count) (a .a) (a .b) i j = rw fact at (c .before .before .before .before .before .before .before .pair-of .ensures) in
-    move-done (a .how) (a .nodes .now) (a .count) (a .a) (a .b) (omega arith) i j clear (c .before .before .move-by .last .0) (c .before .before .move-by .ensures)
+    move-done (a .how) (a .nodes .now) (a .count) (a .a) (a .b) p way i j clear (c .before .before .move-node .last .0) (c .before .before .move-node .ensures)
 
 same-length-2 : tie.Need-same-length-2
 same-length-2 c = search needs
 
+returns-2 : tie.Need-returns-2
+returns-2 c =
+    let a = c .before .before .before .before .before .before .before .before .before .args in
+    let p = c .before .before .before .before .before .way .given .0 .0 in
+    let way : wayOf (a .how) ≡ To p = cc in
+    let fact : c .before .before .pair-of .result ≡ pair.Nowhere = c .enum-told .given .1 in
+    move-refused (a .how) (a .nodes .now) (a .count) (a .a) (a .b) p way (rw fact at (c .before .before .pair-of .ensures))
+
 returns-3 : tie.Need-returns-3
 returns-3 c =
-    let a = c .before .before .before .before .before .before .args in
-    let fact : c .before .before .pair-of .result ≡ Nowhere = c .enum-told .given .1 in
-    move-refused (a .how) (a .nodes .now) (a .count) (a .a) (a .b) (omega arith) (rw fact at (c .before .before .pair-of .ensures))
+    let a = c .before .before .before .before .args in
+    let way : wayOf (a .how) ≡ Nowhere = cc in
+    move-nowhere (a .how) (a .nodes .now) (a .count) (a .a) (a .b) way
 
 pub tree-move-spec : {M : Type 1} → statement M
-tree-move-spec = tie.close (tie.spec returns pair-of-requires enum-known-pair move-by-requires enum-told same-length returns-2 same-length-2 returns-3)
+tree-move-spec =
+    tie.close
+    (tie.spec
+    way-of-requires
+    enum-known-way
+    pair-of-requires
+    enum-known-pair
+    move-node-requires
+    enum-told
+    enum-told-2
+    same-length
+    returns
+    same-length-2
+    returns-2
+    returns-3)

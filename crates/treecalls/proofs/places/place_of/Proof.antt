@@ -2,7 +2,7 @@
 use mathlib.Core.Path.{sym, _∙_}
 use borrow.Author.Needs.{needs}
 use borrow.Author.Tests.{not-true, not-false}
-use Rattle.treecalls.specs.Found.{tabled-sized, found-none, found-at}
+use Rattle.treecalls.specs.Found.{tabled-sized}
 use Rattle.treecalls.proofs.places.place_of.Statement.{statement}
 use Rattle.treecalls.proofs.places.place_of.Tie as tie
 
@@ -12,7 +12,7 @@ has-table-requires c κs = search needs
 returns : tie.Need-returns
 returns c =
     let a = c .before .before .before .args in
-    found-none (a .nodes .now) (a .count) (a .number) (sym (c .before .has-table .ensures) ∙ not-true (c .before .has-table .result) (c .if1 .taken))
+    rw (sym (c .before .has-table .ensures) ∙ not-true (c .before .has-table .result) (c .if1 .taken))
 
 find-requires : tie.Need-find-requires
 find-requires c κs =
@@ -22,7 +22,7 @@ find-requires c κs =
 returns-2 : tie.Need-returns-2
 returns-2 c =
     let a = c .before .before .before .before .args in
-    found-at (a .nodes .now) (a .count) (a .number) (c .find .result) (sym (c .before .before .has-table .ensures) ∙ not-false (c .before .before .has-table .result) (c .before .if1 .left)) (c .find .ensures)
+    rw (sym (c .before .before .has-table .ensures) ∙ not-false (c .before .before .has-table .result) (c .before .if1 .left)) (c .find .ensures)
 
 pub place-of-spec : {M : Type 1} → statement M
 place-of-spec = tie.close (tie.spec has-table-requires returns find-requires returns-2)

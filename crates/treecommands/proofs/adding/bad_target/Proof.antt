@@ -1,17 +1,74 @@
--- `treecommands::adding::bad_target` meets its contract.
+-- `treecommands::adding::bad_target` meets its contract: each case is the definition's.
+use mathlib.Core.Path.{_≡_}
+use Rattle.tree.specs.declared.action.Action.the-variants.{Put, Replace}
+use Rattle.tree.specs.declared.action.Position.the-variants.{Head, Tail, Before, After}
 use borrow.Author.Needs.{needs}
-use borrow.Author.Tests.{lt-ltb, le-ltb}
 use Rattle.treecommands.proofs.adding.bad_target.Statement.{statement}
 use Rattle.treecommands.proofs.adding.bad_target.Tie as tie
+
+enum-known-action : tie.Need-enum-known-action
+enum-known-action c = search needs
+
+enum-told : tie.Need-enum-told
+enum-told c = search needs
 
 is-synth-requires : tie.Need-is-synth-requires
 is-synth-requires c κs = search needs
 
+enum-told-2 : tie.Need-enum-told-2
+enum-told-2 c = search needs
+
+is-synth-requires-2 : tie.Need-is-synth-requires-2
+is-synth-requires-2 c κs = search needs
+
+enum-told-3 : tie.Need-enum-told-3
+enum-told-3 c = search needs
+
+enum-told-4 : tie.Need-enum-told-4
+enum-told-4 c = search needs
+
+enum-told-5 : tie.Need-enum-told-5
+enum-told-5 c = search needs
+
 returns : tie.Need-returns
-returns c = rw (lt-ltb (c .before .before .before .args .action) 2 (c .before .if1 .taken)) (c .is-synth .ensures)
+returns c =
+    let case : c .before .before .before .before .before .before .before .args .action ≡ Put Head = cc in
+    rw case (c .is-synth .ensures)
 
 returns-2 : tie.Need-returns-2
-returns-2 c = rw (le-ltb (c .before .before .args .action) 2 (c .if1 .left))
+returns-2 c =
+    let case : c .before .before .before .before .before .before .before .args .action ≡ Put Tail = cc in
+    rw case (c .is-synth2 .ensures)
+
+returns-3 : tie.Need-returns-3
+returns-3 c =
+    let case : c .before .before .before .before .before .before .args .action ≡ Put Before = cc in
+    rw case
+
+returns-4 : tie.Need-returns-4
+returns-4 c =
+    let case : c .before .before .before .before .before .before .args .action ≡ Put After = cc in
+    rw case
+
+returns-5 : tie.Need-returns-5
+returns-5 c =
+    let case : c .before .before .before .args .action ≡ Replace = cc in
+    rw case
 
 pub bad-target-spec : {M : Type 1} → statement M
-bad-target-spec = tie.close (tie.spec is-synth-requires returns returns-2)
+bad-target-spec =
+    tie.close
+    (tie.spec
+    enum-known-action
+    enum-told
+    is-synth-requires
+    enum-told-2
+    is-synth-requires-2
+    enum-told-3
+    enum-told-4
+    enum-told-5
+    returns
+    returns-2
+    returns-3
+    returns-4
+    returns-5)

@@ -2,7 +2,7 @@
 use native.Mathlib.Omega.{arith}
 use borrow.Author.Needs.{needs}
 use mathlib.Core.Path.{sym, _∙_}
-use Rattle.treecommands.specs.Grouping.{group-action, group-negative, group-live, group-unknown, group-kind, group-full, group-ground}
+use Rattle.treecommands.specs.Grouping.{group-negative, group-live, group-unknown, group-kind, group-full, group-ground}
 use Rattle.treecommands.proofs.group.group_spot.Statement.{statement}
 use Rattle.treecommands.proofs.group.group_spot.Tie as tie
 
@@ -10,13 +10,7 @@ returns : tie.Need-returns
 returns c =
     let s = c .before .before in
     let a = s .args in
-    group-action (a .number) (a .action) (a .target) (a .words .now) (c .if1 .taken)
-
-returns-2 : tie.Need-returns-2
-returns-2 c =
-    let s = c .before .before .before in
-    let a = s .args in
-    group-negative (a .number) (a .action) (a .target) (a .words .now) (omega arith) (c .if2 .taken)
+    group-negative (a .number) (a .action) (a .target) (a .words .now) (c .if1 .taken)
 
 shared-slice-read-wide : tie.Need-shared-slice-read-wide
 shared-slice-read-wide c = search needs
@@ -36,62 +30,61 @@ part-find-end c = search needs
 find-requires : tie.Need-find-requires
 find-requires c κs = search needs
 
-returns-3 : tie.Need-returns-3
-returns-3 c =
-    let s = c .before .before .before .before .before .before .before .before in
+returns-2 : tie.Need-returns-2
+returns-2 c =
+    let s = c .before .before .before .before .before .before .before in
     let a = s .args in
-    group-live (a .number) (a .action) (a .target) (a .words .now) (omega arith) (s .pre) (c .before .before .before .wide .result) (c .before .before .before .wide .ensures) (omega arith) (c .before .find .result) (c .before .find .ensures) (c .if3 .taken)
+    group-live (a .number) (a .action) (a .target) (a .words .now) (s .pre) (c .before .before .before .wide .result) (c .before .before .before .wide .ensures) (omega arith) (c .before .find .result) (c .before .find .ensures) (c .if2 .taken)
 
 node-place-requires : tie.Need-node-place-requires
 node-place-requires c κs = search needs
 
-returns-4 : tie.Need-returns-4
-returns-4 c =
-    let s = c .before .before .before .before .before .before .before .before .before .before in
+returns-3 : tie.Need-returns-3
+returns-3 c =
+    let s = c .before .before .before .before .before .before .before .before .before in
     let a = s .args in
-    group-unknown (a .number) (a .action) (a .target) (a .words .now) (omega arith) (s .pre) (c .before .before .before .before .before .wide .result) (c .before .before .before .before .before .wide .ensures) (omega arith) (c .before .before .before .find .result) (c .before .before .before .find .ensures) (omega arith) (c .before .node-place .result) (c .before .node-place .ensures) (c .if4 .taken)
+    group-unknown (a .number) (a .action) (a .target) (a .words .now) (s .pre) (c .before .before .before .before .before .wide .result) (c .before .before .before .before .before .wide .ensures) (omega arith) (c .before .before .before .find .result) (c .before .before .before .find .ensures) (omega arith) (c .before .node-place .result) (c .before .node-place .ensures) (c .if3 .taken)
 
 bad-target-requires : tie.Need-bad-target-requires
 bad-target-requires c κs = search needs
 
-returns-5 : tie.Need-returns-5
-returns-5 c =
-    let s = c .before .before .before .before .before .before .before .before .before .before .before .before in
+returns-4 : tie.Need-returns-4
+returns-4 c =
+    let s = c .before .before .before .before .before .before .before .before .before .before .before in
     let a = s .args in
-    group-kind (a .number) (a .action) (a .target) (a .words .now) (omega arith) (s .pre) (c .before .before .before .before .before .before .before .wide .result) (c .before .before .before .before .before .before .before .wide .ensures) (omega arith) (c .before .before .before .before .before .find .result) (c .before .before .before .before .before .find .ensures) (omega arith) (c .before .before .before .node-place .result) (c .before .before .before .node-place .ensures) (omega arith) (sym (c .before .bad-target .ensures) ∙ c .if5 .taken)
+    group-kind (a .number) (a .action) (a .target) (a .words .now) (s .pre) (c .before .before .before .before .before .before .before .wide .result) (c .before .before .before .before .before .before .before .wide .ensures) (omega arith) (c .before .before .before .before .before .find .result) (c .before .before .before .before .before .find .ensures) (omega arith) (c .before .before .before .node-place .result) (c .before .before .before .node-place .ensures) (omega arith) (sym (c .before .bad-target .ensures) ∙ c .if4 .taken)
 
 is-full-requires : tie.Need-is-full-requires
 is-full-requires c κs = search needs
 
+returns-5 : tie.Need-returns-5
+returns-5 c =
+    let s = c .before .before .before .before .before .before .before .before .before .before .before .before .before in
+    let a = s .args in
+    group-full (a .number) (a .action) (a .target) (a .words .now) (s .pre) (c .before .before .before .before .before .before .before .before .before .wide .result) (c .before .before .before .before .before .before .before .before .before .wide .ensures) (omega arith) (c .before .before .before .before .before .before .before .find .result) (c .before .before .before .before .before .before .before .find .ensures) (omega arith) (c .before .before .before .before .before .node-place .result) (c .before .before .before .before .before .node-place .ensures) (omega arith) (sym (c .before .before .before .bad-target .ensures) ∙ c .before .before .if4 .left) (sym (c .before .is-full .ensures) ∙ c .if5 .taken)
+
 returns-6 : tie.Need-returns-6
 returns-6 c =
-    let s = c .before .before .before .before .before .before .before .before .before .before .before .before .before .before in
+    let s = c .before .before .before .before .before .before .before .before .before .before .before .before .before in
     let a = s .args in
-    group-full (a .number) (a .action) (a .target) (a .words .now) (omega arith) (s .pre) (c .before .before .before .before .before .before .before .before .before .wide .result) (c .before .before .before .before .before .before .before .before .before .wide .ensures) (omega arith) (c .before .before .before .before .before .before .before .find .result) (c .before .before .before .before .before .before .before .find .ensures) (omega arith) (c .before .before .before .before .before .node-place .result) (c .before .before .before .before .before .node-place .ensures) (omega arith) (sym (c .before .before .before .bad-target .ensures) ∙ c .before .before .if5 .left) (sym (c .before .is-full .ensures) ∙ c .if6 .taken)
-
-returns-7 : tie.Need-returns-7
-returns-7 c =
-    let s = c .before .before .before .before .before .before .before .before .before .before .before .before .before .before in
-    let a = s .args in
-    group-ground (a .number) (a .action) (a .target) (a .words .now) (omega arith) (s .pre) (c .before .before .before .before .before .before .before .before .before .wide .result) (c .before .before .before .before .before .before .before .before .before .wide .ensures) (omega arith) (c .before .before .before .before .before .before .before .find .result) (c .before .before .before .before .before .before .before .find .ensures) (omega arith) (c .before .before .before .before .before .node-place .result) (c .before .before .before .before .before .node-place .ensures) (omega arith) (sym (c .before .before .before .bad-target .ensures) ∙ c .before .before .if5 .left) (sym (c .before .is-full .ensures) ∙ c .if6 .left)
+    group-ground (a .number) (a .action) (a .target) (a .words .now) (s .pre) (c .before .before .before .before .before .before .before .before .before .wide .result) (c .before .before .before .before .before .before .before .before .before .wide .ensures) (omega arith) (c .before .before .before .before .before .before .before .find .result) (c .before .before .before .before .before .before .before .find .ensures) (omega arith) (c .before .before .before .before .before .node-place .result) (c .before .before .before .before .before .node-place .ensures) (omega arith) (sym (c .before .before .before .bad-target .ensures) ∙ c .before .before .if4 .left) (sym (c .before .is-full .ensures) ∙ c .if5 .left)
 
 pub group-spot-spec : {M : Type 1} → statement M
 group-spot-spec =
     tie.close
     (tie.spec
     returns
-    returns-2
     shared-slice-read-wide
     wide-requires
     sub-find
     part-find-start
     part-find-end
     find-requires
-    returns-3
+    returns-2
     node-place-requires
-    returns-4
+    returns-3
     bad-target-requires
-    returns-5
+    returns-4
     is-full-requires
-    returns-6
-    returns-7)
+    returns-5
+    returns-6)

@@ -19,17 +19,17 @@ slice-read-wide c = search needs
 wide-requires : tie.Need-wide-requires
 wide-requires c κs = search needs
 
-sub-move-head : tie.Need-sub-move-head
-sub-move-head c = search needs
+sub-move-node : tie.Need-sub-move-node
+sub-move-node c = search needs
 
-part-move-head-start : tie.Need-part-move-head-start
-part-move-head-start c = search needs
+part-move-node-start : tie.Need-part-move-node-start
+part-move-node-start c = search needs
 
-part-move-head-end : tie.Need-part-move-head-end
-part-move-head-end c = search needs
+part-move-node-end : tie.Need-part-move-node-end
+part-move-node-end c = search needs
 
-move-head-requires : tie.Need-move-head-requires
-move-head-requires c κs =
+move-node-requires : tie.Need-move-node-requires
+move-node-requires c κs =
     let s = c .before .before .before .before .before .before .before .before .before in
     let a = s .args in
     let fact : c .before .before .before .before .before .before .into .result ≡ pair.At (c .before .before .before .before .pair .given .0 .0) (c .before .before .before .before .pair .given .0 .1 .0) = c .before .before .before .before .pair .given .1 in
@@ -51,7 +51,7 @@ returns c =
     let a = s .args in
     let fact : c .before .before .before .before .before .before .before .before .before .before .before .before .before .into .result ≡ pair.At (c .before .before .before .before .before .before .before .before .before .before .before .pair .given .0 .0) (c .before .before .before .before .before .before .before .before .before .before .before .pair .given .0 .1 .0) = c .before .before .before .before .before .before .before .before .before .before .before .pair .given .1 in
     let clear : Clear (intoChecks (a .group) (a .node)) (a .node) (a .group) (a .words .now) (c .before .before .before .before .before .before .before .before .before .before .before .pair .given .0 .0) (c .before .before .before .before .before .before .before .before .before .before .before .pair .given .0 .1 .0) = rw fact at (c .before .before .before .before .before .before .before .before .before .before .before .before .before .into .ensures) in
-    head-done (a .node) (a .group) (a .words .now) (s .pre) (c .before .before .before .before .before .before .before .before .wide .result) (c .before .before .before .before .before .before .before .before .wide .ensures) (c .before .before .before .before .before .before .before .before .before .before .before .pair .given .0 .0) (c .before .before .before .before .before .before .before .before .before .before .before .pair .given .0 .1 .0) clear (c .before .before .before .before .before .before .move-head .last .0) (c .before .before .before .before .before .before .move-head .ensures)
+    head-done (a .node) (a .group) (a .words .now) (s .pre) (c .before .before .before .before .before .before .before .before .wide .result) (c .before .before .before .before .before .before .before .before .wide .ensures) (c .before .before .before .before .before .before .before .before .before .before .before .pair .given .0 .0) (c .before .before .before .before .before .before .before .before .before .before .before .pair .given .0 .1 .0) clear (c .before .before .before .before .before .before .move-node .last .0) (c .before .before .before .before .before .before .move-node .ensures)
     (c .before .before .renew .last .0) (c .before .before .renew .ensures)
 
 same-length-2 : tie.Need-same-length-2
@@ -73,10 +73,10 @@ move-head-spec =
     enum-known-pair
     slice-read-wide
     wide-requires
-    sub-move-head
-    part-move-head-start
-    part-move-head-end
-    move-head-requires
+    sub-move-node
+    part-move-node-start
+    part-move-node-end
+    move-node-requires
     renew-requires
     enum-known-pair-2
     same-length

@@ -19,17 +19,17 @@ slice-read-wide c = search needs
 wide-requires : tie.Need-wide-requires
 wide-requires c κs = search needs
 
-sub-move-tail : tie.Need-sub-move-tail
-sub-move-tail c = search needs
+sub-move-node : tie.Need-sub-move-node
+sub-move-node c = search needs
 
-part-move-tail-start : tie.Need-part-move-tail-start
-part-move-tail-start c = search needs
+part-move-node-start : tie.Need-part-move-node-start
+part-move-node-start c = search needs
 
-part-move-tail-end : tie.Need-part-move-tail-end
-part-move-tail-end c = search needs
+part-move-node-end : tie.Need-part-move-node-end
+part-move-node-end c = search needs
 
-move-tail-requires : tie.Need-move-tail-requires
-move-tail-requires c κs =
+move-node-requires : tie.Need-move-node-requires
+move-node-requires c κs =
     let s = c .before .before .before .before .before .before .before .before .before in
     let a = s .args in
     let fact : c .before .before .before .before .before .before .into .result ≡ pair.At (c .before .before .before .before .pair .given .0 .0) (c .before .before .before .before .pair .given .0 .1 .0) = c .before .before .before .before .pair .given .1 in
@@ -51,7 +51,7 @@ returns c =
     let a = s .args in
     let fact : c .before .before .before .before .before .before .before .before .before .before .before .before .before .into .result ≡ pair.At (c .before .before .before .before .before .before .before .before .before .before .before .pair .given .0 .0) (c .before .before .before .before .before .before .before .before .before .before .before .pair .given .0 .1 .0) = c .before .before .before .before .before .before .before .before .before .before .before .pair .given .1 in
     let clear : Clear (intoChecks (a .group) (a .node)) (a .node) (a .group) (a .words .now) (c .before .before .before .before .before .before .before .before .before .before .before .pair .given .0 .0) (c .before .before .before .before .before .before .before .before .before .before .before .pair .given .0 .1 .0) = rw fact at (c .before .before .before .before .before .before .before .before .before .before .before .before .before .into .ensures) in
-    tail-done (a .node) (a .group) (a .words .now) (s .pre) (c .before .before .before .before .before .before .before .before .wide .result) (c .before .before .before .before .before .before .before .before .wide .ensures) (c .before .before .before .before .before .before .before .before .before .before .before .pair .given .0 .0) (c .before .before .before .before .before .before .before .before .before .before .before .pair .given .0 .1 .0) clear (c .before .before .before .before .before .before .move-tail .last .0) (c .before .before .before .before .before .before .move-tail .ensures)
+    tail-done (a .node) (a .group) (a .words .now) (s .pre) (c .before .before .before .before .before .before .before .before .wide .result) (c .before .before .before .before .before .before .before .before .wide .ensures) (c .before .before .before .before .before .before .before .before .before .before .before .pair .given .0 .0) (c .before .before .before .before .before .before .before .before .before .before .before .pair .given .0 .1 .0) clear (c .before .before .before .before .before .before .move-node .last .0) (c .before .before .before .before .before .before .move-node .ensures)
     (c .before .before .renew .last .0) (c .before .before .renew .ensures)
 
 same-length-2 : tie.Need-same-length-2
@@ -73,10 +73,10 @@ move-tail-spec =
     enum-known-pair
     slice-read-wide
     wide-requires
-    sub-move-tail
-    part-move-tail-start
-    part-move-tail-end
-    move-tail-requires
+    sub-move-node
+    part-move-node-start
+    part-move-node-end
+    move-node-requires
     renew-requires
     enum-known-pair-2
     same-length

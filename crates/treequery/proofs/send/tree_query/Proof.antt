@@ -1,15 +1,16 @@
 use Prim.Native.Nat.{ℕ, _+_}
-use mathlib.Core.Path.{_≡_, sym, ap, subst, _∙_}
-use mathlib.Core.List.{_∷_}
+use mathlib.Core.Path.{_≡_, sym, ap, _∙_}
+use mathlib.Core.List.{List, _∷_}
 use native.Mathlib.Omega.{arith}
 use borrow.Author.Needs.{needs}
 use borrow.Author.Tests.{not-true, not-false}
+use lib.ListN.{length}
 use Rattle.words.specs.Parts.{region}
 use Rattle.refusals.specs.declared.Refusal.the-variants.{NoNode, WrongKind}
-use Rattle.nodes.specs.Table.{rows}
-use Rattle.nodes.specs.Place.{place}
+
 use Rattle.nodes.specs.Structure.{childCount}
-use Rattle.tree.specs.Sizes.{endAt}
+use Rattle.nodes.specs.Sizes.{endAt}
+use Rattle.tree.specs.Around.{childrenAt, childrenOf-at}
 use Rattle.osc.specs.Message.{int, message}
 use Rattle.model.specs.declared.Query.the-variants as query
 use Rattle.model.specs.Layout.{countIn, nodesIn, nodesPlace, nodesWords}
@@ -122,7 +123,9 @@ returns-3 c =
     let sent = c .before .before .send-tree in
     let ends : end .result ≡ endAt (countIn ws) us at = end .ensures ∙ ap (λ (k : ℕ). endAt k us at) (w .ensures) in
     let counted : children .result ≡ childCount m (nodesIn ws) =
-    subst (λ (k : ℕ). (j : ℕ) → at ≡ place j (rows k us) → children .result ≡ childCount j (rows k us)) (w .ensures) (children .ensures) m (here-number (a .group) ws bs at (n .ensures) there) in
+    children .ensures
+    ∙ ap (λ (k : ℕ). length (childrenAt k us at)) (w .ensures)
+    ∙ ap (λ (l : List ℕ). length l) (sym (childrenOf-at (countIn ws) us m at (here-number (a .group) ws bs at (n .ensures) there) (there .live))) in
     reply-sent (query.Tree (a .group) (a .flag)) (a .bytes .now) ws bs (a .out .now)
     (message treeAddress (int (flagNumber (shown .result)) ∷ (int m ∷ (int (children .result) ∷ leftRows (shown .result) ws bs (end .result) (at + 1)))))
     (sent .result) (sent .last .0)

@@ -1,0 +1,72 @@
+-- `tree::deep::deep_free` meets its contract: what the sweep leaves, then what the removal leaves of it.
+use Prim.Native.Nat.{_+_, _*_}
+use native.Mathlib.Omega.{arith}
+use borrow.Author.Needs.{needs}
+use lib.ListN.{getD}
+use Rattle.nodes.specs.Table.{rows}
+use Rattle.nodes.specs.Edit.{editAt, deepFreeHere}
+use Rattle.tree.specs.Sweep.{Ends, swept-ends}
+use Rattle.tree.specs.Deep.{left-leaves, deep-at}
+use Rattle.tree.proofs.deep.deep_free.Statement.{statement}
+use Rattle.tree.proofs.deep.deep_free.Tie as tie
+
+mul-depth : tie.Need-mul-depth
+mul-depth c = omega arith
+
+add-depth : tie.Need-add-depth
+add-depth c = omega arith
+
+mul-depth-2 : tie.Need-mul-depth-2
+mul-depth-2 c = omega arith
+
+slice-read-depth : tie.Need-slice-read-depth
+slice-read-depth c = omega arith
+
+add-first : tie.Need-add-first
+add-first c = omega arith
+
+sub-sweep : tie.Need-sub-sweep
+sub-sweep c = omega arith
+
+sweep-requires : tie.Need-sweep-requires
+sweep-requires c κs = omega arith
+
+remove-requires : tie.Need-remove-requires
+remove-requires c κs =
+    let b = c .before .before .before in
+    let a = b .before .before .before .before .args in
+    let ends : Ends (a .nodes .now) (a .count) (a .at + 1) (b .sweep .last .0) (b .sweep .result .read) (b .sweep .result .write) =
+    swept-ends (omega arith) (omega arith) (omega arith) (b .sweep .ensures) in
+    (omega arith, (omega arith, omega arith))
+
+same-length : tie.Need-same-length
+same-length c = search needs
+
+returns : tie.Need-returns
+returns c =
+    let d = c .before .before in
+    let b = d .before .before .before .before in
+    let a = b .before .before .before .before .args in
+    let us = a .nodes .now in
+    let n = a .count in
+    let depth = getD us (5 * a .at + 1) 0 in
+    let read = b .sweep .result .read in
+    let write = b .sweep .result .write in
+    let s = b .sweep .ensures in
+    left-leaves us (b .sweep .last .0) n (a .at + 1) depth read write (omega arith) (omega arith) s (editAt (a .at) deepFreeHere (rows n us)) (d .remove .last .0) (d .remove .result)
+    (deep-at us n (a .at) read (omega arith) (s .past)) (d .remove .ensures)
+
+pub deep-free-spec : {M : Type 1} → statement M
+deep-free-spec =
+    tie.close
+    (tie.spec
+    mul-depth
+    add-depth
+    mul-depth-2
+    slice-read-depth
+    add-first
+    sub-sweep
+    sweep-requires
+    remove-requires
+    same-length
+    returns)
