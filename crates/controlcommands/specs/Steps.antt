@@ -31,7 +31,6 @@ use Rattle.model.specs.Checks.{check, firstOf, noControls}
 use Rattle.model.specs.Effects.{effect, controlEffect, changeAll, changed}
 use Rattle.model.specs.After.{wordsAfter}
 use Rattle.model.specs.Apply.{answerIn, isAccepted}
-use Rattle.state.specs.Known.{Known}
 use Rattle.state.specs.Does.{WordsStep}
 use Rattle.nodes.specs.Sizes.{depthAt, endAt}
 use Rattle.names.specs.Named.{Named, named-known, named-unknown, named-place}
@@ -39,16 +38,12 @@ use Rattle.names.specs.Here.{named-here}
 use Rattle.controls.specs.declared.control.Change.{Change}
 use Rattle.controls.specs.declared.control.Change.the-variants as change
 use Rattle.controls.specs.Change.{changeOf}
-use Rattle.controls.specs.Ready.{Ready, nodeIn}
+use Rattle.controls.specs.Ready.{nodeIn}
 use Rattle.controls.specs.Asked.{controlsMissing}
 use Rattle.controls.specs.All.{all-run}
 
 abbrev pub Steps : ControlCommand → List ℕ → List ℕ → List ℕ → Answer → List ℕ → Type 0
 Steps c bytes ws bs a ws′ = WordsStep (command.Controls c) bytes ws bs a ws′
-
--- what the functions of `controls` ask
-pub ready : (ws bs : List ℕ) → Known ws bs → Ready ws bs
-ready ws bs k = record { size = k .size; arenaSize = k .arenaSize; few = k .few; fields = k .tree .fields; slots = k .slots }
 
 -- the end of the run of the node at a place
 abbrev pub runEnd : List ℕ → ℕ → ℕ
@@ -136,12 +131,6 @@ module _ (n : NodeArgument) (ws bs : List ℕ) (at : ℕ) (named : Named n ws at
 
 -- the rows of the table
 module _ (n : NodeArgument) (key : Key) (bytes ws bs : List ℕ) where
-  pub set-row : (value : Value)
-      → answerIn (command.Controls (controls.Set n key value)) bytes (decode ws bs) 0
-      ≡ threeChecks NoNode (not (known n (decode ws bs))) BadValue (not (inBounds value)) (noControls key 1 bytes n (decode ws bs))
-  unfolding answerIn threeChecks
-  set-row value = refl
-
   pub fill-row : (count : ℕ) (value : Value)
       → answerIn (command.Controls (controls.Fill n key count value)) bytes (decode ws bs) 0
       ≡ threeChecks NoNode (not (known n (decode ws bs))) BadValue (not (inBounds value)) (noControls key count bytes n (decode ws bs))
@@ -154,14 +143,14 @@ module _ (n : NodeArgument) (key : Key) (bytes ws bs : List ℕ) where
   unfolding answerIn threeChecks
   map-row bus = refl
 
+-- `/n_set` is `/n_fill` with a count of one
+pub set-filled : (n : NodeArgument) (key : Key) (value : Value) (bytes ws bs : List ℕ) (a : Answer) (ws′ : List ℕ)
+    → Steps (controls.Fill n key 1 value) bytes ws bs a ws′ → Steps (controls.Set n key value) bytes ws bs a ws′
+unfolding answerIn wordsAfter effect
+set-filled n key value bytes ws bs a ws′ s = record { answers = s .answers; words = s .words }
+
 -- what each command comes to once its node is found and its value or bus is one
 module _ (n : NodeArgument) (key : Key) (bytes ws bs : List ℕ) (at : ℕ) (named : Named n ws at) (live : at < countIn ws) (a : Answer) (ws′ : List ℕ) where
-  pub set-ran : (value : Value) (p : ℕ) → patternOf value ≡ Pattern p → Changed (change.Set p) key 1 bytes at ws bs a ws′ → Steps (controls.Set n key value) bytes ws bs a ws′
-  set-ran value p fact changes =
-      let t = pattern-fact value p fact in
-      ran n ws bs at named live (controls.Set n key value) (change.Set p) (setTo (pattern value)) key 1 bytes BadValue (not (inBounds value)) a ws′
-      (set-row n key bytes ws bs value) refl (ap setTo (sym (t .1))) (ap not (t .0)) changes
-
   pub fill-ran : (count : ℕ) (value : Value) (p : ℕ) → patternOf value ≡ Pattern p → Changed (change.Set p) key count bytes at ws bs a ws′ → Steps (controls.Fill n key count value) bytes ws bs a ws′
   fill-ran count value p fact changes =
       let t = pattern-fact value p fact in

@@ -1,8 +1,15 @@
-// The commands of controls, behind the state check: each refuses by its row of the table, or changes the controls' part of the words.
+// The commands of controls and of buses, behind the state check: each refuses by its row of the table, or changes its part of the words.
+mod buses;
+
+pub use buses::bus_step;
+
 use controls::Change;
 use controls::change_all;
 use controls::controls_missing;
 use controls::is_bus;
+use layout::COUNT;
+use layout::NODES;
+use layout::NODES_END;
 use model::Answer;
 use model::ControlCommand;
 use names::node_place;
@@ -41,38 +48,13 @@ fn change_run(
     if controls_missing(words, arena, at, key, bytes, count) {
         return Answer::Refused(Refusal::NoControl);
     }
-    let many = wide(words[0]);
-    let end = subtree_end(&words[68..1348], many, at);
+    let many = wide(words[COUNT]);
+    let end = subtree_end(&words[NODES..NODES_END], many, at);
     change_all(words, arena, at, end, key, bytes, count, change);
     Answer::Done
 }
 
-// /n_set
-fn set_control(
-    node: NodeArgument,
-    key: Key,
-    value: Value,
-    bytes: &[u8],
-    words: &mut [u32],
-    arena: &[u8],
-) -> Answer
-    requires { ⌜ Known (now words) (now arena) ⌝ }
-    ensures { λ r. ⌜ Steps (ControlCommand.Set node key value) (now (bytes .entry)) (now (words .entry)) (now (arena .entry)) r (now (words .exit)) ⌝ }
-{
-    let at = node_place(words, node);
-    if wide(words[0]) <= at {
-        return Answer::Refused(Refusal::NoNode);
-    }
-    match value_pattern(value) {
-        ValuePattern::Pattern(pattern) => {
-            let change = Change::Set(pattern);
-            change_run(words, arena, at, key, bytes, 1, change)
-        }
-        ValuePattern::OutOfBounds => Answer::Refused(Refusal::BadValue),
-    }
-}
-
-// /n_fill
+// /n_fill; /n_set is the same with a count of one
 fn fill_controls(
     node: NodeArgument,
     key: Key,
@@ -86,7 +68,7 @@ fn fill_controls(
     ensures { λ r. ⌜ Steps (ControlCommand.Fill node key count value) (now (bytes .entry)) (now (words .entry)) (now (arena .entry)) r (now (words .exit)) ⌝ }
 {
     let at = node_place(words, node);
-    if wide(words[0]) <= at {
+    if wide(words[COUNT]) <= at {
         return Answer::Refused(Refusal::NoNode);
     }
     match value_pattern(value) {
@@ -131,7 +113,7 @@ fn map_control(
     ensures { λ r. ⌜ Steps (ControlCommand.Map node key bus) (now (bytes .entry)) (now (words .entry)) (now (arena .entry)) r (now (words .exit)) ⌝ }
 {
     let at = node_place(words, node);
-    if wide(words[0]) <= at {
+    if wide(words[COUNT]) <= at {
         return Answer::Refused(Refusal::NoNode);
     }
     if !can_map(bus) {
@@ -154,7 +136,7 @@ pub fn control_step(
 {
     match command {
         ControlCommand::Set { node, key, value } => {
-            set_control(node, key, value, bytes, words, arena)
+            fill_controls(node, key, 1, value, bytes, words, arena)
         }
         ControlCommand::Fill {
             node,

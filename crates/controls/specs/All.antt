@@ -12,7 +12,7 @@ use Rattle.format.specs.Definition.{Front}
 use Rattle.readable.specs.Readable.{Readable, whole-readable}
 use Rattle.nodes.specs.declared.Node.{Node}
 use Rattle.nodes.specs.Table.{width, rows, nodeFrom, row-from}
-use Rattle.nodes.specs.Place.{groupSlot, isGroup, place, deeper}
+use Rattle.nodes.specs.Place.{isGroup, place, deeper}
 use Rattle.nodes.specs.Edit.{sink, runOf}
 use Rattle.nodes.specs.Split.{runOf-at}
 use Rattle.nodes.specs.Formed.{mostNodes, mostRows}
@@ -25,9 +25,10 @@ use Rattle.model.specs.Effects.{changeRow, changeStart, changeAll}
 use Rattle.state.specs.Regions.{region-before, word-before}
 use Rattle.state.specs.Decoded.{controls-size}
 use Rattle.controls.specs.Encoded.{frontIn, frontOnly, start-front}
-use Rattle.controls.specs.Ready.{Ready, nodeIn, slotBytes, synth-ready}
-use Rattle.controls.specs.Synth.{changeSynth, changeNode, Bounds, row-word, is-synth, slot-bound, bytes-readable, node-group, node-synth, same-controls}
-use Rattle.controls.specs.Reach.{Reaches}
+use Rattle.slots.specs.Slots.{slotBytes}
+use Rattle.controls.specs.Ready.{Ready, nodeIn, synth-ready}
+use Rattle.controls.specs.Synth.{changeSynth, changeNode, Bounds, same-controls}
+use Rattle.controls.specs.Reach.{reachIn, reach-same}
 use Rattle.controls.specs.declared.reach.Reach.{Reach}
 
 -- a part put over another put at the same place
@@ -157,10 +158,10 @@ module _ (f : ControlValue → ControlValue) (key : Key) (name : List ℕ) (coun
 -- the synth at a place of words that differ from the first in their controls alone
 pub record Lent (ws₀ arena ws : List ℕ) (i : ℕ) : Type 0 where
   pub place : i < mostNodes
-  pub low : getD ws (nodesPlace + 5 * i + 3) 0 < slotCount
+  pub slot : nodeIn ws i .slot < slotCount
   pub row : nodeIn ws i .row < mostRows
-  pub readable : Readable (slotBytes ws arena (getD ws (nodesPlace + 5 * i + 3) 0))
-  pub kept : slotBytes ws arena (getD ws (nodesPlace + 5 * i + 3) 0) ≡ slotBytes ws₀ arena (getD ws (nodesPlace + 5 * i + 3) 0)
+  pub readable : Readable (slotBytes ws arena (nodeIn ws i .slot))
+  pub kept : slotBytes ws arena (nodeIn ws i .slot) ≡ slotBytes ws₀ arena (nodeIn ws i .slot)
 
 -- its place in the table
 pub bounds-lent : (ws₀ arena ws : List ℕ) (i : ℕ) → Ready ws₀ arena → length ws ≡ wordsLength → ws ≡ putControls (controlsIn ws) ws₀ → i < countIn ws₀ → Bounds ws arena i
@@ -169,27 +170,27 @@ bounds-lent ws₀ arena ws i ready size rest few =
     subst (λ (us : List ℕ). Bounds us arena i) (sym rest) (bounds-kept (controlsIn ws) ws₀ (ready .size) many arena ready i few)
 
 pub synth-lent : (ws₀ arena ws : List ℕ) (i : ℕ) → Ready ws₀ arena → length ws ≡ wordsLength → ws ≡ putControls (controlsIn ws) ws₀ → i < countIn ws₀
-    → (getD ws (nodesPlace + 5 * i + 3) 0 ≡ groupSlot → ⊥) → Lent ws₀ arena ws i
-synth-lent ws₀ arena ws i ready size rest few other =
+    → isGroup (nodeIn ws i) ≡ false → Lent ws₀ arena ws i
+synth-lent ws₀ arena ws i ready size rest few single =
     let many = region-length controlsPlace controlsWords ws (omega arith) in
     let b = bounds-lent ws₀ arena ws i ready size rest few in
-    let low = slot-bound b other in
     record {
       place = b .place;
-      low = low;
-      row = b .row (is-synth ws i (b .place) other);
-      readable = bytes-readable b other;
-      kept = ap (λ (us : List ℕ). slotBytes us arena (getD ws (nodesPlace + 5 * i + 3) 0)) rest ∙ bytes-kept (controlsIn ws) ws₀ (ready .size) many arena (getD ws (nodesPlace + 5 * i + 3) 0) low;
+      slot = b .slot single;
+      row = b .row single;
+      readable = b .readable single;
+      kept = ap (λ (us : List ℕ). slotBytes us arena (nodeIn ws i .slot)) rest ∙ bytes-kept (controlsIn ws) ws₀ (ready .size) many arena (nodeIn ws i .slot) (b .slot single);
     }
 
 -- its change, by what a key reaches; and no change of a group
-module _ (f : ControlValue → ControlValue) (key : Key) (name : List ℕ) (count : ℕ) (ws arena : List ℕ) (i : ℕ) (few : i < mostNodes) where
-  pub reach-change : (r : Reach) → (getD ws (nodesPlace + 5 * i + 3) 0 ≡ groupSlot → ⊥) → Reaches key name (slotBytes ws arena (getD ws (nodesPlace + 5 * i + 3) 0)) r
+module _ (f : ControlValue → ControlValue) (key : Key) (name : List ℕ) (count : ℕ) (ws arena : List ℕ) (i : ℕ) where
+  pub reach-change : isGroup (nodeIn ws i) ≡ false → (r : Reach) → r ≡ reachIn key name (slotBytes ws arena (nodeIn ws i .slot))
       → changeRow f (nodeIn ws i .row) (r .start) count (r .controls) (controlsIn ws) ≡ changeNode f key name count ws arena i (controlsIn ws)
-  reach-change r other reaches =
-      reaches .same f count (nodeIn ws i .row) (controlsIn ws)
-      ∙ ap (λ (row : ℕ). changeSynth f key name count row (slotBytes ws arena (getD ws (nodesPlace + 5 * i + 3) 0)) (controlsIn ws)) (row-word ws i few)
-      ∙ sym (node-synth f key name count ws arena i few (controlsIn ws) other)
+  reach-change single r e =
+      ap (λ (x : Reach). changeRow f (nodeIn ws i .row) (x .start) count (x .controls) (controlsIn ws)) e
+      ∙ reach-same key name (slotBytes ws arena (nodeIn ws i .slot)) f count (nodeIn ws i .row) (controlsIn ws)
+      ∙ sym (ap (λ (b : Bool). pick b (controlsIn ws) (changeSynth f key name count (nodeIn ws i .row) (slotBytes ws arena (nodeIn ws i .slot)) (controlsIn ws))) single)
 
-  pub no-change : getD ws (nodesPlace + 5 * i + 3) 0 ≡ groupSlot → ws ≡ putControls (changeNode f key name count ws arena i (controlsIn ws)) ws
-  no-change e = sym (ap (λ (l : List ℕ). putControls l ws) (node-group f key name count ws arena i few (controlsIn ws) e) ∙ same-controls ws)
+  pub no-change : isGroup (nodeIn ws i) ≡ true → ws ≡ putControls (changeNode f key name count ws arena i (controlsIn ws)) ws
+  no-change group =
+      sym (ap (λ (b : Bool). putControls (pick b (controlsIn ws) (changeSynth f key name count (nodeIn ws i .row) (slotBytes ws arena (nodeIn ws i .slot)) (controlsIn ws))) ws) group ∙ same-controls ws)

@@ -19,7 +19,8 @@ use Rattle.model.specs.Engine.{Slot, decode, definitionOf, controlsFrom, contro
 use Rattle.model.specs.Meaning.{isNegative, negativeKey, startOf, hasControls}
 use Rattle.model.specs.Replies.{noControl, readAt}
 use Rattle.controls.specs.Encoded.{frontIn, frontOnly, start-front}
-use Rattle.controls.specs.Ready.{Ready, nodeIn, slotBytes, synth-ready}
+use Rattle.slots.specs.Slots.{slotBytes}
+use Rattle.controls.specs.Ready.{Ready, nodeIn, synth-ready}
 
 -- refusal 21's test on a node
 abbrev pub controlsMissing : Key → ℕ → List ℕ → List Slot → Node → Bool

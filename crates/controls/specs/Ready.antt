@@ -1,13 +1,13 @@
 -- What the functions on the words assume of them: sizes and bounds, which the state check has tested.
 use Prim.Native.Nat.{ℕ, zero, suc, _+_, _*_, _≤_, _<_}
 use mathlib.Core.Bool.{Bool, true, false}
-use mathlib.Core.Path.{_≡_, refl, sym, ap, ap₂, _∙_, subst}
+use mathlib.Core.Path.{_≡_, refl, sym, ap, _∙_, subst}
 use mathlib.Core.List.{List, [], _∷_, nil≢cons, head-eq-of-cons-eq}
 use native.Mathlib.Omega.{arith}
 use native.Mathlib.Nat.{add-zero, zero-add}
 use borrow.Author.Tests.{leb-true, ltb-true, eq-eqb, eqb-false}
-use lib.ListN.{length, take, drop, getD, length-take}
-use lib.Seq.{drop-drop, getD-take, getD-drop}
+use lib.ListN.{length, drop, getD, length-take}
+use lib.Seq.{getD-drop}
 use lib.Dec.{leb, ltb, eqb}
 use Rattle.words.specs.Choice.{both, either, both-true}
 use Rattle.words.specs.Parts.{region}
@@ -19,19 +19,16 @@ use Rattle.nodes.specs.declared.Node.{Node}
 use Rattle.nodes.specs.Table.{width, nodeFrom, row-from}
 use Rattle.nodes.specs.Place.{groupSlot, isGroup}
 use Rattle.nodes.specs.Formed.{mostNodes, mostRows, numberFormed, rowFormed, fieldsFormed, allFormed}
-use Rattle.model.specs.Layout.{slotCount, slotRoom, lengthsPlace, nodesPlace, nodesWords, wordsLength, arenaLength, countIn, nextIn, lengthsIn, flagsIn, nodesIn}
-use Rattle.model.specs.Engine.{Slot, slotsFrom, decode, noDefinition, valueOr, definitionIn, slotAt, definitionOf, held, slotTaken}
+use Rattle.model.specs.Layout.{slotCount, nodesPlace, nodesWords, wordsLength, arenaLength, countIn, nextIn, lengthsIn, nodesIn}
+use Rattle.model.specs.Engine.{Slot, decode, noDefinition, valueOr, definitionIn, slotAt, definitionOf, held, slotTaken}
 use Rattle.model.specs.Formed.{isWhole, slotFormed, slotsFormed}
+use Rattle.slots.specs.Slots.{slotBytes, slot-bytes, decoded-many}
 use Rattle.state.specs.Known.{Known}
 use Rattle.controls.specs.Encoded.{frontIn, front-read}
 
 -- the record at a place of the node table
 abbrev pub nodeIn : List ℕ → ℕ → Node
 nodeIn ws i = nodeFrom (region nodesPlace nodesWords ws) (width * i)
-
--- the bytes of the slot k
-abbrev pub slotBytes : List ℕ → List ℕ → ℕ → List ℕ
-slotBytes ws arena k = take (getD ws (lengthsPlace + k) 0) (take slotRoom (drop (slotRoom * k) arena))
 
 -- a state of which the check has passed the sizes, the nodes' fields and the slots
 pub record Ready (ws arena : List ℕ) : Type 0 where
@@ -50,29 +47,6 @@ pub record Synth (ws arena : List ℕ) (r : Node) : Type 0 where
   pub row : r .row < mostRows
   pub front : definitionOf (decode ws arena .slots) r .front ≡ frontIn (slotBytes ws arena (r .slot))
   pub whole : ReadableWhole (slotBytes ws arena (r .slot))
-
--- a word of a part
-pub part-word : (a m i : ℕ) (ws : List ℕ) → i < m → getD (region a m ws) i 0 ≡ getD ws (a + i) 0
-part-word a m i ws h = getD-take m (drop a ws) i 0 h ∙ getD-drop a ws i 0
-
-slots-from : (n k : ℕ) (lengths flags arena : List ℕ) → k < n
-    → slotAt (slotsFrom n lengths flags arena) k .bytes ≡ take (getD lengths k 0) (take slotRoom (drop (slotRoom * k) arena))
-unfolding slotsFrom
-slots-from zero k lengths flags arena h = absurd (omega arith)
-slots-from (suc n) zero lengths flags arena h = refl
-slots-from (suc n) (suc k) lengths flags arena h =
-    let one : 1 + k ≡ suc k = omega arith in
-    let more : slotRoom + slotRoom * k ≡ slotRoom * suc k = omega arith in
-    slots-from n k (drop 1 lengths) (drop 1 flags) (drop slotRoom arena) (omega arith)
-    ∙ ap₂ (λ (j : ℕ) (l : List ℕ). take j (take slotRoom l))
-    (getD-drop 1 lengths k 0 ∙ ap (λ (j : ℕ). getD lengths j 0) one)
-    (drop-drop (slotRoom * k) slotRoom arena ∙ ap (λ (j : ℕ). drop j arena) more)
-
-pub slot-bytes : (ws arena : List ℕ) (k : ℕ) → k < slotCount → slotAt (decode ws arena .slots) k .bytes ≡ slotBytes ws arena k
-unfolding decode
-slot-bytes ws arena k h =
-    slots-from slotCount k (lengthsIn ws) (flagsIn ws) arena h
-    ∙ ap (λ (j : ℕ). take j (take slotRoom (drop (slotRoom * k) arena))) (part-word lengthsPlace slotCount k ws h)
 
 -- a record of the table: its fields are formed, and it holds its slot
 pub fields-at : (next : ℕ) (t : List Node) (i : ℕ) (r : Node) (rest : List Node) → drop i t ≡ r ∷ rest → allFormed next t ≡ true → fieldsFormed next r ≡ true
@@ -106,15 +80,6 @@ slot-formed k (suc j) sizes (s ∷ more) t l h =
     let size : getD sizes (suc j) 0 ≡ getD (drop 1 sizes) j 0 = ap (λ (m : ℕ). getD sizes m 0) (sym one) ∙ sym (getD-drop 1 sizes j 0) in
     rw (place, size)
     (slot-formed (k + 1) j (drop 1 sizes) more t (omega arith) (both-true (slotFormed k (getD sizes 0 0) s t) (slotsFormed (k + 1) (drop 1 sizes) more t) h .1))
-
-slots-many : (n : ℕ) (lengths flags arena : List ℕ) → length (slotsFrom n lengths flags arena) ≡ n
-unfolding slotsFrom
-slots-many zero lengths flags arena = refl
-slots-many (suc n) lengths flags arena = ap suc (slots-many n (drop 1 lengths) (drop 1 flags) (drop slotRoom arena))
-
-pub decoded-many : (ws arena : List ℕ) → length (decode ws arena .slots) ≡ slotCount
-unfolding decode
-decoded-many ws arena = slots-many slotCount (lengthsIn ws) (flagsIn ws) arena
 
 whole-front : (s : List ℕ) (size : ℕ) (r : Read Definition) → readDefinition s 0 ≡ r → isWhole size r ≡ true → valueOr noDefinition r .front ≡ frontIn s
 whole-front s size (got d next) e h = sym (front-read s e)

@@ -2,17 +2,24 @@
 use crate::definition::control_start;
 use crate::definition::has_controls;
 use crate::definition::parameter_count;
+use crate::node::node_definition;
+use crate::node::node_is_group;
+use crate::node::node_row;
 use crate::synth::read_at;
-use crate::table::node_definition;
-use crate::table::node_is_group;
-use crate::table::node_row;
 use readable::Found;
+use layout::BUSES;
+use layout::BUSES_END;
+use layout::CONTROLS;
+use layout::CONTROLS_END;
+use layout::ROW_WORDS;
 use values::Key;
 use words::wide;
 ghost use Prim.Native.Nat.{_<_};
 ghost use mathlib.Core.Bool.{false};
 ghost use mathlib.Core.Path.{_≡_};
 ghost use lib.ListN.{length};
+ghost use Rattle.format.specs.Reader.{mostParameters};
+ghost use Rattle.nodes.specs.Formed.{mostRows};
 ghost use Rattle.nodes.specs.Place.{isGroup};
 ghost use Rattle.values.specs.Controls.{shownBy};
 ghost use Rattle.model.specs.Layout.{wordsLength, countIn, controlsIn, busesIn};
@@ -58,11 +65,11 @@ pub fn controls_missing(
 
 // What reading a control of a row gives: the bus where it is mapped, otherwise its own float.
 pub fn read_control(words: &[u32], row: u32, index: u32) -> u32
-    requires { ⌜ (length (now words) ≡ wordsLength) × (row < 256) × (index < 32) ⌝ }
+    requires { ⌜ (length (now words) ≡ wordsLength) × (row < mostRows) × (index < mostParameters) ⌝ }
     ensures { λ r. ⌜ r ≡ shownBy (busesIn (now (words .entry))) (controlIn (controlsIn (now (words .entry))) row index) ⌝ }
 {
-    let at = 64 * wide(row) + 2 * wide(index);
-    read_at(&words[1603..17987], &words[17987..22083], at)
+    let at = ROW_WORDS * wide(row) + 2 * wide(index);
+    read_at(&words[CONTROLS..CONTROLS_END], &words[BUSES..BUSES_END], at)
 }
 
 // What reading the control that a key names gives, of the synth at a place; 0 where it lacks it.

@@ -1,4 +1,5 @@
 // The buses: functions on their own part of the words.
+use layout::MOST_BUSES;
 use words::wide;
 ghost use Prim.Native.Nat.{_+_};
 ghost use mathlib.Core.Path.{_≡_};
@@ -12,17 +13,18 @@ ghost use Rattle.model.specs.Meaning.{isBus, isBusRange};
 pub fn is_bus(bus: u32) -> bool
     ensures { λ r. ⌜ r ≡ isBus bus ⌝ }
 {
-    bus < 4096
+    wide(bus) < MOST_BUSES
 }
 
 // A range of buses: neither number is negative, and it ends by the last bus.
 pub fn is_bus_range(start: u32, count: u32) -> bool
     ensures { λ r. ⌜ r ≡ isBusRange start count ⌝ }
 {
-    if 4096 < count {
+    let many = wide(count);
+    if MOST_BUSES < many {
         return false;
     }
-    start <= 4096 - count
+    wide(start) <= MOST_BUSES - many
 }
 
 // One bus set; past the last bus nothing changes.

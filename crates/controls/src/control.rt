@@ -1,4 +1,5 @@
 // One control and one row of controls: functions on the controls' part of the words.
+use layout::ROW_WORDS;
 use values::Control;
 use values::Mapping;
 use words::wide;
@@ -7,6 +8,7 @@ ghost use mathlib.Core.Path.{_≡_};
 ghost use lib.ListN.{length, getD};
 ghost use Rattle.nodes.specs.Table.{over};
 ghost use Rattle.values.specs.Controls.{Holds, seen, controlAt};
+ghost use Rattle.model.specs.Layout.{rowWords};
 ghost use Rattle.model.specs.Effects.{controlWords, changeRow};
 ghost use Rattle.controls.specs.Change.{changeOf};
 
@@ -54,14 +56,14 @@ fn reached(start: u32, count: u32, p: u32) -> u32
 
 // The controls of a row from start on, count of them or as many as there are among p.
 pub fn change_row(controls: &mut [u32], row: u32, start: u32, count: u32, p: u32, change: Change)
-    requires { ⌜ 64 * row + 2 * p ≤ length (now controls) ⌝ }
+    requires { ⌜ rowWords * row + 2 * p ≤ length (now controls) ⌝ }
     ensures { λ r. ⌜ now (controls .exit) ≡ changeRow (changeOf change) row start count p (now (controls .entry)) ⌝ }
 {
     let many = reached(start, count, p);
     if many == 0 {
         return;
     }
-    let mut at = 64 * wide(row) + 2 * wide(start);
+    let mut at = ROW_WORDS * wide(row) + 2 * wide(start);
     let mut i = 0;
     while i < many {
         change_one(controls, at, change);

@@ -3,6 +3,7 @@ use fields::Cursor;
 use readable::Found;
 use fields::Number;
 use readable::ValuesFound;
+use layout::ROW_WORDS;
 use values::Key;
 use words::wide;
 ghost use Prim.Native.Nat.{_+_, _*_, _≤_};
@@ -11,6 +12,7 @@ ghost use lib.ListN.{length};
 ghost use Rattle.nodes.specs.Table.{over};
 ghost use Rattle.format.specs.Fields.{float32};
 ghost use Rattle.readable.specs.Readable.{Readable};
+ghost use Rattle.model.specs.Layout.{rowWords};
 ghost use Rattle.model.specs.Engine.{valueOr};
 ghost use Rattle.model.specs.Meaning.{startOf, hasControls};
 ghost use Rattle.model.specs.Effects.{initialWords};
@@ -81,15 +83,15 @@ fn write_initial(controls: &mut [u32], at: usize, s: &[u8], start: usize, count:
 
 // A new synth's controls: its definition's initial values, unmapped.
 pub fn initial_row(controls: &mut [u32], row: u32, definition: &[u8])
-    requires { ⌜ (64 * row + 64 ≤ length (now controls)) × Readable (now definition) ⌝ }
-    ensures { λ r. ⌜ now (controls .exit) ≡ over (64 * row) (initialWords (frontIn (now (definition .entry)) .values)) (now (controls .entry)) ⌝ }
+    requires { ⌜ (rowWords * row + rowWords ≤ length (now controls)) × Readable (now definition) ⌝ }
+    ensures { λ r. ⌜ now (controls .exit) ≡ over (rowWords * row) (initialWords (frontIn (now (definition .entry)) .values)) (now (controls .entry)) ⌝ }
 {
     match readable::values(definition) {
         ValuesFound::At(start, count) => {
             if count == 0 {
                 return;
             }
-            write_initial(controls, 64 * wide(row), definition, start, wide(count));
+            write_initial(controls, ROW_WORDS * wide(row), definition, start, wide(count));
         }
         ValuesFound::Nothing => {}
     }

@@ -1,17 +1,16 @@
 // What a key means in a definition: the control where it starts, and how many controls there are.
 use crate::definition::control_start;
 use crate::definition::parameter_count;
-use crate::synth::slot_bytes;
 use readable::Found;
+use slots::slot_bytes;
 use values::Key;
-use words::wide;
 ghost use Prim.Native.Nat.{_<_};
 ghost use mathlib.Core.Path.{_≡_};
 ghost use lib.ListN.{length};
 ghost use Rattle.readable.specs.Readable.{Readable};
 ghost use Rattle.model.specs.Layout.{slotCount, wordsLength};
-ghost use Rattle.controls.specs.Reach.{Reaches, unknown, controlsOn};
-ghost use Rattle.controls.specs.Ready.{slotBytes};
+ghost use Rattle.controls.specs.Reach.{reachIn, unknown, controlsOn};
+ghost use Rattle.slots.specs.Slots.{slotBytes};
 
 // Where a name is not there, it reaches none of no controls.
 pub struct Reach {
@@ -25,7 +24,7 @@ pub(crate) const UNKNOWN: u32 = 33;
 // By the definition.
 fn reach_in(definition: &[u8], key: Key, name: &[u8]) -> Reach
     requires { ⌜ Readable (now definition) ⌝ }
-    ensures { λ r. ⌜ Reaches key (now (name .entry)) (now (definition .entry)) r ⌝ }
+    ensures { λ r. ⌜ r ≡ reachIn key (now (name .entry)) (now (definition .entry)) ⌝ }
 {
     match control_start(definition, key, name) {
         Found::At(start) => Reach {
@@ -40,32 +39,30 @@ fn reach_in(definition: &[u8], key: Key, name: &[u8]) -> Reach
 }
 
 // By a slot's definition, where it is not known already.
-pub fn slot_reach(
+pub(crate) fn slot_reach(
     words: &[u32],
     arena: &[u8],
-    slot: u32,
+    slot: usize,
     key: Key,
     name: &[u8],
     known: Reach,
 ) -> Reach
-    requires { ⌜ (length (now words) ≡ wordsLength) × (slot < slotCount) × (Readable (slotBytes (now words) (now arena) slot)) × ((known .controls ≡ unknown → ⊥) → Reaches key (now name) (slotBytes (now words) (now arena) slot) known) ⌝ }
-    ensures { λ r. ⌜ Reaches key (now (name .entry)) (slotBytes (now (words .entry)) (now (arena .entry)) slot) r ⌝ }
+    requires { ⌜ (length (now words) ≡ wordsLength) × (slot < slotCount) × (Readable (slotBytes (now words) (now arena) slot)) × ((known .controls ≡ unknown → ⊥) → known ≡ reachIn key (now name) (slotBytes (now words) (now arena) slot)) ⌝ }
+    ensures { λ r. ⌜ r ≡ reachIn key (now (name .entry)) (slotBytes (now (words .entry)) (now (arena .entry)) slot) ⌝ }
 {
     if known.controls != UNKNOWN {
         return known;
     }
-    let size = words[4 + wide(slot)];
-    reach_in(slot_bytes(arena, slot, size), key, name)
+    reach_in(slot_bytes(words, arena, slot), key, name)
 }
 
 // How many controls a slot's definition has, where it is not known already.
-pub fn slot_controls(words: &[u32], arena: &[u8], slot: u32, known: u32) -> u32
+pub(crate) fn slot_controls(words: &[u32], arena: &[u8], slot: usize, known: u32) -> u32
     requires { ⌜ (length (now words) ≡ wordsLength) × (slot < slotCount) × (Readable (slotBytes (now words) (now arena) slot)) × ((known ≡ unknown → ⊥) → known ≡ controlsOn (now words) (now arena) slot) ⌝ }
     ensures { λ r. ⌜ r ≡ controlsOn (now (words .entry)) (now (arena .entry)) slot ⌝ }
 {
     if known != UNKNOWN {
         return known;
     }
-    let size = words[4 + wide(slot)];
-    parameter_count(slot_bytes(arena, slot, size))
+    parameter_count(slot_bytes(words, arena, slot))
 }

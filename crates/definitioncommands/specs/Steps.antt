@@ -1,11 +1,11 @@
 -- What the commands of definitions do, by the rows of the table; and the export.
-use Prim.Native.Nat.{ℕ, _-_, _≤_, _<_}
+use Prim.Native.Nat.{ℕ, _+_, _-_, _≤_, _<_}
 use mathlib.Core.Bool.{Bool, true, false}
 use mathlib.Core.Path.{_≡_, refl, sym, ap, ap₂, _∙_}
 use mathlib.Core.List.{List, _++_}
 use native.Mathlib.Omega.{arith}
 use borrow.Author.Tests.{lt-ltb, le-ltb, le-leb, lt-leb}
-use lib.ListN.{length, drop}
+use lib.ListN.{length, drop, set}
 use lib.Dec.{ltb}
 use Rattle.words.specs.Parts.{region, put}
 use Rattle.faults.specs.declared.Fault.{Fault}
@@ -22,7 +22,7 @@ use Rattle.model.specs.declared.Query.the-variants as query
 use Rattle.model.specs.declared.Command.the-variants as command
 use Rattle.model.specs.declared.Answer.{Answer}
 use Rattle.model.specs.declared.Answer.the-variants.{Done, Replied, Refused, RefusedAt}
-use Rattle.model.specs.Layout.{slotCount, lengthsPlace, nodesPlace, nodesWords, countIn, lengthsIn, flagsIn, nodesIn}
+use Rattle.model.specs.Layout.{slotCount, lengthsPlace, nodesPlace, nodesWords, countIn, nodesIn}
 use Rattle.model.specs.Engine.{Slot, decode, residentOf}
 use Rattle.model.specs.Checks.{firstOf, faultOf, definitionsOf, namesOf, staying, noSlot, noResident}
 use Rattle.model.specs.Effects.{retire}
@@ -31,10 +31,12 @@ use Rattle.model.specs.After.{wordsAfter, arenaAfter}
 use Rattle.model.specs.Apply.{queryAnswer, answerIn}
 use Rattle.state.specs.Known.{Known}
 use Rattle.state.specs.Does.{Step, Reply}
-use Rattle.definitions.specs.Slots.{tableWords, slotsOn, slots-length, slots-lent, Formed}
+use Rattle.slots.specs.Slots.{tableWords, slotsOn, slots-lent, decoded-many}
+use Rattle.definitions.specs.Slots.{Formed}
 use Rattle.definitions.specs.Holders.{HeldBy, holders}
 use Rattle.definitions.specs.Files.{Accepted, definitionsOn}
 use Rattle.definitions.specs.Storing.{tableOf}
+use Rattle.definitions.specs.Retiring.{retire-table}
 use Rattle.definitions.specs.Lent.{tableIn, formed-lent, staying-lent, free-lent}
 
 abbrev pub Steps : DefinitionCommand → List ℕ → List ℕ → List ℕ → Answer → List ℕ → List ℕ → Type 0
@@ -43,10 +45,6 @@ Steps c bytes ws bs a ws′ bs′ = Step (command.Definitions c) bytes ws bs a w
 -- the table of slots, as it is lent from words that passed the check
 pub formed-table : (ws bs : List ℕ) → Known ws bs → Formed (tableIn ws) bs
 formed-table ws bs k = formed-lent ws bs (k .size) (k .arenaSize) (k .flags) (k .slots)
-
-slots-many : (ws bs : List ℕ) → length (decode ws bs .slots) ≡ slotCount
-unfolding decode
-slots-many ws bs = slots-length slotCount (lengthsIn ws) (flagsIn ws) bs
 
 -- what the check of a file tells
 pub verdict-bad : (r : Read (List Definition)) {q : Fault} {at : ℕ} → verdict r ≡ checked.Refused q at → r ≡ bad q at
@@ -95,16 +93,16 @@ module _ (bytes ws bs : List ℕ) (k : ℕ) (fact : k ≡ residentOf bytes (slot
   pub free-none : slotCount ≤ k → Steps Free bytes ws bs (Refused NoDefinition) ws bs
   unfolding answerIn firstOf
   free-none h =
-      let none : noResident bytes (decode ws bs) ≡ true = le-leb (length (decode ws bs .slots)) (residentOf bytes (decode ws bs .slots)) (omega (arith, slots-many ws bs, here)) in
+      let none : noResident bytes (decode ws bs) ≡ true = le-leb (length (decode ws bs .slots)) (residentOf bytes (decode ws bs .slots)) (omega (arith, decoded-many ws bs, here)) in
       record { answers = rw none; words = refl; arena = refl }
 
-  pub free-done : (known : Known ws bs) (table : List ℕ) → k < slotCount → ((arena : List ℕ) → Formed (tableIn ws) arena → table ≡ tableOf (retire k (slotsOn (tableIn ws) arena)) (tableIn ws))
+  pub free-done : (known : Known ws bs) (table : List ℕ) → k < slotCount → table ≡ set (tableIn ws) (slotCount + k) 0
       → Steps Free bytes ws bs Done (put lengthsPlace tableWords table ws) bs
   unfolding answerIn firstOf
   free-done known table h o =
-      let some : noResident bytes (decode ws bs) ≡ false = lt-leb (length (decode ws bs .slots)) (residentOf bytes (decode ws bs .slots)) (omega (arith, slots-many ws bs, here)) in
+      let some : noResident bytes (decode ws bs) ≡ false = lt-leb (length (decode ws bs .slots)) (residentOf bytes (decode ws bs .slots)) (omega (arith, decoded-many ws bs, here)) in
       let left = free-lent ws bs bytes table (known .size) (omega (arith, here))
-      (o bs (formed-table ws bs known) ∙ ap (λ (j : ℕ). tableOf (retire j (slotsOn (tableIn ws) bs)) (tableIn ws)) fact) in
+      (o ∙ retire-table (tableIn ws) bs k (formed-table ws bs known) h ∙ ap (λ (j : ℕ). tableOf (retire j (slotsOn (tableIn ws) bs)) (tableIn ws)) fact) in
       record { answers = rw some; words = left .0; arena = left .1 }
 
 -- the export

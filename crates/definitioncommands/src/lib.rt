@@ -6,6 +6,12 @@ use definitions::held_slots;
 use definitions::load;
 use definitions::retire;
 use definitions::staying_count;
+use layout::COUNT;
+use layout::LENGTHS;
+use layout::NODES;
+use layout::NODES_END;
+use layout::RESIDENT_END;
+use layout::SLOTS;
 use model::Answer;
 use model::DefinitionCommand;
 use refusals::Refusal;
@@ -29,10 +35,11 @@ ghost use Rattle.definitioncommands.specs.Steps.{Steps};
 fn no_slot(staying: u32, count: u32) -> bool
     ensures { λ r. ⌜ r ≡ ltb (slotCount - staying) count ⌝ }
 {
-    if 32 < staying {
+    let taken = wide(staying);
+    if SLOTS < taken {
         return 0 < count;
     }
-    32 - staying < count
+    SLOTS - taken < wide(count)
 }
 
 // An accepted file of so many definitions: refusal 12, or it is loaded.
@@ -40,12 +47,12 @@ fn load_file(bytes: &[u8], count: u32, words: &mut [u32], arena: &mut [u8]) -> A
     requires { ⌜ Known (now words) (now arena) × (Accepted (now bytes) × (length (definitionsOn (now bytes)) ≡ count)) ⌝ }
     ensures { λ r. ⌜ Steps DefinitionCommand.Receive (now (bytes .entry)) (now (words .entry)) (now (arena .entry)) r (now (words .exit)) (now (arena .exit)) ⌝ }
 {
-    let held = held_slots(&words[68..1348], wide(words[0]));
-    let staying = staying_count(&words[4..68], arena, held, bytes);
+    let held = held_slots(&words[NODES..NODES_END], wide(words[COUNT]));
+    let staying = staying_count(&words[LENGTHS..RESIDENT_END], arena, held, bytes);
     if no_slot(staying, count) {
         return Answer::Refused(Refusal::NoSlot);
     }
-    load(&mut words[4..68], arena, held, bytes);
+    load(&mut words[LENGTHS..RESIDENT_END], arena, held, bytes);
     Answer::Done
 }
 
@@ -65,11 +72,11 @@ fn free(bytes: &[u8], words: &mut [u32], arena: &[u8]) -> Answer
     requires { ⌜ Known (now words) (now arena) ⌝ }
     ensures { λ r. ⌜ Steps DefinitionCommand.Free (now (bytes .entry)) (now (words .entry)) (now (arena .entry)) r (now (words .exit)) (now (arena .entry)) ⌝ }
 {
-    let k = find_resident(&words[4..68], arena, bytes);
-    if 32 <= k {
+    let k = find_resident(&words[LENGTHS..RESIDENT_END], arena, bytes);
+    if SLOTS <= wide(k) {
         return Answer::Refused(Refusal::NoDefinition);
     }
-    retire(&mut words[4..68], k);
+    retire(&mut words[LENGTHS..RESIDENT_END], k);
     Answer::Done
 }
 
@@ -94,10 +101,10 @@ pub fn export_query(words: &[u32], arena: &[u8], out: &mut [u8]) -> Answer
     requires { ⌜ Known (now words) (now arena) ⌝ }
     ensures { λ r. ⌜ ((bytes : List ℕ) → Reply Query.Export bytes (now (words .entry)) (now (arena .entry)) (now (out .entry)) r (now (out .exit))) ⌝ }
 {
-    let size = export_length(&words[4..68], arena);
+    let size = export_length(&words[LENGTHS..RESIDENT_END], arena);
     if out.len() < size {
         return Answer::Refused(Refusal::NoRoom);
     }
-    export(&words[4..68], arena, out);
+    export(&words[LENGTHS..RESIDENT_END], arena, out);
     Answer::Replied(size)
 }

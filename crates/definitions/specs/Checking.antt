@@ -1,14 +1,14 @@
 -- The state check's part on slots.
 use Prim.{Unit}
-use Prim.Native.Nat.{ℕ, zero, suc, _+_, _*_, _-_, _≤_, _<_}
+use Prim.Native.Nat.{ℕ, zero, suc, _+_, _≤_, _<_}
 use mathlib.Core.Bool.{Bool, true, false, not}
 use mathlib.Core.Path.{_≡_, refl, sym, ap, _∙_}
 use mathlib.Core.List.{List}
 use native.Mathlib.Omega.{arith}
 use native.Mathlib.Nat.{add-zero}
 use native.Mathlib.Numerals.{add-one}
-use lib.ListN.{length, take, drop, getD, length-drop, drop-of-length-le}
-use lib.Seq.{getD-take, getD-drop, drop-drop, drop-cons, take-take, length-take-le}
+use lib.ListN.{length, drop, getD, length-drop, drop-of-length-le}
+use lib.Seq.{getD-take, getD-drop, drop-drop, drop-cons, length-take-le}
 use lib.Dec.{leb, eqb}
 use borrow.Author.Tests.{leb-true, le-leb, eqb-true, eqb-false}
 use Rattle.words.specs.Choice.{pick, both, either, both-true}
@@ -16,10 +16,11 @@ use Rattle.format.specs.Read.{Read, got, bad, ending}
 use Rattle.format.specs.Definition.{Definition}
 use Rattle.format.specs.Reader.{readDefinition, sizeLimit}
 use Rattle.nodes.specs.declared.Node.{Node}
-use Rattle.model.specs.Layout.{slotCount, slotRoom}
+use Rattle.model.specs.Layout.{slotCount}
 use Rattle.model.specs.Engine.{Slot, held}
 use Rattle.model.specs.Formed.{flagsFormed, isWhole, slotsFormed, nameResident, namesApart}
-use Rattle.definitions.specs.Slots.{tableWords, lengthsOn, flagsOn, slotsOn, bytesOn, residentOn, slot-at, slots-end, SlotsFit, Formed}
+use Rattle.slots.specs.Slots.{tableWords, lengthsOn, flagsOn, slotsOn, bytesOn, residentOn, slot-at, slots-end}
+use Rattle.definitions.specs.Slots.{SlotsFit, Formed}
 use Rattle.definitions.specs.Names.{nameOn, namedOn}
 
 -- the flags: one step, and the end
@@ -61,16 +62,13 @@ pub whole-ending : (size : ℕ) (r : Read Definition) → isWhole size r ≡ end
 whole-ending size (got d next) = refl
 whole-ending size (bad q at) = refl
 
--- a part of the arena that was read
-pub part-read : (arena : List ℕ) (k size : ℕ) (r : Read (Unit {0})) → size ≤ slotRoom → r ≡ ending (readDefinition (take (slotRoom * k + size - slotRoom * k) (drop (slotRoom * k) arena)) 0)
-    → endsAt size r ≡ both (leb size sizeLimit) (isWhole size (readDefinition (take size (take slotRoom (drop (slotRoom * k) arena))) 0))
-part-read arena k size r small e =
-    let n : slotRoom * k + size - slotRoom * k ≡ size = omega arith in
-    let room = drop (slotRoom * k) arena in
-    let same : take (slotRoom * k + size - slotRoom * k) room ≡ take size (take slotRoom room) = ap (λ (m : ℕ). take m room) n ∙ sym (take-take size slotRoom room small) in
-    ap (λ (q : Read (Unit {0})). endsAt size q) (e ∙ ap (λ (l : List ℕ). ending (readDefinition l 0)) same)
-    ∙ sym (whole-ending size (readDefinition (take size (take slotRoom room)) 0))
-    ∙ sym (ap (λ (b : Bool). both b (isWhole size (readDefinition (take size (take slotRoom room)) 0))) (le-leb size sizeLimit small))
+-- a slot's bytes that were read
+pub bytes-read : (size : ℕ) (bytes : List ℕ) (r : Read (Unit {0})) → size ≤ sizeLimit → r ≡ ending (readDefinition bytes 0)
+    → endsAt size r ≡ both (leb size sizeLimit) (isWhole size (readDefinition bytes 0))
+bytes-read size bytes r small e =
+    ap (λ (q : Read (Unit {0})). endsAt size q) e
+    ∙ sym (whole-ending size (readDefinition bytes 0))
+    ∙ sym (ap (λ (b : Bool). both b (isWhole size (readDefinition bytes 0))) (le-leb size sizeLimit small))
 
 pub record ReadWhole (size : ℕ) (r : Read Definition) : Type 0 where
   pub definition : Definition

@@ -27,7 +27,8 @@ use Rattle.model.specs.Replies.{definitionsIn, exportFile}
 use Rattle.model.specs.Demands.{definitionAtSlot}
 use Rattle.roundtrip.specs.Back.{definition-back, file-back}
 use Rattle.roundtrip.specs.Forth.{definition-forth, file-forth}
-use Rattle.definitions.specs.Slots.{lengthsOn, flagsOn, slotsOn, slotOn, bytesOn, slots-length, Formed}
+use Rattle.slots.specs.Slots.{lengthsOn, flagsOn, slotsOn, slotOn, bytesOn, slots-length}
+use Rattle.definitions.specs.Slots.{Formed}
 use Rattle.definitions.specs.Naming.{same-sym}
 use Rattle.definitions.specs.Retiring.{slot-is, whole-size, retired-length}
 use Rattle.definitions.specs.Exporting.{bytes-on, whole-written}

@@ -5,7 +5,7 @@ use mathlib.Core.Path.{_≡_, refl, sym, ap, ap₂, _∙_}
 use mathlib.Core.List.{List, [], _∷_, _++_, append-assoc, append-nil}
 use native.Mathlib.Omega.{arith}
 use lib.ListN.{length, take, drop, getD, length-take, length-append, take-append-drop, List·getD-eq-default}
-use lib.Seq.{getD-take, getD-drop, take-take, take-length, take-at, drop-drop, length-take-le}
+use lib.Seq.{getD-take, getD-drop, take-length, take-at, drop-drop, length-take-le}
 use lib.Dec.{ltb}
 use borrow.Author.Tests.{ltb-true, ltb-false}
 use Rattle.words.specs.Bytes.{AreBytes}
@@ -18,7 +18,8 @@ use Rattle.model.specs.Layout.{slotCount, slotRoom}
 use Rattle.model.specs.Engine.{Slot, residents, definitionIn, noDefinition, valueOr}
 use Rattle.model.specs.Replies.{definitionsIn, exportFile}
 use Rattle.roundtrip.specs.Forth.{definition-forth}
-use Rattle.definitions.specs.Slots.{lengthsOn, flagsOn, slots-length, slotsOn, slotOn, bytesOn, residentOn, slot-at, slots-end, SlotsFit, Whole, Formed}
+use Rattle.slots.specs.Slots.{slotsOn, slotOn, bytesOn, residentOn, slot-at, slots-end, countFrom, count-few}
+use Rattle.definitions.specs.Slots.{SlotsFit, Whole, Formed}
 use Rattle.definitions.specs.Retiring.{whole-size}
 
 -- parts of bytes are bytes
@@ -54,26 +55,7 @@ whole-written table arena k b z h w =
 abbrev pub bodyFrom : List ℕ → List ℕ → ℕ → List ℕ
 bodyFrom table arena k = writeAll writeDefinition (definitionsIn (residents (drop k (slotsOn table arena))))
 
-abbrev pub countFrom : List ℕ → List ℕ → ℕ → ℕ
-countFrom table arena k = length (residents (drop k (slotsOn table arena)))
-
--- the count: one step, and the end
 module _ (table arena : List ℕ) where
-  pub count-turn : (k : ℕ) → k < slotCount → countFrom table arena k ≡ pick (residentOn table k) 1 0 + countFrom table arena (k + 1)
-  unfolding residents
-  count-turn k h = ap (λ (l : List Slot). length (residents l)) (slot-at table arena k h) ∙ by (residentOn table k)
-    where
-      rest : List Slot
-      rest = residents (drop (k + 1) (slotsOn table arena))
-
-      by : (b : Bool) → length (pick b (slotOn table arena k ∷ rest) rest) ≡ pick b 1 0 + length rest
-      by true = omega arith
-      by false = omega arith
-
-  pub count-end : (k : ℕ) → slotCount ≤ k → countFrom table arena k ≡ 0
-  unfolding residents
-  count-end k h = ap (λ (l : List Slot). length (residents l)) (slots-end table arena k h)
-
   -- the bytes: one step, and the end
   pub body-turn : AreBytes arena → Formed table arena → (k : ℕ) → k < slotCount
       → bodyFrom table arena k ≡ pick (residentOn table k) (bytesOn table arena k ++ bodyFrom table arena (k + 1)) (bodyFrom table arena (k + 1))
@@ -92,19 +74,6 @@ module _ (table arena : List ℕ) where
   pub body-end : (k : ℕ) → slotCount ≤ k → bodyFrom table arena k ≡ []
   unfolding residents definitionsIn writeAll
   body-end k h = ap (λ (l : List Slot). writeAll writeDefinition (definitionsIn (residents l))) (slots-end table arena k h)
-
--- there are at most as many residents as slots
-residents-most : (slots : List Slot) → length (residents slots) ≤ length slots
-unfolding residents
-residents-most [] = omega arith
-residents-most (s ∷ more) = by (s .resident) (residents-most more)
-  where
-    by : (b : Bool) → length (residents more) ≤ length more → length (pick b (s ∷ residents more) (residents more)) ≤ suc (length more)
-    by true h = omega arith
-    by false h = omega arith
-
-pub count-few : (table arena : List ℕ) → countFrom table arena 0 ≤ slotCount
-count-few table arena = omega (arith, residents-most (slotsOn table arena), slots-length slotCount (lengthsOn table) (flagsOn table) arena)
 
 -- the length of the bytes: one step
 pub size-turn : (table arena : List ℕ) → AreBytes arena → Formed table arena → (k : ℕ) → k < slotCount
@@ -232,11 +201,3 @@ exporting-whole table arena start mid out k at room e m h =
     let n = length (exportFile (slotsOn table arena)) in
     exporting-done table arena mid k at out m h
     ∙ ap (λ (l : List ℕ). exportFile (slotsOn table arena) ++ l) (ap (λ (l : List ℕ). drop n l) e ∙ past-put 0 10 n (headOf (countFrom table arena 0)) start (omega arith) refl (omega (arith, export-size table arena)))
-
--- a resident's part of the arena
-pub resident-part : (table arena : List ℕ) (k size : ℕ) → size ≡ getD table k 0 → size ≤ slotRoom
-    → take (slotRoom * k + size - slotRoom * k) (drop (slotRoom * k) arena) ≡ bytesOn table arena k
-resident-part table arena k size e small =
-    let n : slotRoom * k + size - slotRoom * k ≡ size = omega arith in
-    let room = drop (slotRoom * k) arena in
-    ap (λ (m : ℕ). take m room) n ∙ sym (take-take size slotRoom room small) ∙ ap (λ (m : ℕ). take m (take slotRoom room)) e

@@ -21,7 +21,8 @@ use Rattle.model.specs.declared.DefinitionCommand.the-variants as definitions
 use Rattle.model.specs.declared.Command.{Command}
 use Rattle.model.specs.declared.Command.the-variants as command
 use Rattle.definitions.specs.Holders.{HeldBy, holders, SameHeld, same-held, free-held, staying-held, formed-held}
-use Rattle.definitions.specs.Slots.{tableWords, lengthsOn, flagsOn, slotsOn, slots-length, slots-lent, lengths-lent, flags-lent, SlotsFit, Formed}
+use Rattle.slots.specs.Slots.{tableWords, lengthsOn, flagsOn, slotsOn, slots-length, slots-lent, lengths-lent, flags-lent}
+use Rattle.definitions.specs.Slots.{SlotsFit, Formed}
 use Rattle.definitions.specs.Files.{definitionsOn}
 use Rattle.definitions.specs.Storing.{tableOf, lengths-size, arena-same}
 use Rattle.definitions.specs.Retiring.{retired-many}

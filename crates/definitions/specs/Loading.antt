@@ -20,7 +20,8 @@ use Rattle.model.specs.Effects.{freeFrom, placed, loaded, retired}
 use Rattle.model.specs.Checks.{namesOf}
 use Rattle.model.specs.After.{flagsOf, lengthsOf, arenaOf}
 use Rattle.definitions.specs.Holders.{holders}
-use Rattle.definitions.specs.Slots.{lengthsOn, flagsOn, slotsOn, slots-length, SlotsFit, Formed}
+use Rattle.slots.specs.Slots.{lengthsOn, flagsOn, slotsOn, slots-length}
+use Rattle.definitions.specs.Slots.{SlotsFit, Formed}
 use Rattle.definitions.specs.Files.{Run, firstPlace, definitionsOn}
 use Rattle.definitions.specs.Storing.{tableOf, table-set, Short, arena-set, arena-same, flags-back, free-flags}
 use Rattle.definitions.specs.Naming.{Next, run-last}

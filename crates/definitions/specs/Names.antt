@@ -1,12 +1,11 @@
 -- The names of residents.
-use Prim.Native.Nat.{ℕ, _+_, _*_, _-_, _≤_, _<_}
+use Prim.Native.Nat.{ℕ, _+_, _≤_, _<_}
 use mathlib.Core.Bool.{Bool, true, false}
 use mathlib.Core.Path.{_≡_, refl, sym, ap, _∙_}
 use mathlib.Core.List.{List}
 use native.Mathlib.Omega.{arith}
-use native.Mathlib.Nat.{add-zero}
-use lib.ListN.{length, take, drop, getD, set, length-take, length-drop, length-set}
-use lib.Seq.{getD-take, getD-drop, drop-drop, take-take, getD-set-same, getD-set-other}
+use lib.ListN.{length, drop, getD, set, length-set}
+use lib.Seq.{getD-set-same, getD-set-other}
 use lib.Dec.{eqb}
 use borrow.Author.Tests.{eqb-true, eqb-false}
 use Rattle.words.specs.Choice.{pick, both, either}
@@ -14,43 +13,25 @@ use Rattle.format.specs.Read.{Read}
 use Rattle.format.specs.Fields.{stringAt}
 use Rattle.format.specs.Definition.{Definition}
 use Rattle.format.specs.Reader.{sameName}
-use Rattle.model.specs.Layout.{slotCount, slotRoom}
+use Rattle.model.specs.Layout.{slotCount}
 use Rattle.model.specs.Engine.{Slot, nameIn, noDefinition, valueOr, residentFrom}
-use Rattle.definitions.specs.Lists.{region-take}
-use Rattle.definitions.specs.Slots.{slotsOn, slotOn, bytesOn, residentOn, slot-at, slots-end, SlotsFit, Whole}
+use Rattle.slots.specs.Slots.{slotsOn, slotOn, bytesOn, residentOn, slot-at, slots-end}
+use Rattle.definitions.specs.Slots.{Whole}
 use Rattle.definitions.specs.Files.{definition-named}
 
 -- the name in the slot k
 abbrev pub nameOn : List ℕ → List ℕ → ℕ → List ℕ
 nameOn table arena k = nameIn (slotOn table arena k)
 
--- a resident's name stands in the arena
+-- a resident's name stands at the front of its bytes
 pub record NamedThere (table arena : List ℕ) (k : ℕ) : Type 0 where
-  pub same : nameOn table arena k ≡ stringAt arena (slotRoom * k)
-  pub inside : slotRoom * k + (1 + getD arena (slotRoom * k) 0) ≤ length arena
+  pub same : nameOn table arena k ≡ stringAt (bytesOn table arena k) 0
+  pub inside : 0 + (1 + getD (bytesOn table arena k) 0 0) ≤ length (bytesOn table arena k)
 
-pub named-there : (table arena : List ℕ) (k : ℕ) → SlotsFit table arena → k < slotCount → Whole table arena k → NamedThere table arena k
-named-there table arena k z h w =
-    let n = getD table k 0 in
-    let at = slotRoom * k in
-    let room = drop at arena in
-    let small = w .small in
-    let long = z .arenaSize in
+pub named-there : (table arena : List ℕ) (k : ℕ) → Whole table arena k → NamedThere table arena k
+named-there table arena k w =
     let d = definition-named (bytesOn table arena k) 0 (w .read) in
-    let bytes : bytesOn table arena k ≡ take n room = take-take n slotRoom room small in
-    let within : 0 + (1 + getD (take n room) 0 0) ≤ length (take n room) = rw bytes at (d .1) in
-    let some : 1 + getD (take n room) 0 0 ≤ n = omega (arith, length-take n room) in
-    let first : getD (take n room) 0 0 ≡ getD arena at 0 = getD-take n room 0 0 (omega arith) ∙ getD-drop at arena 0 0 ∙ rw add-zero in
-    let roomSize : length room ≡ length arena - at = length-drop at arena in
-    record {
-      same = ap (λ (r : Read Definition). valueOr noDefinition r .front .name) (w .read)
-          ∙ d .0
-          ∙ ap (λ (l : List ℕ). stringAt l 0) bytes
-          ∙ region-take 1 (getD (take n room) 0 0) n room some
-          ∙ ap (λ (m : ℕ). take m (drop 1 room)) first
-          ∙ ap (λ (l : List ℕ). take (getD arena at 0) l) (drop-drop 1 at arena);
-      inside = omega (arith, length-take n room);
-    }
+    record { same = ap (λ (r : Read Definition). valueOr noDefinition r .front .name) (w .read) ∙ d .0; inside = d .1 }
 
 -- the slot k is resident under a name
 abbrev pub namedOn : List ℕ → List ℕ → List ℕ → ℕ → Bool

@@ -16,7 +16,7 @@ use Rattle.model.specs.Layout.{slotCount}
 use Rattle.model.specs.Engine.{Slot, held}
 use Rattle.model.specs.Checks.{namesOf, staying}
 use Rattle.definitions.specs.Holders.{holders, held-holders}
-use Rattle.definitions.specs.Slots.{slotsOn, residentOn, slot-at, slots-end}
+use Rattle.slots.specs.Slots.{slotsOn, residentOn, slot-at, slots-end}
 use Rattle.definitions.specs.Files.{Held, Run, done, more, firstPlace, definitionsOn}
 use Rattle.definitions.specs.Names.{nameOn, namedOn, MarkedMore}
 

@@ -13,7 +13,8 @@ use Rattle.model.specs.Layout.{slotCount, slotRoom}
 use Rattle.model.specs.Engine.{Slot, slotsFrom, slotAt, nameIn}
 use Rattle.model.specs.Effects.{retired}
 use Rattle.model.specs.After.{flagsOf, lengthsOf}
-use Rattle.definitions.specs.Slots.{lengthsOn, flagsOn, slotsOn, residentOn, Formed}
+use Rattle.slots.specs.Slots.{lengthsOn, flagsOn, slotsOn, residentOn}
+use Rattle.definitions.specs.Slots.{Formed}
 use Rattle.definitions.specs.Storing.{tableOf, flags-size, lengths-size, table-size, flags-at, lengths-at}
 use Rattle.definitions.specs.Names.{nameOn}
 use Rattle.definitions.specs.Retiring.{retired-many, retired-is, retired-size}

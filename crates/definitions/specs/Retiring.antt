@@ -14,7 +14,8 @@ use Rattle.model.specs.Layout.{slotCount}
 use Rattle.model.specs.Engine.{Slot, slotAt, nameIn}
 use Rattle.model.specs.Effects.{retired, retire}
 use Rattle.model.specs.After.{flagsOf, lengthsOf}
-use Rattle.definitions.specs.Slots.{tableWords, lengthsOn, flagsOn, slotsOn, slotOn, bytesOn, residentOn, slots-length, slot-at, SlotsFit, Whole, Formed}
+use Rattle.slots.specs.Slots.{tableWords, lengthsOn, flagsOn, slotsOn, slotOn, bytesOn, residentOn, slots-length, slot-at}
+use Rattle.definitions.specs.Slots.{SlotsFit, Whole, Formed}
 use Rattle.definitions.specs.Storing.{tableOf, lengths-size, table-size, flags-at, lengths-at}
 use Rattle.definitions.specs.Names.{nameOn}
 use Rattle.definitions.specs.Naming.{NamedBy}

@@ -15,7 +15,7 @@ use Rattle.model.specs.Engine.{Slot, slotsFrom, slotAt}
 use Rattle.model.specs.Effects.{freeFrom}
 use Rattle.model.specs.After.{flagsOf, lengthsOf, arenaOf}
 use Rattle.definitions.specs.Lists.{set-append-add}
-use Rattle.definitions.specs.Slots.{lengthsOn}
+use Rattle.slots.specs.Slots.{lengthsOn}
 
 -- the table of slots: a resident's own length, of another what was there; and the flags
 abbrev pub tableOf : List Slot → List ℕ → List ℕ

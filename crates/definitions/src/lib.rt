@@ -1,11 +1,17 @@
 // Definition slots in the lent state: 64 words, the slots' lengths and then their resident flags, and the arena with 2,048 bytes for each slot.
 use fields::Cursor;
 use fields::Step;
-use files::read_definition;
 use fields::same_name;
+use files::read_definition;
+use layout::RECORD;
+use layout::SLOT;
+use layout::SLOTS;
+use layout::SLOT_ROOM;
+use slots::bytes_on;
+use slots::resident_count;
 use words::wide;
 ghost use Prim.Native.Nat.{ℕ, _+_, _*_, _≤_, _<_};
-ghost use mathlib.Core.Bool.{not};
+ghost use mathlib.Core.Bool.{true, not};
 ghost use mathlib.Core.Path.{_≡_};
 ghost use mathlib.Core.List.{List, _++_};
 ghost use lib.ListN.{length, take, drop, getD, set};
@@ -21,9 +27,9 @@ ghost use Rattle.nodes.specs.declared.Node.{Node};
 ghost use Rattle.nodes.specs.Table.{width, rows};
 ghost use Rattle.model.specs.Checks.{namesOf, staying};
 ghost use Rattle.model.specs.Effects.{freeFrom, retired, loaded};
-ghost use Rattle.model.specs.Effects as effects;
+ghost use Rattle.slots.specs.Slots.{tableWords, lengthsOn, flagsOn, slotsOn, bytesOn, residentOn};
 ghost use Rattle.definitions.specs.Holders.{HeldBy, holders};
-ghost use Rattle.model.specs.Engine.{residents, residentOf};
+ghost use Rattle.model.specs.Engine.{residentOf};
 ghost use Rattle.model.specs.Engine as engine;
 ghost use Rattle.model.specs.Formed.{flagsFormed, isWhole, slotsFormed, nameResident, namesApart};
 ghost use Rattle.model.specs.Replies.{exportFile};
@@ -33,19 +39,19 @@ ghost use Rattle.definitions.specs.Files.{Accepted, definitionsOn};
 ghost use Rattle.definitions.specs.Loading.{Loaded, loadedOn};
 ghost use Rattle.definitions.specs.Naming.{NamedBy};
 ghost use Rattle.definitions.specs.Storing.{tableOf};
-ghost use Rattle.definitions.specs.Names.{MarkedMore, namedOn};
-ghost use Rattle.definitions.specs.Slots.{Formed, SlotsFit, tableWords, lengthsOn, flagsOn, slotsOn};
+ghost use Rattle.definitions.specs.Names.{MarkedMore, nameOn, namedOn};
+ghost use Rattle.definitions.specs.Slots.{Formed, SlotsFit};
 
 // For each slot, whether a live synth holds it.
-pub fn held_slots(nodes: &[u32], count: usize) -> [bool; 32]
+pub fn held_slots(nodes: &[u32], count: usize) -> [bool; SLOTS]
     requires { ⌜ width * count ≤ length (now nodes) ⌝ }
     ensures { λ r. ⌜ HeldBy r (rows count (now (nodes .entry))) ⌝ }
 {
-    let mut held: [bool; 32] = [false; 32];
+    let mut held: [bool; SLOTS] = [false; SLOTS];
     let mut i = 0;
     while i < count {
-        let slot = wide(nodes[5 * i + 3]);
-        if slot < 32 {
+        let slot = wide(nodes[RECORD * i + SLOT]);
+        if slot < SLOTS {
             held[slot] = true;
         }
         i += 1;
@@ -54,13 +60,13 @@ pub fn held_slots(nodes: &[u32], count: usize) -> [bool; 32]
 }
 
 // The lowest slot that is neither resident nor held; 32 where there is none.
-fn lowest_free(table: &[u32], held: [bool; 32]) -> usize
+fn lowest_free(table: &[u32], held: [bool; SLOTS]) -> usize
     requires { ⌜ length (now table) ≡ tableWords ⌝ }
     ensures { λ r. ⌜ ((arena : List ℕ) → r ≡ freeFrom 0 (slotsOn (now (table .entry)) arena) (holders held)) ⌝ }
 {
     let mut k = 0;
-    while k < 32 {
-        if table[32 + k] != 1 {
+    while k < SLOTS {
+        if table[SLOTS + k] != 1 {
             if !held[k] {
                 return k;
             }
@@ -87,9 +93,9 @@ fn place(table: &mut [u32], arena: &mut [u8], k: usize, from: &[u8])
     requires { ⌜ SlotsFit (now table) (now arena) × ((k < slotCount) × (length (now from) ≤ slotRoom)) ⌝ }
     ensures { λ r. ⌜ (now (table .exit) ≡ set (set (now (table .entry)) k (length (now (from .entry)))) (slotCount + k) 1) × (now (arena .exit) ≡ put (slotRoom * k) (length (now (from .entry))) (now (from .entry)) (now (arena .entry))) ⌝ }
 {
-    copy_in(arena, 2048 * k, from);
+    copy_in(arena, SLOT_ROOM * k, from);
     table[k] = from.len() as u32;
-    table[32 + k] = 1;
+    table[SLOTS + k] = 1;
 }
 
 // The name of a definition that starts at a place: a part of the lent bytes.
@@ -103,15 +109,23 @@ fn name_at(s: &[u8], at: usize) -> &[u8]
     &s[start..end]
 }
 
+// The name of a resident.
+fn slot_name<'a, 'b>(table: &'b [u32], arena: &'a [u8], k: usize) -> &'a [u8]
+    requires { ⌜ Formed (now table) (now arena) × (k < slotCount) × (residentOn (now table) k ≡ true) ⌝ }
+    ensures { λ r. ⌜ now r ≡ nameOn (now (table .entry)) (now (arena .entry)) k ⌝ }
+{
+    name_at(bytes_on(table, arena, k), 0)
+}
+
 // A slot's definition is resident under a name.
 fn slot_named(table: &[u32], arena: &[u8], k: usize, name: &[u8]) -> bool
     requires { ⌜ Formed (now table) (now arena) × (k < slotCount) ⌝ }
     ensures { λ r. ⌜ r ≡ namedOn (now (table .entry)) (now (arena .entry)) (now (name .entry)) k ⌝ }
 {
-    if table[32 + k] != 1 {
+    if table[SLOTS + k] != 1 {
         return false;
     }
-    same_name(name_at(arena, 2048 * k), name)
+    same_name(slot_name(table, arena, k), name)
 }
 
 // The resident of a name; 32 where there is none.
@@ -119,24 +133,24 @@ pub fn find_resident(table: &[u32], arena: &[u8], name: &[u8]) -> u32
     requires { ⌜ Formed (now table) (now arena) ⌝ }
     ensures { λ r. ⌜ r ≡ residentOf (now (name .entry)) (slotsOn (now (table .entry)) (now (arena .entry))) ⌝ }
 {
-    let mut k: u32 = 0;
-    while k < 32 {
-        if slot_named(table, arena, wide(k), name) {
-            return k;
+    let mut k = 0;
+    while k < SLOTS {
+        if slot_named(table, arena, k, name) {
+            return k as u32;
         }
         k += 1;
     }
-    32
+    k as u32
 }
 
 // The marks with those of residents that have a name.
-fn mark_named(table: &[u32], arena: &[u8], name: &[u8], marks: [bool; 32]) -> [bool; 32]
+fn mark_named(table: &[u32], arena: &[u8], name: &[u8], marks: [bool; SLOTS]) -> [bool; SLOTS]
     requires { ⌜ Formed (now table) (now arena) × (length marks ≡ slotCount) ⌝ }
     ensures { λ r. ⌜ MarkedMore (now (table .entry)) (now (arena .entry)) (now (name .entry)) marks r ⌝ }
 {
     let mut named = marks;
     let mut k = 0;
-    while k < 32 {
+    while k < SLOTS {
         if slot_named(table, arena, k, name) {
             named[k] = true;
         }
@@ -156,11 +170,11 @@ fn definition_end(file: &[u8], at: usize) -> usize
 }
 
 // For each slot, whether its definition is resident under a name that is in an accepted file.
-fn named_slots(table: &[u32], arena: &[u8], file: &[u8]) -> [bool; 32]
+fn named_slots(table: &[u32], arena: &[u8], file: &[u8]) -> [bool; SLOTS]
     requires { ⌜ Formed (now table) (now arena) × Accepted (now file) ⌝ }
     ensures { λ r. ⌜ NamedBy (now (table .entry)) (now (arena .entry)) (namesOf (definitionsOn (now (file .entry)))) r ⌝ }
 {
-    let mut marks: [bool; 32] = [false; 32];
+    let mut marks: [bool; SLOTS] = [false; SLOTS];
     let mut at = 10;
     while at < file.len() {
         let marked = mark_named(table, arena, name_at(file, at), marks);
@@ -184,14 +198,14 @@ fn stays(flag: u32, held: bool, marked: bool) -> bool
 }
 
 // How many slots stay taken when the marked residents are retired.
-fn count_staying(table: &[u32], held: [bool; 32], marks: [bool; 32]) -> u32
+fn count_staying(table: &[u32], held: [bool; SLOTS], marks: [bool; SLOTS]) -> u32
     requires { ⌜ length (now table) ≡ tableWords ⌝ }
     ensures { λ r. ⌜ ((arena : List ℕ) (names : List (List ℕ)) → NamedBy (now (table .entry)) arena names marks → r ≡ staying 0 names (slotsOn (now (table .entry)) arena) (holders held)) ⌝ }
 {
     let mut n: u32 = 0;
     let mut k = 0;
-    while k < 32 {
-        if stays(table[32 + k], held[k], marks[k]) {
+    while k < SLOTS {
+        if stays(table[SLOTS + k], held[k], marks[k]) {
             n += 1;
         }
         k += 1;
@@ -200,7 +214,7 @@ fn count_staying(table: &[u32], held: [bool; 32], marks: [bool; 32]) -> u32
 }
 
 // How many slots stay taken when an accepted file's names are retired: what refusal 12 asks.
-pub fn staying_count(table: &[u32], arena: &[u8], held: [bool; 32], file: &[u8]) -> u32
+pub fn staying_count(table: &[u32], arena: &[u8], held: [bool; SLOTS], file: &[u8]) -> u32
     requires { ⌜ Formed (now table) (now arena) × Accepted (now file) ⌝ }
     ensures { λ r. ⌜ r ≡ staying 0 (namesOf (definitionsOn (now (file .entry)))) (slotsOn (now (table .entry)) (now (arena .entry))) (holders held) ⌝ }
 {
@@ -208,21 +222,21 @@ pub fn staying_count(table: &[u32], arena: &[u8], held: [bool; 32], file: &[u8])
 }
 
 // The marked residents retired.
-fn retire_marked(table: &mut [u32], marks: [bool; 32])
+fn retire_marked(table: &mut [u32], marks: [bool; SLOTS])
     requires { ⌜ length (now table) ≡ tableWords ⌝ }
     ensures { λ r. ⌜ ((arena : List ℕ) (names : List (List ℕ)) → Formed (now (table .entry)) arena → NamedBy (now (table .entry)) arena names marks → now (table .exit) ≡ tableOf (retired names (slotsOn (now (table .entry)) arena)) (now (table .entry))) ⌝ }
 {
     let mut k = 0;
-    while k < 32 {
+    while k < SLOTS {
         if marks[k] {
-            table[32 + k] = 0;
+            table[SLOTS + k] = 0;
         }
         k += 1;
     }
 }
 
 // The residents whose names are in an accepted file, retired.
-pub fn retire_named(table: &mut [u32], arena: &[u8], file: &[u8])
+fn retire_named(table: &mut [u32], arena: &[u8], file: &[u8])
     requires { ⌜ Formed (now table) (now arena) × Accepted (now file) ⌝ }
     ensures { λ r. ⌜ now (table .exit) ≡ tableOf (retired (namesOf (definitionsOn (now (file .entry)))) (slotsOn (now (table .entry)) (now (arena .entry)))) (now (table .entry)) ⌝ }
 {
@@ -233,14 +247,14 @@ pub fn retire_named(table: &mut [u32], arena: &[u8], file: &[u8])
 // One resident retired.
 pub fn retire(table: &mut [u32], k: u32)
     requires { ⌜ (length (now table) ≡ tableWords) × (k < slotCount) ⌝ }
-    ensures { λ r. ⌜ ((arena : List ℕ) → Formed (now (table .entry)) arena → now (table .exit) ≡ tableOf (effects.retire k (slotsOn (now (table .entry)) arena)) (now (table .entry))) ⌝ }
+    ensures { λ r. ⌜ now (table .exit) ≡ set (now (table .entry)) (slotCount + k) 0 ⌝ }
 {
     let at = wide(k);
-    table[32 + at] = 0;
+    table[SLOTS + at] = 0;
 }
 
 // The definitions of an accepted file in the lowest free slots, in file order.
-fn place_all(table: &mut [u32], arena: &mut [u8], held: [bool; 32], file: &[u8])
+fn place_all(table: &mut [u32], arena: &mut [u8], held: [bool; SLOTS], file: &[u8])
     requires { ⌜ Formed (now table) (now arena) × Accepted (now file) ⌝ }
     ensures { λ r. ⌜ Loaded (now (table .entry)) (now (arena .entry)) (now (table .exit)) (now (arena .exit)) (loaded (definitionsOn (now (file .entry))) (slotsOn (now (table .entry)) (now (arena .entry))) (holders held)) ⌝ }
 {
@@ -248,7 +262,7 @@ fn place_all(table: &mut [u32], arena: &mut [u8], held: [bool; 32], file: &[u8])
     while at < file.len() {
         let next = definition_end(file, at);
         let k = lowest_free(table, held);
-        if k < 32 {
+        if k < SLOTS {
             place(table, arena, k, &file[at..next]);
         }
         at = next;
@@ -256,7 +270,7 @@ fn place_all(table: &mut [u32], arena: &mut [u8], held: [bool; 32], file: &[u8])
 }
 
 // An accepted file loaded: residents under its names retired, then its definitions in the lowest free slots.
-pub fn load(table: &mut [u32], arena: &mut [u8], held: [bool; 32], file: &[u8])
+pub fn load(table: &mut [u32], arena: &mut [u8], held: [bool; SLOTS], file: &[u8])
     requires { ⌜ Formed (now table) (now arena) × Accepted (now file) ⌝ }
     ensures { λ r. ⌜ Loaded (now (table .entry)) (now (arena .entry)) (now (table .exit)) (now (arena .exit)) (loadedOn (now (table .entry)) (now (arena .entry)) held (now (file .entry))) ⌝ }
 {
@@ -270,8 +284,8 @@ fn flags_formed(table: &[u32]) -> bool
     ensures { λ r. ⌜ r ≡ flagsFormed (flagsOn (now (table .entry))) ⌝ }
 {
     let mut k = 0;
-    while k < 32 {
-        if 1 < table[32 + k] {
+    while k < SLOTS {
+        if 1 < table[SLOTS + k] {
             return false;
         }
         k += 1;
@@ -280,16 +294,15 @@ fn flags_formed(table: &[u32]) -> bool
 }
 
 // A slot's length is at most the limit, and its bytes are one readable definition.
-fn bytes_formed(arena: &[u8], k: usize, size: usize) -> bool
-    requires { ⌜ (length (now arena) ≡ arenaLength) × (k < slotCount) ⌝ }
-    ensures { λ r. ⌜ r ≡ both (leb size sizeLimit) (isWhole size (readDefinition (take size (take slotRoom (drop (slotRoom * k) (now (arena .entry))))) 0)) ⌝ }
+fn bytes_formed(table: &[u32], arena: &[u8], k: usize) -> bool
+    requires { ⌜ (length (now table) ≡ tableWords) × (k < slotCount) ⌝ }
+    ensures { λ r. ⌜ r ≡ both (leb (getD (now (table .entry)) k 0) sizeLimit) (isWhole (getD (now (table .entry)) k 0) (readDefinition (bytesOn (now (table .entry)) (now (arena .entry)) k) 0)) ⌝ }
 {
-    if 2048 < size {
+    let size = wide(table[k]);
+    if SLOT_ROOM < size {
         return false;
     }
-    let start = 2048 * k;
-    let end = start + size;
-    match read_definition(&arena[start..end], Cursor { at: 0 }) {
+    match read_definition(bytes_on(table, arena, k), Cursor { at: 0 }) {
         Step::Next(next) => next.at == size,
         Step::Bad(refusal, place) => false,
     }
@@ -300,21 +313,21 @@ fn slot_formed(table: &[u32], arena: &[u8], held: bool, k: usize) -> bool
     requires { ⌜ SlotsFit (now table) (now arena) × (k < slotCount) ⌝ }
     ensures { λ r. ⌜ ((t : List Node) → held ≡ engine.held k t → r ≡ formedOn (now (table .entry)) (now (arena .entry)) t k) ⌝ }
 {
-    if table[32 + k] != 1 {
+    if table[SLOTS + k] != 1 {
         if !held {
             return true;
         }
     }
-    bytes_formed(arena, k, wide(table[k]))
+    bytes_formed(table, arena, k)
 }
 
 // The same of each slot.
-fn each_formed(table: &[u32], arena: &[u8], held: [bool; 32]) -> bool
+fn each_formed(table: &[u32], arena: &[u8], held: [bool; SLOTS]) -> bool
     requires { ⌜ SlotsFit (now table) (now arena) ⌝ }
     ensures { λ r. ⌜ r ≡ slotsFormed 0 (lengthsOn (now (table .entry))) (slotsOn (now (table .entry)) (now (arena .entry))) (holders held) ⌝ }
 {
     let mut k = 0;
-    while k < 32 {
+    while k < SLOTS {
         if !slot_formed(table, arena, held[k], k) {
             return false;
         }
@@ -329,7 +342,7 @@ fn name_apart(table: &[u32], arena: &[u8], name: &[u8], from: usize) -> bool
     ensures { λ r. ⌜ r ≡ not (nameResident (now (name .entry)) (drop from (slotsOn (now (table .entry)) (now (arena .entry))))) ⌝ }
 {
     let mut k = from;
-    while k < 32 {
+    while k < SLOTS {
         if slot_named(table, arena, k, name) {
             return false;
         }
@@ -344,9 +357,9 @@ fn names_apart(table: &[u32], arena: &[u8]) -> bool
     ensures { λ r. ⌜ r ≡ namesApart (slotsOn (now (table .entry)) (now (arena .entry))) ⌝ }
 {
     let mut k = 0;
-    while k < 32 {
-        if table[32 + k] == 1 {
-            if !name_apart(table, arena, name_at(arena, 2048 * k), k + 1) {
+    while k < SLOTS {
+        if table[SLOTS + k] == 1 {
+            if !name_apart(table, arena, slot_name(table, arena, k), k + 1) {
                 return false;
             }
         }
@@ -356,7 +369,7 @@ fn names_apart(table: &[u32], arena: &[u8]) -> bool
 }
 
 // The state check's part on slots.
-pub fn slots_formed(table: &[u32], arena: &[u8], held: [bool; 32]) -> bool
+pub fn slots_formed(table: &[u32], arena: &[u8], held: [bool; SLOTS]) -> bool
     requires { ⌜ SlotsFit (now table) (now arena) ⌝ }
     ensures { λ r. ⌜ r ≡ both (flagsFormed (flagsOn (now (table .entry)))) (both (slotsFormed 0 (lengthsOn (now (table .entry))) (slotsOn (now (table .entry)) (now (arena .entry))) (holders held)) (namesApart (slotsOn (now (table .entry)) (now (arena .entry))))) ⌝ }
 {
@@ -369,22 +382,6 @@ pub fn slots_formed(table: &[u32], arena: &[u8], held: [bool; 32]) -> bool
     names_apart(table, arena)
 }
 
-// How many definitions are resident.
-pub fn resident_count(table: &[u32]) -> u32
-    requires { ⌜ length (now table) ≡ tableWords ⌝ }
-    ensures { λ r. ⌜ ((arena : List ℕ) → r ≡ length (residents (slotsOn (now (table .entry)) arena))) ⌝ }
-{
-    let mut n: u32 = 0;
-    let mut k = 0;
-    while k < 32 {
-        if table[32 + k] == 1 {
-            n += 1;
-        }
-        k += 1;
-    }
-    n
-}
-
 // The length of the export.
 pub fn export_length(table: &[u32], arena: &[u8]) -> usize
     requires { ⌜ Formed (now table) (now arena) ⌝ }
@@ -392,8 +389,8 @@ pub fn export_length(table: &[u32], arena: &[u8]) -> usize
 {
     let mut n = 10;
     let mut k = 0;
-    while k < 32 {
-        if table[32 + k] == 1 {
+    while k < SLOTS {
+        if table[SLOTS + k] == 1 {
             n += wide(table[k]);
         }
         k += 1;
@@ -418,14 +415,12 @@ pub fn export(table: &[u32], arena: &[u8], out: &mut [u8])
     write_head(out, resident_count(table) as u8);
     let mut at = 10;
     let mut k = 0;
-    while k < 32 {
-        let flag = table[32 + k];
+    while k < SLOTS {
+        let flag = table[SLOTS + k];
         if flag == 1 {
-            let size = wide(table[k]);
-            let start = 2048 * k;
-            let end = start + size;
-            copy_in(out, at, &arena[start..end]);
-            at += size;
+            let bytes = bytes_on(table, arena, k);
+            copy_in(out, at, bytes);
+            at += bytes.len();
         }
         k += 1;
     }

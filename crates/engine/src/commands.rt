@@ -1,5 +1,5 @@
 // A command on any words, any arena and any reply buffer: the state check, and then the step of its kind.
-use buscommands::bus_step;
+use controlcommands::bus_step;
 use controlcommands::control_step;
 use crate::query::query_step;
 use definitioncommands::definition_step;

@@ -1,12 +1,14 @@
 // What Rust and C call: slices as a pointer and a length, integers and floats as their 32-bit patterns.
 use crate::commands::apply;
-use ops::Parsed;
-use ops::call_number;
-use ops::command_of;
-use start::fresh;
+use crate::ops::Parsed;
+use crate::ops::call_number;
+use crate::ops::command_of;
+use crate::start::fresh;
+use layout::ARENA;
+use layout::WORDS;
 ghost use mathlib.Core.Path.{_≡_};
 ghost use Rattle.model.specs.Layout.{wordsLength, arenaLength};
-ghost use Rattle.ops.specs.Ops.{commandOf};
+ghost use Rattle.engine.specs.Ops.{commandOf};
 ghost use Rattle.engine.specs.Calls.{Made, Called};
 
 // The length of the words.
@@ -14,7 +16,7 @@ ghost use Rattle.engine.specs.Calls.{Made, Called};
 pub extern "C" fn engine_words() -> u64
     ensures { λ r. ⌜ r ≡ wordsLength ⌝ }
 {
-    22083
+    WORDS as u64
 }
 
 // The length of the arena in bytes.
@@ -22,7 +24,7 @@ pub extern "C" fn engine_words() -> u64
 pub extern "C" fn engine_arena() -> u64
     ensures { λ r. ⌜ r ≡ arenaLength ⌝ }
 {
-    65536
+    ARENA as u64
 }
 
 // A fresh engine: 0, or the refusal's number.

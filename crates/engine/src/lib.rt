@@ -1,10 +1,13 @@
-// The engine: `apply`, which every command goes through, and what other languages call. Nothing here asks anything of what it is lent.
+// The engine: `fresh`, `apply`, which every command goes through, and what other languages call. Nothing here asks anything of what it is lent.
 mod commands;
 mod exports;
+mod ops;
 mod query;
+mod start;
 
 pub use commands::apply;
 pub use exports::engine_apply;
 pub use exports::engine_fresh;
 pub use exports::engine_arena;
 pub use exports::engine_words;
+pub use start::fresh;

@@ -12,7 +12,7 @@ ghost use Rattle.state.specs.Known.{Known};
 ghost use Rattle.state.specs.Does.{Reply};
 
 // A query: its answer, and its reply from the buffer's first byte on.
-pub fn query_step(
+pub(crate) fn query_step(
     query: Query,
     bytes: &[u8],
     words: &[u32],

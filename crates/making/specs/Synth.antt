@@ -41,11 +41,11 @@ use Rattle.preservation.specs.TreeKept.{known-sound}
 use Rattle.tree.specs.declared.action.Action.{Action}
 use Rattle.tree.specs.Sizes.{Leaves, leaves-first}
 use Rattle.tree.specs.Action.{numberOf, addHere}
-use Rattle.definitions.specs.Slots.{slotsOn, slotOn, Whole, Formed, slots-lent}
+use Rattle.slots.specs.Slots.{slotsOn, slotOn, slots-lent, part-word}
+use Rattle.definitions.specs.Slots.{Whole, Formed}
 use Rattle.definitions.specs.Retiring.{slot-is}
 use Rattle.definitions.specs.Lent.{tableIn, formed-lent}
 use Rattle.controls.specs.Encoded.{frontIn, front-read}
-use Rattle.controls.specs.Ready.{part-word}
 use Rattle.treecommands.specs.Ready.{nodeWords, words-long}
 use Rattle.treecommands.specs.Finding.{meantIn}
 use Rattle.treecommands.specs.Settle.{settled, settled-tree, nodes-size, ready-left}

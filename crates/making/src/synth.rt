@@ -5,6 +5,7 @@ use crate::numbers::number_for;
 use crate::rows::row_for;
 use model::Answer;
 use nodes::Node;
+use slots::slot_bytes;
 use tree::Action;
 use tree::Asked;
 use treecommands::Spot;
@@ -29,7 +30,7 @@ fn put_synth(number: u32, action: Action, at: usize, slot: u32, words: &mut [u32
 {
     let count = wide(words[0]);
     let next = words[2];
-    let size = words[4 + wide(slot)];
+    let definition = slot_bytes(words, arena, wide(slot));
     let row = row_for(&words[68..1348], count, action, at);
     let given = number_for(number, next);
     let node = Node {
@@ -42,7 +43,6 @@ fn put_synth(number: u32, action: Action, at: usize, slot: u32, words: &mut [u32
     let many = tree::add_node(&mut words[68..1348], count, action, at, node);
     let after = next_after(number, next);
     settle(words, many, after, given);
-    let definition = controls::slot_bytes(arena, slot, size);
     controls::initial_row(&mut words[1603..17987], row, definition);
 }
 

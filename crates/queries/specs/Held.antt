@@ -1,11 +1,11 @@
 -- The nodes of a well-formed state by their places, and the definitions that synths hold, by their slots' bytes.
 use Prim.Native.Nat.{ℕ, _+_, _*_, _<_}
 use mathlib.Core.Bool.{true, false}
-use mathlib.Core.Path.{_≡_, refl, sym, ap, ap₂, _∙_}
+use mathlib.Core.Path.{_≡_, refl, sym, ap, _∙_}
 use mathlib.Core.List.{List, _∷_}
 use native.Mathlib.Omega.{arith}
 use native.Mathlib.Nat.{zero-add}
-use lib.ListN.{length, take, drop, getD}
+use lib.ListN.{length, drop, getD}
 use lib.Dec.{leb}
 use Rattle.words.specs.Choice.{both, both-true}
 use Rattle.words.specs.Parts.{region}
@@ -19,14 +19,15 @@ use Rattle.readable.specs.LookupOf.{units-of, name-of, first-name-of}
 use Rattle.readable.specs.Readable.{ReadableWhole}
 use Rattle.nodes.specs.Table.{row-from}
 use Rattle.nodes.specs.Place.{groupSlot, isGroup}
-use Rattle.model.specs.Layout.{slotCount, slotRoom, lengthsPlace, nodesPlace, nodesWords, countIn, lengthsIn, nodesIn}
+use Rattle.model.specs.Layout.{slotCount, nodesPlace, nodesWords, countIn, lengthsIn, nodesIn}
 use Rattle.model.specs.Engine.{Slot, decode, noDefinition, valueOr, definitionIn, slotAt, definitionOf, slotTaken}
 use Rattle.model.specs.Formed.{isWhole, slotFormed}
 use Rattle.state.specs.Known.{Known}
 use Rattle.controls.specs.Encoded.{frontIn}
-use Rattle.controls.specs.Ready.{Ready, nodeIn, slotBytes, slot-bytes, held-at, slot-formed, decoded-many, either-true, synth-ready}
+use Rattle.slots.specs.Slots.{slotBytes, slot-bytes, decoded-many}
+use Rattle.controls.specs.Ready.{Ready, nodeIn, held-at, slot-formed, either-true, synth-ready}
 use Rattle.controls.specs.Formed.{bounds-ready}
-use Rattle.controls.specs.Synth.{Bounds, slot-word, slot-bound}
+use Rattle.controls.specs.Synth.{Bounds, slot-bound}
 
 -- a node at a place of the table of a well-formed state
 pub record At (ws bs : List ℕ) (i : ℕ) : Type 0 where
@@ -85,12 +86,6 @@ module _ (ws bs : List ℕ) (i : ℕ) (a : At ws bs i) (single : isGroup (nodeIn
   pub held-front : definitionOf slots (nodeIn ws i) .front ≡ frontIn (slotBytes ws bs slot)
   held-front = synth-ready ws bs (ready ws bs (a .state)) i (a .live) single .front
 
--- a slot's bytes as a function reads them
-pub bytes-fact : (ws bs : List ℕ) (i w : ℕ) → At ws bs i → w ≡ getD ws (nodesPlace + 5 * i + 3) 0
-    → take (getD ws (lengthsPlace + w) 0) (take slotRoom (drop (slotRoom * getD ws (nodesPlace + 5 * i + 3) 0) bs)) ≡ slotBytes ws bs (nodeIn ws i .slot)
-bytes-fact ws bs i w a e =
-    let word = slot-word ws i (bounds ws bs i a .place) in
-    ap₂ (λ (j k : ℕ). take (getD ws (lengthsPlace + j) 0) (take slotRoom (drop (slotRoom * k) bs))) (e ∙ sym word) (sym word)
-
+-- a synth's slot, by the words
 pub slot-low : (ws bs : List ℕ) (i : ℕ) → At ws bs i → (getD ws (nodesPlace + 5 * i + 3) 0 ≡ groupSlot → ⊥) → getD ws (nodesPlace + 5 * i + 3) 0 < slotCount
 slot-low ws bs i a other = slot-bound (bounds ws bs i a) other

@@ -27,7 +27,8 @@ use Rattle.replies.specs.Words.{wordBytes}
 use Rattle.replies.specs.Sent.{wordMessage}
 use Rattle.controls.specs.Encoded.{numberOr}
 use Rattle.controls.specs.Noted.{Noted, noted-more}
-use Rattle.controls.specs.Ready.{nodeIn, slotBytes, part-word}
+use Rattle.slots.specs.Slots.{slotBytes, part-word}
+use Rattle.controls.specs.Ready.{nodeIn}
 use Rattle.controls.specs.Synth.{slot-word, is-group, is-synth}
 use Rattle.queries.specs.Held.{At, bounds, node-there, held-units, slot-low}
 

@@ -1,5 +1,6 @@
 // /status
-use controls::slot_bytes;
+use controls::node_definition;
+use controls::node_is_group;
 use model::Answer;
 use replies::send_words;
 use words::wide;
@@ -21,12 +22,10 @@ fn units_at(words: &[u32], arena: &[u8], place: usize) -> u32
     requires { ⌜ At (now words) (now arena) place ⌝ }
     ensures { λ r. ⌜ r ≡ unitsOf (kindAt (now (words .entry)) (now (arena .entry)) place) ⌝ }
 {
-    let slot = words[68 + 5 * place + 3];
-    if slot == 32 {
+    if node_is_group(words, place) {
         return 0;
     }
-    let size = words[4 + wide(slot)];
-    readable::units(slot_bytes(arena, slot, size))
+    readable::units(node_definition(words, arena, place))
 }
 
 // The same, where it may be known already.

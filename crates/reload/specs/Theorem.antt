@@ -25,7 +25,8 @@ use Rattle.model.specs.Apply.{answerIn}
 use Rattle.model.specs.Demands.{receive, meaningIn, definitionAtSlot as residentDefinition}
 use Rattle.roundtrip.specs.Forth.{file-forth}
 use Rattle.state.specs.Known.{Known, known}
-use Rattle.definitions.specs.Slots.{lengthsOn, flagsOn, slotsOn, slots-length, slots-lent, Formed}
+use Rattle.slots.specs.Slots.{lengthsOn, flagsOn, slotsOn, slots-length, slots-lent}
+use Rattle.definitions.specs.Slots.{Formed}
 use Rattle.definitions.specs.Lent.{tableIn, formed-lent}
 use Rattle.definitions.specs.Exported.{AllFine, formed-fine, residents-file, export-read, fresh-residents, fresh-export, meaningOf, meaning-residents}
 use Rattle.reload.specs.Fresh.{fresh-many, fresh-out, fresh-idle, fresh-staying}

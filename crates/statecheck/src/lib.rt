@@ -2,6 +2,19 @@
 use controls::controls_formed;
 use definitions::held_slots;
 use definitions::slots_formed;
+use layout::ARENA;
+use layout::COUNT;
+use layout::LATEST;
+use layout::LENGTHS;
+use layout::MOST_NODES;
+use layout::NEXT;
+use layout::NODES;
+use layout::NODES_END;
+use layout::ORDER;
+use layout::ORDER_END;
+use layout::ORDER_LENGTH;
+use layout::RESIDENT_END;
+use layout::WORDS;
 use order::nodes_formed;
 use order::same_order;
 use words::wide;
@@ -18,17 +31,17 @@ fn tree_formed(words: &[u32]) -> bool
     requires { ⌜ length (now words) ≡ wordsLength ⌝ }
     ensures { λ r. ⌜ r ≡ treePart (now (words .entry)) ⌝ }
 {
-    let count = wide(words[0]);
-    if 256 < count {
+    let count = wide(words[COUNT]);
+    if MOST_NODES < count {
         return false;
     }
-    let next = words[2];
-    let latest = words[3];
-    if !nodes_formed(&words[68..1348], count, next, latest) {
+    let next = words[NEXT];
+    let latest = words[LATEST];
+    if !nodes_formed(&words[NODES..NODES_END], count, next, latest) {
         return false;
     }
-    let many = wide(words[1]);
-    same_order(&words[1348..1603], many, &words[68..1348], count)
+    let many = wide(words[ORDER_LENGTH]);
+    same_order(&words[ORDER..ORDER_END], many, &words[NODES..NODES_END], count)
 }
 
 // The rules on slots.
@@ -36,19 +49,19 @@ fn slots_hold(words: &[u32], arena: &[u8]) -> bool
     requires { ⌜ (length (now words) ≡ wordsLength) × ((length (now arena) ≡ arenaLength) × (countIn (now words) ≤ mostNodes)) ⌝ }
     ensures { λ r. ⌜ r ≡ slotsPart (now (words .entry)) (now (arena .entry)) ⌝ }
 {
-    let count = wide(words[0]);
-    let held = held_slots(&words[68..1348], count);
-    slots_formed(&words[4..68], arena, held)
+    let count = wide(words[COUNT]);
+    let held = held_slots(&words[NODES..NODES_END], count);
+    slots_formed(&words[LENGTHS..RESIDENT_END], arena, held)
 }
 
 // The words and the arena are a well-formed state.
 pub fn well_formed(words: &[u32], arena: &[u8]) -> bool
     ensures { λ r. ⌜ r ≡ formed (now (words .entry)) (now (arena .entry)) ⌝ }
 {
-    if words.len() != 22083 {
+    if words.len() != WORDS {
         return false;
     }
-    if arena.len() != 65536 {
+    if arena.len() != ARENA {
         return false;
     }
     if !tree_formed(words) {

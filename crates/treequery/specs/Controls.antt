@@ -11,7 +11,8 @@ use Rattle.osc.specs.Message.{Argument, int}
 use Rattle.model.specs.Layout.{controlsIn}
 use Rattle.model.specs.Replies.{mappingArgument, labelArgument}
 use Rattle.controls.specs.Encoded.{frontIn}
-use Rattle.controls.specs.Ready.{nodeIn, slotBytes}
+use Rattle.slots.specs.Slots.{slotBytes}
+use Rattle.controls.specs.Ready.{nodeIn}
 use Rattle.controls.specs.Asked.{controlIn}
 use Rattle.queries.specs.Held.{At, bounds}
 use Rattle.treequery.specs.declared.piece.Piece.{Piece}

@@ -9,7 +9,8 @@ use borrow.Author.Tests.{ltb-true, ltb-false}
 use lib.Dec.{ltb}
 use lib.ListN.{getD, replicate, length-replicate, getD-replicate}
 use Rattle.nodes.specs.Place.{isGroup}
-use Rattle.controls.specs.Ready.{nodeIn, slotBytes}
+use Rattle.slots.specs.Slots.{slotBytes}
+use Rattle.controls.specs.Ready.{nodeIn}
 use Rattle.treequery.specs.Shapes.{shapeWords, shapesLength, labelIn, Shape, Shapes, Filled, ShapesKnown, LookedUp}
 
 -- three ways for two numbers to lie

@@ -12,7 +12,8 @@ use Rattle.osc.specs.Message.{Argument, int}
 use Rattle.model.specs.Layout.{countIn, nodesPlace, nodesWords}
 use Rattle.model.specs.Replies.{treeArguments}
 use Rattle.state.specs.Known.{Known}
-use Rattle.controls.specs.Ready.{nodeIn, slotBytes, part-word}
+use Rattle.slots.specs.Slots.{slotBytes, part-word}
+use Rattle.controls.specs.Ready.{nodeIn}
 use Rattle.queries.specs.Held.{At, bounds}
 use Rattle.treequery.specs.RowArguments.{rowArguments, childrenAt, viewTo, row-group, rows-turn, rows-none}
 use Rattle.treequery.specs.Places.{mostTags}

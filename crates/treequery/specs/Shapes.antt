@@ -8,7 +8,8 @@ use Rattle.readable.specs.Lookup.{nameOfIn}
 use Rattle.readable.specs.Labels.{labelAt}
 use Rattle.nodes.specs.Place.{isGroup}
 use Rattle.controls.specs.Encoded.{frontIn}
-use Rattle.controls.specs.Ready.{nodeIn, slotBytes}
+use Rattle.slots.specs.Slots.{slotBytes}
+use Rattle.controls.specs.Ready.{nodeIn}
 
 abbrev pub shapeWords : ℕ
 shapeWords = 33

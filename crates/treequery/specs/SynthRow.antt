@@ -21,7 +21,8 @@ use Rattle.format.specs.Names.{firstName}
 use Rattle.model.specs.Engine.{decode, definitionOf, controlsOf}
 use Rattle.model.specs.Replies.{mappingArgument, labelArgument, controlArguments, flagged, noControl}
 use Rattle.controls.specs.Encoded.{frontIn, values-few}
-use Rattle.controls.specs.Ready.{nodeIn, slotBytes, bytes-short}
+use Rattle.slots.specs.Slots.{slotBytes}
+use Rattle.controls.specs.Ready.{nodeIn, bytes-short}
 use Rattle.controls.specs.Synth.{slot-word}
 use Rattle.controls.specs.Asked.{controlIn, control-in}
 use Rattle.queries.specs.Held.{At, bounds, held-readable, held-name, held-front, held-first-name}

@@ -9,7 +9,8 @@ use Rattle.model.specs.declared.Answer.the-variants.{Done, Refused}
 
 
 
-use Rattle.controlcommands.specs.Steps.{ready, run-inside, run-changed}
+use Rattle.controls.specs.Ready.{ready-known}
+use Rattle.controlcommands.specs.Steps.{run-inside, run-changed}
 use Rattle.controlcommands.proofs.change_run.Statement.{statement}
 use Rattle.controlcommands.proofs.change_run.Tie as tie
 
@@ -17,7 +18,7 @@ controls-missing-requires : tie.Need-controls-missing-requires
 controls-missing-requires c κs =
     let a = c .before .before .before .before .args in
     let p = c .before .before .before .before .pre in
-    (ready (a .words .now) (a .arena .now) (p .0), p .1)
+    (ready-known (a .words .now) (a .arena .now) (p .0), p .1)
 
 same-length : tie.Need-same-length
 same-length c = search needs
@@ -47,7 +48,7 @@ change-all-requires : tie.Need-change-all-requires
 change-all-requires c κs =
     let a = c .before .before .before .before .before .before .before .before .before .before .before .before .args in
     let p = c .before .before .before .before .before .before .before .before .before .before .before .before .pre in
-    (ready (a .words .now) (a .arena .now) (p .0), run-inside (a .words .now) (a .at) (c .before .before .before .before .wide .result) (c .before .subtree-end .result) (p .1) (c .before .before .before .before .wide .ensures) (c .before .subtree-end .ensures))
+    (ready-known (a .words .now) (a .arena .now) (p .0), run-inside (a .words .now) (a .at) (c .before .before .before .before .wide .result) (c .before .subtree-end .result) (p .1) (c .before .before .before .before .wide .ensures) (c .before .subtree-end .ensures))
 
 same-length-2 : tie.Need-same-length-2
 same-length-2 c = search needs

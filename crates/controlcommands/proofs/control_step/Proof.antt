@@ -4,20 +4,21 @@
 
 
 use borrow.Author.Needs.{needs}
+use Rattle.controlcommands.specs.Steps.{set-filled}
 use Rattle.controlcommands.proofs.control_step.Statement.{statement}
 use Rattle.controlcommands.proofs.control_step.Tie as tie
 
 enum-known-command : tie.Need-enum-known-command
 enum-known-command c = search needs
 
-set-control-requires : tie.Need-set-control-requires
-set-control-requires c κs = search needs
+fill-controls-requires : tie.Need-fill-controls-requires
+fill-controls-requires c κs = search needs
 
 enum-known-command-2 : tie.Need-enum-known-command-2
 enum-known-command-2 c = search needs
 
-fill-controls-requires : tie.Need-fill-controls-requires
-fill-controls-requires c κs = search needs
+fill-controls-requires-2 : tie.Need-fill-controls-requires-2
+fill-controls-requires-2 c κs = search needs
 
 enum-known-command-3 : tie.Need-enum-known-command-3
 enum-known-command-3 c = search needs
@@ -29,13 +30,15 @@ same-length : tie.Need-same-length
 same-length c = search needs
 
 returns : tie.Need-returns
-returns c = rw (c .before .before .before .before .before .command .given .1) (c .before .before .set-control .ensures)
+returns c =
+    rw (c .before .before .before .before .before .command .given .1)
+    (set-filled _ _ _ _ _ _ _ _ (c .before .before .fill-controls .ensures))
 
 same-length-2 : tie.Need-same-length-2
 same-length-2 c = search needs
 
 returns-2 : tie.Need-returns-2
-returns-2 c = rw (c .before .before .before .before .before .command2 .given .1) (c .before .before .fill-controls .ensures)
+returns-2 c = rw (c .before .before .before .before .before .command2 .given .1) (c .before .before .fill-controls2 .ensures)
 
 same-length-3 : tie.Need-same-length-3
 same-length-3 c = search needs
@@ -48,9 +51,9 @@ control-step-spec =
     tie.close
     (tie.spec
     enum-known-command
-    set-control-requires
-    enum-known-command-2
     fill-controls-requires
+    enum-known-command-2
+    fill-controls-requires-2
     enum-known-command-3
     map-control-requires
     same-length

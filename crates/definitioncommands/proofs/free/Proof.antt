@@ -22,13 +22,16 @@ find-resident-requires c κs =
     let s = c .before .before .before .before .before in
     formed-table (s .args .words .now) (s .args .arena .now) (s .pre)
 
+wide-requires : tie.Need-wide-requires
+wide-requires c κs = search needs
+
 same-length : tie.Need-same-length
 same-length c = search needs
 
 returns : tie.Need-returns
 returns c =
-    let a = c .before .before .before .before .before .before .before .args in
-    free-none (a .bytes .now) (a .words .now) (a .arena .now) (c .before .find-resident .result) (c .before .find-resident .ensures) (c .if1 .taken)
+    let a = c .before .before .before .before .before .before .before .before .args in
+    free-none (a .bytes .now) (a .words .now) (a .arena .now) (c .before .before .find-resident .result) (c .before .before .find-resident .ensures) (omega arith)
 
 sub-retire : tie.Need-sub-retire
 sub-retire c = search needs
@@ -47,8 +50,10 @@ same-length-2 c = search needs
 
 returns-2 : tie.Need-returns-2
 returns-2 c =
-    let a = c .before .before .before .before .before .before .before .before .before .before .before .args in
-    free-done (a .bytes .now) (a .words .now) (a .arena .now) (c .before .before .before .before .before .find-resident .result) (c .before .before .before .before .before .find-resident .ensures) (c .before .before .before .before .before .before .before .before .before .before .before .pre)
+    let s = c .before .before .before .before .before .before .before .before .before .before .before .before in
+    let a = s .args in
+    let found = c .before .before .before .before .before .before .find-resident in
+    free-done (a .bytes .now) (a .words .now) (a .arena .now) (found .result) (found .ensures) (s .pre)
     (c .before .before .retire .last .0) (omega arith) (c .before .before .retire .ensures)
 
 pub free-spec : {M : Type 1} → statement M
@@ -59,6 +64,7 @@ free-spec =
     part-find-resident-start
     part-find-resident-end
     find-resident-requires
+    wide-requires
     same-length
     returns
     sub-retire

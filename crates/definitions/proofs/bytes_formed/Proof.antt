@@ -1,37 +1,37 @@
-use Rattle.definitions.specs.Checking.{endsAt, part-read}
-
-use Rattle.format.specs.Reader.{sizeLimit}
-use Rattle.fields.specs.Answers.{stepOf}
-use Rattle.format.specs.Read.{Read}
-
-
 use Prim.{Unit, tt}
 use Prim.Native.Nat.{_≤_}
-use mathlib.Core.Path.{sym, ap, _∙_}
+use mathlib.Core.Path.{_≡_, sym, ap, _∙_}
+use mathlib.Core.List.{List}
+use Prim.Native.Nat.{ℕ}
 use native.Mathlib.Omega.{arith}
 use borrow.Author.Needs.{needs}
 use borrow.Author.Tests.{lt-leb}
-use borrow.Author.Needs.{needs}
+use lib.ListN.{getD}
+use Rattle.format.specs.Read.{Read, ending}
+use Rattle.format.specs.Reader.{sizeLimit, readDefinition}
+use Rattle.fields.specs.Answers.{stepOf}
+use Rattle.slots.specs.Slots.{bytesOn}
+use Rattle.definitions.specs.Checking.{endsAt, bytes-read}
 use Rattle.definitions.proofs.bytes_formed.Statement.{statement}
 use Rattle.definitions.proofs.bytes_formed.Tie as tie
 
+mul-wide : tie.Need-mul-wide
+mul-wide c = omega arith
+
+shared-slice-read-wide : tie.Need-shared-slice-read-wide
+shared-slice-read-wide c = omega arith
+
+wide-requires : tie.Need-wide-requires
+wide-requires c κs = tt
+
 returns : tie.Need-returns
-returns c = rw (lt-leb (c .before .before .args .size) sizeLimit (c .if1 .taken))
+returns c =
+    let a = c .before .before .before .before .before .args in
+    let size : c .before .wide .result ≡ getD (a .table .now) (a .k) 0 = c .before .wide .ensures in
+    rw (lt-leb (getD (a .table .now) (a .k) 0) sizeLimit (omega arith))
 
-mul-start : tie.Need-mul-start
-mul-start c = omega arith
-
-add-end : tie.Need-add-end
-add-end c = omega arith
-
-sub-read-definition : tie.Need-sub-read-definition
-sub-read-definition c = omega arith
-
-part-read-definition-start : tie.Need-part-read-definition-start
-part-read-definition-start c = omega arith
-
-part-read-definition-end : tie.Need-part-read-definition-end
-part-read-definition-end c = omega arith
+bytes-on-requires : tie.Need-bytes-on-requires
+bytes-on-requires c κs = tt
 
 read-definition-requires : tie.Need-read-definition-requires
 read-definition-requires c κs = tt
@@ -43,29 +43,33 @@ enum-known-refusal : tie.Need-enum-known-refusal
 enum-known-refusal c = search needs
 
 returns-2 : tie.Need-returns-2
-returns-2 c = let a = c .before .before .before .before .before .before .before .before .args in
-    let small : a .size ≤ 2048 = c .before .before .before .before .before .before .if1 .left in
+returns-2 c =
+    let a = c .before .before .before .before .before .before .before .before .before .before .before .args in
+    let size : c .before .before .before .before .before .before .before .wide .result ≡ getD (a .table .now) (a .k) 0 = c .before .before .before .before .before .before .before .wide .ensures in
     let call = c .before .before .before .before .read-definition in
-    sym (ap (λ (r : Read (Unit {0})). endsAt (a .size) r) (ap stepOf (c .before .before .next .given .1)))
-    ∙ part-read (a .arena .now) (a .k) (a .size) (stepOf (call .result)) small (call .ensures)
+    sym (ap (λ (r : Read (Unit {0})). endsAt (c .before .before .before .before .before .before .before .wide .result) r) (ap stepOf (c .before .before .next .given .1)))
+    ∙ ap (λ (n : ℕ). endsAt n (stepOf (call .result))) size
+    ∙ bytes-read (getD (a .table .now) (a .k) 0) (bytesOn (a .table .now) (a .arena .now) (a .k)) (stepOf (call .result)) (omega arith)
+    (call .ensures ∙ ap (λ (l : List ℕ). ending (readDefinition l 0)) (c .before .before .before .before .before .bytes-on .ensures))
 
 returns-3 : tie.Need-returns-3
-returns-3 c = let a = c .before .before .before .before .before .before .before .args in
-    let small : a .size ≤ 2048 = c .before .before .before .before .before .if1 .left in
+returns-3 c =
+    let a = c .before .before .before .before .before .before .before .before .before .before .args in
+    let size : c .before .before .before .before .before .before .wide .result ≡ getD (a .table .now) (a .k) 0 = c .before .before .before .before .before .before .wide .ensures in
     let call = c .before .before .before .read-definition in
-    sym (ap (λ (r : Read (Unit {0})). endsAt (a .size) r) (ap stepOf (c .before .refusal .given .1)))
-    ∙ part-read (a .arena .now) (a .k) (a .size) (stepOf (call .result)) small (call .ensures)
+    sym (ap (λ (r : Read (Unit {0})). endsAt (getD (a .table .now) (a .k) 0) r) (ap stepOf (c .before .refusal .given .1)))
+    ∙ bytes-read (getD (a .table .now) (a .k) 0) (bytesOn (a .table .now) (a .arena .now) (a .k)) (stepOf (call .result)) (omega arith)
+    (call .ensures ∙ ap (λ (l : List ℕ). ending (readDefinition l 0)) (c .before .before .before .before .bytes-on .ensures))
 
 pub bytes-formed-spec : {M : Type 1} → statement M
 bytes-formed-spec =
     tie.close
     (tie.spec
+    mul-wide
+    shared-slice-read-wide
+    wide-requires
     returns
-    mul-start
-    add-end
-    sub-read-definition
-    part-read-definition-start
-    part-read-definition-end
+    bytes-on-requires
     read-definition-requires
     enum-known-next
     enum-known-refusal

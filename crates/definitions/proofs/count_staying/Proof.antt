@@ -4,7 +4,7 @@ use Rattle.words.specs.Choice.{pick}
 use native.Mathlib.Nat.{zero-add}
 use mathlib.Core.Logic.{⊎-elim}
 use Prim.{tt}
-use Rattle.definitions.specs.Slots.{slotsOn}
+use Rattle.slots.specs.Slots.{slotsOn}
 use Rattle.definitions.specs.Naming.{NamedBy, staying-step, staying-end}
 use Rattle.definitions.specs.Holders.{holders}
 use Rattle.model.specs.Checks.{staying}

@@ -1,6 +1,6 @@
 use borrow.Author.Tests.{not-true, not-false}
 use Rattle.definitions.specs.Checking.{formedOn, formed-turn, formed-end}
-use Rattle.definitions.specs.Slots.{lengthsOn, slotsOn}
+use Rattle.slots.specs.Slots.{lengthsOn, slotsOn}
 use Rattle.definitions.specs.Holders.{holders, held-holders}
 use Rattle.model.specs.Formed.{slotsFormed}
 use Rattle.words.specs.Choice.{both}

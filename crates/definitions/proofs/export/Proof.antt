@@ -1,7 +1,8 @@
 use Rattle.definitions.specs.Exporting.{headOf}
 use Rattle.words.specs.Parts.{put}
 use Rattle.definitions.specs.Retiring.{whole-size}
-use Rattle.definitions.specs.Exporting.{count-few, export-size, Exporting, exporting-first, exporting-next, exporting-room, exporting-within, exporting-skip, exporting-whole, resident-part}
+use Rattle.slots.specs.Slots.{count-few}
+use Rattle.definitions.specs.Exporting.{export-size, Exporting, exporting-first, exporting-next, exporting-room, exporting-within, exporting-skip, exporting-whole}
 use mathlib.Core.Logic.{⊎-elim}
 use Prim.{tt}
 use Prim.Native.Nat.{ℕ, _+_, _-_, _<_}
@@ -46,72 +47,34 @@ mul-flag c = omega arith
 shared-slice-read-flag : tie.Need-shared-slice-read-flag Inv-loop μ-loop
 shared-slice-read-flag c = omega arith
 
-mul-wide : tie.Need-mul-wide Inv-loop μ-loop
-mul-wide c = omega arith
-
-shared-slice-read-wide : tie.Need-shared-slice-read-wide Inv-loop μ-loop
-shared-slice-read-wide c = omega arith
-
-wide-requires : tie.Need-wide-requires Inv-loop μ-loop
-wide-requires c κs = tt
-
-mul-start : tie.Need-mul-start Inv-loop μ-loop
-mul-start c = omega arith
-
-add-end : tie.Need-add-end Inv-loop μ-loop
-add-end c = let s = c .before .before .before .before .before .before .before .before .before .before .before .before .before .before in
-    let table = s .args .table .now in
-    let k = c .before .before .before .before .before .loop .k in
-    let less = c .before .before .before .before .loop-test .taken in
-    let in-slot = eq-eqb (getD table (32 + k) 0) 1 (c .before .before .if1 .taken) in
-    let small = s .pre .0 .resident k less in-slot .small in
-    let size = c .wide .ensures in
-    omega arith
-
-sub-copy-in : tie.Need-sub-copy-in Inv-loop μ-loop
-sub-copy-in c = omega arith
-
-part-copy-in-start : tie.Need-part-copy-in-start Inv-loop μ-loop
-part-copy-in-start c = omega arith
-
-part-copy-in-end : tie.Need-part-copy-in-end Inv-loop μ-loop
-part-copy-in-end c = let s = c .before .before .before .before .before .before .before .before .before .before .before .before .before .before .before in
-    let table = s .args .table .now in
-    let k = c .before .before .before .before .before .before .loop .k in
-    let less = c .before .before .before .before .before .loop-test .taken in
-    let in-slot = eq-eqb (getD table (32 + k) 0) 1 (c .before .before .before .if1 .taken) in
-    let small = s .pre .0 .resident k less in-slot .small in
-    let size = c .before .wide .ensures in
-    let long = s .pre .0 .sized .arenaSize in
-    omega arith
+bytes-on-requires : tie.Need-bytes-on-requires Inv-loop μ-loop
+bytes-on-requires c κs = tt
 
 copy-in-requires : tie.Need-copy-in-requires Inv-loop μ-loop
-copy-in-requires c κs = let s = c .before .before .before .before .before .before .before .before .before .before .before .before .before .before .before .before in
+copy-in-requires c κs = let s = c .before .before .before .before .before .before .before .before .before .before .before .before .before .before in
     let a = s .args in
     let table = a .table .now in
     let arena = a .arena .now in
-    let l = c .before .before .before .before .before .before .before .loop in
-    let less = c .before .before .before .before .before .before .loop-test .taken in
-    let in-slot = eq-eqb (getD table (32 + l .k) 0) 1 (c .before .before .before .before .if1 .taken) in
-    let w = s .pre .0 .resident (l .k) less in-slot in
-    let small = w .small in
-    let size : c .before .before .wide .result ≡ getD table (l .k) 0 = c .before .before .wide .ensures in
-    let part = ap length (resident-part table arena (l .k) (c .before .before .wide .result) size (omega arith)) ∙ whole-size table arena (l .k) (s .pre .0 .sized) less w in
-    let room = exporting-room table arena (c .before .before .before .before .before .before .before .before .before .before .write-head .last .0) (l .k) (l .at) (l .out) (λ i. c .before .before .before .before .before .before .before .before .before .before .before .before .before .before .shared-slice-known2 .given i .fits) (s .pre .0) (l .inv) less in-slot in
+    let l = c .before .before .before .before .before .loop in
+    let less = c .before .before .before .before .loop-test .taken in
+    let in-slot = eq-eqb (getD table (32 + l .k) 0) 1 (c .before .before .if1 .taken) in
+    let part : length (c .before .bytes-on .result .now) ≡ getD table (l .k) 0 =
+    ap length (c .before .bytes-on .ensures) ∙ whole-size table arena (l .k) (s .pre .0 .sized) less (s .pre .0 .resident (l .k) less in-slot) in
+    let room = exporting-room table arena (c .before .before .before .before .before .before .before .before .write-head .last .0) (l .k) (l .at) (l .out) (λ i. c .before .before .before .before .before .before .before .before .before .before .before .before .shared-slice-known2 .given i .fits) (s .pre .0) (l .inv) less in-slot in
     omega arith
 
 add-at : tie.Need-add-at Inv-loop μ-loop
-add-at c = let s = c .before .before .before .before .before .before .before .before .before .before .before .before .before .before .before .before .before .before .before in
+add-at c = let s = c .before .before .before .before .before .before .before .before .before .before .before .before .before .before .before .before .before in
     let a = s .args in
     let table = a .table .now in
     let arena = a .arena .now in
-    let l = c .before .before .before .before .before .before .before .before .before .before .loop in
-    let less = c .before .before .before .before .before .before .before .before .before .loop-test .taken in
-    let in-slot = eq-eqb (getD table (32 + l .k) 0) 1 (c .before .before .before .before .before .before .before .if1 .taken) in
-    let size = c .before .before .before .before .before .wide .ensures in
-    let within = exporting-within table arena (c .before .before .before .before .before .before .before .before .before .before .before .before .before .write-head .last .0) (l .k) (l .at) (l .out) (λ i. c .before .before .before .before .before .before .before .before .before .before .before .before .before .before .before .before .before .shared-slice-known2 .given i .fits) (s .pre .0) (l .inv) less in-slot in
+    let l = c .before .before .before .before .before .before .before .before .loop in
+    let less = c .before .before .before .before .before .before .before .loop-test .taken in
+    let in-slot = eq-eqb (getD table (32 + l .k) 0) 1 (c .before .before .before .before .before .if1 .taken) in
+    let part : length (c .before .before .before .before .bytes-on .result .now) ≡ getD table (l .k) 0 =
+    ap length (c .before .before .before .before .bytes-on .ensures) ∙ whole-size table arena (l .k) (s .pre .0 .sized) less (s .pre .0 .resident (l .k) less in-slot) in
+    let within = exporting-within table arena (c .before .before .before .before .before .before .before .before .before .before .before .write-head .last .0) (l .k) (l .at) (l .out) (λ i. c .before .before .before .before .before .before .before .before .before .before .before .before .before .before .before .shared-slice-known2 .given i .fits) (s .pre .0) (l .inv) less in-slot in
     let room = s .pre .1 in
-    let most = s .good in
     record { fits = omega (arith, s .good .1 .1 .0 .0) }
 
 add-k : tie.Need-add-k Inv-loop μ-loop
@@ -132,13 +95,10 @@ loop-again c = let s = c .before .before .before .before .before .before .before
     ⊎-elim
     (λ w.
     let in-slot = eq-eqb (getD table (32 + l .k) 0) 1 (w .0 .taken) in
-    let p = s .pre .0 .resident (l .k) less in-slot in
-    let small = p .small in
-    let size : w .2 .result ≡ getD table (l .k) 0 = w .2 .ensures in
-    let part = resident-part table arena (l .k) (w .2 .result) size (omega arith) in
-    let at : c .if1 .at ≡ l .at + getD table (l .k) 0 = w .9 ∙ ap (λ (n : ℕ). l .at + n) size in
-    rw (at, w .8 ∙ w .5 .ensures)
-    (exporting-next table arena start (l .k) (l .at) (l .out) b (s .pre .0) (l .inv) less in-slot _ part))
+    let size : length (w .1 .result .now) ≡ getD table (l .k) 0 = ap length (w .1 .ensures) ∙ whole-size table arena (l .k) (s .pre .0 .sized) less (s .pre .0 .resident (l .k) less in-slot) in
+    let at : c .if1 .at ≡ l .at + getD table (l .k) 0 = w .7 ∙ ap (λ (n : ℕ). l .at + n) size in
+    rw (at, w .6 ∙ w .3 .ensures)
+    (exporting-next table arena start (l .k) (l .at) (l .out) b (s .pre .0) (l .inv) less in-slot (w .1 .result .now) (w .1 .ensures)))
     (λ w. let out = ne-eqb (getD table (32 + l .k) 0) 1 (w .0 .left) in rw (w .1, w .2) (exporting-skip table arena start (l .k) (l .at) (l .out) b (s .pre .0) (l .inv) less out))
     (c .if1 .came)
 
@@ -165,14 +125,7 @@ export-spec =
     add-flag
     mul-flag
     shared-slice-read-flag
-    mul-wide
-    shared-slice-read-wide
-    wide-requires
-    mul-start
-    add-end
-    sub-copy-in
-    part-copy-in-start
-    part-copy-in-end
+    bytes-on-requires
     copy-in-requires
     add-at
     add-k

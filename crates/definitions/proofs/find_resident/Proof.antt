@@ -1,4 +1,4 @@
-use Rattle.definitions.specs.Slots.{slotsOn}
+use Rattle.slots.specs.Slots.{slotsOn}
 use Rattle.definitions.specs.Names.{namedOn, resident-turn, resident-end}
 use Rattle.words.specs.Choice.{pick}
 use Rattle.model.specs.Engine.{residentFrom}
@@ -6,6 +6,7 @@ use Prim.Native.Nat.{ℕ, _+_, _-_, _≤_}
 use mathlib.Core.Bool.{Bool, true, false}
 use mathlib.Core.Path.{_≡_, refl, sym, ap, _∙_}
 use native.Mathlib.Omega.{arith}
+use borrow.Author.Needs.{needs}
 
 
 use lib.ListN.{drop}
@@ -21,22 +22,21 @@ abbrev μ-loop : tie.MeasureT-loop
 loop-holds : tie.Need-loop-holds Inv-loop μ-loop
 loop-holds c = (omega arith, refl)
 
-wide-requires : tie.Need-wide-requires Inv-loop μ-loop
-wide-requires c κs = tt
-
 slot-named-requires : tie.Need-slot-named-requires Inv-loop μ-loop
-slot-named-requires c κs = (c .before .before .before .before .before .before .pre, omega arith)
+slot-named-requires c κs = (c .before .before .before .before .before .pre, omega arith)
+
+cast-result : tie.Need-cast-result Inv-loop μ-loop
+cast-result c = omega arith
 
 returns : tie.Need-returns Inv-loop μ-loop
-returns c = let k = c .before .before .before .before .loop .k in
-    let a = c .before .before .before .before .before .before .before .before .args in
+returns c = let k = c .before .before .before .loop .k in
+    let a = c .before .before .before .before .before .before .before .args in
     let table = a .table .now in
     let arena = a .arena .now in
     let name = a .name .now in
-    let here : c .before .before .wide .result ≡ k = c .before .before .wide .ensures in
-    let found : namedOn table arena name k ≡ true = ap (λ (j : ℕ). namedOn table arena name j) (sym here) ∙ sym (c .before .slot-named .ensures) ∙ c .if1 .taken in
+    let found : namedOn table arena name k ≡ true = sym (c .before .slot-named .ensures) ∙ c .if1 .taken in
     let next = residentFrom (k + 1) name (drop (k + 1) (slotsOn table arena)) in
-    sym (resident-turn table arena name k (omega arith) ∙ ap (λ (b : Bool). pick b k next) found) ∙ c .before .before .before .before .loop .inv .1
+    sym (resident-turn table arena name k (omega arith) ∙ ap (λ (b : Bool). pick b k next) found) ∙ c .before .before .before .loop .inv .1
 
 add-k : tie.Need-add-k Inv-loop μ-loop
 add-k c = omega arith
@@ -45,21 +45,22 @@ loop-less : tie.Need-loop-less Inv-loop μ-loop
 loop-less c = omega arith
 
 loop-again : tie.Need-loop-again Inv-loop μ-loop
-loop-again c = let k = c .before .before .before .before .loop .k in
-    let a = c .before .before .before .before .before .before .before .before .args in
+loop-again c = let k = c .before .before .before .loop .k in
+    let a = c .before .before .before .before .before .before .before .args in
     let table = a .table .now in
     let arena = a .arena .now in
     let name = a .name .now in
-    let here : c .before .before .wide .result ≡ k = c .before .before .wide .ensures in
-    let missed : namedOn table arena name k ≡ false = ap (λ (j : ℕ). namedOn table arena name j) (sym here) ∙ sym (c .before .slot-named .ensures) ∙ c .if1 .left in
+    let missed : namedOn table arena name k ≡ false = sym (c .before .slot-named .ensures) ∙ c .if1 .left in
     let next = residentFrom (k + 1) name (drop (k + 1) (slotsOn table arena)) in
-    (omega arith, sym (resident-turn table arena name k (omega arith) ∙ ap (λ (b : Bool). pick b k next) missed) ∙ c .before .before .before .before .loop .inv .1)
+    (omega arith, sym (resident-turn table arena name k (omega arith) ∙ ap (λ (b : Bool). pick b k next) missed) ∙ c .before .before .before .loop .inv .1)
+
+cast-result-2 : tie.Need-cast-result-2 Inv-loop μ-loop
+cast-result-2 c = omega arith
 
 returns-2 : tie.Need-returns-2 Inv-loop μ-loop
-returns-2 c = let k = c .before .loop .k in
+returns-2 c =
     let a = c .before .before .before .before .before .args in
-    let last : k ≡ 32 = omega arith in
-    sym last ∙ sym (resident-end (a .table .now) (a .arena .now) (a .name .now) k (omega arith)) ∙ c .before .loop .inv .1
+    sym (resident-end (a .table .now) (a .arena .now) (a .name .now) (c .before .loop .k) (omega arith)) ∙ c .before .loop .inv .1
 
 pub find-resident-spec : {M : Type 1} → statement M
 find-resident-spec =
@@ -68,10 +69,11 @@ find-resident-spec =
     Inv-loop
     μ-loop
     loop-holds
-    wide-requires
     slot-named-requires
+    cast-result
     returns
     add-k
     loop-less
     loop-again
+    cast-result-2
     returns-2)

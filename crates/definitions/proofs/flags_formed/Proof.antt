@@ -1,5 +1,5 @@
 use Rattle.definitions.specs.Checking.{flags-turn, flags-end}
-use Rattle.definitions.specs.Slots.{flagsOn}
+use Rattle.slots.specs.Slots.{flagsOn}
 use Rattle.model.specs.Formed.{flagsFormed}
 use Rattle.words.specs.Choice.{both}
 use Prim.Native.Nat.{_+_, _-_, _≤_}

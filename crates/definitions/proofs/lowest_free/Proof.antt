@@ -1,9 +1,9 @@
 use Rattle.model.specs.Engine as engine
-use Rattle.definitions.specs.Slots.{residentOn}
+use Rattle.slots.specs.Slots.{residentOn, slotsOn}
 use Rattle.words.specs.Choice.{pick, either}
 use mathlib.Core.Logic.{⊎-elim}
 use borrow.Author.Tests.{not-true, not-false}
-use Rattle.definitions.specs.Slots.{slotsOn, free-turn, free-end}
+use Rattle.definitions.specs.Slots.{free-turn, free-end}
 use Rattle.definitions.specs.Holders.{holders, held-holders}
 use Rattle.model.specs.Effects.{freeFrom}
 use Prim.Native.Nat.{ℕ, _+_, _-_, _≤_}

@@ -1,6 +1,6 @@
 use Rattle.definitions.specs.Checking.{resident-turn, resident-end}
 use Rattle.definitions.specs.Names.{namedOn}
-use Rattle.definitions.specs.Slots.{slotsOn}
+use Rattle.slots.specs.Slots.{slotsOn}
 use Rattle.model.specs.Formed.{nameResident}
 use Rattle.words.specs.Choice.{pick}
 use Prim.Native.Nat.{_+_, _-_, _≤_}

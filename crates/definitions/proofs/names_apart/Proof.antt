@@ -2,7 +2,7 @@ use borrow.Author.Tests.{not-true, not-false}
 use mathlib.Core.Logic.{⊎-elim}
 use Rattle.definitions.specs.Checking.{apart-turn, apart-end}
 use Rattle.definitions.specs.Names.{nameOn, named-there}
-use Rattle.definitions.specs.Slots.{slotsOn, residentOn}
+use Rattle.slots.specs.Slots.{slotsOn, residentOn}
 use Rattle.model.specs.Formed.{nameResident, namesApart}
 use Rattle.words.specs.Choice.{pick, both}
 use Prim.Native.Nat.{ℕ, _+_, _-_, _≤_, _<_}
@@ -34,16 +34,11 @@ mul-if1 c = omega arith
 shared-slice-read-if1 : tie.Need-shared-slice-read-if1 Inv-loop μ-loop
 shared-slice-read-if1 c = omega arith
 
-mul-name-at : tie.Need-mul-name-at Inv-loop μ-loop
-mul-name-at c = omega arith
-
-name-at-requires : tie.Need-name-at-requires Inv-loop μ-loop
-name-at-requires c κs = let s = c .before .before .before .before .before .before in
-    let a = s .args in
+slot-name-requires : tie.Need-slot-name-requires Inv-loop μ-loop
+slot-name-requires c κs =
+    let s = c .before .before .before .before .before .before in
     let k = c .before .before .before .loop .k in
-    let less : k < 32 = omega arith in
-    let in-slot : residentOn (a .table .now) k ≡ true = eq-eqb (getD (a .table .now) (32 + k) 0) 1 (c .if1 .taken) in
-    named-there (a .table .now) (a .arena .now) k (s .pre .sized) less (s .pre .resident k less in-slot) .inside
+    (s .pre, omega arith, eq-eqb (getD (s .args .table .now) (32 + k) 0) 1 (c .if1 .taken))
 
 add-name-apart : tie.Need-add-name-apart Inv-loop μ-loop
 add-name-apart c = omega arith
@@ -59,9 +54,8 @@ returns c = let s = c .before .before .before .before .before .before .before .b
     let arena = a .arena .now in
     let less : k < 32 = omega arith in
     let in-slot : residentOn table k ≡ true = eq-eqb (getD table (32 + k) 0) 1 (c .before .before .before .if1 .taken) in
-    let name = named-there table arena k (s .pre .sized) less (s .pre .resident k less in-slot) .same in
     let test : not (nameResident (nameOn table arena k) (drop (k + 1) (slotsOn table arena))) ≡ false =
-    ap (λ (n : List ℕ). not (nameResident n (drop (k + 1) (slotsOn table arena)))) (name ∙ sym (c .before .before .name-at .ensures)) ∙ sym (c .before .name-apart .ensures) ∙ not-true (c .before .name-apart .result) (c .if2 .taken) in
+    ap (λ (n : List ℕ). not (nameResident n (drop (k + 1) (slotsOn table arena)))) (sym (c .before .before .slot-name .ensures)) ∙ sym (c .before .name-apart .ensures) ∙ not-true (c .before .name-apart .result) (c .if2 .taken) in
     sym (rw (in-slot, test) at (apart-turn table arena k less)) ∙ c .before .before .before .before .before .before .loop .inv .1
 
 add-k : tie.Need-add-k Inv-loop μ-loop
@@ -82,8 +76,7 @@ loop-again c = let s = c .before .before .before .before .before .before in
     ⊎-elim
     (λ w.
     let in-slot : residentOn table k ≡ true = eq-eqb (getD table (32 + k) 0) 1 (w .0 .taken) in
-    let name = named-there table arena k (s .pre .sized) less (s .pre .resident k less in-slot) .same in
-    rw in-slot (ap (λ (n : List ℕ). not (nameResident n (drop (k + 1) (slotsOn table arena)))) (name ∙ sym (w .1 .ensures)) ∙ sym (w .2 .ensures) ∙ not-false (w .2 .result) (w .3 .left)))
+    rw in-slot (ap (λ (n : List ℕ). not (nameResident n (drop (k + 1) (slotsOn table arena)))) (sym (w .1 .ensures)) ∙ sym (w .2 .ensures) ∙ not-false (w .2 .result) (w .3 .left)))
     (λ w. rw (ne-eqb (getD table (32 + k) 0) 1 (w .left)))
     (c .if1 .came) in
     (omega arith, sym (apart-turn table arena k less ∙ ap (λ (b : Bool). both b rest) test) ∙ c .before .before .before .loop .inv .1)
@@ -102,8 +95,7 @@ names-apart-spec =
     add-if1
     mul-if1
     shared-slice-read-if1
-    mul-name-at
-    name-at-requires
+    slot-name-requires
     add-name-apart
     name-apart-requires
     returns

@@ -25,10 +25,7 @@ same-length : tie.Need-same-length
 same-length c = search needs
 
 returns : tie.Need-returns
-returns c = λ arena f.
-    let a = c .before .before .args in
-    let here : c .wide .result ≡ a .k = c .wide .ensures in
-    ap (λ (j : ℕ). set (a .table .now) (32 + j) 0) here ∙ retire-table (a .table .now) arena (a .k) f (c .before .before .pre .1)
+returns c = ap (λ (j : ℕ). set (c .before .before .args .table .now) (32 + j) 0) (c .wide .ensures)
 
 pub retire-spec : {M : Type 1} → statement M
 retire-spec =

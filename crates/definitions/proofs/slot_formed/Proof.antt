@@ -1,4 +1,4 @@
-use Rattle.definitions.specs.Slots.{residentOn, bytesOn}
+use Rattle.slots.specs.Slots.{residentOn, bytesOn}
 use Rattle.model.specs.Formed.{isWhole}
 use Rattle.model.specs.Engine as engine
 use Rattle.model.specs.Layout.{slotRoom}
@@ -34,29 +34,18 @@ returns c = λ t e.
     let free : engine.held (a .k) t ≡ false = sym e ∙ not-true (a .held) (c .if2 .taken) in
     rw (out, free)
 
-mul-wide : tie.Need-mul-wide
-mul-wide c = omega arith
-
-shared-slice-read-wide : tie.Need-shared-slice-read-wide
-shared-slice-read-wide c = omega arith
-
-wide-requires : tie.Need-wide-requires
-wide-requires c κs = tt
-
 bytes-formed-requires : tie.Need-bytes-formed-requires
-bytes-formed-requires c κs = (c .before .before .before .before .before .before .pre .0 .arenaSize, c .before .before .before .before .before .before .pre .1)
+bytes-formed-requires c κs = let s = c .before .before .before .before in (s .pre .0 .tableSize, s .pre .1)
 
 returns-2 : tie.Need-returns-2
 returns-2 c = λ t e.
-    let a = c .before .before .before .before .before .before .before .args in
+    let a = c .before .before .before .before .before .args in
     let taken : either (residentOn (a .table .now) (a .k)) (engine.held (a .k) t) ≡ true =
     ⊎-elim
     (λ w. rw (sym e, not-false (a .held) (w .1 .left)) (orTrue (residentOn (a .table .now) (a .k))))
     (λ w. rw (eq-eqb (getD (a .table .now) (32 + a .k) 0) 1 (w .left)))
-    (c .before .before .before .if1 .came) in
-    let size : c .before .wide .result ≡ getD (a .table .now) (a .k) 0 = c .before .wide .ensures in
+    (c .before .if1 .came) in
     c .bytes-formed .ensures
-    ∙ ap (λ (n : ℕ). both (leb n sizeLimit) (isWhole n (readDefinition (take n (take slotRoom (drop (slotRoom * a .k) (a .arena .now)))) 0))) size
     ∙ sym (ap (λ (b : Bool). pick b (both (leb (getD (a .table .now) (a .k) 0) sizeLimit) (isWhole (getD (a .table .now) (a .k) 0) (readDefinition (bytesOn (a .table .now) (a .arena .now) (a .k)) 0))) true) taken)
   where
     orTrue : (b : Bool) → either b true ≡ true
@@ -71,8 +60,5 @@ slot-formed-spec =
     mul-if1
     shared-slice-read-if1
     returns
-    mul-wide
-    shared-slice-read-wide
-    wide-requires
     bytes-formed-requires
     returns-2)

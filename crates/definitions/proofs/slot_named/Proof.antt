@@ -1,5 +1,5 @@
 use Rattle.definitions.specs.Names.{nameOn, named-there}
-use Rattle.definitions.specs.Slots.{residentOn}
+use Rattle.slots.specs.Slots.{residentOn}
 use Rattle.format.specs.Reader.{sameName}
 use Rattle.words.specs.Choice.{both}
 use Prim.Native.Nat.{ℕ, _+_}
@@ -28,27 +28,20 @@ returns c = let a = c .before .before .before .before .before .args in
     let out : residentOn (a .table .now) (a .k) ≡ false = ne-eqb (getD (a .table .now) (32 + a .k) 0) 1 (c .if1 .taken) in
     rw out
 
-mul-name-at : tie.Need-mul-name-at
-mul-name-at c = search needs
-
-name-at-requires : tie.Need-name-at-requires
-name-at-requires c κs = let s = c .before .before .before .before .before in
-    let a = s .args in
-    let p = s .pre in
-    let in-slot : residentOn (a .table .now) (a .k) ≡ true = eq-eqb (getD (a .table .now) (32 + a .k) 0) 1 (c .if1 .left) in
-    named-there (a .table .now) (a .arena .now) (a .k) (p .0 .sized) (p .1) (p .0 .resident (a .k) (p .1) in-slot) .inside
+slot-name-requires : tie.Need-slot-name-requires
+slot-name-requires c κs =
+    let s = c .before .before .before .before .before in
+    (s .pre .0, s .pre .1, eq-eqb (getD (s .args .table .now) (32 + s .args .k) 0) 1 (c .if1 .left))
 
 same-name-requires : tie.Need-same-name-requires
 same-name-requires c κs = search needs
 
 returns-2 : tie.Need-returns-2
-returns-2 c = let s = c .before .before .before .before .before .before .before in
-    let a = s .args in
-    let p = s .pre in
+returns-2 c =
+    let a = c .before .before .before .before .before .before .before .args in
     let in-slot : residentOn (a .table .now) (a .k) ≡ true = eq-eqb (getD (a .table .now) (32 + a .k) 0) 1 (c .before .before .if1 .left) in
-    let name = named-there (a .table .now) (a .arena .now) (a .k) (p .0 .sized) (p .1) (p .0 .resident (a .k) (p .1) in-slot) .same in
     c .same-name .ensures
-    ∙ ap (λ (n : List ℕ). sameName n (a .name .now)) (c .before .name-at .ensures ∙ sym name)
+    ∙ ap (λ (n : List ℕ). sameName n (a .name .now)) (c .before .slot-name .ensures)
     ∙ sym (ap (λ (b : Bool). both b (sameName (nameOn (a .table .now) (a .arena .now) (a .k)) (a .name .now))) in-slot)
 
 pub slot-named-spec : {M : Type 1} → statement M
@@ -59,7 +52,6 @@ slot-named-spec =
     mul-if1
     shared-slice-read-if1
     returns
-    mul-name-at
-    name-at-requires
+    slot-name-requires
     same-name-requires
     returns-2)

@@ -1,5 +1,5 @@
 use Rattle.definitions.specs.Checking.{check-formed}
-use Rattle.definitions.specs.Slots.{lengthsOn, flagsOn, slotsOn}
+use Rattle.slots.specs.Slots.{lengthsOn, flagsOn, slotsOn}
 use Rattle.definitions.specs.Holders.{holders}
 use Rattle.model.specs.Formed.{flagsFormed, slotsFormed}
 use borrow.Author.Tests.{not-true, not-false}

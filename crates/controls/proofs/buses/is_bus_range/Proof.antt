@@ -1,14 +1,25 @@
-use mathlib.Core.Path.{sym}
+use Prim.Native.Nat.{ℕ, _-_}
+use mathlib.Core.Path.{sym, ap₂, _∙_}
 use native.Mathlib.Omega.{arith}
+use borrow.Author.Needs.{needs}
+use lib.Dec.{leb}
 use Rattle.controls.specs.BusLaws.{range-past, range-within}
 use Rattle.controls.proofs.buses.is_bus_range.Statement.{statement}
 use Rattle.controls.proofs.buses.is_bus_range.Tie as tie
 
+wide-requires : tie.Need-wide-requires
+wide-requires c κs = search needs
+
 returns : tie.Need-returns
-returns c = sym (range-past (c .before .args .start) (c .before .args .count) (omega arith))
+returns c = sym (range-past (c .before .before .args .start) (c .before .before .args .count) (omega arith))
+
+wide-requires-2 : tie.Need-wide-requires-2
+wide-requires-2 c κs = search needs
 
 returns-2 : tie.Need-returns-2
-returns-2 c = sym (range-within (c .before .args .start) (c .before .args .count) (omega arith))
+returns-2 c =
+    let a = c .before .before .before .args in
+    ap₂ (λ (x y : ℕ). leb x (4096 - y)) (c .wide2 .ensures) (c .before .before .wide .ensures) ∙ sym (range-within (a .start) (a .count) (omega arith))
 
 pub is-bus-range-spec : {M : Type 1} → statement M
-is-bus-range-spec = tie.close (tie.spec returns returns-2)
+is-bus-range-spec = tie.close (tie.spec wide-requires returns wide-requires-2 returns-2)

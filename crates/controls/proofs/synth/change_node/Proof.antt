@@ -12,20 +12,8 @@ use lib.ListN.{length}
 use Rattle.controls.proofs.synth.change_node.Statement.{statement}
 use Rattle.controls.proofs.synth.change_node.Tie as tie
 
-mul-row : tie.Need-mul-row
-mul-row c = search needs
-
-add-row : tie.Need-add-row
-add-row c = search needs
-
-add-row-2 : tie.Need-add-row-2
-add-row-2 c = search needs
-
-mul-row-2 : tie.Need-mul-row-2
-mul-row-2 c = search needs
-
-slice-read-row : tie.Need-slice-read-row
-slice-read-row c = search needs
+node-row-requires : tie.Need-node-row-requires
+node-row-requires c κs = search needs
 
 sub-change-row : tie.Need-sub-change-row
 sub-change-row c = search needs
@@ -38,9 +26,9 @@ part-change-row-end c = search needs
 
 change-row-requires : tie.Need-change-row-requires
 change-row-requires c κs =
-    let a = c .before .before .before in
+    let a = c .before .before .before .before in
     let ws = a .args .words .now in
-    let row = row-word ws (a .args .place) (a .pre .1) in
+    let row = c .before .node-row .ensures in
     let low = a .pre .2 in
     let few = a .pre .3 in
     let long : length (region 1603 16384 ws) ≡ 16384 = region-length 1603 16384 ws (omega (arith, a .pre .0)) in
@@ -51,21 +39,17 @@ same-length c = search needs
 
 returns : tie.Need-returns
 returns c =
-    let a = c .before .before .before .before .before .before in
+    let a = c .before .before .before .before .before .before .before in
     let ws = a .args .words .now in
     ap (λ (l : List ℕ). putControls l ws)
     (c .before .before .change-row .ensures
-    ∙ ap (λ (row : ℕ). changeRow (changeOf (a .args .change)) row (a .args .reach .start) (a .args .count) (a .args .reach .controls) (controlsIn ws)) (sym (row-word ws (a .args .place) (a .pre .1))))
+    ∙ ap (λ (row : ℕ). changeRow (changeOf (a .args .change)) row (a .args .reach .start) (a .args .count) (a .args .reach .controls) (controlsIn ws)) (c .before .before .before .before .node-row .ensures))
 
 pub change-node-spec : {M : Type 1} → statement M
 change-node-spec =
     tie.close
     (tie.spec
-    mul-row
-    add-row
-    add-row-2
-    mul-row-2
-    slice-read-row
+    node-row-requires
     sub-change-row
     part-change-row-start
     part-change-row-end

@@ -37,24 +37,27 @@ loop-holds c =
     let a = c .before .before .before .args in
     (omega arith, ap (λ (n : ℕ). mappingsFormed n (drop (64 * a .row) (a .controls .now))) (sub-zero (c .wide2 .result)))
 
-mul-if1 : tie.Need-mul-if1 Inv-loop μ-loop
-mul-if1 c = omega arith
+mul-wide : tie.Need-mul-wide Inv-loop μ-loop
+mul-wide c = omega arith
 
-add-if1 : tie.Need-add-if1 Inv-loop μ-loop
-add-if1 c = omega arith
+add-wide : tie.Need-add-wide Inv-loop μ-loop
+add-wide c = omega arith
 
-mul-if1-2 : tie.Need-mul-if1-2 Inv-loop μ-loop
-mul-if1-2 c = omega arith
+mul-wide-2 : tie.Need-mul-wide-2 Inv-loop μ-loop
+mul-wide-2 c = omega arith
 
-shared-slice-read-if1 : tie.Need-shared-slice-read-if1 Inv-loop μ-loop
-shared-slice-read-if1 c = omega arith
+shared-slice-read-wide : tie.Need-shared-slice-read-wide Inv-loop μ-loop
+shared-slice-read-wide c = omega arith
+
+wide-requires-3 : tie.Need-wide-requires-3 Inv-loop μ-loop
+wide-requires-3 c κs = tt
 
 returns : tie.Need-returns Inv-loop μ-loop
 returns c =
-    let a = c .before .before .before .before .before .before .before .args in
-    let l = c .before .before .before .loop in
+    let a = c .before .before .before .before .before .before .before .before .args in
+    let l = c .before .before .before .before .loop in
     let us = drop (64 * a .row) (a .controls .now) in
-    let w = c .before .before .before .before in
+    let w = c .before .before .before .before .before in
     let place : 64 * a .row + (2 * l .i + 1) ≡ 64 * w .before .wide .result + 1 + 2 * l .i = omega arith in
     let word : getD us (2 * l .i + 1) 0 ≡ getD (a .controls .now) (64 * w .before .wide .result + 1 + 2 * l .i) 0 =
     getD-drop (64 * a .row) (a .controls .now) (2 * l .i + 1) 0 ∙ ap (λ (k : ℕ). getD (a .controls .now) k 0) place in
@@ -71,10 +74,10 @@ loop-less c = omega arith
 
 loop-again : tie.Need-loop-again Inv-loop μ-loop
 loop-again c =
-    let a = c .before .before .before .before .before .before .before .args in
-    let l = c .before .before .before .loop in
+    let a = c .before .before .before .before .before .before .before .before .args in
+    let l = c .before .before .before .before .loop in
     let us = drop (64 * a .row) (a .controls .now) in
-    let w = c .before .before .before .before in
+    let w = c .before .before .before .before .before in
     let place : 64 * a .row + (2 * l .i + 1) ≡ 64 * w .before .wide .result + 1 + 2 * l .i = omega arith in
     let word : getD us (2 * l .i + 1) 0 ≡ getD (a .controls .now) (64 * w .before .wide .result + 1 + 2 * l .i) 0 =
     getD-drop (64 * a .row) (a .controls .now) (2 * l .i + 1) 0 ∙ ap (λ (k : ℕ). getD (a .controls .now) k 0) place in
@@ -102,10 +105,11 @@ row-formed-spec =
     add-start
     wide-requires-2
     loop-holds
-    mul-if1
-    add-if1
-    mul-if1-2
-    shared-slice-read-if1
+    mul-wide
+    add-wide
+    mul-wide-2
+    shared-slice-read-wide
+    wide-requires-3
     returns
     add-i
     loop-less

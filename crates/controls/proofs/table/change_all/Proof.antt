@@ -1,10 +1,9 @@
 use mathlib.Core.Logic.{⊎-elim}
-use lib.ListN.{getD}
-use Prim.{tt}
 use Prim.Native.Nat.{ℕ, _-_, _<_}
-use mathlib.Core.Path.{_≡_, refl, sym, ap, _∙_, subst}
+use mathlib.Core.Path.{_≡_, refl, sym, ap, _∙_}
 use mathlib.Core.List.{List}
 use native.Mathlib.Omega.{arith}
+use borrow.Author.Tests.{not-true, not-false}
 use borrow.Author.Needs.{needs}
 use lib.ListN.{length, take, drop}
 use Rattle.model.specs.Layout.{wordsLength, countIn, nodesIn, controlsIn, putControls}
@@ -12,10 +11,11 @@ use Rattle.model.specs.Engine.{decode}
 use Rattle.model.specs.Effects.{changeAll}
 use Rattle.controls.specs.Change.{changeOf}
 use Rattle.controls.specs.Synth.{same-controls}
-use Rattle.controls.specs.All.{synth-lent, bounds-lent, reach-change, no-change, turned, all-none}
-use Rattle.controls.specs.Ready.{slotBytes}
+use Rattle.controls.specs.All.{synth-lent, reach-change, no-change, turned, all-none}
+use Rattle.slots.specs.Slots.{slotBytes}
+use Rattle.controls.specs.Ready.{nodeIn}
 use Rattle.controls.specs.Noted.{noted-none, noted-more}
-use Rattle.controls.specs.Reach.{Reaches, Reached, noReach}
+use Rattle.controls.specs.Reach.{reachIn, reach-few, Reached, noReach}
 use Rattle.controls.proofs.table.change_all.Statement.{statement}
 use Rattle.controls.proofs.table.change_all.Tie as tie
 
@@ -35,81 +35,79 @@ loop-holds c =
     let a = s .args in
     (s .pre .0 .size, sym (same-controls (a .words .now)), refl, noted-none _ _ noReach refl)
 
-mul-slot : tie.Need-mul-slot Inv-loop μ-loop
-mul-slot c = omega arith
+node-is-group-requires : tie.Need-node-is-group-requires Inv-loop μ-loop
+node-is-group-requires c κs =
+    let s = c .before .before .before .before .before .before in
+    let l = c .before .before .loop in
+    (l .inv .0, omega (arith, s .pre .1, s .pre .0 .few))
 
-add-slot : tie.Need-add-slot Inv-loop μ-loop
-add-slot c = omega arith
-
-add-slot-2 : tie.Need-add-slot-2 Inv-loop μ-loop
-add-slot-2 c = omega arith
-
-mul-slot-2 : tie.Need-mul-slot-2 Inv-loop μ-loop
-mul-slot-2 c = omega arith
-
-slice-read-slot : tie.Need-slice-read-slot Inv-loop μ-loop
-slice-read-slot c = omega arith
-
-wide-requires : tie.Need-wide-requires Inv-loop μ-loop
-wide-requires c κs = tt
+node-slot-requires : tie.Need-node-slot-requires Inv-loop μ-loop
+node-slot-requires c κs =
+    let s = c .before .before .before .before .before .before .before .before .before in
+    let l = c .before .before .before .before .before .loop in
+    (l .inv .0, omega (arith, s .pre .1, s .pre .0 .few))
 
 mul-slot-reach : tie.Need-mul-slot-reach Inv-loop μ-loop
 mul-slot-reach c =
-    let s = c .before .before .before .before .before .before .before .before .before in
+    let s = c .before .before .before .before .before .before .before .before .before .before .before in
     let a = s .args in
-    let l = c .before .before .before .before .before .loop in
-    let w = synth-lent (a .words .now) (a .arena .now) (l .words) (l .i) (s .pre .0) (l .inv .0) (l .inv .1) (omega (arith, s .pre .1)) (c .before .before .if1 .taken) in
-    let same = c .before .wide .ensures in
-    omega (arith, w .low)
+    let l = c .before .before .before .before .before .before .before .loop in
+    let single = sym (c .before .before .before .before .node-is-group .ensures) ∙ not-true (c .before .before .before .before .node-is-group .result) (c .before .before .before .if1 .taken) in
+    let w = synth-lent (a .words .now) (a .arena .now) (l .words) (l .i) (s .pre .0) (l .inv .0) (l .inv .1) (omega (arith, s .pre .1)) single in
+    omega (arith, w .slot, c .before .node-slot .ensures)
 
 array-copy-out-slot-reach : tie.Need-array-copy-out-slot-reach Inv-loop μ-loop
 array-copy-out-slot-reach c =
-    let s = c .before .before .before .before .before .before .before .before .before in
+    let s = c .before .before .before .before .before .before .before .before .before .before .before in
     let a = s .args in
-    let l = c .before .before .before .before .before .loop in
-    let w = synth-lent (a .words .now) (a .arena .now) (l .words) (l .i) (s .pre .0) (l .inv .0) (l .inv .1) (omega (arith, s .pre .1)) (c .before .before .if1 .taken) in
-    let same = c .before .wide .ensures in
-    omega (arith, w .low)
+    let l = c .before .before .before .before .before .before .before .loop in
+    let single = sym (c .before .before .before .before .node-is-group .ensures) ∙ not-true (c .before .before .before .before .node-is-group .result) (c .before .before .before .if1 .taken) in
+    let w = synth-lent (a .words .now) (a .arena .now) (l .words) (l .i) (s .pre .0) (l .inv .0) (l .inv .1) (omega (arith, s .pre .1)) single in
+    omega (arith, w .slot, c .before .node-slot .ensures)
 
 slot-reach-requires : tie.Need-slot-reach-requires Inv-loop μ-loop
 slot-reach-requires c κs =
-    let s = c .before .before .before .before .before .before .before .before .before .before in
+    let s = c .before .before .before .before .before .before .before .before .before .before .before .before in
     let a = s .args in
-    let l = c .before .before .before .before .before .before .loop in
-    let w = synth-lent (a .words .now) (a .arena .now) (l .words) (l .i) (s .pre .0) (l .inv .0) (l .inv .1) (omega (arith, s .pre .1)) (c .before .before .before .if1 .taken) in
-    let same = c .before .before .wide .ensures in (
+    let l = c .before .before .before .before .before .before .before .before .loop in
+    let single = sym (c .before .before .before .before .before .node-is-group .ensures) ∙ not-true (c .before .before .before .before .before .node-is-group .result) (c .before .before .before .before .if1 .taken) in
+    let w = synth-lent (a .words .now) (a .arena .now) (l .words) (l .i) (s .pre .0) (l .inv .0) (l .inv .1) (omega (arith, s .pre .1)) single in
+    let slot = c .before .before .node-slot .result in
+    let here : slot ≡ nodeIn (l .words) (l .i) .slot = c .before .before .node-slot .ensures in (
       l .inv .0,
-      w .low,
-      w .readable,
-      λ other. subst (λ (bytes : List ℕ). Reaches (a .key) (a .name .now) bytes (getD (l .reaches) (c .before .before .wide .result) (record { start = 0; controls = 0 }))) (ap (slotBytes (a .words .now) (a .arena .now)) same ∙ sym (w .kept)) (l .inv .3 .same (record { start = 0; controls = 0 }) (c .before .before .wide .result) (omega (arith, w .low)) other),
+      rw here (w .slot),
+      rw here (w .readable),
+      λ other.
+          l .inv .3 .same (record { start = 0; controls = 0 }) slot (rw here (w .slot)) other
+          ∙ ap (reachIn (a .key) (a .name .now)) (ap (slotBytes (a .words .now) (a .arena .now)) here ∙ sym (w .kept) ∙ ap (slotBytes (l .words) (a .arena .now)) (sym here)),
     )
 
 mul-reaches : tie.Need-mul-reaches Inv-loop μ-loop
 mul-reaches c =
-    let s = c .before .before .before .before .before .before .before .before .before .before .before in
+    let s = c .before .before .before .before .before .before .before .before .before .before .before .before .before in
     let a = s .args in
-    let l = c .before .before .before .before .before .before .before .loop in
-    let w = synth-lent (a .words .now) (a .arena .now) (l .words) (l .i) (s .pre .0) (l .inv .0) (l .inv .1) (omega (arith, s .pre .1)) (c .before .before .before .before .if1 .taken) in
-    let same = c .before .before .before .wide .ensures in
-    omega (arith, w .low)
+    let l = c .before .before .before .before .before .before .before .before .before .loop in
+    let single = sym (c .before .before .before .before .before .before .node-is-group .ensures) ∙ not-true (c .before .before .before .before .before .before .node-is-group .result) (c .before .before .before .before .before .if1 .taken) in
+    let w = synth-lent (a .words .now) (a .arena .now) (l .words) (l .i) (s .pre .0) (l .inv .0) (l .inv .1) (omega (arith, s .pre .1)) single in
+    omega (arith, w .slot, c .before .before .before .node-slot .ensures)
 
 array-set-from-reaches : tie.Need-array-set-from-reaches Inv-loop μ-loop
 array-set-from-reaches c =
-    let s = c .before .before .before .before .before .before .before .before .before .before .before in
+    let s = c .before .before .before .before .before .before .before .before .before .before .before .before .before in
     let a = s .args in
-    let l = c .before .before .before .before .before .before .before .loop in
-    let w = synth-lent (a .words .now) (a .arena .now) (l .words) (l .i) (s .pre .0) (l .inv .0) (l .inv .1) (omega (arith, s .pre .1)) (c .before .before .before .before .if1 .taken) in
-    let same = c .before .before .before .wide .ensures in
-    omega (arith, w .low)
+    let l = c .before .before .before .before .before .before .before .before .before .loop in
+    let single = sym (c .before .before .before .before .before .before .node-is-group .ensures) ∙ not-true (c .before .before .before .before .before .before .node-is-group .result) (c .before .before .before .before .before .if1 .taken) in
+    let w = synth-lent (a .words .now) (a .arena .now) (l .words) (l .i) (s .pre .0) (l .inv .0) (l .inv .1) (omega (arith, s .pre .1)) single in
+    omega (arith, w .slot, c .before .before .before .node-slot .ensures)
 
 change-node-requires : tie.Need-change-node-requires Inv-loop μ-loop
 change-node-requires c κs =
-    let s = c .before .before .before .before .before .before .before .before .before .before .before .before in
+    let s = c .before .before .before .before .before .before .before .before .before .before .before .before .before .before in
     let a = s .args in
-    let l = c .before .before .before .before .before .before .before .before .loop in
-    let w = synth-lent (a .words .now) (a .arena .now) (l .words) (l .i) (s .pre .0) (l .inv .0) (l .inv .1) (omega (arith, s .pre .1)) (c .before .before .before .before .before .if1 .taken) in
-    let same = c .before .before .before .before .wide .ensures in
-    (l .inv .0, w .place, w .row, c .before .slot-reach .ensures .few)
+    let l = c .before .before .before .before .before .before .before .before .before .before .loop in
+    let single = sym (c .before .before .before .before .before .before .before .node-is-group .ensures) ∙ not-true (c .before .before .before .before .before .before .before .node-is-group .result) (c .before .before .before .before .before .before .if1 .taken) in
+    let w = synth-lent (a .words .now) (a .arena .now) (l .words) (l .i) (s .pre .0) (l .inv .0) (l .inv .1) (omega (arith, s .pre .1)) single in
+    (l .inv .0, w .place, w .row, rw (c .before .slot-reach .ensures) (reach-few (a .key) (a .name .now) (slotBytes (l .words) (a .arena .now) (c .before .before .before .before .node-slot .result))))
 
 add-i : tie.Need-add-i Inv-loop μ-loop
 add-i c = omega arith
@@ -119,28 +117,31 @@ loop-less c = omega arith
 
 loop-again : tie.Need-loop-again Inv-loop μ-loop
 loop-again c =
-    let s = c .before .before .before .before .before .before .before in
+    let s = c .before .before .before .before .before .before .before .before in
     let a = s .args in
-    let l = c .before .before .before .loop in
+    let l = c .before .before .before .before .loop in
+    let group = c .before .node-is-group in
     let f = changeOf (a .change) in
     let live : l .i < countIn (a .words .now) = omega (arith, s .pre .1) in
     ⊎-elim
     (λ w.
-    let other = w .0 .taken in
-    let e = synth-lent (a .words .now) (a .arena .now) (l .words) (l .i) (s .pre .0) (l .inv .0) (l .inv .1) live other in
-    let fact = w .6 .ensures ∙ ap (λ (cs : List ℕ). putControls cs (l .words)) (reach-change f (a .key) (a .name .now) (a .count) (l .words) (a .arena .now) (l .i) (e .place) (w .4 .result) other (w .4 .ensures)) in
+    let single = sym (group .ensures) ∙ not-true (group .result) (w .0 .taken) in
+    let e = synth-lent (a .words .now) (a .arena .now) (l .words) (l .i) (s .pre .0) (l .inv .0) (l .inv .1) live single in
+    let slot = w .2 .result in
+    let here : slot ≡ nodeIn (l .words) (l .i) .slot = w .2 .ensures in
+    let reach = w .5 .ensures ∙ ap (λ (k : ℕ). reachIn (a .key) (a .name .now) (slotBytes (l .words) (a .arena .now) k)) here in
+    let fact = w .7 .ensures ∙ ap (λ (cs : List ℕ). putControls cs (l .words)) (reach-change f (a .key) (a .name .now) (a .count) (l .words) (a .arena .now) (l .i) single (w .5 .result) reach) in
     let t =
-    turned f (a .key) (a .name .now) (a .count) (a .words .now) (a .arena .now) (a .to) (l .i) (l .words) (w .6 .last .0)
-    (s .pre .0) (omega arith) (s .pre .1) (l .inv .0) (l .inv .1) (w .6 .kept .0) fact in
-    let here =
-    subst (λ (bytes : List ℕ). Reaches (a .key) (a .name .now) bytes (w .4 .result)) (e .kept ∙ ap (slotBytes (a .words .now) (a .arena .now)) (sym (w .1 .ensures))) (w .4 .ensures) in
-    let more = noted-more _ _ (l .reaches) (l .inv .3) (w .1 .result) (w .4 .result) (omega (arith, e .low, w .1 .ensures)) here in
-    (rw (w .9) (t .size), rw (w .9) (t .rest), rw (w .9) (t .left ∙ l .inv .2), rw (w .10) more))
+    turned f (a .key) (a .name .now) (a .count) (a .words .now) (a .arena .now) (a .to) (l .i) (l .words) (w .7 .last .0)
+    (s .pre .0) (omega arith) (s .pre .1) (l .inv .0) (l .inv .1) (w .7 .kept .0) fact in
+    let noted = reach ∙ ap (reachIn (a .key) (a .name .now)) (e .kept ∙ ap (slotBytes (a .words .now) (a .arena .now)) (sym here)) in
+    let more = noted-more _ _ (l .reaches) (l .inv .3) slot (w .5 .result) (rw here (e .slot)) noted in
+    (rw (w .10) (t .size), rw (w .10) (t .rest), rw (w .10) (t .left ∙ l .inv .2), rw (w .11) more))
     (λ w.
-    let b = bounds-lent (a .words .now) (a .arena .now) (l .words) (l .i) (s .pre .0) (l .inv .0) (l .inv .1) live in
+    let whole = sym (group .ensures) ∙ not-false (group .result) (w .0 .left) in
     let t =
     turned f (a .key) (a .name .now) (a .count) (a .words .now) (a .arena .now) (a .to) (l .i) (l .words) (l .words)
-    (s .pre .0) (omega arith) (s .pre .1) (l .inv .0) (l .inv .1) refl (no-change f (a .key) (a .name .now) (a .count) (l .words) (a .arena .now) (l .i) (b .place) (w .0 .left)) in
+    (s .pre .0) (omega arith) (s .pre .1) (l .inv .0) (l .inv .1) refl (no-change f (a .key) (a .name .now) (a .count) (l .words) (a .arena .now) (l .i) whole) in
     (rw (w .1) (t .size), rw (w .1) (t .rest), rw (w .1) (t .left ∙ l .inv .2), rw (w .2) (l .inv .3)))
     (c .if1 .came)
 
@@ -163,12 +164,8 @@ change-all-spec =
     Inv-loop
     μ-loop
     loop-holds
-    mul-slot
-    add-slot
-    add-slot-2
-    mul-slot-2
-    slice-read-slot
-    wide-requires
+    node-is-group-requires
+    node-slot-requires
     mul-slot-reach
     array-copy-out-slot-reach
     slot-reach-requires

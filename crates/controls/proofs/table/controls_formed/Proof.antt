@@ -1,8 +1,8 @@
 use Prim.{tt}
-use Prim.Native.Nat.{ℕ, _+_, _*_}
-use mathlib.Core.Path.{ap}
+use Prim.Native.Nat.{ℕ, _*_, _<_}
+use mathlib.Core.Path.{ap, ap₂}
 use mathlib.Core.Logic.{⊎-elim}
-use lib.ListN.{length, getD}
+use lib.ListN.{length}
 use Prim.Native.Nat.{_-_}
 use mathlib.Core.Bool.{true, false}
 use mathlib.Core.Path.{_≡_, refl, sym, _∙_}
@@ -12,7 +12,8 @@ use lib.ListN.{drop}
 use Rattle.model.specs.Layout.{nodesIn, controlsIn}
 use Rattle.model.specs.Engine.{decode}
 use Rattle.model.specs.Formed.{mappingsFormed, controlsFormed}
-use Rattle.controls.specs.Formed.{nodeFormed, formed-group, formed-turn, formed-end, bounds-ready, synth-here}
+use Rattle.controls.specs.Formed.{nodeFormed, formed-turn, formed-end, synth-here}
+use Rattle.controls.specs.Ready.{nodeIn}
 use Rattle.words.specs.Parts.{region, region-length}
 use Rattle.controls.specs.Noted.{noted-none, noted-more}
 use Rattle.controls.specs.Reach.{unknown, controlsOn, Counted}
@@ -36,23 +37,11 @@ wide-requires c κs = tt
 loop-holds : tie.Need-loop-holds Inv-loop μ-loop
 loop-holds c = (refl, noted-none _ _ unknown refl)
 
-mul-slot : tie.Need-mul-slot Inv-loop μ-loop
-mul-slot c = omega arith
+node-is-group-requires : tie.Need-node-is-group-requires Inv-loop μ-loop
+node-is-group-requires c κs = let s = c .before .before .before .before .before .before in (s .pre .size, omega (arith, s .pre .few))
 
-add-slot : tie.Need-add-slot Inv-loop μ-loop
-add-slot c = omega arith
-
-add-slot-2 : tie.Need-add-slot-2 Inv-loop μ-loop
-add-slot-2 c = omega arith
-
-mul-slot-2 : tie.Need-mul-slot-2 Inv-loop μ-loop
-mul-slot-2 c = omega arith
-
-shared-slice-read-slot : tie.Need-shared-slice-read-slot Inv-loop μ-loop
-shared-slice-read-slot c = omega arith
-
-wide-requires-2 : tie.Need-wide-requires-2 Inv-loop μ-loop
-wide-requires-2 c κs = tt
+node-slot-requires : tie.Need-node-slot-requires Inv-loop μ-loop
+node-slot-requires c κs = let s = c .before .before .before .before .before .before .before .before in (s .pre .size, omega (arith, s .pre .few))
 
 mul-slot-controls : tie.Need-mul-slot-controls Inv-loop μ-loop
 mul-slot-controls c =
@@ -60,9 +49,9 @@ mul-slot-controls c =
     let ws = s .args .words .now in
     let arena = s .args .arena .now in
     let l = c .before .before .before .before .loop in
-    let h = synth-here ws arena (s .pre) (l .i) (omega arith) (c .before .if1 .taken) in
-    let same = c .wide2 .ensures in
-    omega (arith, h .low)
+    let single = sym (c .before .before .node-is-group .ensures) ∙ not-true (c .before .before .node-is-group .result) (c .before .if1 .taken) in
+    let h = synth-here ws arena (s .pre) (l .i) (omega arith) single in
+    omega (arith, h .bounds .slot single, c .node-slot .ensures)
 
 array-read-slot-controls : tie.Need-array-read-slot-controls Inv-loop μ-loop
 array-read-slot-controls c =
@@ -70,9 +59,9 @@ array-read-slot-controls c =
     let ws = s .args .words .now in
     let arena = s .args .arena .now in
     let l = c .before .before .before .before .loop in
-    let h = synth-here ws arena (s .pre) (l .i) (omega arith) (c .before .if1 .taken) in
-    let same = c .wide2 .ensures in
-    omega (arith, h .low)
+    let single = sym (c .before .before .node-is-group .ensures) ∙ not-true (c .before .before .node-is-group .result) (c .before .if1 .taken) in
+    let h = synth-here ws arena (s .pre) (l .i) (omega arith) single in
+    omega (arith, h .bounds .slot single, c .node-slot .ensures)
 
 slot-controls-requires : tie.Need-slot-controls-requires Inv-loop μ-loop
 slot-controls-requires c κs =
@@ -80,13 +69,12 @@ slot-controls-requires c κs =
     let ws = s .args .words .now in
     let arena = s .args .arena .now in
     let l = c .before .before .before .before .loop in
-    let h = synth-here ws arena (s .pre) (l .i) (omega arith) (c .before .if1 .taken) in
-    let same = c .wide2 .ensures in (
-      s .pre .size,
-      h .low,
-      h .readable,
-      λ other. l .inv .1 .same 0 (c .wide2 .result) (omega (arith, h .low)) other ∙ ap (controlsOn ws arena) same,
-    )
+    let single = sym (c .before .before .node-is-group .ensures) ∙ not-true (c .before .before .node-is-group .result) (c .before .if1 .taken) in
+    let h = synth-here ws arena (s .pre) (l .i) (omega arith) single in
+    let slot = c .node-slot .result in
+    let here : slot ≡ nodeIn ws (l .i) .slot = c .node-slot .ensures in
+    let low : slot < 32 = rw here (h .bounds .slot single) in
+    (s .pre .size, low, rw here (h .bounds .readable single), λ other. l .inv .1 .same 0 slot low other)
 
 mul-known : tie.Need-mul-known Inv-loop μ-loop
 mul-known c =
@@ -94,9 +82,9 @@ mul-known c =
     let ws = s .args .words .now in
     let arena = s .args .arena .now in
     let l = c .before .before .before .before .before .loop in
-    let h = synth-here ws arena (s .pre) (l .i) (omega arith) (c .before .before .if1 .taken) in
-    let same = c .before .wide2 .ensures in
-    omega (arith, h .low)
+    let single = sym (c .before .before .before .node-is-group .ensures) ∙ not-true (c .before .before .before .node-is-group .result) (c .before .before .if1 .taken) in
+    let h = synth-here ws arena (s .pre) (l .i) (omega arith) single in
+    omega (arith, h .bounds .slot single, c .before .node-slot .ensures)
 
 array-write-known : tie.Need-array-write-known Inv-loop μ-loop
 array-write-known c =
@@ -104,35 +92,21 @@ array-write-known c =
     let ws = s .args .words .now in
     let arena = s .args .arena .now in
     let l = c .before .before .before .before .before .loop in
-    let h = synth-here ws arena (s .pre) (l .i) (omega arith) (c .before .before .if1 .taken) in
-    let same = c .before .wide2 .ensures in
-    omega (arith, h .low)
+    let single = sym (c .before .before .before .node-is-group .ensures) ∙ not-true (c .before .before .before .node-is-group .result) (c .before .before .if1 .taken) in
+    let h = synth-here ws arena (s .pre) (l .i) (omega arith) single in
+    omega (arith, h .bounds .slot single, c .before .node-slot .ensures)
 
 sub-row-formed : tie.Need-sub-row-formed Inv-loop μ-loop
 sub-row-formed c = omega arith
 
 part-row-formed-start : tie.Need-part-row-formed-start Inv-loop μ-loop
-part-row-formed-start c =
-    omega arith
+part-row-formed-start c = omega arith
 
 part-row-formed-end : tie.Need-part-row-formed-end Inv-loop μ-loop
-part-row-formed-end c =
-    omega (arith, c .before .before .before .before .before .before .before .before .before .before .pre .size)
+part-row-formed-end c = omega (arith, c .before .before .before .before .before .before .before .before .before .before .pre .size)
 
-mul-row-formed : tie.Need-mul-row-formed Inv-loop μ-loop
-mul-row-formed c = omega arith
-
-add-row-formed : tie.Need-add-row-formed Inv-loop μ-loop
-add-row-formed c = omega arith
-
-add-row-formed-2 : tie.Need-add-row-formed-2 Inv-loop μ-loop
-add-row-formed-2 c = omega arith
-
-mul-row-formed-2 : tie.Need-mul-row-formed-2 Inv-loop μ-loop
-mul-row-formed-2 c = omega arith
-
-shared-slice-read-row-formed : tie.Need-shared-slice-read-row-formed Inv-loop μ-loop
-shared-slice-read-row-formed c = omega arith
+node-row-requires : tie.Need-node-row-requires Inv-loop μ-loop
+node-row-requires c κs = let s = c .before .before .before .before .before .before .before .before .before .before .before in (s .pre .size, omega (arith, s .pre .few))
 
 row-formed-requires : tie.Need-row-formed-requires Inv-loop μ-loop
 row-formed-requires c κs =
@@ -140,11 +114,14 @@ row-formed-requires c κs =
     let ws = s .args .words .now in
     let arena = s .args .arena .now in
     let l = c .before .before .before .before .before .before .before .loop in
-    let h = synth-here ws arena (s .pre) (l .i) (omega arith) (c .before .before .before .before .if1 .taken) in
-    let same = c .before .before .before .wide2 .ensures in
-    let many = c .before .before .slot-controls .ensures in
+    let single = sym (c .before .before .before .before .before .node-is-group .ensures) ∙ not-true (c .before .before .before .before .before .node-is-group .result) (c .before .before .before .before .if1 .taken) in
+    let h = synth-here ws arena (s .pre) (l .i) (omega arith) single in
+    let low = h .bounds .row single in
+    let row = c .node-row .ensures in
+    let few = h .few in
+    let many : c .before .before .slot-controls .result ≡ controlsOn ws arena (nodeIn ws (l .i) .slot) = c .before .before .slot-controls .ensures ∙ ap (controlsOn ws arena) (c .before .before .before .node-slot .ensures) in
     let long : length (region 1603 16384 ws) ≡ 16384 = region-length 1603 16384 ws (omega (arith, s .pre .size)) in
-    omega (arith, h .row, h .few)
+    omega arith
 
 returns : tie.Need-returns Inv-loop μ-loop
 returns c =
@@ -152,13 +129,13 @@ returns c =
     let ws = s .args .words .now in
     let arena = s .args .arena .now in
     let l = c .before .before .before .before .before .before .before .before .before .loop in
-    let h = synth-here ws arena (s .pre) (l .i) (omega arith) (c .before .before .before .before .before .before .if1 .taken) in
-    let same = c .before .before .before .before .before .wide2 .ensures in
+    let single = sym (c .before .before .before .before .before .before .before .node-is-group .ensures) ∙ not-true (c .before .before .before .before .before .before .before .node-is-group .result) (c .before .before .before .before .before .before .if1 .taken) in
+    let h = synth-here ws arena (s .pre) (l .i) (omega arith) single in
     let turn = formed-turn ws arena (s .pre) (l .i) (omega arith) in
-    let many = c .before .before .before .before .slot-controls .ensures in
+    let many = c .before .before .before .before .slot-controls .ensures ∙ ap (controlsOn ws arena) (c .before .before .before .before .before .node-slot .ensures) in
     let no-more : nodeFormed ws arena (l .i) ≡ false =
     h .test
-    ∙ ap (λ (n : ℕ). mappingsFormed n (drop (64 * getD ws (68 + 5 * l .i + 4) 0) (controlsIn ws))) (sym many)
+    ∙ sym (ap₂ (λ (n row : ℕ). mappingsFormed n (drop (64 * row) (controlsIn ws))) many (c .before .before .node-row .ensures))
     ∙ sym (c .before .row-formed .ensures)
     ∙ not-true (c .before .row-formed .result) (c .if2 .taken) in
     sym (rw no-more at turn) ∙ l .inv .0
@@ -175,20 +152,23 @@ loop-again c =
     let ws = s .args .words .now in
     let arena = s .args .arena .now in
     let l = c .before .before .before .loop in
+    let group = c .before .node-is-group in
     let turn = formed-turn ws arena (s .pre) (l .i) (omega arith) in
     ⊎-elim
     (λ w.
-    let h = synth-here ws arena (s .pre) (l .i) (omega arith) (w .0 .taken) in
+    let single = sym (group .ensures) ∙ not-true (group .result) (w .0 .taken) in
+    let h = synth-here ws arena (s .pre) (l .i) (omega arith) single in
+    let here : w .1 .result ≡ nodeIn ws (l .i) .slot = w .1 .ensures in
     let more : nodeFormed ws arena (l .i) ≡ true =
     h .test
-    ∙ ap (λ (n : ℕ). mappingsFormed n (drop (64 * getD ws (68 + 5 * l .i + 4) 0) (controlsIn ws))) (sym (w .2 .ensures))
+    ∙ sym (ap₂ (λ (n row : ℕ). mappingsFormed n (drop (64 * row) (controlsIn ws))) (w .2 .ensures ∙ ap (controlsOn ws arena) here) (w .4 .ensures))
     ∙ sym (w .5 .ensures)
     ∙ not-false (w .5 .result) (w .6 .left) in
-    let fact = noted-more _ _ (l .known) (l .inv .1) (w .1 .result) (w .2 .result) (omega (arith, h .low, w .1 .ensures)) (w .2 .ensures ∙ ap (controlsOn ws arena) (sym (w .1 .ensures))) in
-    (sym (rw more at turn) ∙ l .inv .0, rw (w .7) fact))
+    let noted = noted-more _ _ (l .known) (l .inv .1) (w .1 .result) (w .2 .result) (rw here (h .bounds .slot single)) (w .2 .ensures) in
+    (sym (rw more at turn) ∙ l .inv .0, rw (w .7) noted))
     (λ w.
-    let more : nodeFormed ws arena (l .i) ≡ true = formed-group ws arena (l .i) (bounds-ready ws arena (s .pre) (l .i) (omega arith) .place) (w .0 .left) in
-    (sym (rw more at turn) ∙ l .inv .0, rw (w .1) (l .inv .1)))
+    let whole = sym (group .ensures) ∙ not-false (group .result) (w .0 .left) in
+    (sym (rw whole at turn) ∙ l .inv .0, rw (w .1) (l .inv .1)))
     (c .if1 .came)
 
 returns-2 : tie.Need-returns-2 Inv-loop μ-loop
@@ -205,12 +185,8 @@ controls-formed-spec =
     shared-slice-read-wide
     wide-requires
     loop-holds
-    mul-slot
-    add-slot
-    add-slot-2
-    mul-slot-2
-    shared-slice-read-slot
-    wide-requires-2
+    node-is-group-requires
+    node-slot-requires
     mul-slot-controls
     array-read-slot-controls
     slot-controls-requires
@@ -219,11 +195,7 @@ controls-formed-spec =
     sub-row-formed
     part-row-formed-start
     part-row-formed-end
-    mul-row-formed
-    add-row-formed
-    add-row-formed-2
-    mul-row-formed-2
-    shared-slice-read-row-formed
+    node-row-requires
     row-formed-requires
     returns
     add-i

@@ -9,7 +9,8 @@ use Rattle.osc.specs.Message.{int, float, message}
 use Rattle.model.specs.declared.Query.the-variants as query
 use Rattle.model.specs.Layout.{nodesPlace, nodesWords}
 use Rattle.model.specs.Replies.{setAddress, keyArgument}
-use Rattle.controls.specs.Ready.{nodeIn, part-word}
+use Rattle.slots.specs.Slots.{part-word}
+use Rattle.controls.specs.Ready.{nodeIn}
 use Rattle.queries.specs.Answers.{reply-refused, reply-sent}
 use Rattle.queries.specs.Held.{At, ready}
 use Rattle.queries.specs.Control.{control-unknown, control-group, control-lacks, control-passes, control-reply}

@@ -5,7 +5,8 @@ use native.Mathlib.Omega.{arith}
 use borrow.Author.Needs.{needs}
 use lib.ListN.{getD}
 use native.Mathlib.Nat.{pos-of-ne-zero}
-use Rattle.controls.specs.Ready.{nodeIn, slotBytes}
+use Rattle.slots.specs.Slots.{slotBytes}
+use Rattle.controls.specs.Ready.{nodeIn}
 use Rattle.queries.specs.Held.{bounds}
 use Rattle.treequery.specs.Shapes.{Filled}
 use Rattle.treequery.specs.LookUp.{looked-group, looked-before, looked-now}

@@ -8,7 +8,8 @@ use Rattle.format.specs.Fields.{stringAt}
 use Rattle.nodes.specs.Structure.{noNode}
 use Rattle.osc.specs.Message.{int, text}
 use Rattle.model.specs.Layout.{nodesPlace}
-use Rattle.controls.specs.Ready.{nodeIn, slotBytes}
+use Rattle.slots.specs.Slots.{slotBytes}
+use Rattle.controls.specs.Ready.{nodeIn}
 use Rattle.queries.specs.Held.{bounds}
 use Rattle.treequery.specs.Pieces.{pieceArgument}
 use Rattle.treequery.specs.Writing.{left-all, left-some, left-less, left-none}

@@ -1,0 +1,75 @@
+-- `controlcommands::set_one` meets its contract: each refusal by the check that fires.
+use mathlib.Core.Path.{sym, _∙_}
+
+
+use borrow.Author.Needs.{needs}
+use borrow.Author.Tests.{not-true, not-false}
+
+use Rattle.controlcommands.specs.Buses.{Steps, set-no-bus, set-done, set-bad-value}
+use Rattle.model.specs.declared.BusCommand.the-variants as buses
+use Rattle.model.specs.declared.Answer.the-variants.{Done}
+use Rattle.controlcommands.proofs.buses.set_one.Statement.{statement}
+use Rattle.controlcommands.proofs.buses.set_one.Tie as tie
+
+is-bus-requires : tie.Need-is-bus-requires
+is-bus-requires c κs = search needs
+
+returns : tie.Need-returns
+returns c =
+    let a = c .before .before .before .args in
+    set-no-bus (a .bus) (a .value) (a .words .now) (sym (c .before .is-bus .ensures) ∙ not-true (c .before .is-bus .result) (c .if1 .taken))
+
+value-pattern-requires : tie.Need-value-pattern-requires
+value-pattern-requires c κs = search needs
+
+enum-known-pattern : tie.Need-enum-known-pattern
+enum-known-pattern c = search needs
+
+sub-set-bus : tie.Need-sub-set-bus
+sub-set-bus c = search needs
+
+part-set-bus-start : tie.Need-part-set-bus-start
+part-set-bus-start c = search needs
+
+part-set-bus-end : tie.Need-part-set-bus-end
+part-set-bus-end c = search needs
+
+set-bus-requires : tie.Need-set-bus-requires
+set-bus-requires c κs = search needs
+
+enum-told : tie.Need-enum-told
+enum-told c = search needs
+
+same-length : tie.Need-same-length
+same-length c = search needs
+
+returns-2 : tie.Need-returns-2
+returns-2 c =
+    let a = c .before .before .before .before .before .before .before .before .before .before .before .args in
+    let there = sym (c .before .before .before .before .before .before .before .before .before .is-bus .ensures) ∙ not-false (c .before .before .before .before .before .before .before .before .before .is-bus .result) (c .before .before .before .before .before .before .before .before .if1 .left) in
+    let fact = sym (c .before .before .before .before .before .before .before .value-pattern .ensures) ∙ c .before .before .before .before .before .pattern .given .1 in
+    let done : Steps (buses.Set (a .bus) (a .value)) (a .words .now) Done _ = set-done (a .bus) (a .value) (a .words .now) there (c .before .before .before .before .before .pattern .given .0 .0) fact in
+    rw (c .before .before .set-bus .ensures) done
+
+returns-3 : tie.Need-returns-3
+returns-3 c =
+    let a = c .before .before .before .before .before .before .args in
+    let there = sym (c .before .before .before .before .is-bus .ensures) ∙ not-false (c .before .before .before .before .is-bus .result) (c .before .before .before .if1 .left) in
+    set-bad-value (a .bus) (a .value) (a .words .now) there (sym (c .before .before .value-pattern .ensures) ∙ c .enum-told .given .1)
+
+pub set-one-spec : {M : Type 1} → statement M
+set-one-spec =
+    tie.close
+    (tie.spec
+    is-bus-requires
+    returns
+    value-pattern-requires
+    enum-known-pattern
+    sub-set-bus
+    part-set-bus-start
+    part-set-bus-end
+    set-bus-requires
+    enum-told
+    same-length
+    returns-2
+    returns-3)

@@ -1,0 +1,69 @@
+-- `engine::call_number` meets its contract.
+use Prim.Native.Nat.{ℕ, _+_, _*_, _%_}
+use mathlib.Core.Path.{sym, ap, _∙_}
+use native.Mathlib.Omega.{arith}
+use native.Mathlib.Nat.{zero-add}
+use borrow.Author.Needs.{needs}
+use Rattle.faults.specs.Faults.{fault-high}
+use Rattle.engine.specs.Numbers.{room, callNumber}
+use Rattle.engine.proofs.ops.call_number.Statement.{statement}
+use Rattle.engine.proofs.ops.call_number.Tie as tie
+
+enum-told : tie.Need-enum-told
+enum-told c = search needs
+
+enum-known-answer : tie.Need-enum-known-answer
+enum-known-answer c = search needs
+
+placed-requires : tie.Need-placed-requires
+placed-requires c κs = search needs
+
+enum-known-answer-2 : tie.Need-enum-known-answer-2
+enum-known-answer-2 c = search needs
+
+refusal-number-requires : tie.Need-refusal-number-requires
+refusal-number-requires c κs = search needs
+
+cast-result : tie.Need-cast-result
+cast-result c = search needs
+
+enum-known-answer-3 : tie.Need-enum-known-answer-3
+enum-known-answer-3 c = search needs
+
+fault-number-requires : tie.Need-fault-number-requires
+fault-number-requires c κs = search needs
+
+placed-requires-2 : tie.Need-placed-requires-2
+placed-requires-2 c κs = omega (arith, fault-high (c .before .before .answer3 .given .0 .0), c .fault-number .ensures)
+
+returns : tie.Need-returns
+returns c = search needs
+
+returns-2 : tie.Need-returns-2
+returns-2 c = c .placed .ensures ∙ zero-add (256 * (c .before .before .answer .given .0 .0 % room)) ∙ ap callNumber (sym (c .before .before .answer .given .1))
+
+returns-3 : tie.Need-returns-3
+returns-3 c = c .refusal-number .ensures ∙ ap callNumber (sym (c .before .before .answer2 .given .1))
+
+returns-4 : tie.Need-returns-4
+returns-4 c =
+    let fact = c .before .before .before .answer3 .given in
+    c .placed2 .ensures ∙ ap (λ (n : ℕ). n + 256 * (fact .0 .1 .0 % room)) (c .before .fault-number .ensures) ∙ ap callNumber (sym (fact .1))
+
+pub call-number-spec : {M : Type 1} → statement M
+call-number-spec =
+    tie.close
+    (tie.spec
+    enum-told
+    enum-known-answer
+    placed-requires
+    enum-known-answer-2
+    refusal-number-requires
+    cast-result
+    enum-known-answer-3
+    fault-number-requires
+    placed-requires-2
+    returns
+    returns-2
+    returns-3
+    returns-4)

@@ -1,0 +1,22 @@
+-- `engine::set_control` meets its contract.
+use Rattle.engine.specs.Ops.{setting, float-valued, integer-valued, none-valued}
+use Rattle.engine.proofs.ops.set_control.Statement.{statement}
+use Rattle.engine.proofs.ops.set_control.Tie as tie
+
+returns : tie.Need-returns
+returns c =
+    let a = c .before .args in
+    float-valued (a .kind) (a .value) (setting (a .node) (a .key)) (c .if1 .taken)
+
+returns-2 : tie.Need-returns-2
+returns-2 c =
+    let a = c .before .before .args in
+    integer-valued (a .kind) (a .value) (setting (a .node) (a .key)) (c .if2 .taken)
+
+returns-3 : tie.Need-returns-3
+returns-3 c =
+    let a = c .before .before .args in
+    none-valued (a .kind) (a .value) (setting (a .node) (a .key)) (c .before .if1 .left) (c .if2 .left)
+
+pub set-control-spec : {M : Type 1} → statement M
+set-control-spec = tie.close (tie.spec returns returns-2 returns-3)

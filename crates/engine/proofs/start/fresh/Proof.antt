@@ -1,0 +1,45 @@
+-- `engine::fresh` meets its contract.
+use native.Mathlib.Omega.{arith}
+use borrow.Author.Needs.{needs}
+use Rattle.engine.specs.Fresh.{refused-size, refused-room, made}
+use Rattle.engine.proofs.start.fresh.Statement.{statement}
+use Rattle.engine.proofs.start.fresh.Tie as tie
+
+returns : tie.Need-returns
+returns c =
+    let a = c .before .before .before .args in
+    refused-size (a .words .now) (a .arena .now) (c .if1 .taken)
+
+returns-2 : tie.Need-returns-2
+returns-2 c =
+    let a = c .before .before .before .before .args in
+    refused-room (a .words .now) (a .arena .now) (omega arith) (c .if2 .taken)
+
+fresh-words-requires : tie.Need-fresh-words-requires
+fresh-words-requires c κs = search needs
+
+zero-bytes-requires : tie.Need-zero-bytes-requires
+zero-bytes-requires c κs = search needs
+
+same-length : tie.Need-same-length
+same-length c = search needs
+
+same-length-2 : tie.Need-same-length-2
+same-length-2 c = search needs
+
+returns-3 : tie.Need-returns-3
+returns-3 c =
+    let a = c .before .before .before .before .before .before .before .before .before .before .before .before .args in
+    made (a .words .now) (a .arena .now) (c .before .before .before .before .before .before .fresh-words .last .0) (c .before .before .zero-bytes .last .0) (omega arith) (omega arith) (c .before .before .before .before .before .before .fresh-words .ensures) (c .before .before .zero-bytes .ensures)
+
+pub fresh-spec : {M : Type 1} → statement M
+fresh-spec =
+    tie.close
+    (tie.spec
+    returns
+    returns-2
+    fresh-words-requires
+    zero-bytes-requires
+    same-length
+    same-length-2
+    returns-3)

@@ -1,0 +1,58 @@
+-- `engine::zero_bytes` meets its contract. The invariant: the first i items are zero, and the others as they were.
+use Prim.Native.Nat.{ℕ, _≤_, _-_}
+use mathlib.Core.Path.{_≡_, refl, ap, _∙_}
+use mathlib.Core.List.{List}
+use native.Mathlib.Omega.{arith}
+use borrow.Author.Needs.{needs}
+use lib.ListN.{length, set, length-set}
+use Rattle.engine.specs.Zeros.{zeroed, zero-turn, zero-end}
+use Rattle.engine.proofs.start.zero_bytes.Statement.{statement}
+use Rattle.engine.proofs.start.zero_bytes.Tie as tie
+
+abbrev Inv-loop : tie.InvT-loop
+Inv-loop arena₀ i₀ arena i = (i ≤ length arena₀) × ((arena ≡ zeroed i arena₀) × (length arena ≡ length arena₀))
+
+abbrev μ-loop : tie.MeasureT-loop
+μ-loop arena₀ i₀ arena i = length arena₀ - i
+
+loop-holds : tie.Need-loop-holds Inv-loop μ-loop
+loop-holds c = (omega arith, (refl, refl))
+
+slice-write-arena : tie.Need-slice-write-arena Inv-loop μ-loop
+slice-write-arena c = omega arith
+
+add-i : tie.Need-add-i Inv-loop μ-loop
+add-i c = omega arith
+
+loop-less : tie.Need-loop-less Inv-loop μ-loop
+loop-less c = omega arith
+
+loop-again : tie.Need-loop-again Inv-loop μ-loop
+loop-again c =
+    let l = c .before .loop in
+    let a = c .before .before .args in
+    (omega arith, (ap (λ (m : List ℕ). set m (l .i) 0) (l .inv .1 .0) ∙ zero-turn (l .i) (a .arena .now) (omega arith), simp length-set (l .inv .1 .1)))
+
+same-length : tie.Need-same-length Inv-loop μ-loop
+same-length c = search needs
+
+returns : tie.Need-returns Inv-loop μ-loop
+returns c =
+    let l = c .before .loop in
+    let a = c .before .before .args in
+    let end : l .i ≡ length (a .arena .now) = omega arith in
+    l .inv .1 .0 ∙ ap (λ (k : ℕ). zeroed k (a .arena .now)) end ∙ zero-end (a .arena .now)
+
+pub zero-bytes-spec : {M : Type 1} → statement M
+zero-bytes-spec =
+    tie.close
+    (tie.spec
+    Inv-loop
+    μ-loop
+    loop-holds
+    slice-write-arena
+    add-i
+    loop-less
+    loop-again
+    same-length
+    returns)

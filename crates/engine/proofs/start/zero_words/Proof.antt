@@ -1,0 +1,62 @@
+-- `engine::zero_words` meets its contract. The invariant: the first i items are zero, and the others as they were.
+use Prim.Native.Nat.{ℕ, _≤_, _-_}
+use mathlib.Core.Path.{_≡_, refl, ap, _∙_}
+use mathlib.Core.List.{List}
+use native.Mathlib.Omega.{arith}
+use borrow.Author.Needs.{needs}
+use lib.ListN.{length, set, length-set}
+use Rattle.engine.specs.Zeros.{zeroed, zero-turn, zero-end}
+use Rattle.engine.proofs.start.zero_words.Statement.{statement}
+use Rattle.engine.proofs.start.zero_words.Tie as tie
+
+abbrev Inv-loop : tie.InvT-loop
+Inv-loop words₀ i₀ words i = (i ≤ length words₀) × ((words ≡ zeroed i words₀) × (length words ≡ length words₀))
+
+abbrev μ-loop : tie.MeasureT-loop
+μ-loop words₀ i₀ words i = length words₀ - i
+
+loop-holds : tie.Need-loop-holds Inv-loop μ-loop
+loop-holds c = (omega arith, (refl, refl))
+
+mul-words : tie.Need-mul-words Inv-loop μ-loop
+mul-words c = omega arith
+
+slice-write-words : tie.Need-slice-write-words Inv-loop μ-loop
+slice-write-words c = omega arith
+
+add-i : tie.Need-add-i Inv-loop μ-loop
+add-i c = omega arith
+
+loop-less : tie.Need-loop-less Inv-loop μ-loop
+loop-less c = omega arith
+
+loop-again : tie.Need-loop-again Inv-loop μ-loop
+loop-again c =
+    let l = c .before .loop in
+    let a = c .before .before .args in
+    (omega arith, (ap (λ (m : List ℕ). set m (l .i) 0) (l .inv .1 .0) ∙ zero-turn (l .i) (a .words .now) (omega arith), simp length-set (l .inv .1 .1)))
+
+same-length : tie.Need-same-length Inv-loop μ-loop
+same-length c = search needs
+
+returns : tie.Need-returns Inv-loop μ-loop
+returns c =
+    let l = c .before .loop in
+    let a = c .before .before .args in
+    let end : l .i ≡ length (a .words .now) = omega arith in
+    l .inv .1 .0 ∙ ap (λ (k : ℕ). zeroed k (a .words .now)) end ∙ zero-end (a .words .now)
+
+pub zero-words-spec : {M : Type 1} → statement M
+zero-words-spec =
+    tie.close
+    (tie.spec
+    Inv-loop
+    μ-loop
+    loop-holds
+    mul-words
+    slice-write-words
+    add-i
+    loop-less
+    loop-again
+    same-length
+    returns)

@@ -1,2 +1,0 @@
-pub mod Ops
-pub mod Numbers

@@ -1,0 +1,63 @@
+// The slots of definitions: the bytes of the definition in a slot, which lie in the arena where only this crate and a load know, and how many are resident.
+use layout::LENGTHS;
+use layout::RESIDENT_END;
+use layout::SLOTS;
+use layout::SLOT_ROOM;
+use words::wide;
+ghost use Prim.Native.Nat.{ℕ, _<_, min};
+ghost use mathlib.Core.Path.{_≡_};
+ghost use mathlib.Core.List.{List};
+ghost use lib.ListN.{length};
+ghost use Rattle.model.specs.Layout.{slotCount, wordsLength};
+ghost use Rattle.model.specs.Engine.{residents};
+ghost use Rattle.slots.specs.Slots.{tableWords, slotsOn, bytesOn, slotBytes};
+
+// The lesser of two numbers.
+fn least(a: usize, b: usize) -> usize
+    ensures { λ r. ⌜ r ≡ min a b ⌝ }
+{
+    if a < b {
+        return a;
+    }
+    b
+}
+
+// By the table of slots, the slots' part of the words; none past the last slot.
+pub fn bytes_on<'a, 'b>(table: &'b [u32], arena: &'a [u8], slot: usize) -> &'a [u8]
+    ensures { λ r. ⌜ now r ≡ bytesOn (now (table .entry)) (now (arena .entry)) slot ⌝ }
+{
+    if table.len() <= slot {
+        return &arena[..0];
+    }
+    if arena.len() / SLOT_ROOM < slot {
+        return &arena[..0];
+    }
+    let start = SLOT_ROOM * slot;
+    let room = least(SLOT_ROOM, arena.len() - start);
+    let end = start + least(room, wide(table[slot]));
+    &arena[start..end]
+}
+
+// By the words.
+pub fn slot_bytes<'a, 'b>(words: &'b [u32], arena: &'a [u8], slot: usize) -> &'a [u8]
+    requires { ⌜ (length (now words) ≡ wordsLength) × (slot < slotCount) ⌝ }
+    ensures { λ r. ⌜ now r ≡ slotBytes (now (words .entry)) (now (arena .entry)) slot ⌝ }
+{
+    bytes_on(&words[LENGTHS..RESIDENT_END], arena, slot)
+}
+
+// How many definitions are resident.
+pub fn resident_count(table: &[u32]) -> u32
+    requires { ⌜ length (now table) ≡ tableWords ⌝ }
+    ensures { λ r. ⌜ ((arena : List ℕ) → r ≡ length (residents (slotsOn (now (table .entry)) arena))) ⌝ }
+{
+    let mut n: u32 = 0;
+    let mut k = 0;
+    while k < SLOTS {
+        if table[SLOTS + k] == 1 {
+            n += 1;
+        }
+        k += 1;
+    }
+    n
+}
