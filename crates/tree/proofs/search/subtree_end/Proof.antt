@@ -51,7 +51,7 @@ is-deeper-requires c κs = search needs
 
 returns : tie.Need-returns Inv-loop μ-loop
 returns c =
-    let a = c .before .before .before .before .before .before .args in
+    let a = c .before .before .before .before .before .before .before .args in
     let d = getD (a .nodes .now) (width * a .at + 1) 0 in
     let i = c .before .before .before .before .loop .i in
     let here : deeper d (drop i (rows (a .count) (a .nodes .now))) ≡ 0 =
@@ -66,7 +66,7 @@ loop-less c = omega arith
 
 loop-again : tie.Need-loop-again Inv-loop μ-loop
 loop-again c =
-    let a = c .before .before .before .before .before .before .args in
+    let a = c .before .before .before .before .before .before .before .args in
     let d = getD (a .nodes .now) (width * a .at + 1) 0 in
     let i = c .before .before .before .before .loop .i in
     let on : deeper d (drop i (rows (a .count) (a .nodes .now))) ≡ suc (deeper d (drop (i + 1) (rows (a .count) (a .nodes .now)))) =
@@ -74,7 +74,7 @@ loop-again c =
 
 returns-2 : tie.Need-returns-2 Inv-loop μ-loop
 returns-2 c =
-    let a = c .before .before .before .args in
+    let a = c .before .before .before .before .args in
     let d = getD (a .nodes .now) (width * a .at + 1) 0 in
     let i = c .before .loop .i in
     let none : deeper d (drop i (rows (a .count) (a .nodes .now))) ≡ 0 = deeper-end (a .count) (a .nodes .now) d i (omega arith) in
