@@ -252,6 +252,9 @@ impl Pair {
         match operation {
             Operation::Add(action, target, node) => {
                 let target = tree.find(target)?;
+                if action > 4 {
+                    return None;
+                }
                 if action != 4 && RECORD * (tree.count() + 1) > self.words.len() {
                     return None;
                 }

@@ -1,8 +1,9 @@
 -- `tree::search::subtree_end` meets its contract. The invariant is that of `find`, with depths.
 use Prim.Native.Nat.{suc, _+_, _*_, _-_, _≤_}
-use mathlib.Core.Path.{_≡_, refl}
+use mathlib.Core.Path.{_≡_, refl, sym, _∙_}
 use native.Mathlib.Omega.{arith}
-use borrow.Author.Tests.{lt-ltb, le-ltb}
+use borrow.Author.Needs.{needs}
+use borrow.Author.Tests.{not-true, not-false}
 use lib.ListN.{drop, getD}
 use Rattle.nodes.specs.Table.{width, rows}
 use Rattle.nodes.specs.Place.{deeper, deeper-turn, deeper-end}
@@ -33,25 +34,28 @@ add-i c = omega arith
 loop-holds : tie.Need-loop-holds Inv-loop μ-loop
 loop-holds c = (omega arith, refl)
 
-mul-if1 : tie.Need-mul-if1 Inv-loop μ-loop
-mul-if1 c = omega arith
+mul-is-deeper : tie.Need-mul-is-deeper Inv-loop μ-loop
+mul-is-deeper c = omega arith
 
-add-if1 : tie.Need-add-if1 Inv-loop μ-loop
-add-if1 c = omega arith
+add-is-deeper : tie.Need-add-is-deeper Inv-loop μ-loop
+add-is-deeper c = omega arith
 
-mul-if1-2 : tie.Need-mul-if1-2 Inv-loop μ-loop
-mul-if1-2 c = omega arith
+mul-is-deeper-2 : tie.Need-mul-is-deeper-2 Inv-loop μ-loop
+mul-is-deeper-2 c = omega arith
 
-shared-slice-read-if1 : tie.Need-shared-slice-read-if1 Inv-loop μ-loop
-shared-slice-read-if1 c = omega arith
+shared-slice-read-is-deeper : tie.Need-shared-slice-read-is-deeper Inv-loop μ-loop
+shared-slice-read-is-deeper c = omega arith
+
+is-deeper-requires : tie.Need-is-deeper-requires Inv-loop μ-loop
+is-deeper-requires c κs = search needs
 
 returns : tie.Need-returns Inv-loop μ-loop
 returns c =
-    let a = c .before .before .before .before .before .args in
+    let a = c .before .before .before .before .before .before .before .args in
     let d = getD (a .nodes .now) (width * a .at + 1) 0 in
-    let i = c .before .before .before .loop .i in
+    let i = c .before .before .before .before .loop .i in
     let here : deeper d (drop i (rows (a .count) (a .nodes .now))) ≡ 0 =
-    rw (le-ltb _ _ (c .if1 .taken)) at (deeper-turn (a .count) (a .nodes .now) d i (omega arith)) in
+    rw (sym (c .before .is-deeper .ensures) ∙ not-true (c .before .is-deeper .result) (c .if1 .taken)) at (deeper-turn (a .count) (a .nodes .now) d i (omega arith)) in
     omega arith
 
 add-i-2 : tie.Need-add-i-2 Inv-loop μ-loop
@@ -62,15 +66,15 @@ loop-less c = omega arith
 
 loop-again : tie.Need-loop-again Inv-loop μ-loop
 loop-again c =
-    let a = c .before .before .before .before .before .args in
+    let a = c .before .before .before .before .before .before .before .args in
     let d = getD (a .nodes .now) (width * a .at + 1) 0 in
-    let i = c .before .before .before .loop .i in
+    let i = c .before .before .before .before .loop .i in
     let on : deeper d (drop i (rows (a .count) (a .nodes .now))) ≡ suc (deeper d (drop (i + 1) (rows (a .count) (a .nodes .now)))) =
-    rw (lt-ltb _ _ (c .if1 .left)) at (deeper-turn (a .count) (a .nodes .now) d i (omega arith)) in (omega arith, omega arith)
+    rw (sym (c .before .is-deeper .ensures) ∙ not-false (c .before .is-deeper .result) (c .if1 .left)) at (deeper-turn (a .count) (a .nodes .now) d i (omega arith)) in (omega arith, omega arith)
 
 returns-2 : tie.Need-returns-2 Inv-loop μ-loop
 returns-2 c =
-    let a = c .before .before .before .args in
+    let a = c .before .before .before .before .args in
     let d = getD (a .nodes .now) (width * a .at + 1) 0 in
     let i = c .before .loop .i in
     let none : deeper d (drop i (rows (a .count) (a .nodes .now))) ≡ 0 = deeper-end (a .count) (a .nodes .now) d i (omega arith) in
@@ -88,10 +92,11 @@ subtree-end-spec =
     shared-slice-read-depth
     add-i
     loop-holds
-    mul-if1
-    add-if1
-    mul-if1-2
-    shared-slice-read-if1
+    mul-is-deeper
+    add-is-deeper
+    mul-is-deeper-2
+    shared-slice-read-is-deeper
+    is-deeper-requires
     returns
     add-i-2
     loop-less
