@@ -2,11 +2,10 @@ use Rattle.slots.specs.Slots.{slotsOn}
 use Rattle.definitions.specs.Names.{namedOn, resident-turn, resident-end}
 use Rattle.words.specs.Choice.{pick}
 use Rattle.model.specs.Engine.{residentFrom}
-use Prim.Native.Nat.{ℕ, _+_, _-_, _≤_}
+use Prim.Native.Nat.{_+_, _-_, _≤_}
 use mathlib.Core.Bool.{Bool, true, false}
 use mathlib.Core.Path.{_≡_, refl, sym, ap, _∙_}
 use native.Mathlib.Omega.{arith}
-use borrow.Author.Needs.{needs}
 
 
 use lib.ListN.{drop}

@@ -1,7 +1,7 @@
 use borrow.Author.Tests.{not-true, not-false}
 use mathlib.Core.Logic.{⊎-elim}
 use Rattle.definitions.specs.Checking.{apart-turn, apart-end}
-use Rattle.definitions.specs.Names.{nameOn, named-there}
+use Rattle.definitions.specs.Names.{nameOn}
 use Rattle.slots.specs.Slots.{slotsOn, residentOn}
 use Rattle.model.specs.Formed.{nameResident, namesApart}
 use Rattle.words.specs.Choice.{pick, both}
@@ -10,7 +10,6 @@ use mathlib.Core.Bool.{Bool, true, false, not}
 use mathlib.Core.Path.{_≡_, refl, sym, ap, _∙_}
 use mathlib.Core.List.{List}
 use native.Mathlib.Omega.{arith}
-
 use borrow.Author.Tests.{eq-eqb, ne-eqb}
 use lib.ListN.{drop, getD}
 use Rattle.definitions.proofs.names_apart.Statement.{statement}

@@ -1,20 +1,17 @@
 use Rattle.slots.specs.Slots.{residentOn, bytesOn}
 use Rattle.model.specs.Formed.{isWhole}
 use Rattle.model.specs.Engine as engine
-use Rattle.model.specs.Layout.{slotRoom}
 use Rattle.format.specs.Reader.{readDefinition, sizeLimit}
 use Rattle.words.specs.Choice.{pick, both, either}
 use borrow.Author.Tests.{not-true, not-false}
 use mathlib.Core.Logic.{⊎-elim}
 use lib.Dec.{leb}
-use Prim.{tt}
-use Prim.Native.Nat.{ℕ, _+_, _*_}
+use Prim.Native.Nat.{_+_}
 use mathlib.Core.Bool.{Bool, true, false}
 use mathlib.Core.Path.{_≡_, refl, sym, ap, _∙_}
 use native.Mathlib.Omega.{arith}
-
 use borrow.Author.Tests.{eq-eqb, ne-eqb}
-use lib.ListN.{take, drop, getD}
+use lib.ListN.{getD}
 use Rattle.definitions.proofs.slot_formed.Statement.{statement}
 use Rattle.definitions.proofs.slot_formed.Tie as tie
 

@@ -1,9 +1,7 @@
-use Prim.Native.Nat.{_+_}
 use mathlib.Core.Path.{sym, ap, _∙_}
 use mathlib.Core.List.{List}
-use Prim.Native.Nat.{ℕ, _≤_}
+use Prim.Native.Nat.{ℕ}
 use borrow.Author.Needs.{needs}
-use lib.ListN.{length, getD}
 use Rattle.format.specs.Fields.{stringAt}
 use Rattle.definitions.specs.Names.{named-there}
 use Rattle.definitions.proofs.slot_name.Statement.{statement}

@@ -1,4 +1,4 @@
-use Rattle.definitions.specs.Names.{nameOn, named-there}
+use Rattle.definitions.specs.Names.{nameOn}
 use Rattle.slots.specs.Slots.{residentOn}
 use Rattle.format.specs.Reader.{sameName}
 use Rattle.words.specs.Choice.{both}
@@ -6,7 +6,6 @@ use Prim.Native.Nat.{ℕ, _+_}
 use mathlib.Core.Bool.{Bool, true, false}
 use mathlib.Core.Path.{_≡_, sym, ap, _∙_}
 use mathlib.Core.List.{List}
-
 use borrow.Author.Needs.{needs}
 use borrow.Author.Tests.{eq-eqb, ne-eqb}
 use lib.ListN.{getD}

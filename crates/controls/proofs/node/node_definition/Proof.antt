@@ -1,5 +1,4 @@
 use mathlib.Core.Path.{ap, _∙_}
-use borrow.Author.Needs.{needs}
 use Rattle.slots.specs.Slots.{slotBytes}
 use Rattle.controls.proofs.node.node_definition.Statement.{statement}
 use Rattle.controls.proofs.node.node_definition.Tie as tie

@@ -2,9 +2,8 @@ use Rattle.words.specs.Parts.{region, region-length}
 use Rattle.model.specs.Layout.{controlsIn, putControls}
 use Rattle.model.specs.Effects.{changeRow}
 use Rattle.controls.specs.Change.{changeOf}
-use Rattle.controls.specs.Synth.{row-word}
 use Prim.Native.Nat.{ℕ}
-use mathlib.Core.Path.{_≡_, sym, ap, _∙_}
+use mathlib.Core.Path.{_≡_, ap, _∙_}
 use mathlib.Core.List.{List}
 use native.Mathlib.Omega.{arith}
 use borrow.Author.Needs.{needs}
