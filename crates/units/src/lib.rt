@@ -125,7 +125,7 @@ fn read_input(
             if units <= unit {
                 return Step::Bad(Fault::BadIndex, at);
             }
-            if wide(units - unit) <= REMEMBERED {
+            if wide(units) <= wide(unit) + REMEMBERED {
                 return read_index(s, next, outs[wide(unit) % REMEMBERED]);
             }
             read_index(s, next, far_outputs(s, start, unit, stride, marks))

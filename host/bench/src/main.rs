@@ -1,6 +1,8 @@
 //! The proved reader's time as a multiple of the independent Rust reader's, on the same files in
 //! one run. Run it by `cargo run --release -p bench`.
 
+mod hostile;
+
 use independent::{write, Random, Shape, MOST_BYTES, MOST_DEFINITIONS};
 use limudvek::synthdef;
 use std::hint::black_box;
@@ -49,6 +51,7 @@ fn main() {
         "one file of 32 definitions of 2,048 bytes",
         &[long(&mut random, &some)],
     );
+    hostile::measure(&[64 << 10, 256 << 10, 1 << 20, 4 << 20, 16 << 20, 64 << 20]);
 }
 
 fn small(random: &mut Random) -> Vec<Vec<u8>> {

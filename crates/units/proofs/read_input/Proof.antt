@@ -32,14 +32,17 @@ returns-2 c =
     let read = sym (rw (c .before .before .before .unit .given .1) at (c .before .before .before .before .before .int32 .ensures)) in
     sym (input-bad (a .constants) (outsFrom (a .s .now) (a .start) (a .units)) (a .s .now) (a .cursor .at) read (c .before .if1 .left) (rw outs-length (omega arith)))
 
-sub-wide : tie.Need-sub-wide
-sub-wide c = search needs
-
 wide-requires : tie.Need-wide-requires
 wide-requires c κs = search needs
 
 wide-requires-2 : tie.Need-wide-requires-2
 wide-requires-2 c κs = search needs
+
+add-if3 : tie.Need-add-if3
+add-if3 c = search needs
+
+wide-requires-3 : tie.Need-wide-requires-3
+wide-requires-3 c κs = search needs
 
 mul-read-index : tie.Need-mul-read-index
 mul-read-index c = search needs
@@ -52,21 +55,21 @@ read-index-requires-2 c κs = search needs
 
 returns-3 : tie.Need-returns-3
 returns-3 c =
-    let a = c .before .before .before .before .before .before .before .before .before .before .before .before .before in
-    let u = c .before .before .before .before .before .before .before .before .unit .given .0 .0 in
-    let read = sym (rw (c .before .before .before .before .before .before .before .before .unit .given .1) at (c .before .before .before .before .before .before .before .before .before .before .int32 .ensures)) in
+    let a = c .before .before .before .before .before .before .before .before .before .before .before .before .before .before in
+    let u = c .before .before .before .before .before .before .before .before .before .unit .given .0 .0 in
+    let read = sym (rw (c .before .before .before .before .before .before .before .before .before .unit .given .1) at (c .before .before .before .before .before .before .before .before .before .before .before .int32 .ensures)) in
     let less : u < a .args .units = omega arith in
     let known = outs-at (a .args .s .now) (a .args .start) (a .args .units) u less in
-    let fact = a .pre .known u less (omega (arith, c .before .before .before .before .wide .ensures, c .before .before .before .if3 .taken)) in
+    let fact = a .pre .known u less (omega (arith, c .before .before .before .before .before .wide .ensures, c .before .before .before .before .wide2 .ensures, c .before .before .before .if3 .taken)) in
     c .read-index2 .ensures
-    ∙ ap (λ (b : ℕ). ending (indexBelow b (a .args .s .now) (c .before .before .before .before .before .before .before .before .unit .given .0 .1 .0 .at))) (ap (λ (n : ℕ). getD (a .args .outs .now) (n % remembered) 0) (c .before .before .wide2 .ensures) ∙ fact ∙ sym known)
-    ∙ sym (input-output (a .args .constants) (outsFrom (a .args .s .now) (a .args .start) (a .args .units)) (a .args .s .now) (a .args .cursor .at) read (c .before .before .before .before .before .before .if1 .left) (rw outs-length less))
+    ∙ ap (λ (b : ℕ). ending (indexBelow b (a .args .s .now) (c .before .before .before .before .before .before .before .before .before .unit .given .0 .1 .0 .at))) (ap (λ (n : ℕ). getD (a .args .outs .now) (n % remembered) 0) (c .before .before .wide3 .ensures) ∙ fact ∙ sym known)
+    ∙ sym (input-output (a .args .constants) (outsFrom (a .args .s .now) (a .args .start) (a .args .units)) (a .args .s .now) (a .args .cursor .at) read (c .before .before .before .before .before .before .before .if1 .left) (rw outs-length less))
 
 far-outputs-requires : tie.Need-far-outputs-requires
 unfolding unitPlace
 far-outputs-requires c κs =
-    let a = c .before .before .before .before .before .before .before .before .before .before in
-    let u = c .before .before .before .before .before .unit .given .0 .0 in
+    let a = c .before .before .before .before .before .before .before .before .before .before .before in
+    let u = c .before .before .before .before .before .before .unit .given .0 .0 in
     (le-trans (place-up (a .args .s .now) (a .args .start) (suc u) (a .args .units) (omega arith)) (a .pre .within (omega arith)), a .pre .marked)
 
 read-index-requires-3 : tie.Need-read-index-requires-3
@@ -77,14 +80,14 @@ enum-known-refusal c = search needs
 
 returns-4 : tie.Need-returns-4
 returns-4 c =
-    let a = c .before .before .before .before .before .before .before .before .before .before .before .before in
-    let u = c .before .before .before .before .before .before .before .unit .given .0 .0 in
-    let read = sym (rw (c .before .before .before .before .before .before .before .unit .given .1) at (c .before .before .before .before .before .before .before .before .before .int32 .ensures)) in
+    let a = c .before .before .before .before .before .before .before .before .before .before .before .before .before in
+    let u = c .before .before .before .before .before .before .before .before .unit .given .0 .0 in
+    let read = sym (rw (c .before .before .before .before .before .before .before .before .unit .given .1) at (c .before .before .before .before .before .before .before .before .before .before .int32 .ensures)) in
     let less : u < a .args .units = omega arith in
     let known = outs-at (a .args .s .now) (a .args .start) (a .args .units) u less in
     c .read-index3 .ensures
-    ∙ ap (λ (b : ℕ). ending (indexBelow b (a .args .s .now) (c .before .before .before .before .before .before .before .unit .given .0 .1 .0 .at))) (c .before .far-outputs .ensures ∙ sym known)
-    ∙ sym (input-output (a .args .constants) (outsFrom (a .args .s .now) (a .args .start) (a .args .units)) (a .args .s .now) (a .args .cursor .at) read (c .before .before .before .before .before .if1 .left) (rw outs-length less))
+    ∙ ap (λ (b : ℕ). ending (indexBelow b (a .args .s .now) (c .before .before .before .before .before .before .before .before .unit .given .0 .1 .0 .at))) (c .before .far-outputs .ensures ∙ sym known)
+    ∙ sym (input-output (a .args .constants) (outsFrom (a .args .s .now) (a .args .start) (a .args .units)) (a .args .s .now) (a .args .cursor .at) read (c .before .before .before .before .before .before .if1 .left) (rw outs-length less))
 
 returns-5 : tie.Need-returns-5
 returns-5 c =
@@ -101,9 +104,10 @@ read-input-spec =
     read-index-requires
     returns
     returns-2
-    sub-wide
     wide-requires
     wide-requires-2
+    add-if3
+    wide-requires-3
     mul-read-index
     element-copy-out-read-index
     read-index-requires-2
