@@ -10,6 +10,7 @@ use Rattle.readable.specs.Readable.{Readable}
 use Rattle.nodes.specs.Table.{over}
 use Rattle.model.specs.Layout.{controlsPlace, controlsWords}
 use Rattle.model.specs.Effects.{initialWords}
+use Rattle.slots.specs.Slots.{slotBytes}
 use Rattle.controls.specs.Encoded.{frontIn}
 use Rattle.making.specs.Synth.{next-some, standing, synth-ready, mid-size, row-fits, definition-readable, synth-done}
 use Rattle.making.proofs.synth.put_synth.Statement.{statement}
@@ -27,14 +28,10 @@ slice-read-next c = omega (arith, c .before .before .before .before .before .pre
 wide-requires-2 : tie.Need-wide-requires-2
 wide-requires-2 c κs = search needs
 
-add-size : tie.Need-add-size
-add-size c = omega (arith, c .before .before .before .before .before .before .pre .ground .known .size, c .before .before .before .before .before .before .pre .ground .clear .there)
-
-mul-size : tie.Need-mul-size
-mul-size c = omega (arith, c .before .before .before .before .before .before .pre .ground .known .size, c .before .before .before .before .before .before .pre .ground .clear .there)
-
-slice-read-size : tie.Need-slice-read-size
-slice-read-size c = omega (arith, c .before .before .before .before .before .before .before .pre .ground .known .size, c .before .before .before .before .before .before .before .pre .ground .clear .there)
+slot-bytes-requires : tie.Need-slot-bytes-requires
+slot-bytes-requires c κs =
+    let g = c .before .before .before .before .before .before .before .pre .ground in
+    (g .known .size, rw (c .wide2 .ensures) (g .clear .there))
 
 sub-row-for : tie.Need-sub-row-for
 sub-row-for c = search needs
@@ -43,13 +40,13 @@ part-row-for-start : tie.Need-part-row-for-start
 part-row-for-start c = search needs
 
 part-row-for-end : tie.Need-part-row-for-end
-part-row-for-end c = omega (arith, c .before .before .before .before .before .before .before .before .pre .ground .known .size, c .before .before .before .before .before .before .before .before .pre .ground .clear .there)
+part-row-for-end c = omega (arith, c .before .before .before .before .before .before .before .before .before .pre .ground .known .size, c .before .before .before .before .before .before .before .before .before .pre .ground .clear .there)
 
 row-for-requires : tie.Need-row-for-requires
 row-for-requires c κs =
-    let a = c .before .before .before .before .before .before .before .before .before .args in
-    let p = c .before .before .before .before .before .before .before .before .before .pre in
-    standing (a .number) (a .action) (p .target) (a .at) (a .slot) (p .bytes) (a .words .now) (a .arena .now) (p .ground) (c .before .before .before .before .before .wide .result) (c .before .before .before .before .before .wide .ensures)
+    let a = c .before .before .before .before .before .before .before .before .before .before .args in
+    let p = c .before .before .before .before .before .before .before .before .before .before .pre in
+    standing (a .number) (a .action) (p .target) (a .at) (a .slot) (p .bytes) (a .words .now) (a .arena .now) (p .ground) (c .before .before .before .before .before .before .wide .result) (c .before .before .before .before .before .before .wide .ensures)
 
 number-for-requires : tie.Need-number-for-requires
 number-for-requires c κs = search needs
@@ -61,25 +58,22 @@ part-add-node-start : tie.Need-part-add-node-start
 part-add-node-start c = search needs
 
 part-add-node-end : tie.Need-part-add-node-end
-part-add-node-end c = omega (arith, c .before .before .before .before .before .before .before .before .before .before .before .pre .ground .known .size, c .before .before .before .before .before .before .before .before .before .before .before .pre .ground .clear .there)
+part-add-node-end c = omega (arith, c .before .before .before .before .before .before .before .before .before .before .before .before .pre .ground .known .size, c .before .before .before .before .before .before .before .before .before .before .before .before .pre .ground .clear .there)
 
 add-node-requires : tie.Need-add-node-requires
-add-node-requires c κs = rw (c .before .before .before .before .before .before .before .before .wide .ensures) (c .before .before .before .before .before .before .before .before .before .before .before .before .pre .ground .clear .room)
+add-node-requires c κs = rw (c .before .before .before .before .before .before .before .before .before .wide .ensures) (c .before .before .before .before .before .before .before .before .before .before .before .before .before .pre .ground .clear .room)
 
 next-after-requires : tie.Need-next-after-requires
 next-after-requires c κs =
-    let a = c .before .before .before .before .before .before .before .before .before .before .before .before .before .before .before .args in
-    let p = c .before .before .before .before .before .before .before .before .before .before .before .before .before .before .before .pre in
+    let a = c .before .before .before .before .before .before .before .before .before .before .before .before .before .before .before .before .args in
+    let p = c .before .before .before .before .before .before .before .before .before .before .before .before .before .before .before .before .pre in
     next-some (a .number) (a .action) (p .target) (a .at) (a .slot) (p .bytes) (a .words .now) (a .arena .now) (p .ground)
 
 settle-requires : tie.Need-settle-requires
 settle-requires c κs =
-    let a = c .before .before .before .before .before .before .before .before .before .before .before .before .before .before .before .before .before .args in
-    let p = c .before .before .before .before .before .before .before .before .before .before .before .before .before .before .before .before .before .pre in
-    synth-ready (a .number) (a .action) (p .target) (a .at) (a .slot) (p .bytes) (a .words .now) (a .arena .now) (p .ground) (c .before .before .before .before .before .before .before .before .before .before .before .before .before .wide .result) (c .before .before .before .before .before .before .before .before .before .before .before .before .before .wide .ensures) (c .before .before .before .before .before .before .before .row-for .result) (c .before .before .before .before .before .before .before .row-for .ensures) (getD (a .words .now) 2 0) refl (c .before .before .before .before .before .before .number-for .result) (c .before .before .before .before .before .before .number-for .ensures) (c .before .before .before .before .add-node .last .0) (c .before .before .before .before .add-node .result) (c .before .before .before .before .add-node .ensures)
-
-slot-bytes-requires : tie.Need-slot-bytes-requires
-slot-bytes-requires c κs = search needs
+    let a = c .before .before .before .before .before .before .before .before .before .before .before .before .before .before .before .before .before .before .args in
+    let p = c .before .before .before .before .before .before .before .before .before .before .before .before .before .before .before .before .before .before .pre in
+    synth-ready (a .number) (a .action) (p .target) (a .at) (a .slot) (p .bytes) (a .words .now) (a .arena .now) (p .ground) (c .before .before .before .before .before .before .before .before .before .before .before .before .before .before .wide .result) (c .before .before .before .before .before .before .before .before .before .before .before .before .before .before .wide .ensures) (c .before .before .before .before .before .before .before .row-for .result) (c .before .before .before .before .before .before .before .row-for .ensures) (getD (a .words .now) 2 0) refl (c .before .before .before .before .before .before .number-for .result) (c .before .before .before .before .before .before .number-for .ensures) (c .before .before .before .before .add-node .last .0) (c .before .before .before .before .add-node .result) (c .before .before .before .before .add-node .ensures)
 
 sub-initial-row : tie.Need-sub-initial-row
 sub-initial-row c = search needs
@@ -91,16 +85,15 @@ part-initial-row-end : tie.Need-part-initial-row-end
 part-initial-row-end c =
     let a = c .before .before .before .before .before .before .before .before .before .before .before .before .before .before .before .before .before .before .before .before .before .args in
     let p = c .before .before .before .before .before .before .before .before .before .before .before .before .before .before .before .before .before .before .before .before .before .pre in
-    omega (arith, mid-size (a .number) (a .action) (p .target) (a .at) (a .slot) (p .bytes) (a .words .now) (a .arena .now) (p .ground) (c .before .before .before .before .before .before .before .before .before .before .before .before .before .before .before .before .before .wide .result) (c .before .before .before .before .before .before .before .before .before .before .before .before .before .before .before .before .before .wide .ensures) (c .before .before .before .before .before .before .before .before .before .before .before .row-for .result) (c .before .before .before .before .before .before .before .before .before .before .before .row-for .ensures) (getD (a .words .now) 2 0) refl (c .before .before .before .before .before .before .before .before .before .before .number-for .result) (c .before .before .before .before .before .before .before .before .before .before .number-for .ensures) (c .before .before .before .before .before .before .before .before .add-node .last .0) (c .before .before .before .before .before .before .before .before .add-node .result) (c .before .before .before .before .before .before .before .before .add-node .ensures) (c .before .before .before .before .before .next-after .result) (c .before .before .before .before .before .next-after .ensures) (c .before .before .before .settle .last .0) (c .before .before .before .settle .ensures))
+    omega (arith, mid-size (a .number) (a .action) (p .target) (a .at) (a .slot) (p .bytes) (a .words .now) (a .arena .now) (p .ground) (c .before .before .before .before .before .before .before .before .before .before .before .before .before .before .before .before .before .wide .result) (c .before .before .before .before .before .before .before .before .before .before .before .before .before .before .before .before .before .wide .ensures) (c .before .before .before .before .before .before .before .before .before .before .row-for .result) (c .before .before .before .before .before .before .before .before .before .before .row-for .ensures) (getD (a .words .now) 2 0) refl (c .before .before .before .before .before .before .before .before .before .number-for .result) (c .before .before .before .before .before .before .before .before .before .number-for .ensures) (c .before .before .before .before .before .before .before .add-node .last .0) (c .before .before .before .before .before .before .before .add-node .result) (c .before .before .before .before .before .before .before .add-node .ensures) (c .before .before .before .before .next-after .result) (c .before .before .before .before .next-after .ensures) (c .before .before .settle .last .0) (c .before .before .settle .ensures))
 
 initial-row-requires : tie.Need-initial-row-requires
 initial-row-requires c κs =
     let a = c .before .before .before .before .before .before .before .before .before .before .before .before .before .before .before .before .before .before .before .before .before .before .args in
     let p = c .before .before .before .before .before .before .before .before .before .before .before .before .before .before .before .before .before .before .before .before .before .before .pre in
-    let size = getD (a .words .now) (4 + c .before .before .before .before .before .before .before .before .before .before .before .before .before .before .before .before .wide2 .result) 0 in
-    let there = ap (λ (j : ℕ). getD (a .words .now) (4 + j) 0) (c .before .before .before .before .before .before .before .before .before .before .before .before .before .before .before .before .wide2 .ensures) in (
-      row-fits (a .number) (a .action) (p .target) (a .at) (a .slot) (p .bytes) (a .words .now) (a .arena .now) (p .ground) (c .before .before .before .before .before .before .before .before .before .before .before .before .before .before .before .before .before .before .wide .result) (c .before .before .before .before .before .before .before .before .before .before .before .before .before .before .before .before .before .before .wide .ensures) (c .before .before .before .before .before .before .before .before .before .before .before .before .row-for .result) (c .before .before .before .before .before .before .before .before .before .before .before .before .row-for .ensures) (getD (a .words .now) 2 0) refl (c .before .before .before .before .before .before .before .before .before .before .before .number-for .result) (c .before .before .before .before .before .before .before .before .before .before .before .number-for .ensures) (c .before .before .before .before .before .before .before .before .before .add-node .last .0) (c .before .before .before .before .before .before .before .before .before .add-node .result) (c .before .before .before .before .before .before .before .before .before .add-node .ensures) (c .before .before .before .before .before .before .next-after .result) (c .before .before .before .before .before .before .next-after .ensures) (c .before .before .before .before .settle .last .0) (c .before .before .before .before .settle .ensures),
-      subst Readable (sym (c .before .slot-bytes .ensures)) (definition-readable (a .number) (a .action) (p .target) (a .at) (a .slot) (p .bytes) (a .words .now) (a .arena .now) (p .ground) size there),
+    let bytes = c .before .before .before .before .before .before .before .before .before .before .before .before .before .before .slot-bytes .ensures ∙ ap (slotBytes (a .words .now) (a .arena .now)) (c .before .before .before .before .before .before .before .before .before .before .before .before .before .before .before .wide2 .ensures) in (
+      row-fits (a .number) (a .action) (p .target) (a .at) (a .slot) (p .bytes) (a .words .now) (a .arena .now) (p .ground) (c .before .before .before .before .before .before .before .before .before .before .before .before .before .before .before .before .before .before .wide .result) (c .before .before .before .before .before .before .before .before .before .before .before .before .before .before .before .before .before .before .wide .ensures) (c .before .before .before .before .before .before .before .before .before .before .before .row-for .result) (c .before .before .before .before .before .before .before .before .before .before .before .row-for .ensures) (getD (a .words .now) 2 0) refl (c .before .before .before .before .before .before .before .before .before .before .number-for .result) (c .before .before .before .before .before .before .before .before .before .before .number-for .ensures) (c .before .before .before .before .before .before .before .before .add-node .last .0) (c .before .before .before .before .before .before .before .before .add-node .result) (c .before .before .before .before .before .before .before .before .add-node .ensures) (c .before .before .before .before .before .next-after .result) (c .before .before .before .before .before .next-after .ensures) (c .before .before .before .settle .last .0) (c .before .before .before .settle .ensures),
+      subst Readable (sym bytes) (definition-readable (a .number) (a .action) (p .target) (a .at) (a .slot) (p .bytes) (a .words .now) (a .arena .now) (p .ground) (getD (a .words .now) (4 + a .slot) 0) refl),
     )
 
 same-length : tie.Need-same-length
@@ -110,13 +103,13 @@ returns : tie.Need-returns
 returns c =
     λ target bytes g.
     let a = c .before .before .before .before .before .before .before .before .before .before .before .before .before .before .before .before .before .before .before .before .before .before .before .before .before .args in
-    synth-done (a .number) (a .action) target (a .at) (a .slot) bytes (a .words .now) (a .arena .now) g (c .before .before .before .before .before .before .before .before .before .before .before .before .before .before .before .before .before .before .before .before .before .wide .result) (c .before .before .before .before .before .before .before .before .before .before .before .before .before .before .before .before .before .before .before .before .before .wide .ensures) (c .before .before .before .before .before .before .before .before .before .before .before .before .before .before .before .row-for .result) (c .before .before .before .before .before .before .before .before .before .before .before .before .before .before .before .row-for .ensures) (getD (a .words .now) 2 0) refl (c .before .before .before .before .before .before .before .before .before .before .before .before .before .before .number-for .result) (c .before .before .before .before .before .before .before .before .before .before .before .before .before .before .number-for .ensures) (c .before .before .before .before .before .before .before .before .before .before .before .before .add-node .last .0) (c .before .before .before .before .before .before .before .before .before .before .before .before .add-node .result) (c .before .before .before .before .before .before .before .before .before .before .before .before .add-node .ensures)
-    (c .before .before .before .before .before .before .before .before .before .next-after .result) (c .before .before .before .before .before .before .before .before .before .next-after .ensures) (c .before .before .before .before .before .before .before .settle .last .0) (c .before .before .before .before .before .before .before .settle .ensures)
-    (getD (a .words .now) (4 + c .before .before .before .before .before .before .before .before .before .before .before .before .before .before .before .before .before .before .before .wide2 .result) 0) (ap (λ (j : ℕ). getD (a .words .now) (4 + j) 0) (c .before .before .before .before .before .before .before .before .before .before .before .before .before .before .before .before .before .before .before .wide2 .ensures))
-    (put controlsPlace controlsWords (c .before .before .initial-row .last .0) (c .before .before .before .before .before .before .before .settle .last .0))
-    (ap (λ (l : List ℕ). put controlsPlace controlsWords l (c .before .before .before .before .before .before .before .settle .last .0))
+    synth-done (a .number) (a .action) target (a .at) (a .slot) bytes (a .words .now) (a .arena .now) g (c .before .before .before .before .before .before .before .before .before .before .before .before .before .before .before .before .before .before .before .before .before .wide .result) (c .before .before .before .before .before .before .before .before .before .before .before .before .before .before .before .before .before .before .before .before .before .wide .ensures) (c .before .before .before .before .before .before .before .before .before .before .before .before .before .before .row-for .result) (c .before .before .before .before .before .before .before .before .before .before .before .before .before .before .row-for .ensures) (getD (a .words .now) 2 0) refl (c .before .before .before .before .before .before .before .before .before .before .before .before .before .number-for .result) (c .before .before .before .before .before .before .before .before .before .before .before .before .before .number-for .ensures) (c .before .before .before .before .before .before .before .before .before .before .before .add-node .last .0) (c .before .before .before .before .before .before .before .before .before .before .before .add-node .result) (c .before .before .before .before .before .before .before .before .before .before .before .add-node .ensures)
+    (c .before .before .before .before .before .before .before .before .next-after .result) (c .before .before .before .before .before .before .before .before .next-after .ensures) (c .before .before .before .before .before .before .settle .last .0) (c .before .before .before .before .before .before .settle .ensures)
+    (getD (a .words .now) (4 + a .slot) 0) refl
+    (put controlsPlace controlsWords (c .before .before .initial-row .last .0) (c .before .before .before .before .before .before .settle .last .0))
+    (ap (λ (l : List ℕ). put controlsPlace controlsWords l (c .before .before .before .before .before .before .settle .last .0))
     (c .before .before .initial-row .ensures
-    ∙ ap (λ (d : List ℕ). over (64 * c .before .before .before .before .before .before .before .before .before .before .before .before .before .before .before .row-for .result) (initialWords (frontIn d .values)) (region controlsPlace controlsWords (c .before .before .before .before .before .before .before .settle .last .0))) (c .before .before .before .before .slot-bytes .ensures)))
+    ∙ ap (λ (d : List ℕ). over (64 * c .before .before .before .before .before .before .before .before .before .before .before .before .before .before .row-for .result) (initialWords (frontIn d .values)) (region controlsPlace controlsWords (c .before .before .before .before .before .before .settle .last .0))) (c .before .before .before .before .before .before .before .before .before .before .before .before .before .before .before .before .before .slot-bytes .ensures ∙ ap (slotBytes (a .words .now) (a .arena .now)) (c .before .before .before .before .before .before .before .before .before .before .before .before .before .before .before .before .before .before .wide2 .ensures))))
 
 pub put-synth-spec : {M : Type 1} → statement M
 put-synth-spec =
@@ -126,9 +119,7 @@ put-synth-spec =
     wide-requires
     slice-read-next
     wide-requires-2
-    add-size
-    mul-size
-    slice-read-size
+    slot-bytes-requires
     sub-row-for
     part-row-for-start
     part-row-for-end
@@ -140,7 +131,6 @@ put-synth-spec =
     add-node-requires
     next-after-requires
     settle-requires
-    slot-bytes-requires
     sub-initial-row
     part-initial-row-start
     part-initial-row-end
