@@ -18,7 +18,7 @@ use Rattle.model.specs.Checks.{firstOf}
 use Rattle.model.specs.Replies.{exportFile, replyTo, reply}
 use Rattle.model.specs.After.{wordsAfter, arenaAfter, freshState, freshArena}
 use Rattle.model.specs.Apply.{queryAnswer, answerIn, answer, isAccepted, written, replyOf, Does}
-use Rattle.model.specs.Chain.{State, engineIn, Call, Applied, Fresh}
+use Rattle.model.specs.Chain.{State, engineIn, Call, Applied, Chain, Fresh}
 use Rattle.model.specs.Demands.{meaningIn, receive, export, Exports, Demand2}
 use Rattle.reload.specs.Theorem.{exported-file, accepted, meant-same}
 use Rattle.sequence.specs.Ends.{reply-left, demand1}
@@ -81,6 +81,7 @@ module _ (file : List ℕ) (c : Call) (d : Loads file c) where
       ap₂ decode (d .words ∙ rw g) (d .arena ∙ rw g)
 
 pub demand2 : Demand2
+unfolding Chain
 demand2 = record {
   exported = λ s f load next is is′ a h.
       let d = load-by load s f is (a .0) in
