@@ -10,9 +10,9 @@ use Rattle.model.specs.declared.Command.{Command}
 use Rattle.model.specs.declared.Answer.{Answer}
 use Rattle.model.specs.declared.Answer.the-variants.{Done, Refused}
 use Rattle.model.specs.Apply.{Does, sized, freshAnswer, Freshly}
-use Rattle.engine.specs.declared.ops.Parsed.{Parsed}
-use Rattle.engine.specs.declared.ops.Parsed.the-variants.{Call, Nothing}
-use Rattle.engine.specs.Numbers.{callNumber}
+use Rattle.calls.specs.declared.Parsed.{Parsed}
+use Rattle.calls.specs.declared.Parsed.the-variants.{Call, Nothing}
+use Rattle.calls.specs.Numbers.{callNumber}
 
 -- a fresh engine, and the answer as a number
 pub record Made (ws bs : List ℕ) (r : ℕ) (ws′ bs′ : List ℕ) : Type 0 where

@@ -1,14 +1,14 @@
 // What Rust and C call: slices as a pointer and a length, integers and floats as their 32-bit patterns.
 use crate::commands::apply;
-use crate::ops::Parsed;
-use crate::ops::call_number;
-use crate::ops::command_of;
+use calls::Parsed;
+use calls::call_number;
+use calls::command_of;
 use crate::start::fresh;
 use layout::ARENA;
 use layout::WORDS;
 ghost use mathlib.Core.Path.{_≡_};
 ghost use Rattle.model.specs.Layout.{wordsLength, arenaLength};
-ghost use Rattle.engine.specs.Ops.{commandOf};
+ghost use Rattle.calls.specs.Ops.{commandOf};
 ghost use Rattle.engine.specs.Calls.{Made, Called};
 
 // The length of the words.

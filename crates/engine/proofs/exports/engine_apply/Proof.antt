@@ -1,7 +1,7 @@
 -- `engine::exports::engine_apply` meets its contract.
 use mathlib.Core.Path.{_≡_, refl, sym, _∙_}
 use borrow.Author.Needs.{needs}
-use Rattle.engine.specs.declared.ops.Parsed.the-variants.{Nothing}
+use Rattle.calls.specs.declared.Parsed.the-variants.{Nothing}
 use Rattle.engine.proofs.exports.engine_apply.Statement.{statement}
 use Rattle.engine.proofs.exports.engine_apply.Tie as tie
 

@@ -3,7 +3,7 @@ use mathlib.Core.Path.{_≡_, ap, _∙_}
 use native.Mathlib.Omega.{arith}
 use borrow.Author.Needs.{needs}
 use Rattle.model.specs.Apply.{freshAnswer}
-use Rattle.engine.specs.Numbers.{callNumber}
+use Rattle.calls.specs.Numbers.{callNumber}
 use Rattle.engine.specs.Calls.{fresh-small}
 use Rattle.engine.proofs.exports.engine_fresh.Statement.{statement}
 use Rattle.engine.proofs.exports.engine_fresh.Tie as tie

@@ -1,7 +1,7 @@
--- `engine::set_bus` meets its contract.
-use Rattle.engine.specs.Ops.{busSetting, float-valued, integer-valued, none-valued}
-use Rattle.engine.proofs.ops.set_bus.Statement.{statement}
-use Rattle.engine.proofs.ops.set_bus.Tie as tie
+-- `calls::set_bus` meets its contract.
+use Rattle.calls.specs.Ops.{busSetting, float-valued, integer-valued, none-valued}
+use Rattle.calls.proofs.set_bus.Statement.{statement}
+use Rattle.calls.proofs.set_bus.Tie as tie
 
 returns : tie.Need-returns
 returns c =

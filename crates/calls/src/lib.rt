@@ -14,8 +14,8 @@ use values::Value;
 ghost use mathlib.Core.Path.{_≡_};
 ghost use Prim.Native.Nat.{_<_, _+_, _*_, _%_};
 ghost use Rattle.values.specs.declared.Key.{Key};
-ghost use Rattle.engine.specs.Ops.{commandOf, valued, setting, filling, busSetting, busFilling};
-ghost use Rattle.engine.specs.Numbers.{callNumber, room};
+ghost use Rattle.calls.specs.Ops.{commandOf, valued, setting, filling, busSetting, busFilling};
+ghost use Rattle.calls.specs.Numbers.{callNumber, room};
 
 // The command that a call names, or none.
 pub enum Parsed {
@@ -108,7 +108,7 @@ fn fill_buses(start: u32, count: u32, kind: u32, value: u32) -> Parsed
 }
 
 // The command of an op with its five numbers.
-pub(crate) fn command_of(op: u32, a: u32, b: u32, c: u32, d: u32, e: u32) -> Parsed
+pub fn command_of(op: u32, a: u32, b: u32, c: u32, d: u32, e: u32) -> Parsed
     ensures { λ r. ⌜ r ≡ commandOf op a b c d e ⌝ }
 {
     // The nodes that the first three numbers name, where they name nodes.
@@ -197,7 +197,7 @@ fn placed(number: u32, place: usize) -> u64
 }
 
 // An answer as one number.
-pub(crate) fn call_number(answer: Answer) -> u64
+pub fn call_number(answer: Answer) -> u64
     ensures { λ r. ⌜ r ≡ callNumber answer ⌝ }
 {
     match answer {

@@ -1,7 +1,7 @@
--- `engine::fill_controls` meets its contract.
-use Rattle.engine.specs.Ops.{filling, float-valued, integer-valued, none-valued}
-use Rattle.engine.proofs.ops.fill_controls.Statement.{statement}
-use Rattle.engine.proofs.ops.fill_controls.Tie as tie
+-- `calls::fill_controls` meets its contract.
+use Rattle.calls.specs.Ops.{filling, float-valued, integer-valued, none-valued}
+use Rattle.calls.proofs.fill_controls.Statement.{statement}
+use Rattle.calls.proofs.fill_controls.Tie as tie
 
 returns : tie.Need-returns
 returns c =

@@ -1,7 +1,7 @@
--- `engine::set_control` meets its contract.
-use Rattle.engine.specs.Ops.{setting, float-valued, integer-valued, none-valued}
-use Rattle.engine.proofs.ops.set_control.Statement.{statement}
-use Rattle.engine.proofs.ops.set_control.Tie as tie
+-- `calls::set_control` meets its contract.
+use Rattle.calls.specs.Ops.{setting, float-valued, integer-valued, none-valued}
+use Rattle.calls.proofs.set_control.Statement.{statement}
+use Rattle.calls.proofs.set_control.Tie as tie
 
 returns : tie.Need-returns
 returns c =

@@ -1,7 +1,7 @@
--- `engine::fill_buses` meets its contract.
-use Rattle.engine.specs.Ops.{busFilling, float-valued, integer-valued, none-valued}
-use Rattle.engine.proofs.ops.fill_buses.Statement.{statement}
-use Rattle.engine.proofs.ops.fill_buses.Tie as tie
+-- `calls::fill_buses` meets its contract.
+use Rattle.calls.specs.Ops.{busFilling, float-valued, integer-valued, none-valued}
+use Rattle.calls.proofs.fill_buses.Statement.{statement}
+use Rattle.calls.proofs.fill_buses.Tie as tie
 
 returns : tie.Need-returns
 returns c =

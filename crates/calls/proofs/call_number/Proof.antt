@@ -1,13 +1,13 @@
--- `engine::call_number` meets its contract.
+-- `calls::call_number` meets its contract.
 use Prim.Native.Nat.{ℕ, _+_, _*_, _%_}
 use mathlib.Core.Path.{sym, ap, _∙_}
 use native.Mathlib.Omega.{arith}
 use native.Mathlib.Nat.{zero-add}
 use borrow.Author.Needs.{needs}
 use Rattle.faults.specs.Faults.{fault-high}
-use Rattle.engine.specs.Numbers.{room, callNumber}
-use Rattle.engine.proofs.ops.call_number.Statement.{statement}
-use Rattle.engine.proofs.ops.call_number.Tie as tie
+use Rattle.calls.specs.Numbers.{room, callNumber}
+use Rattle.calls.proofs.call_number.Statement.{statement}
+use Rattle.calls.proofs.call_number.Tie as tie
 
 enum-told : tie.Need-enum-told
 enum-told c = search needs

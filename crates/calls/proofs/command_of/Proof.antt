@@ -1,9 +1,9 @@
--- `engine::command_of` meets its contract: the arm of each number, and the numbers past the last.
+-- `calls::command_of` meets its contract: the arm of each number, and the numbers past the last.
 use mathlib.Core.Path.{_∙_}
 use borrow.Author.Needs.{needs}
-use Rattle.engine.specs.Ops.{op-is, op-past, past, Others}
-use Rattle.engine.proofs.ops.command_of.Statement.{statement}
-use Rattle.engine.proofs.ops.command_of.Tie as tie
+use Rattle.calls.specs.Ops.{op-is, op-past, past, Others}
+use Rattle.calls.proofs.command_of.Statement.{statement}
+use Rattle.calls.proofs.command_of.Tie as tie
 
 set-control-requires : tie.Need-set-control-requires
 set-control-requires c κs = search needs

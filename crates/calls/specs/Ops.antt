@@ -21,8 +21,8 @@ use Rattle.model.specs.declared.BusCommand.the-variants as buses
 use Rattle.model.specs.declared.Query.the-variants as query
 use Rattle.model.specs.declared.Command.{Command}
 use Rattle.model.specs.declared.Command.the-variants as command
-use Rattle.engine.specs.declared.ops.Parsed.{Parsed}
-use Rattle.engine.specs.declared.ops.Parsed.the-variants.{Call, Nothing}
+use Rattle.calls.specs.declared.Parsed.{Parsed}
+use Rattle.calls.specs.declared.Parsed.the-variants.{Call, Nothing}
 
 -- in a value d is 0 for a float's pattern in e, 1 for an integer in e
 abbrev pub valued : ℕ → ℕ → (Value → Command) → Parsed
