@@ -1,0 +1,7 @@
+pub mod Form
+pub mod Table
+pub mod Receive
+pub mod Write
+pub mod Rows
+pub mod Sent
+pub mod Worked
