@@ -68,6 +68,13 @@ const ADDRESSES: [u8; 324] = [
     47, 115, 116, 97, 116, 117, 115, 0, 0, 0, 0, 0,
 ];
 
+// A byte as a length.
+fn small(byte: u8) -> usize
+    ensures { λ r. ⌜ r ≡ byte ⌝ }
+{
+    byte as usize
+}
+
 // The code of a slot of an op's row; 0 past its last slot, and where the op has no row.
 pub fn slot_code(op: u32, k: usize) -> u8
     ensures { λ r. ⌜ r ≡ codeAt (slotsOf op) k ⌝ }
@@ -90,7 +97,7 @@ pub fn address_length(op: u32) -> usize
         return 0;
     }
     let at = op as usize;
-    LENGTHS[at] as usize
+    small(LENGTHS[at])
 }
 
 // A byte of the address of an op's row; 0 past its last.
