@@ -3,7 +3,7 @@ use tree::Action;
 ghost use mathlib.Core.Path.{_≡_};
 ghost use Rattle.nodes.specs.Table.{rows};
 ghost use Rattle.nodes.specs.Edit.{editAt, freeHere};
-ghost use Rattle.model.specs.Effects.{freeRow};
+ghost use Rattle.nodes.specs.Formed.{freeRow};
 ghost use Rattle.making.specs.Rows.{Standing, stayingAt};
 
 // The lowest free row once the node at a place is freed with all below it.
