@@ -35,7 +35,6 @@ use Rattle.state.specs.Accepted.{accepted}
 use Rattle.state.specs.Does.{WordsStep, step-refused, step-done}
 use Rattle.state.specs.Decoded.{tree-size, tree-controls, order-region-length}
 use Rattle.state.specs.Regions.{put-size}
-
 use Rattle.preservation.specs.TreeSteps.{NewSynthComes, synth-comes}
 use Rattle.preservation.specs.TreeKept.{known-sound}
 use Rattle.tree.specs.declared.action.Action.{Action}

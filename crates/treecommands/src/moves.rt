@@ -1,6 +1,9 @@
 // Commands that move a node with all below it.
 use crate::finish::renew;
 use crate::place::is_synth;
+use layout::COUNT;
+use layout::NODES;
+use layout::NODES_END;
 use model::Answer;
 use names::node_place;
 use refusals::Refusal;
@@ -23,7 +26,7 @@ fn beside(node: NodeArgument, place: NodeArgument, words: &[u32]) -> Pair
     requires { ⌜ Ready (now words) ⌝ }
     ensures { λ r. ⌜ PairFound (besideChecks node place) node place (now (words .entry)) r ⌝ }
 {
-    let count = wide(words[0]);
+    let count = wide(words[COUNT]);
     let a = node_place(words, node);
     if count <= a {
         return Pair::Refused(Refusal::NoNode);
@@ -38,7 +41,7 @@ fn beside(node: NodeArgument, place: NodeArgument, words: &[u32]) -> Pair
     if b == 0 {
         return Pair::Refused(Refusal::WrongKind);
     }
-    if tree::lies_below(&words[68..1348], count, b, a) {
+    if tree::lies_below(&words[NODES..NODES_END], count, b, a) {
         return Pair::Refused(Refusal::InsideItself);
     }
     Pair::At(a, b)
@@ -49,7 +52,7 @@ fn into(group: NodeArgument, node: NodeArgument, words: &[u32]) -> Pair
     requires { ⌜ Ready (now words) ⌝ }
     ensures { λ r. ⌜ PairFound (intoChecks group node) node group (now (words .entry)) r ⌝ }
 {
-    let count = wide(words[0]);
+    let count = wide(words[COUNT]);
     let b = node_place(words, group);
     if count <= b {
         return Pair::Refused(Refusal::NoNode);
@@ -64,7 +67,7 @@ fn into(group: NodeArgument, node: NodeArgument, words: &[u32]) -> Pair
     if a == 0 {
         return Pair::Refused(Refusal::WrongKind);
     }
-    if tree::lies_below(&words[68..1348], count, b, a) {
+    if tree::lies_below(&words[NODES..NODES_END], count, b, a) {
         return Pair::Refused(Refusal::InsideItself);
     }
     Pair::At(a, b)
@@ -78,8 +81,8 @@ pub fn move_before(node: NodeArgument, place: NodeArgument, words: &mut [u32]) -
     let pair = beside(node, place, words);
     match pair {
         Pair::At(a, b) => {
-            let count = wide(words[0]);
-            tree::move_node(&mut words[68..1348], count, a, Position::Before, b);
+            let count = wide(words[COUNT]);
+            tree::move_node(&mut words[NODES..NODES_END], count, a, Position::Before, b);
             renew(words, count);
             Answer::Done
         }
@@ -95,8 +98,8 @@ pub fn move_after(node: NodeArgument, place: NodeArgument, words: &mut [u32]) ->
     let pair = beside(node, place, words);
     match pair {
         Pair::At(a, b) => {
-            let count = wide(words[0]);
-            tree::move_node(&mut words[68..1348], count, a, Position::After, b);
+            let count = wide(words[COUNT]);
+            tree::move_node(&mut words[NODES..NODES_END], count, a, Position::After, b);
             renew(words, count);
             Answer::Done
         }
@@ -112,8 +115,8 @@ pub fn move_head(group: NodeArgument, node: NodeArgument, words: &mut [u32]) -> 
     let pair = into(group, node, words);
     match pair {
         Pair::At(a, b) => {
-            let count = wide(words[0]);
-            tree::move_node(&mut words[68..1348], count, a, Position::Head, b);
+            let count = wide(words[COUNT]);
+            tree::move_node(&mut words[NODES..NODES_END], count, a, Position::Head, b);
             renew(words, count);
             Answer::Done
         }
@@ -129,8 +132,8 @@ pub fn move_tail(group: NodeArgument, node: NodeArgument, words: &mut [u32]) -> 
     let pair = into(group, node, words);
     match pair {
         Pair::At(a, b) => {
-            let count = wide(words[0]);
-            tree::move_node(&mut words[68..1348], count, a, Position::Tail, b);
+            let count = wide(words[COUNT]);
+            tree::move_node(&mut words[NODES..NODES_END], count, a, Position::Tail, b);
             renew(words, count);
             Answer::Done
         }
