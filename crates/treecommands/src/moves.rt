@@ -14,6 +14,7 @@ ghost use Rattle.model.specs.declared.TreeCommand.{TreeCommand};
 ghost use Rattle.treecommands.specs.Ready.{Ready};
 ghost use Rattle.treecommands.specs.Steps.{Steps};
 ghost use Rattle.treecommands.specs.Sighting.{PairFound, besideChecks, intoChecks};
+ghost use Rattle.treecommands.specs.Moving.{Movable, Goes};
 
 // The places of the node that is moved and of the node that it goes to, or the first refusal.
 pub enum Pair {
@@ -73,21 +74,29 @@ fn into(group: NodeArgument, node: NodeArgument, words: &[u32]) -> Pair
     Pair::At(a, b)
 }
 
+// What every move does once its checks have answered.
+fn move_pair(pair: Pair, position: Position, words: &mut [u32]) -> Answer
+    requires { ⌜ Ready (now words) × Movable pair (now words) ⌝ }
+    ensures { λ r. ⌜ Goes pair position (now (words .entry)) r (now (words .exit)) ⌝ }
+{
+    match pair {
+        Pair::At(a, b) => {
+            let count = wide(words[COUNT]);
+            tree::move_node(&mut words[NODES..NODES_END], count, a, position, b);
+            renew(words, count);
+            Answer::Done
+        }
+        Pair::Refused(why) => Answer::Refused(why),
+    }
+}
+
 // /n_before
 pub fn move_before(node: NodeArgument, place: NodeArgument, words: &mut [u32]) -> Answer
     requires { ⌜ Ready (now words) ⌝ }
     ensures { λ r. ⌜ Steps (TreeCommand.Before node place) (now (words .entry)) r (now (words .exit)) ⌝ }
 {
     let pair = beside(node, place, words);
-    match pair {
-        Pair::At(a, b) => {
-            let count = wide(words[COUNT]);
-            tree::move_node(&mut words[NODES..NODES_END], count, a, Position::Before, b);
-            renew(words, count);
-            Answer::Done
-        }
-        Pair::Refused(why) => Answer::Refused(why),
-    }
+    move_pair(pair, Position::Before, words)
 }
 
 // /n_after
@@ -96,15 +105,7 @@ pub fn move_after(node: NodeArgument, place: NodeArgument, words: &mut [u32]) ->
     ensures { λ r. ⌜ Steps (TreeCommand.After node place) (now (words .entry)) r (now (words .exit)) ⌝ }
 {
     let pair = beside(node, place, words);
-    match pair {
-        Pair::At(a, b) => {
-            let count = wide(words[COUNT]);
-            tree::move_node(&mut words[NODES..NODES_END], count, a, Position::After, b);
-            renew(words, count);
-            Answer::Done
-        }
-        Pair::Refused(why) => Answer::Refused(why),
-    }
+    move_pair(pair, Position::After, words)
 }
 
 // /g_head
@@ -113,15 +114,7 @@ pub fn move_head(group: NodeArgument, node: NodeArgument, words: &mut [u32]) -> 
     ensures { λ r. ⌜ Steps (TreeCommand.Head group node) (now (words .entry)) r (now (words .exit)) ⌝ }
 {
     let pair = into(group, node, words);
-    match pair {
-        Pair::At(a, b) => {
-            let count = wide(words[COUNT]);
-            tree::move_node(&mut words[NODES..NODES_END], count, a, Position::Head, b);
-            renew(words, count);
-            Answer::Done
-        }
-        Pair::Refused(why) => Answer::Refused(why),
-    }
+    move_pair(pair, Position::Head, words)
 }
 
 // /g_tail
@@ -130,13 +123,5 @@ pub fn move_tail(group: NodeArgument, node: NodeArgument, words: &mut [u32]) -> 
     ensures { λ r. ⌜ Steps (TreeCommand.Tail group node) (now (words .entry)) r (now (words .exit)) ⌝ }
 {
     let pair = into(group, node, words);
-    match pair {
-        Pair::At(a, b) => {
-            let count = wide(words[COUNT]);
-            tree::move_node(&mut words[NODES..NODES_END], count, a, Position::Tail, b);
-            renew(words, count);
-            Answer::Done
-        }
-        Pair::Refused(why) => Answer::Refused(why),
-    }
+    move_pair(pair, Position::Tail, words)
 }
