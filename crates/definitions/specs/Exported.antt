@@ -20,6 +20,7 @@ use Rattle.format.specs.Bounds.{every, isDefinition, areDefinitions, isFile}
 use Rattle.nodes.specs.declared.Node.{Node}
 use Rattle.model.specs.Layout.{slotCount}
 use Rattle.model.specs.Engine.{Slot, slotAt, held, definitionIn, noDefinition, valueOr, nameIn, residents, residentFrom, residentOf}
+use Rattle.model.specs.Searches.{resident-least}
 use Rattle.model.specs.Formed.{nameResident, namesApart}
 use Rattle.model.specs.Checks.{namesOf}
 use Rattle.model.specs.Effects.{freeFrom, loaded, retired}
@@ -227,15 +228,6 @@ fresh-export file b ds end e slots t many out idle =
 unfoldable pub meaningOf : List ℕ → List Definition → Option Definition
 meaningOf name [] = none
 meaningOf name (d ∷ ds) = pick (sameName (d .front .name) name) (some d) (meaningOf name ds)
-
-resident-least : (k : ℕ) (name : List ℕ) (slots : List Slot) → k ≤ residentFrom k name slots
-unfolding residentFrom
-resident-least k name [] = omega arith
-resident-least k name (s ∷ more) = by (both (s .resident) (sameName (nameIn s) name)) (resident-least (k + 1) name more)
-  where
-    by : (b : Bool) → k + 1 ≤ residentFrom (k + 1) name more → k ≤ pick b k (residentFrom (k + 1) name more)
-    by true h = omega arith
-    by false h = omega arith
 
 meaning-from : (k : ℕ) (name : List ℕ) (slots : List Slot)
     → pick (ltb (residentFrom k name slots) (k + length slots)) (some (definitionIn (slotAt slots (residentFrom k name slots - k)))) none ≡ meaningOf name (definitionsIn (residents slots))

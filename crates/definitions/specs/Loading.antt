@@ -1,22 +1,23 @@
 -- An accepted file's definitions put into slots, one after the other.
-use Prim.Native.Nat.{ℕ, zero, suc, _+_, _*_, _-_, _≤_, _<_}
+use Prim.Native.Nat.{ℕ, _+_, _*_, _-_, _≤_, _<_}
 use mathlib.Core.Bool.{Bool, true, false}
 use mathlib.Core.Path.{_≡_, refl, sym, ap, ap₂, _∙_}
-use mathlib.Core.List.{List, [], _∷_, _++_}
+use mathlib.Core.List.{List, [], _++_}
 use native.Mathlib.Omega.{arith}
 use native.Mathlib.Nat.{zero-add}
 use lib.ListN.{length, set, length-take, length-drop, length-set, List·getD-eq-default}
 use lib.Seq.{getD-set-same, getD-set-other, set-out}
 use lib.Dec.{ltb, eqb}
 use borrow.Author.Tests.{ltb-true, ltb-false, eqb-true, eqb-false}
-use Rattle.words.specs.Choice.{pick, either-false}
+use Rattle.words.specs.Choice.{either-false}
 use Rattle.words.specs.Parts.{region, region-length, put, put-length}
 use Rattle.format.specs.Definition.{Definition}
 use Rattle.format.specs.Writer.{writeDefinition}
 use Rattle.nodes.specs.declared.Node.{Node}
 use Rattle.model.specs.Layout.{slotCount, slotRoom, arenaLength}
-use Rattle.model.specs.Engine.{Slot, slotsFrom, slotAt, held, slotTaken}
+use Rattle.model.specs.Engine.{Slot, slotsFrom, slotAt, held}
 use Rattle.model.specs.Effects.{freeFrom, placed, loaded, retired}
+use Rattle.model.specs.Searches.{free-slot}
 use Rattle.model.specs.Checks.{namesOf}
 use Rattle.model.specs.After.{flagsOf, lengthsOf, arenaOf}
 use Rattle.definitions.specs.Holders.{holders}
@@ -28,33 +29,9 @@ use Rattle.definitions.specs.Naming.{Next, run-last}
 use Rattle.definitions.specs.Retiring.{slot-is, table-same}
 use Rattle.definitions.specs.Retired.{table-flags, retired-lengths, retired-slots}
 
-free-most : (j : ℕ) (slots : List Slot) (t : List Node) → j ≤ freeFrom j slots t
-unfolding freeFrom
-free-most j [] t = omega arith
-free-most j (s ∷ more) t = by (slotTaken j s t) (free-most (j + 1) more t)
-  where
-    by : (b : Bool) → j + 1 ≤ freeFrom (j + 1) more t → j ≤ pick b (freeFrom (j + 1) more t) j
-    by true h = omega arith
-    by false h = omega arith
-
 -- the slot that is found is not resident
-free-slot : (j : ℕ) (slots : List Slot) (t : List Node) (i : ℕ) → freeFrom j slots t ≡ j + i → i < length slots → slotAt slots i .resident ≡ false
-unfolding freeFrom
-free-slot j [] t i e h = absurd (omega arith)
-free-slot j (s ∷ more) t i e h = by (slotTaken j s t) refl i e h (λ n. free-slot (j + 1) more t n)
-  where
-    first : slotTaken j s t ≡ false → s .resident ≡ false
-    first e = either-false (s .resident) (held j t) e .0
-
-    by : (b : Bool) → slotTaken j s t ≡ b → (i : ℕ) → pick b (freeFrom (j + 1) more t) j ≡ j + i → i < suc (length more)
-        → ((n : ℕ) → freeFrom (j + 1) more t ≡ j + 1 + n → n < length more → slotAt more n .resident ≡ false)
-        → slotAt (s ∷ more) i .resident ≡ false
-    by true q zero e h ih = absurd (omega (arith, free-most (j + 1) more t))
-    by true q (suc i) e h ih =
-        let next : freeFrom (j + 1) more t ≡ j + 1 + i = omega arith in
-        ih i next (omega arith)
-    by false q zero e h ih = first q
-    by false q (suc i) e h ih = absurd (omega arith)
+free-resident : (slots : List Slot) (t : List Node) (i : ℕ) → freeFrom 0 slots t ≡ 0 + i → i < length slots → slotAt slots i .resident ≡ false
+free-resident slots t i e h = either-false (slotAt slots i .resident) (held (0 + i) t) (free-slot 0 slots t i e h) .0
 
 -- a definition placed leaves as many slots
 pub placed-many : (d : Definition) (slots : List Slot) (t : List Node) → length slots ≡ slotCount → length (placed d slots t) ≡ slotCount
@@ -177,7 +154,7 @@ module _ (table₀ arena₀ file : List ℕ) (tests : List Bool) (at : ℕ) (tab
       let many = m .many in
       let size : length from ≡ n .next - at = ap length e ∙ region-length at (n .next - at) file (omega arith) in
       let fits : length (writeDefinition (n .first)) ≤ slotRoom = rw (sym same) (omega arith) in
-      let free : slotAt (m .slots) k .resident ≡ false = free-slot 0 (m .slots) (holders tests) k (sym found-in ∙ sym (zero-add k)) (rw (m .many) less) in
+      let free : slotAt (m .slots) k .resident ≡ false = free-resident (m .slots) (holders tests) k (sym found-in ∙ sym (zero-add k)) (rw (m .many) less) in
       record {
         slots = set (m .slots) k (newSlot (n .first));
         rest = n .rest;

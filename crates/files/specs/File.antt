@@ -1,20 +1,16 @@
 -- What the functions on a whole file answer.
 use Prim.{Unit}
-use Prim.Native.Nat.{ℕ, suc, _+_, _≤_}
+use Prim.Native.Nat.{ℕ, _≤_}
 use mathlib.Core.Path.{_≡_}
 use mathlib.Core.List.{List, map}
-use lib.ListN.{length, getD}
-use lib.Dec.{ltb}
-use Rattle.words.specs.Choice.{pick}
+use lib.ListN.{length}
 use Rattle.faults.specs.Faults as faults
 use Rattle.files.specs.declared.file.Checked.{Checked}
 use Rattle.files.specs.declared.file.Checked.the-variants.{Accepted, Refused}
-use Rattle.files.specs.declared.file.Span.{Span}
-use Rattle.files.specs.declared.file.Span.the-variants.{Between, Nowhere}
-use Rattle.format.specs.Read.{Read, got, bad, andThen, repeat, ending}
+use Rattle.format.specs.Read.{Read, got, bad, andThen, ending}
 use Rattle.format.specs.Fields.{stringAt}
 use Rattle.format.specs.Definition.{Definition}
-use Rattle.format.specs.Reader.{mostDefinitions, fits, readDefinition, readFile}
+use Rattle.format.specs.Reader.{mostDefinitions, fits, readDefinition}
 
 -- how many definitions a file has, or why it is refused and at which place
 abbrev pub verdict : Read (List Definition) → Checked
@@ -33,24 +29,6 @@ skipFitting s names at = ending (andThen (readDefinition s at) (λ d next. fits 
 abbrev pub firstPlace : ℕ
 firstPlace = 10
 
-module _ {A : Type 0} where
-  -- where a reading ends
-  abbrev pub endOf : Read A → ℕ
-  endOf (got x next) = next
-  endOf (bad r at) = at
-
--- where the definition number i of a file starts: past the first i
-abbrev pub definitionStart : List ℕ → ℕ → ℕ
-definitionStart s i = endOf (repeat (readDefinition s) i firstPlace)
-
--- where the definition number i starts and ends, in a file that is accepted and has as many
-abbrev pub spanIn : List ℕ → ℕ → Read (List Definition) → Span
-spanIn s i (got ds end) = pick (ltb i (length ds)) (Between (definitionStart s i) (definitionStart s (suc i))) Nowhere
-spanIn s i (bad r at) = Nowhere
-
-unfoldable pub definitionSpan : List ℕ → ℕ → Span
-definitionSpan s i = spanIn s i (readFile s)
-
 -- 0, or the refusal's number
 abbrev pub refusalNumber : Checked → ℕ
 refusalNumber (Accepted n) = 0
@@ -65,15 +43,6 @@ refusalPlace (Refused r at) = at
 abbrev pub definitionCount : Checked → ℕ
 definitionCount (Accepted n) = n
 definitionCount (Refused r at) = 0
-
--- the place of a definition's name, behind the byte that is its length, and the place past it; or 0
-abbrev pub nameStart : Span → ℕ
-nameStart (Between start end) = start + 1
-nameStart Nowhere = 0
-
-abbrev pub nameEnd : List ℕ → Span → ℕ
-nameEnd s (Between start end) = start + 1 + getD s start 0
-nameEnd s Nowhere = 0
 
 -- where the definitions of a file start, as far as they are known: the first so many of starts
 pub record Begun (starts : List ℕ) (count : ℕ) : Type 0 where

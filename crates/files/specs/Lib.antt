@@ -2,4 +2,3 @@ pub mod Skips
 pub mod Forward
 pub mod File
 pub mod FileLaws
-pub mod Spans

@@ -8,7 +8,6 @@ use fields::name_at;
 use fields::same_name;
 use format::FILE_TYPE;
 use format::FILE_VERSION;
-use format::FIRST_PLACE;
 use format::MOST_DEFINITIONS;
 use format::SIZE_LIMIT;
 use words::wide;
@@ -18,20 +17,14 @@ ghost use mathlib.Core.List.{[]};
 ghost use lib.ListN.{take};
 ghost use Rattle.fields.specs.Answers.{numberOf, stepOf};
 ghost use Rattle.format.specs.Fields.{stringAt};
-ghost use Rattle.format.specs.Read.{ending, repeat};
-ghost use Rattle.format.specs.Reader.{mostDefinitions, among, readDefinition, readHeader, readDefinitions, readFile};
-ghost use Rattle.files.specs.File.{Begun, verdict, namesFrom, skipFitting, definitionSpan};
+ghost use Rattle.format.specs.Read.{ending};
+ghost use Rattle.format.specs.Reader.{mostDefinitions, among, readHeader, readDefinitions, readFile};
+ghost use Rattle.files.specs.File.{Begun, verdict, namesFrom, skipFitting};
 
 // A file is accepted, and has so many definitions; or it is refused, at a place.
 pub enum Checked {
     Accepted(u32),
     Refused(Fault, usize),
-}
-
-// Where a definition starts, and the place past it; or none.
-pub enum Span {
-    Between(usize, usize),
-    Nowhere,
 }
 
 // The file's head: how many definitions there are, and the cursor at the first.
@@ -135,49 +128,5 @@ pub fn check_file(s: &[u8]) -> Checked
             Step::Bad(refusal, place) => Checked::Refused(refusal, place),
         },
         Number::Bad(refusal, place) => Checked::Refused(refusal, place),
-    }
-}
-
-// So many definitions, one after the other, whatever their sizes and names.
-fn skip_definitions(s: &[u8], cursor: Cursor, count: u32) -> Step
-    ensures { λ r. ⌜ stepOf r ≡ ending (repeat (readDefinition (now (s .entry))) count (cursor .at)) ⌝ }
-{
-    let mut at = cursor.at;
-    let mut i = 0;
-    while i < count {
-        match read_definition(s, Cursor { at: at }) {
-            Step::Next(next) => {
-                at = next.at;
-            }
-            Step::Bad(refusal, place) => {
-                return Step::Bad(refusal, place);
-            }
-        }
-        i += 1;
-    }
-    Step::Next(Cursor { at: at })
-}
-
-// Where the definition of a number starts and ends in a file that is accepted and has as many.
-pub fn definition_at(s: &[u8], index: u32) -> Span
-    ensures { λ r. ⌜ r ≡ definitionSpan (now (s .entry)) index ⌝ }
-{
-    match check_file(s) {
-        Checked::Accepted(count) => {
-            if count <= index {
-                return Span::Nowhere;
-            }
-            match skip_definitions(s, Cursor { at: FIRST_PLACE }, index) {
-                Step::Next(here) => {
-                    let start = here.at;
-                    match read_definition(s, here) {
-                        Step::Next(next) => Span::Between(start, next.at),
-                        Step::Bad(refusal, place) => Span::Nowhere,
-                    }
-                }
-                Step::Bad(refusal, place) => Span::Nowhere,
-            }
-        }
-        Checked::Refused(refusal, place) => Span::Nowhere,
     }
 }

@@ -4,6 +4,4 @@ mod file;
 
 pub use definition::read_definition;
 pub use file::Checked;
-pub use file::Span;
 pub use file::check_file;
-pub use file::definition_at;

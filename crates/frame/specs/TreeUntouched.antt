@@ -9,7 +9,7 @@ use borrow.Author.Tests.{ltb-false, eqb-true, eq-eqb}
 use Rattle.words.specs.Choice.{pick, both, either}
 use Rattle.nodes.specs.declared.Node.{Node}
 use Rattle.nodes.specs.Place.{isGroup, lives}
-use Rattle.nodes.specs.Edit.{sink, takeDeeper, runOf, isBelow}
+use Rattle.nodes.specs.Edit.{sink, takeDeeper, runOf, isBelow, addBy}
 use Rattle.nodes.specs.Forest.{single}
 use Rattle.nodes.specs.Formed.{rooted, apart, synthLives}
 use Rattle.treerefinement.specs.Rooted.{single-flatten}
@@ -21,7 +21,7 @@ use Rattle.model.specs.declared.TreeCommand.the-variants as tree
 use Rattle.model.specs.Engine.{Engine}
 use Rattle.model.specs.Meaning.{meant, nodeNamed}
 use Rattle.model.specs.Checks.{badAction}
-use Rattle.model.specs.Effects.{addBy, newGroup, numberFor, treeEffect}
+use Rattle.model.specs.Effects.{newGroup, numberFor, treeEffect}
 use Rattle.model.specs.Frame.{displacedBy, turnedBy}
 use Rattle.state.specs.Accepted.{TreeAccepted, known-lives}
 use Rattle.preservation.specs.Groups.{group-named}

@@ -9,6 +9,7 @@ use Rattle.words.specs.Choice.{pick, both, either}
 use Rattle.words.specs.Bytes.{AreBytes}
 use Rattle.nodes.specs.declared.Node.{Node}
 use Rattle.nodes.specs.Edit.{isBelow, cut}
+use Rattle.nodes.specs.Formed.{freeRow}
 use Rattle.treerefinement.specs.Keep.{within-formed}
 use Rattle.treerefinement.specs.Left.{left, left-cut}
 use Rattle.treerefinement.specs.Untouched.{Untouched}
@@ -27,7 +28,7 @@ use Rattle.model.specs.Layout.{lengthsIn}
 use Rattle.model.specs.Engine.{Engine, decode, residentOf}
 use Rattle.model.specs.View.{viewOf, view}
 use Rattle.model.specs.Meaning.{meant}
-use Rattle.model.specs.Effects.{changed, stayingNodes, freeRow, numberFor, definitionEffect, treeEffect, controlEffect, effect}
+use Rattle.model.specs.Effects.{changed, stayingNodes, numberFor, definitionEffect, treeEffect, controlEffect, effect}
 use Rattle.model.specs.Formed.{formed}
 use Rattle.model.specs.Apply.{answerIn, isAccepted}
 use Rattle.model.specs.Frame.{touched, entriesLeft}

@@ -1,20 +1,18 @@
 -- The row for a new synth: the lowest that is free among the nodes that stay.
-use Prim.Native.Nat.{ℕ, zero, suc, _+_, _*_, _≤_, _<_}
+use Prim.Native.Nat.{ℕ, _+_, _*_, _≤_, _<_}
 use mathlib.Core.Path.{_≡_, refl, sym, ap, ap₂, _∙_}
 use mathlib.Core.List.{List, _++_}
 use native.Mathlib.Omega.{arith}
 use lib.ListN.{length, take, drop-of-length-le, take-append-drop, length-append, length-take, length-drop}
 use lib.Seq.{paste}
-use Rattle.words.specs.Choice.{pick}
 use Rattle.nodes.specs.declared.Node.{Node}
 use Rattle.nodes.specs.Table.{width, rows, rows-length, fill-length, rows-fill}
 use Rattle.nodes.specs.Place.{place}
 use Rattle.nodes.specs.Sizes.{TableFits, depthAt, endAt}
 use Rattle.nodes.specs.Edit.{editAt, freeHere}
 use Rattle.nodes.specs.Split.{edit-first, cut-at}
-use Rattle.nodes.specs.Formed.{mostRows, rowTaken}
-use Rattle.nodes.specs.Formed as table
-use Rattle.model.specs.Effects.{stayingNodes, freeRowFrom, freeRow}
+use Rattle.nodes.specs.Formed.{freeRow}
+use Rattle.model.specs.Effects.{stayingNodes}
 use Rattle.tree.specs.declared.action.Action.{Action}
 use Rattle.tree.specs.declared.action.Action.the-variants.{Put, Replace}
 use Rattle.tree.specs.declared.action.Position.the-variants.{Head, Tail, Before, After}
@@ -44,15 +42,6 @@ staying-first (Put Before) n at t here = refl
 staying-first (Put After) n at t here = refl
 staying-first Replace n at t here = edit-first n at freeHere t here
 
--- the search is the model's
-same-from : (n k : ℕ) (t : List Node) → table.freeRowFrom n k t ≡ freeRowFrom n k t
-unfolding table.freeRowFrom freeRowFrom
-same-from zero k t = refl
-same-from (suc n) k t = ap (λ (j : ℕ). pick (rowTaken k t) j k) (same-from n (k + 1) t)
-
-pub same-free : (t : List Node) → table.freeRow t ≡ freeRow t
-same-free t = same-from mostRows 0 t
-
 -- what is left without the run at a place
 module _ (us : List ℕ) (count at : ℕ) (live : at < count) (after : List ℕ) (many : ℕ) (left : Leaves us (editAt at freeHere (rows count us)) after many) where
   abbrev t : List Node
@@ -68,6 +57,6 @@ module _ (us : List ℕ) (count at : ℕ) (live : at < count) (after : List ℕ)
       let long : length after ≡ 1280 = ap length (left .words) ∙ fill-length us t room ∙ size in
       record { room = omega (arith, left-few, left .size); few = omega (arith, left-few, left .size) }
 
-  pub free-left : table.freeRow (rows many after) ≡ freeRow t
+  pub free-left : freeRow (rows many after) ≡ freeRow t
   free-left =
-      ap₂ (λ (k : ℕ) (vs : List ℕ). table.freeRow (rows k vs)) (left .size) (left .words) ∙ ap table.freeRow (rows-fill us t) ∙ same-free t
+      ap₂ (λ (k : ℕ) (vs : List ℕ). freeRow (rows k vs)) (left .size) (left .words) ∙ ap freeRow (rows-fill us t)

@@ -16,9 +16,9 @@ use Rattle.format.specs.Definition.{Front, Definition}
 use Rattle.readable.specs.Readable.{Readable, whole-readable}
 use Rattle.nodes.specs.declared.Node.{Node}
 use Rattle.nodes.specs.Table.{rows, over}
-use Rattle.nodes.specs.Edit.{editAt}
+use Rattle.nodes.specs.Edit.{editAt, addBy}
 use Rattle.nodes.specs.Order.{order}
-use Rattle.nodes.specs.Formed.{mostNodes, mostRows, noneLeft, firstGiven}
+use Rattle.nodes.specs.Formed.{mostNodes, mostRows, noneLeft, firstGiven, freeRow}
 use Rattle.values.specs.declared.NodeArgument.{NodeArgument}
 use Rattle.model.specs.declared.TreeCommand.the-variants as tree
 use Rattle.model.specs.declared.Command.the-variants as command
@@ -27,7 +27,7 @@ use Rattle.model.specs.Layout.{slotCount, slotRoom, rowWords, wordsLength, leng
 use Rattle.model.specs.Engine.{Engine, decode, definitionIn, noDefinition, valueOr, definitionOf, residentOf, slotAt}
 use Rattle.model.specs.Meaning.{meant, known}
 use Rattle.model.specs.Checks.{firstOf, treeChecks}
-use Rattle.model.specs.Effects.{addBy, stayingNodes, freeRow, newSynth, numberFor, nextAfter, initialWords, synthMade, effect}
+use Rattle.model.specs.Effects.{stayingNodes, newSynth, numberFor, nextAfter, initialWords, synthMade, effect}
 use Rattle.model.specs.After.{putTree, wordsAfter}
 use Rattle.model.specs.Apply.{answerIn, isAccepted}
 use Rattle.state.specs.Known.{Known}
@@ -35,12 +35,11 @@ use Rattle.state.specs.Accepted.{accepted}
 use Rattle.state.specs.Does.{WordsStep, step-refused, step-done}
 use Rattle.state.specs.Decoded.{tree-size, tree-controls, order-region-length}
 use Rattle.state.specs.Regions.{put-size}
-
 use Rattle.preservation.specs.TreeSteps.{NewSynthComes, synth-comes}
 use Rattle.preservation.specs.TreeKept.{known-sound}
 use Rattle.tree.specs.declared.action.Action.{Action}
 use Rattle.tree.specs.Sizes.{Leaves, leaves-first}
-use Rattle.tree.specs.Action.{numberOf, addHere}
+use Rattle.tree.specs.Action.{numberOf, addHere, add-number}
 use Rattle.slots.specs.Slots.{slotsOn, slotOn, slots-lent, part-word}
 use Rattle.definitions.specs.Slots.{Whole, Formed}
 use Rattle.definitions.specs.Retiring.{slot-is}
@@ -49,7 +48,7 @@ use Rattle.controls.specs.Encoded.{frontIn, front-read}
 use Rattle.treecommands.specs.Ready.{nodeWords, words-long}
 use Rattle.treecommands.specs.Finding.{meantIn}
 use Rattle.treecommands.specs.Settle.{settled, settled-tree, nodes-size, ready-left}
-use Rattle.treecommands.specs.Adding.{same-add, after-few}
+use Rattle.treecommands.specs.Adding.{after-few}
 use Rattle.making.specs.Checks.{Meant, Clear, Answers}
 use Rattle.making.specs.Rows.{Standing, stayingAt, staying-first}
 use Rattle.making.specs.Parts.{put-again, header-put}
@@ -155,7 +154,7 @@ module _ (number : ℕ) (action : Action) (target : NodeArgument) (at slot : ℕ
 
     left : Leaves (nodeWords ws) after us many
     left =
-        rw (← same-add action made n (nodesIn ws), ← new) (leaves-first (addHere action (newSynth given slot taken ∷ [])) (nodeWords ws) (nodesIn ws) us many at (rw same at does) n (g .clear .spot .here))
+        rw (← add-number action made n (nodesIn ws), ← new) (leaves-first (addHere action (newSynth given slot taken ∷ [])) (nodeWords ws) (nodesIn ws) us many at (rw same at does) n (g .clear .spot .here))
 
     pub synth-ready : (length (put nodesPlace nodesWords us ws) ≡ wordsLength) × (many ≤ mostNodes)
     synth-ready = ready-left ws (k .size) after few us many left

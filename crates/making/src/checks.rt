@@ -2,6 +2,9 @@
 use crate::numbers::bad_number;
 use crate::numbers::is_live;
 use crate::numbers::is_spent;
+use layout::COUNT;
+use layout::GROUP;
+use layout::NEXT;
 use names::node_place;
 use refusals::Refusal;
 use tree::Action;
@@ -14,7 +17,13 @@ ghost use Rattle.treecommands.specs.Ready.{Ready};
 ghost use Rattle.making.specs.Checks.{SynthPlaced};
 
 // The place of a new synth's target, or the first refusal; the slot is that of the name's resident, 32 where there is none.
-pub fn synth_spot(number: u32, action: Action, target: NodeArgument, slot: u32, words: &[u32]) -> Spot
+pub fn synth_spot(
+    number: u32,
+    action: Action,
+    target: NodeArgument,
+    slot: u32,
+    words: &[u32],
+) -> Spot
     requires { ⌜ Ready (now words) ⌝ }
     ensures { λ r. ⌜ SynthPlaced number action target slot (now (words .entry)) r ⌝ }
 {
@@ -24,10 +33,10 @@ pub fn synth_spot(number: u32, action: Action, target: NodeArgument, slot: u32, 
     if is_live(number, words) {
         return Spot::Refused(Refusal::NumberLive);
     }
-    if 32 <= slot {
+    if GROUP <= slot {
         return Spot::Refused(Refusal::NoDefinition);
     }
-    let count = wide(words[0]);
+    let count = wide(words[COUNT]);
     let at = node_place(words, target);
     if count <= at {
         return Spot::Refused(Refusal::NoNode);
@@ -35,7 +44,7 @@ pub fn synth_spot(number: u32, action: Action, target: NodeArgument, slot: u32, 
     if bad_target(action, at, words) {
         return Spot::Refused(Refusal::WrongKind);
     }
-    if is_spent(number, words[2]) {
+    if is_spent(number, words[NEXT]) {
         return Spot::Refused(Refusal::NoNumber);
     }
     if is_full(action, count) {

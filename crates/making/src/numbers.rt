@@ -1,4 +1,7 @@
 // The number of a new synth: as told, or for -1 the next one, which falls.
+use layout::COUNT;
+use layout::NODES;
+use layout::NODES_END;
 use words::wide;
 ghost use Prim.Native.Nat.{_≤_};
 ghost use mathlib.Core.Path.{_≡_};
@@ -24,8 +27,8 @@ pub fn is_live(number: u32, words: &[u32]) -> bool
     if number == 4294967295 {
         return false;
     }
-    let count = wide(words[0]);
-    tree::find(&words[68..1348], count, number) < count
+    let count = wide(words[COUNT]);
+    tree::find(&words[NODES..NODES_END], count, number) < count
 }
 
 // For -1, that no number is left.

@@ -1,9 +1,10 @@
 // The row of controls that a new synth takes: the lowest that no live synth has.
+use layout::NODES_WORDS;
 use tree::Action;
 ghost use mathlib.Core.Path.{_≡_};
 ghost use Rattle.nodes.specs.Table.{rows};
 ghost use Rattle.nodes.specs.Edit.{editAt, freeHere};
-ghost use Rattle.model.specs.Effects.{freeRow};
+ghost use Rattle.nodes.specs.Formed.{freeRow};
 ghost use Rattle.making.specs.Rows.{Standing, stayingAt};
 
 // The lowest free row once the node at a place is freed with all below it.
@@ -11,7 +12,7 @@ fn row_without(nodes: &[u32], count: usize, at: usize) -> u32
     requires { ⌜ Standing (now nodes) count at ⌝ }
     ensures { λ r. ⌜ r ≡ freeRow (editAt at freeHere (rows count (now (nodes .entry)))) ⌝ }
 {
-    let mut left = [0u32; 1280];
+    let mut left = [0u32; NODES_WORDS];
     tree::copy_words(&mut left, 0, nodes, nodes.len());
     let many = tree::cut(&mut left, count, at);
     tree::free_row(&left, many)

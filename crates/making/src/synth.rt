@@ -3,6 +3,14 @@ use crate::checks::synth_spot;
 use crate::numbers::next_after;
 use crate::numbers::number_for;
 use crate::rows::row_for;
+use layout::CONTROLS;
+use layout::CONTROLS_END;
+use layout::COUNT;
+use layout::LENGTHS;
+use layout::NEXT;
+use layout::NODES;
+use layout::NODES_END;
+use layout::RESIDENT_END;
 use model::Answer;
 use nodes::Node;
 use slots::slot_bytes;
@@ -28,10 +36,10 @@ fn put_synth(number: u32, action: Action, at: usize, slot: u32, words: &mut [u32
     requires { ⌜ Fit number action at slot (now words) (now arena) ⌝ }
     ensures { λ r. ⌜ ((target : NodeArgument) (bytes : List ℕ) → Ground number action target at slot bytes (now (words .entry)) (now (arena .entry)) → WordsStep (command.Tree (tree.NewSynth number (numberOf action) target)) bytes (now (words .entry)) (now (arena .entry)) Done (now (words .exit))) ⌝ }
 {
-    let count = wide(words[0]);
-    let next = words[2];
+    let count = wide(words[COUNT]);
+    let next = words[NEXT];
     let definition = slot_bytes(words, arena, wide(slot));
-    let row = row_for(&words[68..1348], count, action, at);
+    let row = row_for(&words[NODES..NODES_END], count, action, at);
     let given = number_for(number, next);
     let node = Node {
         number: given,
@@ -40,10 +48,10 @@ fn put_synth(number: u32, action: Action, at: usize, slot: u32, words: &mut [u32
         slot: slot,
         row: row,
     };
-    let many = tree::add_node(&mut words[68..1348], count, action, at, node);
+    let many = tree::add_node(&mut words[NODES..NODES_END], count, action, at, node);
     let after = next_after(number, next);
     settle(words, many, after, given);
-    controls::initial_row(&mut words[1603..17987], row, definition);
+    controls::initial_row(&mut words[CONTROLS..CONTROLS_END], row, definition);
 }
 
 // A new synth made by an add action.
@@ -58,7 +66,7 @@ fn add_synth(
     requires { ⌜ Known (now words) (now arena) ⌝ }
     ensures { λ r. ⌜ WordsStep (command.Tree (tree.NewSynth number (numberOf action) target)) (now (bytes .entry)) (now (words .entry)) (now (arena .entry)) r (now (words .exit)) ⌝ }
 {
-    let slot = definitions::find_resident(&words[4..68], arena, bytes);
+    let slot = definitions::find_resident(&words[LENGTHS..RESIDENT_END], arena, bytes);
     let spot = synth_spot(number, action, target, slot, words);
     match spot {
         Spot::At(at) => {

@@ -13,9 +13,9 @@ use Rattle.format.specs.Writer.{writeDefinition}
 use Rattle.nodes.specs.declared.Node.{Node}
 use Rattle.nodes.specs.Table.{over}
 use Rattle.nodes.specs.Place.{groupSlot, isGroup, lives}
-use Rattle.nodes.specs.Edit.{runOf, cut, cutBelow, deepFree, setRun, addHead, addTail, addBefore, addAfter, addOver, moveBefore, moveAfter, moveHead, moveTail}
+use Rattle.nodes.specs.Edit.{runOf, cut, cutBelow, deepFree, setRun, addBy, moveBefore, moveAfter, moveHead, moveTail}
 use Rattle.nodes.specs.Order.{order}
-use Rattle.nodes.specs.Formed.{mostRows, rowTaken}
+use Rattle.nodes.specs.Formed.{freeRow}
 use Rattle.values.specs.declared.Key.{Key}
 use Rattle.values.specs.declared.NodeArgument.{NodeArgument}
 use Rattle.values.specs.Controls.{ControlValue, controlAt, mappingWord, setTo, mapTo}
@@ -73,25 +73,9 @@ latestAmong t latest = pick (lives latest t) latest 0
 abbrev pub withNodes : List Node → Engine → Engine
 withNodes t e = record { slots = e .slots; nodes = t; order = order t; controls = e .controls; buses = e .buses; next = e .next; latest = latestAmong t (e .latest) }
 
--- "Add actions: 0 head, 1 tail of the target group; 2 before, 3 after the target; 4 replaces the target, whose subtree is freed."
-abbrev pub addBy : ℕ → Node → ℕ → List Node → List Node
-addBy zero r n t = addHead (r ∷ []) n t
-addBy (suc zero) r n t = addTail (r ∷ []) n t
-addBy (suc (suc zero)) r n t = addBefore (r ∷ []) n t
-addBy (suc (suc (suc zero))) r n t = addAfter (r ∷ []) n t
-addBy (suc (suc (suc (suc k)))) r n t = addOver (r ∷ []) n t
-
 -- the nodes that stay when one is put in: action 4 frees the target's subtree first
 abbrev pub stayingNodes : ℕ → ℕ → List Node → List Node
 stayingNodes action n t = pick (eqb action 4) (cut n t) t
-
--- the lowest row of controls that no live synth has
-unfoldable pub freeRowFrom : ℕ → ℕ → List Node → ℕ
-freeRowFrom zero k t = k
-freeRowFrom (suc n) k t = pick (rowTaken k t) (freeRowFrom n (k + 1) t) k
-
-abbrev pub freeRow : List Node → ℕ
-freeRow t = freeRowFrom mostRows 0 t
 
 -- "New nodes run."
 abbrev pub newGroup : ℕ → Node

@@ -11,7 +11,7 @@ use Rattle.format.specs.Writer.{writeAll, writeDefinition, writeFile}
 use Rattle.nodes.specs.Place.{lives}
 use Rattle.nodes.specs.Edit.{lift, sink, takeDeeper, dropDeeper, onlyGroups, runOf, editRows}
 use Rattle.nodes.specs.Order.{orderFrom}
-use Rattle.nodes.specs.Formed.{rowTaken}
+use Rattle.nodes.specs.Formed.{rowTaken, freeRowFrom}
 use Rattle.osc.specs.Message.{tags, arguments}
 use Rattle.values.specs.declared.Key.the-variants.{Name}
 use Rattle.values.specs.declared.Value.the-variants.{Float}
@@ -28,7 +28,7 @@ use Rattle.model.specs.Engine.{Engine, held, residentFrom, controlsFrom}
 use Rattle.model.specs.View.{viewRows}
 use Rattle.model.specs.Meaning.{minusOne, nodeNamed}
 use Rattle.model.specs.Checks.{firstOf, namesOf, staying}
-use Rattle.model.specs.Effects.{retired, freeFrom, loaded, freeRowFrom, initialWords, changeWords, changeAll, effect}
+use Rattle.model.specs.Effects.{retired, freeFrom, loaded, initialWords, changeWords, changeAll, effect}
 use Rattle.model.specs.Replies.{plainNamed, replyTo}
 use Rattle.model.specs.Apply.{queryAnswer, answerIn}
 use Rattle.model.specs.Fresh.{freshEngine, freshParts, fresh-parts}

@@ -5,6 +5,7 @@ pub mod View
 pub mod Meaning
 pub mod Checks
 pub mod Effects
+pub mod Searches
 pub mod Replies
 pub mod After
 pub mod Apply

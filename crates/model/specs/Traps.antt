@@ -11,7 +11,7 @@ use Rattle.format.specs.Writer.{writeAll, writeDefinition, writeFile}
 use Rattle.nodes.specs.Place.{lives}
 use Rattle.nodes.specs.Edit.{lift, sink, takeDeeper, dropDeeper, onlyGroups, runOf, editRows}
 use Rattle.nodes.specs.Order.{orderFrom}
-use Rattle.nodes.specs.Formed.{rowTaken}
+use Rattle.nodes.specs.Formed.{rowTaken, freeRowFrom}
 use lib.Ieee.{toBits, ofInt}
 use Rattle.words.specs.Choice.{pick}
 use Rattle.osc.specs.Message.{tags, arguments}
@@ -31,7 +31,7 @@ use Rattle.model.specs.Engine.{Engine, held, residents, residentFrom, co
 use Rattle.model.specs.View.{viewRows, shape}
 use Rattle.model.specs.Meaning.{minusOne, nodeNamed}
 use Rattle.model.specs.Checks.{firstOf, namesOf, staying}
-use Rattle.model.specs.Effects.{retired, freeFrom, loaded, freeRowFrom, initialWords, changeWords, changeAll, effect}
+use Rattle.model.specs.Effects.{retired, freeFrom, loaded, initialWords, changeWords, changeAll, effect}
 use Rattle.model.specs.Replies.{plainNamed, controlArguments, rowsBelow, rowsAt, treeArguments, subtreeRows, unitCount, groupCount, synthCount, definitionsIn, replyTo}
 use Rattle.model.specs.Apply.{queryAnswer, answerIn, answerNumber}
 use Rattle.model.specs.Examples.{header, int, fileOf, oneName, ping, pingName, load}

@@ -1,15 +1,12 @@
 -- The node that an argument names is the record at its place.
-use Prim.Native.Nat.{ℕ, suc, _+_, _*_, _<_}
-use mathlib.Core.Bool.{Bool, true, false}
-use mathlib.Core.Path.{_≡_, sym, ap, _∙_}
-use mathlib.Core.List.{List, [], _∷_, nil≢cons, head-eq-of-cons-eq}
+use Prim.Native.Nat.{ℕ, _+_, _*_, _<_}
+use mathlib.Core.Path.{_≡_, refl, sym, ap, _∙_}
+use mathlib.Core.List.{List, _∷_}
 use lib.ListN.{drop}
-use lib.Dec.{eqb}
-use Rattle.words.specs.Choice.{pick}
 use Rattle.words.specs.Parts.{region}
 use Rattle.nodes.specs.declared.Node.{Node}
 use Rattle.nodes.specs.Table.{width, nodeFrom, row-from}
-use Rattle.nodes.specs.Place.{place}
+use Rattle.nodes.specs.Place.{place, search-at}
 use Rattle.values.specs.declared.NodeArgument.{NodeArgument}
 use Rattle.model.specs.Layout.{nodesPlace, nodesWords, countIn, nodesIn}
 use Rattle.model.specs.Engine.{decode}
@@ -18,13 +15,8 @@ use Rattle.names.specs.Named.{Named, named-place}
 
 -- the record that a search stops at
 pub named-record : (n : ℕ) (t : List Node) (r : Node) (rest : List Node) → drop (place n t) t ≡ r ∷ rest → nodeNamed n t ≡ r
-unfolding place nodeNamed
-named-record n [] r rest h = absurd (nil≢cons h)
-named-record n (x ∷ l) r rest h = go (named-record n l r rest) (eqb (x .number) n) h
-  where
-    go : (drop (place n l) l ≡ r ∷ rest → nodeNamed n l ≡ r) → (b : Bool) → drop (pick b 0 (suc (place n l))) (x ∷ l) ≡ r ∷ rest → pick b x (nodeNamed n l) ≡ r
-    go ih true e = head-eq-of-cons-eq e
-    go ih false e = ih e
+unfolding nodeNamed
+named-record n = search-at (λ l. nodeNamed n l) (λ r l. r) n (λ r l. refl)
 
 pub named-here : (argument : NodeArgument) (ws bs : List ℕ) (at : ℕ) → Named argument ws at → at < countIn ws → node argument (decode ws bs) ≡ nodeFrom (region nodesPlace nodesWords ws) (width * at)
 unfolding decode

@@ -1,4 +1,8 @@
 // The node that an argument names.
+use layout::COUNT;
+use layout::LATEST;
+use layout::NODES;
+use layout::NODES_END;
 use tree::find;
 use values::NodeArgument;
 use values::Target;
@@ -11,17 +15,17 @@ pub fn node_place(words: &[u32], argument: NodeArgument) -> usize
     requires { ⌜ Findable (now words) ⌝ }
     ensures { λ r. ⌜ Named argument (now (words .entry)) r ⌝ }
 {
-    let count = wide(words[0]);
+    let count = wide(words[COUNT]);
     let target = target_of(argument.number);
     match target {
         Target::Latest => {
-            let latest = words[3];
+            let latest = words[LATEST];
             if latest == 0 {
                 return count;
             }
-            find(&words[68..1348], count, latest)
+            find(&words[NODES..NODES_END], count, latest)
         }
-        Target::Number(number) => find(&words[68..1348], count, number),
+        Target::Number(number) => find(&words[NODES..NODES_END], count, number),
         Target::Reserved => count,
     }
 }

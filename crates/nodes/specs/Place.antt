@@ -1,8 +1,8 @@
 -- Places in the table: a node's record by its number, and the run of deeper records behind it.
 use Prim.Native.Nat.{ℕ, suc, _+_, _*_, _-_, _≤_, _<_}
 use mathlib.Core.Bool.{Bool, true, false}
-use mathlib.Core.Path.{_≡_, refl, sym, ap, _∙_}
-use mathlib.Core.List.{List, [], _∷_}
+use mathlib.Core.Path.{_≡_, refl, sym, ap, ap₂, _∙_}
+use mathlib.Core.List.{List, [], _∷_, nil≢cons, head-eq-of-cons-eq, tail-eq-of-cons-eq}
 use native.Mathlib.Omega.{arith}
 use lib.ListN.{length, drop, getD, length-drop}
 use lib.Dec.{ltb, eqb, leb·suc-suc}
@@ -50,6 +50,17 @@ place-most n (r ∷ l) = go (place-most n l) (eqb (r .number) n)
     go : place n l ≤ length l → (b : Bool) → pick b 0 (suc (place n l)) ≤ suc (length l)
     go ih true = omega arith
     go ih false = omega arith
+
+-- a search that stops at the first record with the number n stops at the one at its place
+pub search-at : {A : Type 0} (F : List Node → A) (G : Node → List Node → A) (n : ℕ) → ((r : Node) (l : List Node) → F (r ∷ l) ≡ pick (eqb (r .number) n) (G r l) (F l))
+    → (t : List Node) (r : Node) (rest : List Node) → drop (place n t) t ≡ r ∷ rest → F t ≡ G r rest
+unfolding place
+search-at F G n turn [] r rest h = absurd (nil≢cons h)
+search-at F G n turn (x ∷ l) r rest h = turn x l ∙ go (search-at F G n turn l r rest) (eqb (x .number) n) h
+  where
+    go : (drop (place n l) l ≡ r ∷ rest → F l ≡ G r rest) → (b : Bool) → drop (pick b 0 (suc (place n l))) (x ∷ l) ≡ r ∷ rest → pick b (G x l) (F l) ≡ G r rest
+    go ih true e = ap₂ G (head-eq-of-cons-eq e) (tail-eq-of-cons-eq e)
+    go ih false e = ih e
 
 pub deeper-most : (d : ℕ) (l : List Node) → deeper d l ≤ length l
 unfolding deeper

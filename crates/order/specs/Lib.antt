@@ -1,4 +1,3 @@
-pub mod Sizes
 pub mod Pad
 pub mod Visits
 pub mod Order

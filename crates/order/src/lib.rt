@@ -1,9 +1,12 @@
 // The running order and the rules of the state on nodes, over the node region in lent words.
 use layout::DEPTH;
 use layout::GROUP;
+use layout::MOST_NODES;
+use layout::MOST_ORDER;
 use layout::NUMBER;
 use layout::RECORD;
 use layout::ROW;
+use layout::ROWS;
 use layout::RUN;
 use layout::SLOT;
 ghost use mathlib.Core.Bool.{false};
@@ -12,8 +15,8 @@ ghost use Prim.Native.Nat.{_+_, _*_, _≤_, _<_};
 ghost use lib.ListN.{length, drop};
 ghost use Rattle.nodes.specs.Table.{rows};
 ghost use Rattle.nodes.specs.Place.{lives};
+ghost use Rattle.nodes.specs.Sizes.{TableFits};
 ghost use Rattle.nodes.specs.Formed.{steps, rooted, apart, allFormed, synthLives, nodesFormed};
-ghost use Rattle.order.specs.Sizes.{TableFits};
 ghost use Rattle.order.specs.Checks.{numberHolds, fieldsHold};
 ghost use Rattle.order.specs.Same.{sameOrder};
 ghost use Rattle.order.specs.Kept.{Kept};
@@ -22,17 +25,17 @@ ghost use Rattle.order.specs.Visits.{marks};
 
 // The running order: its numbers, with zeros past them, and how many they are.
 pub struct Order {
-    pub numbers: [u32; 255],
+    pub numbers: [u32; MOST_ORDER],
     pub length: usize,
 }
 
 // Marks of the nodes that a walk from the root visits: a node is visited where its parent was and it is on.
 // `limit` is how deep a record may be with its parent visited.
-fn visit(nodes: &[u32], count: usize) -> [bool; 256]
+fn visit(nodes: &[u32], count: usize) -> [bool; MOST_NODES]
     requires { ⌜ TableFits (now nodes) count ⌝ }
     ensures { λ r. ⌜ r ≡ marks (rows count (now (nodes .entry))) ⌝ }
 {
-    let mut visited: [bool; 256] = [false; 256];
+    let mut visited = [false; MOST_NODES];
     let mut limit: u32 = 0;
     let mut i = 0;
     while i < count {
@@ -56,14 +59,14 @@ pub fn running_order(nodes: &[u32], count: usize) -> Order
     ensures { λ r. ⌜ Kept (rows count (now (nodes .entry))) r ⌝ }
 {
     let visited = visit(nodes, count);
-    let mut numbers: [u32; 255] = [0; 255];
+    let mut numbers: [u32; MOST_ORDER] = [0; MOST_ORDER];
     let mut length = 0;
     let mut i = 0;
     while i < count {
         if visited[i] {
             let at = RECORD * i;
             if nodes[at + SLOT] != GROUP {
-                if length < 255 {
+                if length < MOST_ORDER {
                     numbers[length] = nodes[at];
                 }
                 length += 1;
@@ -82,13 +85,13 @@ fn rows_apart(nodes: &[u32], count: usize) -> bool
     requires { ⌜ TableFits (now nodes) count ⌝ }
     ensures { λ r. ⌜ r ≡ rowsHold (rows count (now (nodes .entry))) ⌝ }
 {
-    let mut seen: [bool; 256] = [false; 256];
+    let mut seen = [false; ROWS];
     let mut i = 0;
     while i < count {
         let at = RECORD * i;
         if nodes[at + SLOT] != GROUP {
             let row = words::wide(nodes[at + ROW]);
-            if 256 <= row {
+            if ROWS <= row {
                 return false;
             }
             if seen[row] {
@@ -108,7 +111,7 @@ pub fn write_order(order: &mut [u32], from: Order)
 {
     let numbers = from.numbers;
     let mut i = 0;
-    while i < 255 {
+    while i < MOST_ORDER {
         order[i] = numbers[i];
         i += 1;
     }
@@ -119,7 +122,7 @@ pub fn same_order(kept: &[u32], many: usize, nodes: &[u32], count: usize) -> boo
     requires { ⌜ (length (now kept) ≡ 255) × TableFits (now nodes) count ⌝ }
     ensures { λ r. ⌜ r ≡ sameOrder (now (kept .entry)) many (rows count (now (nodes .entry))) ⌝ }
 {
-    if 255 < many {
+    if MOST_ORDER < many {
         return false;
     }
     let fresh = running_order(nodes, count);
@@ -250,13 +253,13 @@ fn fields_hold(run: u32, slot: u32, row: u32) -> bool
     if 1 < run {
         return false;
     }
-    if 32 < slot {
+    if GROUP < slot {
         return false;
     }
     if slot == GROUP {
         return true;
     }
-    row < 256
+    words::wide(row) < ROWS
 }
 
 // Every record's fields are in bounds.
@@ -304,7 +307,7 @@ pub fn nodes_formed(nodes: &[u32], count: usize, next: u32, latest: u32) -> bool
     if count < 1 {
         return false;
     }
-    if 256 < count {
+    if MOST_NODES < count {
         return false;
     }
     if !root_holds(nodes, count) {

@@ -10,14 +10,14 @@ use borrow.Author.Tests.{ltb-false, leb-false}
 use Rattle.words.specs.Choice.{pick, both}
 use Rattle.nodes.specs.declared.Node.{Node}
 use Rattle.nodes.specs.Place.{lives}
-use Rattle.nodes.specs.Edit.{sink, takeDeeper, runOf, cut}
+use Rattle.nodes.specs.Edit.{sink, takeDeeper, runOf, cut, addBy}
 use Rattle.nodes.specs.Forest.{single}
 use Rattle.nodes.specs.Formed.{mostNodes, rooted, synthLives}
 use Rattle.treerefinement.specs.Tally.{tally-length, tally-cut, Within, cut-within, addHead-grown, addTail-grown, addBefore-grown, addAfter-grown, addOver-grown}
 use Rattle.treerefinement.specs.Leaves.{leaves-single}
 use Rattle.treerefinement.specs.Rooted.{single-flatten, rooted-addHead, rooted-addTail, rooted-addBefore, rooted-addAfter, rooted-addOver}
 use Rattle.model.specs.Checks.{badAction}
-use Rattle.model.specs.Effects.{addBy, stayingNodes}
+use Rattle.model.specs.Effects.{stayingNodes}
 use Rattle.preservation.specs.Nodes.{Added}
 
 -- a node that lives has a run

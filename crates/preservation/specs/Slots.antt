@@ -1,5 +1,5 @@
 -- The rule on slots is kept where no slot becomes taken; and a new synth takes a resident's slot.
-use Prim.Native.Nat.{ℕ, zero, suc, _+_, _≤_, _<_}
+use Prim.Native.Nat.{ℕ, zero, suc, _+_, _<_}
 use mathlib.Core.Bool.{Bool, true, false, not}
 use mathlib.Core.Path.{_≡_, refl, sym, ap, ap₂, _∙_}
 use mathlib.Core.List.{List, [], _∷_}
@@ -14,6 +14,7 @@ use Rattle.nodes.specs.declared.Node.{Node}
 use Rattle.treerefinement.specs.Tally.{Grown}
 use Rattle.model.specs.Layout.{slotCount}
 use Rattle.model.specs.Engine.{Slot, nameIn, slotAt, held, slotTaken, residentFrom, residentOf}
+use Rattle.model.specs.Searches.{resident-least}
 use Rattle.model.specs.Formed.{isWhole, slotFormed, slotsFormed}
 use Rattle.preservation.specs.Every.{Fewer, every-fewer, every-grown}
 
@@ -93,16 +94,7 @@ module _ (sizes : List ℕ) (slots : List Slot) where
           rw there
       go i l e false q = taken-by (slotAt slots i .resident) (held (0 + i) after) (held (0 + i) before) (held-grown (0 + i) after before x g q) e
 
--- the resident of a name is found behind where the search starts, and it is resident
-resident-low : (k : ℕ) (name : List ℕ) (slots : List Slot) → k ≤ residentFrom k name slots
-unfolding residentFrom
-resident-low k name [] = omega arith
-resident-low k name (s ∷ more) = go (both (s .resident) (sameName (nameIn s) name)) (resident-low (k + 1) name more)
-  where
-    go : (b : Bool) → k + 1 ≤ residentFrom (k + 1) name more → k ≤ pick b k (residentFrom (k + 1) name more)
-    go true ih = omega arith
-    go false ih = omega arith
-
+-- what is found by a name is resident
 resident-there : (k i : ℕ) (name : List ℕ) (slots : List Slot) → residentFrom k name slots ≡ k + i → i < length slots → slotAt slots i .resident ≡ true
 unfolding residentFrom
 resident-there k i name [] e h = absurd (omega arith)
@@ -110,7 +102,7 @@ resident-there k zero name (s ∷ more) e h = go (both (s .resident) (sameName (
   where
     go : (b : Bool) → both (s .resident) (sameName (nameIn s) name) ≡ b → pick b k (residentFrom (k + 1) name more) ≡ k + 0 → s .resident ≡ true
     go true p q = both-true (s .resident) (sameName (nameIn s) name) p .0
-    go false p q = absurd (omega (arith, resident-low (k + 1) name more))
+    go false p q = absurd (omega (arith, resident-least (k + 1) name more))
 resident-there k (suc i) name (s ∷ more) e h =
     go (both (s .resident) (sameName (nameIn s) name)) e (λ q. resident-there (k + 1) i name more q (omega arith))
   where

@@ -8,8 +8,8 @@ use lib.ListN.{length}
 use borrow.Author.Tests.{lt-ltb, ltb-true, ltb-false, leb-false, ne-eqb}
 use Rattle.nodes.specs.declared.Node.{Node}
 use Rattle.nodes.specs.Place.{groupSlot, lives}
-use Rattle.nodes.specs.Edit.{runOf, isBelow, cut, cutBelow, deepFree, setRun, moveBefore, moveAfter, moveHead, moveTail}
-use Rattle.nodes.specs.Formed.{mostRows, rooted, rowTaken}
+use Rattle.nodes.specs.Edit.{runOf, isBelow, cut, cutBelow, deepFree, setRun, moveBefore, moveAfter, moveHead, moveTail, addBy}
+use Rattle.nodes.specs.Formed.{mostRows, rooted, rowTaken, freeRow}
 use Rattle.treerefinement.specs.Tally.{tally, tally-cut, Within, same-within, cut-within, cutBelow-within, deepFree-within, moveHead-same, moveTail-same, moveBefore-same, moveAfter-same}
 use Rattle.treerefinement.specs.Keep.{numbered, lives-some, within-formed}
 use Rattle.treerefinement.specs.Rooted.{rooted-cut, rooted-cutBelow, rooted-deepFree, rooted-moveHead, rooted-moveTail, rooted-moveBefore, rooted-moveAfter}
@@ -19,7 +19,7 @@ use Rattle.model.specs.declared.TreeCommand.the-variants as tree
 use Rattle.model.specs.Layout.{slotCount, controlsWords}
 use Rattle.model.specs.Engine.{Engine, slotAt, residentOf}
 use Rattle.model.specs.Meaning.{meant}
-use Rattle.model.specs.Effects.{latestAmong, withNodes, addBy, stayingNodes, freeRow, newGroup, newSynth, numberFor, nextAfter, synthMade, treeEffect}
+use Rattle.model.specs.Effects.{latestAmong, withNodes, stayingNodes, newGroup, newSynth, numberFor, nextAfter, synthMade, treeEffect}
 use Rattle.model.specs.Formed.{slotsFormed, controlsFormed}
 use Rattle.state.specs.Known.{Tree}
 use Rattle.state.specs.Accepted.{NewNodeAccepted, NewSynthAccepted, NewGroupAccepted, MoveAccepted, TreeAccepted, known-lives}

@@ -4,7 +4,8 @@
 --     asked, Asked     the signature and the contract of a function of a slice and a number, over the result's place R in a signature and what it says
 --     asking           the signature of a method with `self`, over its result's place
 --     passed, to       what the function is passed, and what its contract is taken at
---     apart            what the struct owns gives what the function asks, and is kept: the struct is Copy, so what it owns is had twice.
+--     lent             what the struct owns gives what the file owns, and is kept: the struct is Copy, so what it owns is had twice.
+--     apart            it gives what the function asks, and is kept
 --     said             what the function's contract says of its result
 -- Assumes nothing.
 use mathlib.Core.Path.{_≡_, refl}
@@ -78,11 +79,34 @@ module _ (R : Slot 1) (P : Says R) {M : Type 1} (𝓤 : URA M) where
 abbrev pub mach : Reader → Val
 mach d = T′.lowered d
 
-abbrev v : Reader → Val
+abbrev pub v : Reader → Val
 v d = sliceVal (d .file .ptr) (length (d .file .now))
 
 abbrev pub Own : Lft → Reader → Fml
 Own κ d = B (κ, tt) .own d (mach d ∷ [])
+
+abbrev pub Held : Lft → Reader → Fml
+Held κ d = ShrSlice (named 0) κ u8 .own (d .file) (v d ∷ [])
+
+module _ {M : Type 1} (𝓤 : URA M) (H : Heap 𝓤) (A : Atoms 𝓤) (W : Given 𝓤 H A) (κ : Lft) (d : Reader) where
+  -- the struct's type and laws, and d's fields' values
+  abbrev D : Declared
+  D = T.the-type (namedLft 1 0 tt (κ, tt))
+
+  abbrev L : LL.Laws D
+  L = T′.the-laws (namedLft 1 0 tt (κ, tt))
+
+  abbrev vd : Values (D .parts)
+  vd = (d .file, (d .place, tt))
+
+  pub lent : ent 𝓤 (sem 𝓤 H A (Own κ d)) (sep 𝓤 (sem 𝓤 H A (Held κ d)) (sem 𝓤 H A (Own κ d)))
+  lent =
+      qed W (‵ (Own κ d) ∷ []) ∵
+      use1 W (‵ (Own κ d) ⊛ ‵ (Own κ d)) (LL.copy D (T′.the-copy (namedLft 1 0 tt (κ, tt))) 𝓤 H A W .twice d (mach d ∷ [])) $ split ! $
+      use1 W (given (mach d ∷ [] ≡ mach d ∷ []) (‵ (all-own (D .parts) L vd))) (own-open 𝓤 H A W D L vd (mach d)) $ learn ! (λ _.
+      use1 W (‵ (ownAt (D .parts) L 0 (d .file)) ⊛ ‵ (rest (D .parts) L 0 vd)) (own-out 𝓤 H A W (D .parts) L 0 vd) $ split ! $
+      -- [what the file owns; what the place owns; what the struct owns]
+      move ! (1 ∷ []) $ drop ! $ frame ! $ done !)
 
 module _ (R : Slot 1) (P : Says R) {M : Type 1} (𝓤 : URA M) (H : Heap 𝓤) (A : Atoms 𝓤) (κ : Lft) (q : Share) (d : Reader) where
   abbrev pub passed : Vals (asked R .signature) (κ, tt)
@@ -96,16 +120,6 @@ module _ (R : Slot 1) (P : Says R) {M : Type 1} (𝓤 : URA M) (H : Heap 𝓤) (
   said r = exE 𝓤 _ (λ ws. snd∗ 𝓤 (sem 𝓤 H A (lasts (asked R) (κ, tt) (d .file, (d .place, tt)) ws)) (fact 𝓤 (P (κ, tt) (d .file) (d .place) r)))
 
   module _ (W : Given 𝓤 H A) where
-    -- the struct's type and laws, and d's fields' values
-    abbrev D : Declared
-    D = T.the-type (namedLft 1 0 tt (κ, tt))
-
-    abbrev L : LL.Laws D
-    L = T′.the-laws (namedLft 1 0 tt (κ, tt))
-
-    abbrev vd : Values (D .parts)
-    vd = (d .file, (d .place, tt))
-
     goes : ent 𝓤 (onEntry 𝓤 H A (asked R .signature) (κ, tt) (q, tt) (d .file, (d .place, tt)) passed) (Asked R P 𝓤 H A .pre to)
     goes = qed W ((‵ (flft κ q) ⊛ ‵ ftrue) ∷ ‵ (owns (ShrSlice (named 0) κ u8 ∷ usize ∷ []) (d .file, (d .place, tt)) passed) ∷ []) ∵ join ! $ frame ! $ done !
 
@@ -113,9 +127,7 @@ module _ (R : Slot 1) (P : Says R) {M : Type 1} (𝓤 : URA M) (H : Heap 𝓤) (
     apart Q fits =
         qed W ((‵ (flft κ q) ⊛ ‵ ftrue) ∷ ‵ (owns (B (κ, tt) ∷ []) (d, tt) (mach d ∷ [], tt)) ∷ []) ∵
         move ! (1 ∷ []) $ fsplit ! $ move ! (1 ∷ []) $ drop ! $
-        use1 W (‵ (Own κ d) ⊛ ‵ (Own κ d)) (LL.copy D (T′.the-copy (namedLft 1 0 tt (κ, tt))) 𝓤 H A W .twice d (mach d ∷ [])) $ split ! $
-        use1 W (given (mach d ∷ [] ≡ mach d ∷ []) (‵ (all-own (D .parts) L vd))) (own-open 𝓤 H A W D L vd (mach d)) $ learn ! (λ _.
-        use1 W (‵ (ownAt (D .parts) L 0 (d .file)) ⊛ ‵ (rest (D .parts) L 0 vd)) (own-out 𝓤 H A W (D .parts) L 0 vd) $ split ! $
-        -- [what the file owns; what the place owns; what the struct owns; the token]
-        move ! (1 ∷ []) $ drop ! $ nothing ! $ owned ! usize (Is usize) (uint-makes 𝓤 H A W w64) (d .place) _ (refl, fits) $ fjoin ! $ move ! (1 ∷ 0 ∷ []) $ fjoin ! $
-        move ! (2 ∷ 0 ∷ []) $ use2 W (raw (Asked R P 𝓤 H A .pre to)) goes $ frame ! $ done !)
+        use1 W (‵ (Held κ d) ⊛ ‵ (Own κ d)) (lent 𝓤 H A W κ d) $ split ! $
+        -- [what the file owns; what the struct owns; the token]
+        nothing ! $ owned ! usize (Is usize) (uint-makes 𝓤 H A W w64) (d .place) _ (refl, fits) $ fjoin ! $ move ! (1 ∷ 0 ∷ []) $ fjoin ! $
+        move ! (2 ∷ 0 ∷ []) $ use2 W (raw (Asked R P 𝓤 H A .pre to)) goes $ frame ! $ done !

@@ -1,5 +1,5 @@
 -- What a reader meets at a place of a file.
-use Prim.Native.Nat.{ℕ, _-_}
+use Prim.Native.Nat.{ℕ, zero, suc, _-_}
 use mathlib.Core.Bool.{Bool}
 use mathlib.Core.List.{List, []}
 use lib.ListN.{length}
@@ -10,6 +10,8 @@ use Rattle.files.specs.declared.file.Checked.the-variants.{Accepted, Refused}
 use Rattle.format.specs.Reader.{readDefinition}
 use Rattle.files.specs.File.{firstPlace}
 use Rattle.format.specs.Read.{onRead}
+use Rattle.reader.specs.declared.places.Span.{Span}
+use Rattle.reader.specs.declared.places.Span.the-variants.{Between, Nowhere}
 
 -- where a reader of a file starts: at the first definition, and at the end of a file that is refused
 abbrev pub startOf : List ℕ → Checked → ℕ
@@ -23,6 +25,15 @@ endedAt s at = leb (length s) at
 -- the place past the definition that starts at a place, and the file's end where none can be read
 abbrev pub placeAfter : List ℕ → ℕ → ℕ
 placeAfter s at = onRead (readDefinition s at) (length s) (λ d next. next)
+
+-- the place past so many definitions, and the file's end where there are fewer
+unfoldable pub placePast : List ℕ → ℕ → ℕ → ℕ
+placePast s zero at = at
+placePast s (suc n) at = placePast s n (placeAfter s at)
+
+-- where the definition that starts at a place starts and ends, and nowhere where none can be read
+abbrev pub spanAt : List ℕ → ℕ → Span
+spanAt s at = onRead (readDefinition s at) Nowhere (λ d next. Between at next)
 
 -- the definition's own bytes, and none where none can be read
 abbrev pub bytesAt : List ℕ → ℕ → List ℕ

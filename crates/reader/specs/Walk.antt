@@ -10,9 +10,10 @@ use Rattle.format.specs.Read.{got}
 use Rattle.format.specs.Definition.{Definition}
 use Rattle.format.specs.Reader.{readDefinition, readFile}
 use Rattle.files.specs.File.{verdict, firstPlace}
+use Rattle.reader.specs.declared.places.Span.{Span}
 use Rattle.reader.specs.declared.reader.Reader.{Reader}
 use Rattle.reader.specs.declared.reader.Opened.{Opened}
-use Rattle.reader.specs.Places.{startOf, endedAt, placeAfter, bytesAt}
+use Rattle.reader.specs.Places.{startOf, endedAt, placeAfter, placePast, spanAt, bytesAt}
 
 -- a reader of a file, and what the check of the whole file said
 abbrev pub opened : RefT (List ℕ) → Opened
@@ -25,9 +26,17 @@ opened f = record {
 abbrev pub after : Reader → Reader
 after r = record { file = r .file; place = placeAfter (now (r .file)) (r .place) }
 
+-- the reader past so many
+abbrev pub past : ℕ → Reader → Reader
+past n r = record { file = r .file; place = placePast (now (r .file)) n (r .place) }
+
 -- no definition is left
 abbrev pub ended : Reader → Bool
 ended r = endedAt (now (r .file)) (r .place)
+
+-- where the definition at a reader's place starts and ends
+abbrev pub spanned : Reader → Span
+spanned r = spanAt (now (r .file)) (r .place)
 
 -- what a reader hands out at its place: a definition's bytes
 abbrev pub handed : Reader → List ℕ

@@ -1,31 +1,29 @@
 -- A walk from the opening of a file to its end: exactly the definitions that the file is read as, each at its own bytes.
 use Prim.Native.Nat.{ℕ, zero, suc, _+_, _-_, _≤_, _<_}
-use mathlib.Core.Bool.{Bool, true, false}
-use mathlib.Core.Path.{_≡_, refl, sym, ap, ap₂, _∙_}
+use mathlib.Core.Bool.{true, false}
+use mathlib.Core.Path.{_≡_, refl, sym, ap, _∙_}
 use mathlib.Core.List.{List, [], _∷_, _++_}
 use native.Mathlib.Omega.{arith}
 use lib.ListN.{length, take, drop, take-append-drop, drop-of-length-le}
 use lib.Seq.{drop-drop}
-use lib.Dec.{ltb}
 use borrow.Author.Tests.{le-leb, lt-leb, leb-false}
 use denote.Ref.{RefT, now}
 use Rattle.words.specs.Bytes.{AreBytes}
-use Rattle.words.specs.Choice.{pick}
 use Rattle.words.specs.Parts.{region, region-length}
 use Rattle.faults.specs.declared.Fault.{Fault}
-use Rattle.faults.specs.declared.Fault.the-variants.{BytesLeft}
 use Rattle.format.specs.Read.{Read, got, bad, andThen, onRead}
 use Rattle.format.specs.Definition.{Definition}
-use Rattle.format.specs.Reader.{fits, readDefinition, readDefinitions, readHeader, readFile}
+use Rattle.format.specs.Reader.{fits, readDefinition, readDefinitions, readFile}
 use Rattle.files.specs.File.{firstPlace}
 use Rattle.format.specs.RepeatLaws.{went-on}
-use Rattle.files.specs.FileLaws.{fitting-got, head-few, definitions-length}
+use Rattle.files.specs.FileLaws.{fitting-got}
 use Rattle.files.specs.Forward.{definition-whole}
-use Rattle.roundtrip.specs.Forth.{definition-forth, file-forth}
+use Rattle.roundtrip.specs.Forth.{definition-forth}
 use Rattle.roundtrip.specs.Local.{definition-alone}
 use Rattle.reader.specs.declared.reader.Reader.{Reader}
-use Rattle.reader.specs.Places.{placeAfter}
-use Rattle.reader.specs.Walk.{opened, after, ended, handed, walk, bytesOf, Hands, Each, none, more, Walks}
+use Rattle.reader.specs.Places.{placeAfter, placePast}
+use Rattle.reader.specs.SpanLaws.{read-whole}
+use Rattle.reader.specs.Walk.{opened, after, past, ended, handed, walk, bytesOf, Hands, Each, none, more, Walks}
 
 -- a reader at its end hands out nothing
 ended-walk : (n : ℕ) (r : Reader) → ended r ≡ true → walk n r ≡ []
@@ -104,30 +102,20 @@ module _ (f : RefT (List ℕ)) where
       let all : ds ≡ d ∷ rest = cc in
       rw all (from-step b p d next (fitting-got s names p e1) n rest (from-all b k (names ++ (d .front .name ∷ [])) next e2 (omega arith) n (omega arith)))))
 
-  -- the definitions of an accepted file, from the first place on
-  from-first : {ds : List Definition} {end : ℕ} → readFile s ≡ got ds end → readDefinitions s (length ds) [] firstPlace ≡ got ds end
-  unfolding readFile
-  from-first {ds} {end} h =
-      went-on (readHeader s) _ h (λ k first e1 r1.
-      went-on (readDefinitions s k [] first) _ r1 (λ rest last e2 r2.
-      let w = picked (ltb last (length s)) rest last r2 in
-      let many : length ds ≡ k = ap length (sym (w .0)) ∙ definitions-length s k [] first e2 in
-      ap₂ (λ (m p : ℕ). readDefinitions s m [] p) many (sym (head-few s e1 .1)) ∙ e2 ∙ ap₂ got (w .0) (w .1)))
-    where
-      picked : (t : Bool) (x : List Definition) (m : ℕ) → pick t (bad BytesLeft m) (got x m) ≡ got ds end → (x ≡ ds) × (m ≡ end)
-      picked true x m h = absurd (let z : _≡_ {A = ℕ} 0 1 = cc in omega arith)
-      picked false x m h = ((cc), (cc))
-
   -- "walks the definitions": those of an accepted file, in as many steps or more
   pub walks : AreBytes s → {ds : List Definition} {end : ℕ} → readFile s ≡ got ds end → (n : ℕ) → length ds ≤ n → Walks f n ds
   walks b {ds} {end} h n m =
-      let whole = file-forth s b ds end h .whole in
-      let w = from-all b (length ds) [] firstPlace (from-first h) (omega arith) n m in
+      let w = from-all b (length ds) [] firstPlace (read-whole s h .read) (read-whole s h .whole) n m in
       record { each = rw h (w .each); whole = rw h (ap (λ (l : List ℕ). take firstPlace s ++ l) (w .rest) ∙ take-append-drop firstPlace s) }
 
   -- and none of a file that is refused
   pub walks-none : {q : Fault} {place : ℕ} → readFile s ≡ bad q place → (n : ℕ) → walk n (opened f .reader) ≡ []
   walks-none h n = rw h (ended-walk n (at-place (length s)) (le-leb (length s) (length s) (omega arith)))
+
+-- a skip of one definition is a step of the walk
+pub past-one : (r : Reader) → past 1 r ≡ after r
+unfolding placePast
+past-one r = refl
 
 -- every step goes forward, so that every walk comes to an end
 pub goes-forward : (r : Reader) → ended r ≡ false → r .place < after r .place

@@ -2,6 +2,8 @@
 mod places;
 mod reader;
 
+pub use places::Span;
 pub use reader::Opened;
 pub use reader::Reader;
+pub use reader::definition_span;
 pub use reader::open;

@@ -6,7 +6,13 @@ use files::Checked;
 use files::read_definition;
 use format::FIRST_PLACE;
 ghost use mathlib.Core.Path.{_≡_};
-ghost use Rattle.reader.specs.Places.{endedAt, placeAfter, bytesAt, startOf};
+ghost use Rattle.reader.specs.Places.{endedAt, placeAfter, placePast, spanAt, bytesAt, startOf};
+
+// Where a definition starts, and the place past it; or none.
+pub enum Span {
+    Between(usize, usize),
+    Nowhere,
+}
 
 // Where a reader of a file starts, by what the check of the whole file said: at its end where it is refused.
 pub fn start_of(s: &[u8], checked: Checked) -> usize
@@ -32,6 +38,32 @@ pub fn place_after(s: &[u8], at: usize) -> usize
     match read_definition(s, Cursor { at: at }) {
         Step::Next(next) => next.at,
         Step::Bad(refusal, place) => s.len(),
+    }
+}
+
+// The place past so many definitions; the file's end where there are fewer.
+pub fn place_past(s: &[u8], at: usize, count: u32) -> usize
+    ensures { λ r. ⌜ r ≡ placePast (now (s .entry)) count at ⌝ }
+{
+    let mut here = at;
+    let mut i = 0;
+    while i < count {
+        if s.len() <= here {
+            return s.len();
+        }
+        here = place_after(s, here);
+        i += 1;
+    }
+    here
+}
+
+// Where the definition at a place starts and ends; nowhere where none can be read.
+pub fn span_at(s: &[u8], at: usize) -> Span
+    ensures { λ r. ⌜ r ≡ spanAt (now (s .entry)) at ⌝ }
+{
+    match read_definition(s, Cursor { at: at }) {
+        Step::Next(next) => Span::Between(at, next.at),
+        Step::Bad(refusal, place) => Span::Nowhere,
     }
 }
 

@@ -1,12 +1,15 @@
 // The reader: the lent file, and a place in it. Each function takes it apart and leaves the work to one on the file and the place.
+use crate::places::Span;
 use crate::places::bytes_at;
 use crate::places::ended_at;
-use crate::places::place_after;
+use crate::places::place_past;
+use crate::places::span_at;
 use crate::places::start_of;
 use files::Checked;
 use files::check_file;
 ghost use mathlib.Core.Path.{_≡_};
-ghost use Rattle.reader.specs.Walk.{opened, ended, handed, after};
+ghost use Rattle.reader.specs.Walk.{opened, ended, spanned, handed, past};
+ghost use Rattle.reader.specs.Spans.{definitionSpan};
 
 pub struct Reader<'a> {
     file: &'a [u8],
@@ -29,18 +32,18 @@ pub fn open<'a>(file: &'a [u8]) -> Opened<'a>
 }
 
 impl<'a> Reader<'a> {
-    // Where the next definition starts.
-    pub fn place(self) -> usize
-        ensures { λ r. ⌜ r ≡ self .entry .place ⌝ }
-    {
-        self.place
-    }
-
     // No definition is left.
     pub fn at_end(self) -> bool
         ensures { λ r. ⌜ r ≡ ended (self .entry) ⌝ }
     {
         ended_at(self.file, self.place)
+    }
+
+    // Where the next definition starts and ends.
+    pub fn span(self) -> Span
+        ensures { λ r. ⌜ r ≡ spanned (self .entry) ⌝ }
+    {
+        span_at(self.file, self.place)
     }
 
     // The next definition, a part of the lent file.
@@ -50,14 +53,21 @@ impl<'a> Reader<'a> {
         bytes_at(self.file, self.place)
     }
 
-    // The reader past the next definition.
-    pub fn next(self) -> Reader<'a>
-        ensures { λ r. ⌜ r ≡ after (self .entry) ⌝ }
+    // The reader past so many definitions.
+    pub fn skip(self, count: u32) -> Reader<'a>
+        ensures { λ r. ⌜ r ≡ past count (self .entry) ⌝ }
     {
-        let place = place_after(self.file, self.place);
+        let place = place_past(self.file, self.place, count);
         Reader {
             file: self.file,
             place,
         }
     }
+}
+
+// Where the definition of a number starts and ends, in a file that is accepted and has as many.
+pub fn definition_span(file: &[u8], index: u32) -> Span
+    ensures { λ r. ⌜ r ≡ definitionSpan (now (file .entry)) index ⌝ }
+{
+    open(file).reader.skip(index).span()
 }

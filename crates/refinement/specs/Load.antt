@@ -22,6 +22,7 @@ use Rattle.nodes.specs.declared.Node.{Node}
 use Rattle.model.specs.Engine.{Slot, Engine, noDefinition, valueOr, nameIn, definitionIn, slotAt, held, slotTaken, residents}
 use Rattle.model.specs.Checks.{definitionsOf, namesOf, staying}
 use Rattle.model.specs.Effects.{retired, freeFrom, placed, loaded}
+use Rattle.model.specs.Searches.{free-slot}
 use Rattle.model.specs.Plain.{Named, meaning, forget, learn}
 use Rattle.refinement.specs.Names.{same-equal, same-self, same-sym, there, means, Once, meaning-forget, meaning-snoc, once-forget, once-snoc, forget-count}
 use Rattle.refinement.specs.SlotNames.{means-set, residents-set, Differ}
@@ -58,31 +59,6 @@ free-found k (s ∷ more) t h = go (slotTaken k s t) h (λ g. free-found (k + 1)
         → (k ≤ pick b (freeFrom (k + 1) more t) k) × (pick b (freeFrom (k + 1) more t) k < k + suc (length more))
     go true g ih = let i = ih (omega arith) in (omega arith, omega arith)
     go false g ih = (omega arith, omega arith)
-
-free-least : (k : ℕ) (slots : List Slot) (t : List Node) → k ≤ freeFrom k slots t
-unfolding freeFrom
-free-least k [] t = omega arith
-free-least k (s ∷ more) t = go (slotTaken k s t) (free-least (k + 1) more t)
-  where
-    go : (b : Bool) → k + 1 ≤ freeFrom (k + 1) more t → k ≤ pick b (freeFrom (k + 1) more t) k
-    go true g = omega arith
-    go false g = omega arith
-
--- the slot at the place k + i, where it stands at i in a list that starts at k
-free-slot : (k : ℕ) (slots : List Slot) (t : List Node) (i : ℕ) → freeFrom k slots t ≡ k + i → i < length slots → slotTaken (k + i) (slotAt slots i) t ≡ false
-unfolding freeFrom
-free-slot k [] t i e h = absurd (omega arith)
-free-slot k (s ∷ more) t i e h = go i (slotTaken k s t) refl e h (λ j f g. free-slot (k + 1) more t j f g)
-  where
-    go : (i : ℕ) (b : Bool) → slotTaken k s t ≡ b → pick b (freeFrom (k + 1) more t) k ≡ k + i → i < suc (length more)
-        → ((j : ℕ) → freeFrom (k + 1) more t ≡ k + 1 + j → j < length more → slotTaken (k + 1 + j) (slotAt more j) t ≡ false)
-        → slotTaken (k + i) (slotAt (s ∷ more) i) t ≡ false
-    go zero true e f g ih = absurd (omega (arith, free-least (k + 1) more t))
-    go (suc j) true e f g ih =
-        let z : k + suc j ≡ k + 1 + j = omega arith in
-        ap (λ (n : ℕ). slotTaken n (slotAt more j) t) z ∙ ih j (f ∙ z) (omega arith)
-    go zero false e f g ih = let z : k + 0 ≡ k = omega arith in rw z e
-    go (suc j) false e f g ih = absurd (omega arith)
 
 -- how many of some names mean something in the plain tree
 unfoldable pub known : List Named → List (List ℕ) → ℕ

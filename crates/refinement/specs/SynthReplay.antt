@@ -16,12 +16,12 @@ use Rattle.nodes.specs.declared.Node.{Node}
 use Rattle.nodes.specs.Place.{groupSlot, isGroup, lives}
 use Rattle.nodes.specs.Forest.{Forest, node, flatten, mapForest}
 use Rattle.nodes.specs.Forest as forest
-use Rattle.nodes.specs.Formed.{mostRows, numberFormed, rowFormed, fieldsFormed, allFormed, rowTaken}
+use Rattle.nodes.specs.Formed.{mostRows, numberFormed, rowFormed, fieldsFormed, allFormed, rowTaken, freeRow}
 use Rattle.treerefinement.specs.Flatten.{key}
 use Rattle.treerefinement.specs.Leaves.{NoSynth}
 use Rattle.treerefinement.specs.MapForest.{Each, map-each}
 use Rattle.nodes.specs.Table.{over}
-use Rattle.nodes.specs.Edit.{level}
+use Rattle.nodes.specs.Edit.{level, addBy}
 use Rattle.treerefinement.specs.Tally.{one, tally, IgnoresDepth, tally-append, Grown}
 use Rattle.preservation.specs.Parameters.{few-parameters}
 use Rattle.preservation.specs.ControlRows.{other-row, over-put}
@@ -29,7 +29,7 @@ use Rattle.values.specs.Controls.{ControlValue, controlAt}
 use Rattle.model.specs.Layout.{rowWords, controlsWords}
 use Rattle.model.specs.Engine.{Engine, definitionIn, slotAt, definitionOf, controlsFrom, controlsOf}
 use Rattle.model.specs.View.{Kind, group, synth, PlainNode, viewOf}
-use Rattle.model.specs.Effects.{addBy, stayingNodes, newSynth, numberFor, nextAfter, initialWords, freeRow, synthMade}
+use Rattle.model.specs.Effects.{stayingNodes, newSynth, numberFor, nextAfter, initialWords, synthMade}
 use Rattle.model.specs.Checks.{badAction}
 use Rattle.model.specs.Meaning.{minusOne}
 use Rattle.model.specs.Plain.{Plain, ifSome, numberIn, initialControls, synthOf, putBy, putSynth, growSynth}

@@ -10,7 +10,7 @@ use lib.Dec.{ltb, eqb}
 use Rattle.words.specs.Choice.{pick}
 use Rattle.nodes.specs.declared.Node.{Node}
 use Rattle.nodes.specs.Place.{isGroup, lives}
-use Rattle.nodes.specs.Edit.{withRun, cut, cutBelow, deepFree, setRun, addHead, addTail, addBefore, addAfter, addOver, moveBefore, moveAfter, moveHead, moveTail}
+use Rattle.nodes.specs.Edit.{withRun, cut, cutBelow, deepFree, setRun, addHead, addTail, addBefore, addAfter, addOver, moveBefore, moveAfter, moveHead, moveTail, addBy}
 use Rattle.nodes.specs.Forest.{Forest, flatten, mapForest, single, has, subtree, free, freeBelow, freeDeep, change, putHead, putTail, putBefore, putAfter, putOver, placeBefore, placeAfter, placeHead, placeTail}
 use Rattle.treerefinement.specs.Flatten.{key, lives-has}
 use Rattle.treerefinement.specs.Leaves.{Leaves, NoSynth, leaves-free, leaves-freeBelow, leaves-freeDeep, leaves-run, leaves-subtree, leaves-single, leaves-putBefore, leaves-putAfter, leaves-putOver, leaves-putHead, leaves-putTail, nosynth-free}
@@ -19,7 +19,7 @@ use Rattle.treerefinement.specs.MapForest.{map-has, map-free, map-freeBelow, ma
 use Rattle.model.specs.Engine.{Engine}
 use Rattle.model.specs.View.{group, PlainNode, viewOf}
 use Rattle.model.specs.Checks.{badAction}
-use Rattle.model.specs.Effects.{latestAmong, withNodes, addBy, newGroup}
+use Rattle.model.specs.Effects.{latestAmong, withNodes, newGroup}
 use Rattle.model.specs.Plain.{Plain, ifSome, numberIn, isGroupNode, latestAfter, withTree, putBy, growGroup, turned}
 use Rattle.model.specs.Demands.{latestSynth}
 use Rattle.refinement.specs.Kept.{Kept, seenTree, group-kind}

@@ -11,7 +11,7 @@ use lib.Dec.{eqb}
 use Rattle.words.specs.Choice.{pick}
 use Rattle.format.specs.Definition.{Definition}
 use Rattle.nodes.specs.declared.Node.{Node}
-use Rattle.nodes.specs.Edit.{cut, cutBelow, deepFree, setRun, moveBefore, moveAfter, moveHead, moveTail}
+use Rattle.nodes.specs.Edit.{cut, cutBelow, deepFree, setRun, moveBefore, moveAfter, moveHead, moveTail, addBy}
 use Rattle.treerefinement.specs.Tally.{same-within, cut-within, cutBelow-within, deepFree-within, moveBefore-same, moveAfter-same, moveHead-same, moveTail-same}
 use Rattle.treerefinement.specs.Keep.{within-lives, within-apart}
 use Rattle.state.specs.Accepted.{TreeAccepted}
@@ -26,7 +26,7 @@ use Rattle.model.specs.declared.ControlCommand.the-variants as controls
 use Rattle.model.specs.Engine.{Engine, definitionIn, slotAt, residentOf}
 use Rattle.model.specs.View.{viewRows, view}
 use Rattle.model.specs.Meaning.{meant}
-use Rattle.model.specs.Effects.{newGroup, numberFor, addBy, treeEffect, controlEffect}
+use Rattle.model.specs.Effects.{newGroup, numberFor, treeEffect, controlEffect}
 use Rattle.model.specs.Demands.{meaningIn, madeBy, definitionOfSynth}
 use Rattle.refinement.specs.SynthDefinitions.{definitionAt, definition-view, fewer-definition, grown-definition, group-definition, new-definition}
 

@@ -1,12 +1,13 @@
 // SynthDef2 files, for Rust and C.
 use faults::fault_number;
 use files::Checked;
-use files::Span;
 use files::check_file;
-use files::definition_at;
+use reader::Span;
+use reader::definition_span;
 ghost use mathlib.Core.Path.{_≡_};
 ghost use Rattle.format.specs.Reader.{readFile};
-ghost use Rattle.files.specs.File.{verdict, definitionSpan, refusalNumber, refusalPlace, definitionCount, nameStart, nameEnd};
+ghost use Rattle.files.specs.File.{verdict, refusalNumber, refusalPlace, definitionCount};
+ghost use Rattle.reader.specs.Spans.{definitionSpan, nameStart, nameEnd};
 
 // 0 where the file is accepted, or the refusal's number.
 #[no_mangle]
@@ -46,7 +47,7 @@ pub extern "C" fn synthdef_count(file: &[u8]) -> u32
 pub extern "C" fn synthdef_name_start(file: &[u8], index: u32) -> u64
     ensures { λ r. ⌜ r ≡ nameStart (definitionSpan (now (file .entry)) index) ⌝ }
 {
-    match definition_at(file, index) {
+    match definition_span(file, index) {
         Span::Between(start, end) => (start + 1) as u64,
         Span::Nowhere => 0,
     }
@@ -57,7 +58,7 @@ pub extern "C" fn synthdef_name_start(file: &[u8], index: u32) -> u64
 pub extern "C" fn synthdef_name_end(file: &[u8], index: u32) -> u64
     ensures { λ r. ⌜ r ≡ nameEnd (now (file .entry)) (definitionSpan (now (file .entry)) index) ⌝ }
 {
-    match definition_at(file, index) {
+    match definition_span(file, index) {
         Span::Between(start, end) => {
             let size = file[start] as usize;
             (start + 1 + size) as u64

@@ -2,7 +2,7 @@
 use Prim.Native.Nat.{ℕ, suc, _+_, _*_, _-_, _≤_, _<_}
 use mathlib.Core.Bool.{Bool, true, false}
 use mathlib.Core.Path.{_≡_, refl, sym, ap, ap₂, _∙_}
-use mathlib.Core.List.{List, [], _∷_, _++_, nil≢cons, head-eq-of-cons-eq, tail-eq-of-cons-eq}
+use mathlib.Core.List.{List, [], _∷_, _++_}
 use native.Mathlib.Omega.{arith}
 use lib.ListN.{take, drop, getD}
 use lib.Seq.{drop-drop}
@@ -11,7 +11,7 @@ use borrow.Author.Tests.{lt-ltb, le-ltb, eq-eqb, ne-eqb}
 use Rattle.words.specs.Choice.{pick}
 use Rattle.nodes.specs.declared.Node.{Node}
 use Rattle.nodes.specs.Table.{width, nodeFrom, rows, rows-take, rows-end, row-from}
-use Rattle.nodes.specs.Place.{place, deeper}
+use Rattle.nodes.specs.Place.{place, search-at, deeper}
 use Rattle.nodes.specs.Edit.{sink, dropDeeper}
 use Rattle.nodes.specs.Split.{dropDeeper-at, runOf-at}
 use Rattle.nodes.specs.Structure.{noNode, atDepth, childrenOf, depthOf, lastAbove, parentOf, lastBeside, previousOf, firstBeside, nextOf}
@@ -45,44 +45,32 @@ above d p r = pick (ltb (r .depth) d) (r .number) p
 abbrev pub beside : ℕ → ℕ → Node → ℕ
 beside d p r = pick (ltb (r .depth) d) noNode (pick (eqb (r .depth) d) (r .number) p)
 
-lastAbove-along : (p d n : ℕ) (t : List Node) → lastAbove p d n t ≡ along (above d) p (take (place n t) t)
-unfolding lastAbove along place
-lastAbove-along p d n [] = refl
-lastAbove-along p d n (r ∷ l) = go (lastAbove-along (above d p r) d n l) (eqb (r .number) n)
+-- a walk up to the record of n carries its number along the records before it
+walk-along : (f : ℕ → Node → ℕ) (n : ℕ) (walk : ℕ → List Node → ℕ) → ((p : ℕ) → walk p [] ≡ p) → ((p : ℕ) (r : Node) (l : List Node) → walk p (r ∷ l) ≡ pick (eqb (r .number) n) p (walk (f p r) l))
+    → (p : ℕ) (t : List Node) → walk p t ≡ along f p (take (place n t) t)
+unfolding along place
+walk-along f n walk end turn p [] = end p
+walk-along f n walk end turn p (r ∷ l) = turn p r l ∙ go (walk-along f n walk end turn (f p r) l) (eqb (r .number) n)
   where
-    go : lastAbove (above d p r) d n l ≡ along (above d) (above d p r) (take (place n l) l) → (b : Bool)
-        → pick b p (lastAbove (above d p r) d n l) ≡ along (above d) p (take (pick b 0 (suc (place n l))) (r ∷ l))
+    go : walk (f p r) l ≡ along f (f p r) (take (place n l) l) → (b : Bool) → pick b p (walk (f p r) l) ≡ along f p (take (pick b 0 (suc (place n l))) (r ∷ l))
     go ih true = refl
     go ih false = ih
+
+lastAbove-along : (p d n : ℕ) (t : List Node) → lastAbove p d n t ≡ along (above d) p (take (place n t) t)
+unfolding lastAbove
+lastAbove-along p d n t = walk-along (above d) n (λ q l. lastAbove q d n l) (λ q. refl) (λ q r l. refl) p t
 
 lastBeside-along : (p d n : ℕ) (t : List Node) → lastBeside p d n t ≡ along (beside d) p (take (place n t) t)
-unfolding lastBeside along place
-lastBeside-along p d n [] = refl
-lastBeside-along p d n (r ∷ l) = go (lastBeside-along (beside d p r) d n l) (eqb (r .number) n)
-  where
-    go : lastBeside (beside d p r) d n l ≡ along (beside d) (beside d p r) (take (place n l) l) → (b : Bool)
-        → pick b p (lastBeside (beside d p r) d n l) ≡ along (beside d) p (take (pick b 0 (suc (place n l))) (r ∷ l))
-    go ih true = refl
-    go ih false = ih
+unfolding lastBeside
+lastBeside-along p d n t = walk-along (beside d) n (λ q l. lastBeside q d n l) (λ q. refl) (λ q r l. refl) p t
 
 depthOf-split : (n : ℕ) (t : List Node) (r : Node) (rest : List Node) → drop (place n t) t ≡ r ∷ rest → depthOf n t ≡ r .depth
-unfolding depthOf place
-depthOf-split n [] r rest h = absurd (nil≢cons h)
-depthOf-split n (x ∷ l) r rest h = go (depthOf-split n l r rest) (eqb (x .number) n) h
-  where
-    go : (drop (place n l) l ≡ r ∷ rest → depthOf n l ≡ r .depth) → (b : Bool) → drop (pick b 0 (suc (place n l))) (x ∷ l) ≡ r ∷ rest → pick b (x .depth) (depthOf n l) ≡ r .depth
-    go ih true e = ap (λ (y : Node). y .depth) (head-eq-of-cons-eq e)
-    go ih false e = ih e
+unfolding depthOf
+depthOf-split n = search-at (λ l. depthOf n l) (λ r l. r .depth) n (λ r l. refl)
 
 nextOf-split : (n : ℕ) (t : List Node) (r : Node) (rest : List Node) → drop (place n t) t ≡ r ∷ rest → nextOf n t ≡ firstBeside (r .depth) (dropDeeper (r .depth) rest)
-unfolding nextOf place
-nextOf-split n [] r rest h = absurd (nil≢cons h)
-nextOf-split n (x ∷ l) r rest h = go (nextOf-split n l r rest) (eqb (x .number) n) h
-  where
-    go : (drop (place n l) l ≡ r ∷ rest → nextOf n l ≡ firstBeside (r .depth) (dropDeeper (r .depth) rest)) → (b : Bool) → drop (pick b 0 (suc (place n l))) (x ∷ l) ≡ r ∷ rest
-        → pick b (firstBeside (x .depth) (dropDeeper (x .depth) l)) (nextOf n l) ≡ firstBeside (r .depth) (dropDeeper (r .depth) rest)
-    go ih true e = ap₂ (λ (y : Node) (m : List Node). firstBeside (y .depth) (dropDeeper (y .depth) m)) (head-eq-of-cons-eq e) (tail-eq-of-cons-eq e)
-    go ih false e = ih e
+unfolding nextOf
+nextOf-split n = search-at (λ l. nextOf n l) (λ r l. firstBeside (r .depth) (dropDeeper (r .depth) l)) n (λ r l. refl)
 
 -- the numbers of the children among the records that follow a node at the depth d
 unfoldable pub childNumbers : ℕ → List Node → List ℕ

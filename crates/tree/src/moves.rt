@@ -7,6 +7,7 @@ use crate::runs::copy_words;
 use crate::runs::open_gap;
 use crate::search::subtree_end;
 use layout::DEPTH;
+use layout::NODES_WORDS;
 use layout::RECORD;
 ghost use mathlib.Core.Path.{_≡_};
 ghost use Prim.Native.Nat.{_+_, _-_, _≤_, _<_};
@@ -40,16 +41,19 @@ fn move_through(words: &mut [u32], from: usize, to: usize, at: usize, run: &mut 
     copy_words(words, at, run, to - from);
 }
 
-// The same. A short run, of up to 16 records, goes by way of a short array.
+// The words of a short run, of up to 16 records.
+const SHORT: usize = 16 * RECORD;
+
+// The same. A short run goes by way of a short array.
 fn move_words(words: &mut [u32], from: usize, to: usize, at: usize)
     requires { ⌜ (from ≤ to) × ((to ≤ length (now words)) × ((at + (to - from) ≤ length (now words)) × (to - from ≤ 1280))) ⌝ }
     ensures { λ r. ⌜ now (words .exit) ≡ putIn at (take (to - from) (drop from (now (words .entry)))) (without from to (now (words .entry))) ⌝ }
 {
-    if to - from <= 80 {
-        let mut run = [0u32; 80];
+    if to - from <= SHORT {
+        let mut run = [0u32; SHORT];
         move_through(words, from, to, at, &mut run);
     } else {
-        let mut run = [0u32; 1280];
+        let mut run = [0u32; NODES_WORDS];
         move_through(words, from, to, at, &mut run);
     }
 }

@@ -42,6 +42,9 @@ fn taken_rows(nodes: &[u32], count: usize) -> [bool; ROWS]
     marks
 }
 
+// How many rows there are, as a word.
+const MOST: u32 = ROWS as u32;
+
 // The lowest row that no synth has, or 256.
 pub fn free_row(nodes: &[u32], count: usize) -> u32
     requires { ⌜ TableFits (now nodes) count ⌝ }
@@ -49,7 +52,7 @@ pub fn free_row(nodes: &[u32], count: usize) -> u32
 {
     let marks = taken_rows(nodes, count);
     let mut row: u32 = 0;
-    while row < 256 {
+    while row < MOST {
         if !marks[wide(row)] {
             return row;
         }

@@ -6,16 +6,10 @@ use mathlib.Core.List.{List}
 use lib.ListN.{length}
 use borrow.Author.Tests.{eq-eqb, ne-eqb}
 use Rattle.nodes.specs.Table.{rows}
-use Rattle.order.specs.Sizes.{TableFits}
 use Rattle.order.specs.Kept.{Kept}
 use Rattle.order.specs.declared.Order.{Order}
 use Rattle.treecalls.specs.Calls.{refused, tabled, ordered, Ordered}
-use Rattle.treecalls.specs.Found.{both-false, tabled-sized}
-
-pub order-sized : (us : List ℕ) (count : ℕ) → tabled us count ≡ true → TableFits us count
-order-sized us count h =
-    let s = tabled-sized us count h in
-    record { long = s .room; few = s .few }
+use Rattle.treecalls.specs.Found.{both-false}
 
 module _ (us : List ℕ) (count : ℕ) (out : List ℕ) where
   pub no-table : tabled us count ≡ false → ordered us count out ≡ false

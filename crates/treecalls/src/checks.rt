@@ -3,6 +3,7 @@ use crate::places::REFUSED;
 use crate::places::answer_bit;
 use crate::places::has_table;
 use layout::MOST_ORDER;
+use layout::NODES_WORDS;
 ghost use mathlib.Core.Path.{_≡_};
 ghost use lib.ListN.{length};
 ghost use lib.Dec.{eqb};
@@ -34,7 +35,7 @@ pub extern "C" fn tree_order(nodes: &[u32], count: usize, order: &mut [u32]) -> 
 pub extern "C" fn tree_formed(nodes: &[u32], count: usize, next: u32, latest: u32) -> u64
     ensures { λ r. ⌜ r ≡ bit (both (eqb (length (now (nodes .entry))) 1280) (nodesFormed next latest (rows count (now (nodes .entry))))) ⌝ }
 {
-    if nodes.len() != 1280 {
+    if nodes.len() != NODES_WORDS {
         return 0;
     }
     answer_bit(order::nodes_formed(nodes, count, next, latest))

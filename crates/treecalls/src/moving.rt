@@ -2,6 +2,7 @@
 use crate::places::REFUSED;
 use crate::places::place_of;
 use layout::DEPTH;
+use layout::MOST_NODES;
 use layout::RECORD;
 use tree::Position;
 ghost use mathlib.Core.Path.{_≡_};
@@ -10,7 +11,10 @@ ghost use Rattle.nodes.specs.Sizes.{TableFits};
 ghost use Rattle.treecalls.specs.Calls.{shallow, Moves};
 ghost use Rattle.treecalls.specs.Moving.{Cleared, wayOf};
 
-// Whether every depth is at most 256. It does not stop early: so a turn is a few instructions.
+// No node of a well-formed table is as deep.
+const DEEPEST: u32 = MOST_NODES as u32;
+
+// Whether every depth is at most that. It does not stop early: so a turn is a few instructions.
 fn all_shallow(nodes: &[u32], count: usize) -> bool
     requires { ⌜ TableFits (now nodes) count ⌝ }
     ensures { λ r. ⌜ r ≡ shallow (rows count (now (nodes .entry))) ⌝ }
@@ -18,7 +22,7 @@ fn all_shallow(nodes: &[u32], count: usize) -> bool
     let mut flat = true;
     let mut i = 0;
     while i < count {
-        if 256 < nodes[RECORD * i + DEPTH] {
+        if DEEPEST < nodes[RECORD * i + DEPTH] {
             flat = false;
         }
         i += 1;

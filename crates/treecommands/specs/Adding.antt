@@ -2,7 +2,7 @@
 use Prim.Native.Nat.{ℕ, _+_, _*_, _≤_, _<_}
 use mathlib.Core.Bool.{Bool, false, not}
 use mathlib.Core.Path.{_≡_, refl, sym, ap, _∙_}
-use mathlib.Core.List.{List, [], _∷_}
+use mathlib.Core.List.{List}
 use native.Mathlib.Omega.{arith}
 use lib.ListN.{length}
 use lib.Dec.{leb, eqb}
@@ -10,7 +10,6 @@ use borrow.Author.Tests.{leb-false}
 use Rattle.nodes.specs.declared.Node.{Node}
 use Rattle.nodes.specs.Table.{width, rows-length}
 use Rattle.nodes.specs.Place.{isGroup}
-use Rattle.nodes.specs.Edit.{editRows}
 use Rattle.nodes.specs.Formed.{mostNodes}
 use Rattle.values.specs.declared.NodeArgument.{NodeArgument}
 use Rattle.model.specs.declared.TreeCommand.{TreeCommand}
@@ -20,7 +19,7 @@ use Rattle.model.specs.Layout.{countIn, nodesIn}
 use Rattle.model.specs.Engine.{decode}
 use Rattle.model.specs.Meaning.{meant}
 use Rattle.model.specs.Checks.{isRoot, notGroup, badTarget, full}
-use Rattle.model.specs.Effects.{addBy, treeEffect, effect}
+use Rattle.model.specs.Effects.{treeEffect, effect}
 use Rattle.model.specs.After.{wordsAfter}
 use Rattle.model.specs.Apply.{answerIn, isAccepted}
 use Rattle.state.specs.Accepted.{accepted}
@@ -29,7 +28,7 @@ use Rattle.preservation.specs.TreeKept.{tree-kept}
 use Rattle.tree.specs.declared.action.Action.{Action}
 use Rattle.tree.specs.declared.action.Action.the-variants.{Put, Replace}
 use Rattle.tree.specs.declared.action.Position.the-variants.{Head, Tail, Before, After}
-use Rattle.tree.specs.Action.{numberOf, addHere}
+use Rattle.tree.specs.Action.{numberOf}
 use Rattle.tree.specs.Add.{grows, Room}
 use Rattle.tree.specs.Shallow.{addable}
 use Rattle.treecommands.specs.Ready.{Ready, nodeWords, nodeIn, words-long}
@@ -82,14 +81,6 @@ room action ws k at live h = addable (countIn ws) (nodeWords ws) (k .tree .root)
     enough : (a : Action) → fullAt a (countIn ws) ≡ false → width * countIn ws + grows a ≤ 1280
     enough (Put p) e = omega (arith, leb-false mostNodes (countIn ws) e)
     enough Replace e = omega (arith, k .few)
-
--- an add action is the same in the table as in the model
-pub same-add : (action : Action) (r : Node) (n : ℕ) (t : List Node) → editRows n (addHere action (r ∷ [])) t ≡ addBy (numberOf action) r n t
-same-add (Put Head) r n t = refl
-same-add (Put Tail) r n t = refl
-same-add (Put Before) r n t = refl
-same-add (Put After) r n t = refl
-same-add Replace r n t = refl
 
 -- after an accepted command there are at most 256 nodes
 pub after-few : (c : TreeCommand) (bytes ws bs : List ℕ) → Known ws bs → answerIn (command.Tree c) bytes (decode ws bs) 0 ≡ Done → length (treeEffect c bytes (decode ws bs) .nodes) ≤ mostNodes

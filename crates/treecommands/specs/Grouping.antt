@@ -13,7 +13,7 @@ use Rattle.refusals.specs.declared.Refusal.the-variants.{BadFlag, BadNumber, Nu
 use Rattle.nodes.specs.declared.Node.{Node}
 use Rattle.nodes.specs.Table.{rows}
 use Rattle.nodes.specs.Place.{lives, place}
-use Rattle.nodes.specs.Edit.{editRows, editAt}
+use Rattle.nodes.specs.Edit.{editRows, editAt, addBy}
 use Rattle.nodes.specs.Place as nodes
 use Rattle.nodes.specs.Formed.{mostNodes}
 use Rattle.values.specs.declared.NodeArgument.{NodeArgument}
@@ -24,13 +24,13 @@ use Rattle.model.specs.Layout.{wordsLength, nodesPlace, nodesWords, countIn, no
 use Rattle.model.specs.Engine.{decode}
 use Rattle.model.specs.Meaning.{firstNegative}
 use Rattle.model.specs.Checks.{firstOf, treeChecks}
-use Rattle.model.specs.Effects.{withNodes, addBy, newGroup, effect}
+use Rattle.model.specs.Effects.{withNodes, newGroup, effect}
 use Rattle.model.specs.After.{putTree, wordsAfter}
 use Rattle.model.specs.Apply.{answerIn}
 use Rattle.state.specs.Does.{step-refused, step-done}
 use Rattle.tree.specs.declared.action.Action.{Action}
 use Rattle.tree.specs.Sizes.{Leaves}
-use Rattle.tree.specs.Action.{numberOf, addHere, number-most}
+use Rattle.tree.specs.Action.{numberOf, addHere, number-most, add-number}
 use Rattle.tree.specs.Add.{Room}
 use Rattle.treecommands.specs.declared.group.Spot.{Spot}
 use Rattle.treecommands.specs.declared.group.Spot.the-variants as spot
@@ -39,7 +39,7 @@ use Rattle.treecommands.specs.Ready.{Ready, nodeWords}
 use Rattle.treecommands.specs.Finding.{meantIn, NodeFound, found, missing}
 use Rattle.treecommands.specs.Settle.{renewed}
 use Rattle.treecommands.specs.Steps.{Steps, edited-ready, edited-left}
-use Rattle.treecommands.specs.Adding.{badAt, fullAt, bad-target, is-full, room, same-add, after-few}
+use Rattle.treecommands.specs.Adding.{badAt, fullAt, bad-target, is-full, room, after-few}
 
 -- no check fires, and the target stands at its place, with room
 pub record GroupGround (number : ℕ) (action : Action) (target : NodeArgument) (ws : List ℕ) (at : ℕ) : Type 0 where
@@ -115,7 +115,7 @@ module _ (number : ℕ) (action : Action) (target : NodeArgument) (ws : List ℕ
   module _ (k : Ready ws) (count : ℕ) (same : count ≡ countIn ws) (at : ℕ) (g : GroupGround number action target ws at) (us : List ℕ) (many : ℕ)
       (does : Leaves (nodeWords ws) (editAt at (addHere action (newGroup number ∷ [])) (rows count (nodeWords ws))) us many) where
     added : editRows (meantIn target ws) (addHere action (newGroup number ∷ [])) (nodesIn ws) ≡ addBy (numberOf action) (newGroup number) (meantIn target ws) (nodesIn ws)
-    added = same-add action (newGroup number) (meantIn target ws) (nodesIn ws)
+    added = add-number action (newGroup number) (meantIn target ws) (nodesIn ws)
 
     few : length (editRows (meantIn target ws) (addHere action (newGroup number ∷ [])) (nodesIn ws)) ≤ mostNodes
     unfolding answerIn decode

@@ -1,12 +1,12 @@
 -- A move accepted: the words after it.
+use Prim.{Unit, tt}
 use Prim.Native.Nat.{ℕ, _≤_}
 use mathlib.Core.Bool.{true}
-use mathlib.Core.Path.{_≡_, refl, sym, ap, _∙_}
+use mathlib.Core.Path.{_≡_, refl, sym, ap, subst, subst₂, _∙_}
 use mathlib.Core.List.{List}
 use native.Mathlib.Omega.{arith}
 use lib.ListN.{length}
 use Rattle.words.specs.Parts.{put}
-use Rattle.refusals.specs.declared.Refusal.{Refusal}
 use Rattle.nodes.specs.declared.Node.{Node}
 use Rattle.nodes.specs.Table.{rows-length, fill}
 use Rattle.nodes.specs.Place.{lives, found}
@@ -14,16 +14,18 @@ use Rattle.nodes.specs.Edit.{runOf, editRows, cut}
 use Rattle.nodes.specs.Formed.{mostNodes}
 use Rattle.treerefinement.specs.Tally.{Same, tally-length, moveHead-same, moveTail-same, moveBefore-same, moveAfter-same}
 use Rattle.values.specs.declared.NodeArgument.{NodeArgument}
+use Rattle.model.specs.declared.TreeCommand.{TreeCommand}
 use Rattle.model.specs.declared.TreeCommand.the-variants as tree
 use Rattle.model.specs.declared.Command.the-variants as command
+use Rattle.model.specs.declared.Answer.{Answer}
 use Rattle.model.specs.declared.Answer.the-variants.{Done, Refused}
 use Rattle.model.specs.Layout.{nodesPlace, nodesWords, countIn, nodesIn}
 use Rattle.model.specs.Engine.{Engine, decode}
 use Rattle.model.specs.Effects.{withNodes, effect}
 use Rattle.model.specs.After.{putTree, wordsAfter}
-use Rattle.model.specs.Checks.{Check}
+use Rattle.model.specs.Checks.{Check, firstOf}
 use Rattle.model.specs.Apply.{answerIn}
-use Rattle.state.specs.Does.{step-refused, step-done}
+use Rattle.state.specs.Does.{WordsStep, step-refused, step-done}
 use Rattle.preservation.specs.TreeSteps.{still-lives}
 use Rattle.tree.specs.declared.action.Position.{Position}
 use Rattle.tree.specs.declared.action.Position.the-variants.{Head, Tail, Before, After}
@@ -31,12 +33,15 @@ use Rattle.tree.specs.Sizes.{Leaves}
 use Rattle.tree.specs.Action.{putHere}
 use Rattle.tree.specs.Add.{placeBy}
 use Rattle.tree.specs.MoveRun.{movedTo}
+use Rattle.tree.specs.Ends.{Moving}
 use Rattle.tree.specs.Moved.{move-first}
+use Rattle.treecommands.specs.declared.moves.Pair.{Pair}
+use Rattle.treecommands.specs.declared.moves.Pair.the-variants as pair
 use Rattle.treecommands.specs.Ready.{Ready, nodeWords}
 use Rattle.treecommands.specs.Finding.{meantIn}
 use Rattle.treecommands.specs.Settle.{renewed, renewed-left}
 use Rattle.treecommands.specs.Steps.{Steps}
-use Rattle.treecommands.specs.Sighting.{besideChecks, intoChecks, Answers, Clear}
+use Rattle.treecommands.specs.Sighting.{besideChecks, intoChecks, Clear, PairFound}
 
 same-length : {after before : List Node} → Same after before → length after ≡ length before
 same-length {after} {before} s = sym (tally-length after) ∙ s .sum (λ r. true) (λ d r. refl) ∙ tally-length before
@@ -75,57 +80,56 @@ module _ (checks : Engine → List Check) (moved to : NodeArgument) (ws : List �
     moved-left : (out : List ℕ) → out ≡ renewed count (put nodesPlace nodesWords us ws) → (bs : List ℕ) → out ≡ putTree (withNodes t (decode ws bs)) ws
     moved-left out o bs = o ∙ renewed-left ws (k .size) t few bs us count left
 
+-- what a move asks of the places that its checks found, and what it answers and leaves
+abbrev pub Movable : Pair → List ℕ → Type 0
+Movable (pair.At a b) ws = Moving (nodeWords ws) (countIn ws) a b
+Movable (pair.Refused r) ws = Unit {0}
+
+abbrev pub Goes : Pair → Position → List ℕ → Answer → List ℕ → Type 0
+Goes (pair.At a b) p ws r out =
+    (r ≡ Done) × (out ≡ renewed (countIn ws) (put nodesPlace nodesWords (fill (nodeWords ws) (movedTo (countIn ws) (nodeWords ws) a (placeBy p (countIn ws) (nodeWords ws) b))) ws))
+Goes (pair.Refused why) p ws r out = (r ≡ Refused why) × (out ≡ ws)
+
+-- a node moved, and what is derived written afresh
+pub gone : (a b : ℕ) (p : Position) (ws : List ℕ) (count : ℕ) → count ≡ countIn ws → (us : List ℕ) → us ≡ fill (nodeWords ws) (movedTo count (nodeWords ws) a (placeBy p count (nodeWords ws) b))
+    → (out : List ℕ) → out ≡ renewed count (put nodesPlace nodesWords us ws) → Goes (pair.At a b) p ws Done out
+gone a b p ws count same us moves out o = (refl, rw (moves, same) at o)
+
+-- one law for every move: a command that has these checks, and leaves the node at this position
+module _ (checks : Engine → List Check) (moved to : NodeArgument) (ws : List ℕ) where
+  pub movable : (x : Pair) → PairFound checks moved to ws x → Movable x ws
+  movable (pair.At a b) c = c .moving
+  movable (pair.Refused r) c = tt
+
+  module _ (k : Ready ws) (p : Position) (c : TreeCommand) (asks : (bytes bs : List ℕ) → answerIn (command.Tree c) bytes (decode ws bs) 0 ≡ firstOf (checks (decode ws bs)) Done)
+      (leaves : (bytes bs : List ℕ) → wordsAfter (command.Tree c) bytes ws bs ≡ putTree (withNodes (movedBy p (meantIn moved ws) (meantIn to ws) (nodesIn ws)) (decode ws bs)) ws)
+      (all : lives (meantIn to ws) (cut (meantIn moved ws) (nodesIn ws)) ≡ true → Same (movedBy p (meantIn moved ws) (meantIn to ws) (nodesIn ws)) (nodesIn ws)) where
+    goes : (x : Pair) → PairFound checks moved to ws x → (r : Answer) (out : List ℕ) → Goes x p ws r out → Steps c ws r out
+    goes (pair.At i j) f r out g bytes bs =
+        subst (λ (r : Answer). WordsStep (command.Tree c) bytes ws bs r out) (sym (g .0))
+        (step-done (command.Tree c) bytes ws bs out (asks bytes bs ∙ f .passed bs)
+        (moved-left checks moved to ws k (countIn ws) refl i j f p (all (place-lives checks moved to ws k (countIn ws) refl i j f)) _ refl out (g .1) bs ∙ sym (leaves bytes bs)))
+    goes (pair.Refused why) f r out g bytes bs =
+        subst₂ (λ (r : Answer) (l : List ℕ). WordsStep (command.Tree c) bytes ws bs r l) (sym (g .0)) (sym (g .1))
+        (step-refused (command.Tree c) bytes ws bs why (asks bytes bs ∙ f bs))
+
 -- each move
-module _ (a b : NodeArgument) (ws : List ℕ) where
-  pub before-refused : (r : Refusal) → Answers (besideChecks a b) ws r → Steps (tree.Before a b) ws (Refused r) ws
-  unfolding answerIn
-  before-refused r h bytes bs = step-refused (command.Tree (tree.Before a b)) bytes ws bs r (h bs)
+module _ (a b : NodeArgument) (ws : List ℕ) (k : Ready ws) where
+  abbrev Does : Position → TreeCommand → (Engine → List Check) → Type 0
+  Does p c checks = (x : Pair) → PairFound checks a b ws x → (r : Answer) (out : List ℕ) → Goes x p ws r out → Steps c ws r out
 
-  pub after-refused : (r : Refusal) → Answers (besideChecks a b) ws r → Steps (tree.After a b) ws (Refused r) ws
-  unfolding answerIn
-  after-refused r h bytes bs = step-refused (command.Tree (tree.After a b)) bytes ws bs r (h bs)
+  pub before-goes : Does Before (tree.Before a b) (besideChecks a b)
+  unfolding answerIn decode wordsAfter effect
+  before-goes = goes (besideChecks a b) a b ws k Before (tree.Before a b) (λ bytes bs. refl) (λ bytes bs. refl) (moveBefore-same (meantIn a ws) (meantIn b ws) (nodesIn ws))
 
-  pub head-refused : (r : Refusal) → Answers (intoChecks b a) ws r → Steps (tree.Head b a) ws (Refused r) ws
-  unfolding answerIn
-  head-refused r h bytes bs = step-refused (command.Tree (tree.Head b a)) bytes ws bs r (h bs)
+  pub after-goes : Does After (tree.After a b) (besideChecks a b)
+  unfolding answerIn decode wordsAfter effect
+  after-goes = goes (besideChecks a b) a b ws k After (tree.After a b) (λ bytes bs. refl) (λ bytes bs. refl) (moveAfter-same (meantIn a ws) (meantIn b ws) (nodesIn ws))
 
-  pub tail-refused : (r : Refusal) → Answers (intoChecks b a) ws r → Steps (tree.Tail b a) ws (Refused r) ws
-  unfolding answerIn
-  tail-refused r h bytes bs = step-refused (command.Tree (tree.Tail b a)) bytes ws bs r (h bs)
+  pub head-goes : Does Head (tree.Head b a) (intoChecks b a)
+  unfolding answerIn decode wordsAfter effect
+  head-goes = goes (intoChecks b a) a b ws k Head (tree.Head b a) (λ bytes bs. refl) (λ bytes bs. refl) (moveHead-same (meantIn a ws) (meantIn b ws) (nodesIn ws))
 
-  module _ (k : Ready ws) (count : ℕ) (same : count ≡ countIn ws) (i j : ℕ) where
-    module _ (c : Clear (besideChecks a b) a b ws i j) (us : List ℕ) where
-      stays : lives (meantIn b ws) (cut (meantIn a ws) (nodesIn ws)) ≡ true
-      stays = place-lives (besideChecks a b) a b ws k count same i j c
-
-      module _ (does : us ≡ fill (nodeWords ws) (movedTo count (nodeWords ws) i (placeBy Before count (nodeWords ws) j))) where
-        pub before-done : (out : List ℕ) → out ≡ renewed count (put nodesPlace nodesWords us ws) → Steps (tree.Before a b) ws Done out
-        unfolding answerIn decode wordsAfter effect
-        before-done out o bytes bs =
-            step-done (command.Tree (tree.Before a b)) bytes ws bs out (c .passed bs)
-            (moved-left (besideChecks a b) a b ws k count same i j c Before (moveBefore-same (meantIn a ws) (meantIn b ws) (nodesIn ws) stays) us does out o bs)
-
-      module _ (does : us ≡ fill (nodeWords ws) (movedTo count (nodeWords ws) i (placeBy After count (nodeWords ws) j))) where
-        pub after-done : (out : List ℕ) → out ≡ renewed count (put nodesPlace nodesWords us ws) → Steps (tree.After a b) ws Done out
-        unfolding answerIn decode wordsAfter effect
-        after-done out o bytes bs =
-            step-done (command.Tree (tree.After a b)) bytes ws bs out (c .passed bs)
-            (moved-left (besideChecks a b) a b ws k count same i j c After (moveAfter-same (meantIn a ws) (meantIn b ws) (nodesIn ws) stays) us does out o bs)
-
-    module _ (c : Clear (intoChecks b a) a b ws i j) (us : List ℕ) where
-      stays-in : lives (meantIn b ws) (cut (meantIn a ws) (nodesIn ws)) ≡ true
-      stays-in = place-lives (intoChecks b a) a b ws k count same i j c
-
-      module _ (does : us ≡ fill (nodeWords ws) (movedTo count (nodeWords ws) i (placeBy Head count (nodeWords ws) j))) where
-        pub head-done : (out : List ℕ) → out ≡ renewed count (put nodesPlace nodesWords us ws) → Steps (tree.Head b a) ws Done out
-        unfolding answerIn decode wordsAfter effect
-        head-done out o bytes bs =
-            step-done (command.Tree (tree.Head b a)) bytes ws bs out (c .passed bs)
-            (moved-left (intoChecks b a) a b ws k count same i j c Head (moveHead-same (meantIn a ws) (meantIn b ws) (nodesIn ws) stays-in) us does out o bs)
-
-      module _ (does : us ≡ fill (nodeWords ws) (movedTo count (nodeWords ws) i (placeBy Tail count (nodeWords ws) j))) where
-        pub tail-done : (out : List ℕ) → out ≡ renewed count (put nodesPlace nodesWords us ws) → Steps (tree.Tail b a) ws Done out
-        unfolding answerIn decode wordsAfter effect
-        tail-done out o bytes bs =
-            step-done (command.Tree (tree.Tail b a)) bytes ws bs out (c .passed bs)
-            (moved-left (intoChecks b a) a b ws k count same i j c Tail (moveTail-same (meantIn a ws) (meantIn b ws) (nodesIn ws) stays-in) us does out o bs)
+  pub tail-goes : Does Tail (tree.Tail b a) (intoChecks b a)
+  unfolding answerIn decode wordsAfter effect
+  tail-goes = goes (intoChecks b a) a b ws k Tail (tree.Tail b a) (λ bytes bs. refl) (λ bytes bs. refl) (moveTail-same (meantIn a ws) (meantIn b ws) (nodesIn ws))

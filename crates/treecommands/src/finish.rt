@@ -1,4 +1,12 @@
 // What is derived from the tree, written afresh after its nodes changed.
+use layout::COUNT;
+use layout::LATEST;
+use layout::NEXT;
+use layout::NODES;
+use layout::NODES_END;
+use layout::ORDER;
+use layout::ORDER_END;
+use layout::ORDER_LENGTH;
 ghost use mathlib.Core.Path.{_≡_};
 ghost use Prim.Native.Nat.{_≤_};
 ghost use lib.ListN.{length};
@@ -11,10 +19,10 @@ fn write_header(words: &mut [u32], count: u32, many: u32, next: u32, latest: u32
     requires { ⌜ 4 ≤ length (now words) ⌝ }
     ensures { λ r. ⌜ now (words .exit) ≡ putHeader count many next latest (now (words .entry)) ⌝ }
 {
-    words[0] = count;
-    words[1] = many;
-    words[2] = next;
-    words[3] = latest;
+    words[COUNT] = count;
+    words[ORDER_LENGTH] = many;
+    words[NEXT] = next;
+    words[LATEST] = latest;
 }
 
 // The whole order region and the first words, for the table of so many nodes.
@@ -22,9 +30,9 @@ pub fn settle(words: &mut [u32], count: usize, next: u32, latest: u32)
     requires { ⌜ (length (now words) ≡ wordsLength) × (count ≤ mostNodes) ⌝ }
     ensures { λ r. ⌜ now (words .exit) ≡ settled count next latest (now (words .entry)) ⌝ }
 {
-    let order = order::running_order(&words[68..1348], count);
+    let order = order::running_order(&words[NODES..NODES_END], count);
     let many = order.length;
-    order::write_order(&mut words[1348..1603], order);
+    order::write_order(&mut words[ORDER..ORDER_END], order);
     write_header(words, count as u32, many as u32, next, latest);
 }
 
@@ -33,9 +41,9 @@ pub fn renew(words: &mut [u32], count: usize)
     requires { ⌜ (length (now words) ≡ wordsLength) × (count ≤ mostNodes) ⌝ }
     ensures { λ r. ⌜ now (words .exit) ≡ renewed count (now (words .entry)) ⌝ }
 {
-    let next = words[2];
-    let latest = words[3];
-    if tree::find(&words[68..1348], count, latest) < count {
+    let next = words[NEXT];
+    let latest = words[LATEST];
+    if tree::find(&words[NODES..NODES_END], count, latest) < count {
         settle(words, count, next, latest);
     } else {
         settle(words, count, next, 0);

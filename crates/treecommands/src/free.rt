@@ -1,6 +1,9 @@
 // Commands that free nodes, and the run flag.
 use crate::finish::renew;
 use crate::place::is_synth;
+use layout::COUNT;
+use layout::NODES;
+use layout::NODES_END;
 use model::Answer;
 use names::node_place;
 use refusals::Refusal;
@@ -18,12 +21,12 @@ pub fn run_node(node: NodeArgument, flag: u32, words: &mut [u32]) -> Answer
     if 1 < flag {
         return Answer::Refused(Refusal::BadFlag);
     }
-    let count = wide(words[0]);
+    let count = wide(words[COUNT]);
     let at = node_place(words, node);
     if count <= at {
         return Answer::Refused(Refusal::NoNode);
     }
-    tree::set_run(&mut words[68..1348], count, at, flag);
+    tree::set_run(&mut words[NODES..NODES_END], count, at, flag);
     renew(words, count);
     Answer::Done
 }
@@ -33,7 +36,7 @@ pub fn free_node(node: NodeArgument, words: &mut [u32]) -> Answer
     requires { ⌜ Ready (now words) ⌝ }
     ensures { λ r. ⌜ Steps (TreeCommand.Free node) (now (words .entry)) r (now (words .exit)) ⌝ }
 {
-    let count = wide(words[0]);
+    let count = wide(words[COUNT]);
     let at = node_place(words, node);
     if count <= at {
         return Answer::Refused(Refusal::NoNode);
@@ -41,7 +44,7 @@ pub fn free_node(node: NodeArgument, words: &mut [u32]) -> Answer
     if at == 0 {
         return Answer::Refused(Refusal::WrongKind);
     }
-    let left = tree::cut(&mut words[68..1348], count, at);
+    let left = tree::cut(&mut words[NODES..NODES_END], count, at);
     renew(words, left);
     Answer::Done
 }
@@ -51,7 +54,7 @@ pub fn free_all(group: NodeArgument, words: &mut [u32]) -> Answer
     requires { ⌜ Ready (now words) ⌝ }
     ensures { λ r. ⌜ Steps (TreeCommand.FreeAll group) (now (words .entry)) r (now (words .exit)) ⌝ }
 {
-    let count = wide(words[0]);
+    let count = wide(words[COUNT]);
     let at = node_place(words, group);
     if count <= at {
         return Answer::Refused(Refusal::NoNode);
@@ -59,7 +62,7 @@ pub fn free_all(group: NodeArgument, words: &mut [u32]) -> Answer
     if is_synth(words, at) {
         return Answer::Refused(Refusal::WrongKind);
     }
-    let left = tree::cut_below(&mut words[68..1348], count, at);
+    let left = tree::cut_below(&mut words[NODES..NODES_END], count, at);
     renew(words, left);
     Answer::Done
 }
@@ -69,7 +72,7 @@ pub fn deep_free(group: NodeArgument, words: &mut [u32]) -> Answer
     requires { ⌜ Ready (now words) ⌝ }
     ensures { λ r. ⌜ Steps (TreeCommand.DeepFree group) (now (words .entry)) r (now (words .exit)) ⌝ }
 {
-    let count = wide(words[0]);
+    let count = wide(words[COUNT]);
     let at = node_place(words, group);
     if count <= at {
         return Answer::Refused(Refusal::NoNode);
@@ -77,7 +80,7 @@ pub fn deep_free(group: NodeArgument, words: &mut [u32]) -> Answer
     if is_synth(words, at) {
         return Answer::Refused(Refusal::WrongKind);
     }
-    let left = tree::deep_free(&mut words[68..1348], count, at);
+    let left = tree::deep_free(&mut words[NODES..NODES_END], count, at);
     renew(words, left);
     Answer::Done
 }

@@ -2,6 +2,10 @@
 use crate::adding::bad_target;
 use crate::adding::is_full;
 use crate::finish::renew;
+use layout::COUNT;
+use layout::GROUP;
+use layout::NODES;
+use layout::NODES_END;
 use model::Answer;
 use names::node_place;
 use nodes::Node;
@@ -30,8 +34,8 @@ fn group_spot(number: u32, action: Action, target: NodeArgument, words: &[u32]) 
     if 2147483648 <= number {
         return Spot::Refused(Refusal::BadNumber);
     }
-    let count = wide(words[0]);
-    if tree::find(&words[68..1348], count, number) < count {
+    let count = wide(words[COUNT]);
+    if tree::find(&words[NODES..NODES_END], count, number) < count {
         return Spot::Refused(Refusal::NumberLive);
     }
     let at = node_place(words, target);
@@ -55,15 +59,15 @@ fn add_group(number: u32, action: Action, target: NodeArgument, words: &mut [u32
     let spot = group_spot(number, action, target, words);
     match spot {
         Spot::At(at) => {
-            let count = wide(words[0]);
+            let count = wide(words[COUNT]);
             let group = Node {
                 number: number,
                 depth: 0,
                 run: 1,
-                slot: 32,
+                slot: GROUP,
                 row: 0,
             };
-            let after = tree::add_node(&mut words[68..1348], count, action, at, group);
+            let after = tree::add_node(&mut words[NODES..NODES_END], count, action, at, group);
             renew(words, after);
             Answer::Done
         }

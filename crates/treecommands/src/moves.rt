@@ -1,6 +1,9 @@
 // Commands that move a node with all below it.
 use crate::finish::renew;
 use crate::place::is_synth;
+use layout::COUNT;
+use layout::NODES;
+use layout::NODES_END;
 use model::Answer;
 use names::node_place;
 use refusals::Refusal;
@@ -11,6 +14,7 @@ ghost use Rattle.model.specs.declared.TreeCommand.{TreeCommand};
 ghost use Rattle.treecommands.specs.Ready.{Ready};
 ghost use Rattle.treecommands.specs.Steps.{Steps};
 ghost use Rattle.treecommands.specs.Sighting.{PairFound, besideChecks, intoChecks};
+ghost use Rattle.treecommands.specs.Moving.{Movable, Goes};
 
 // The places of the node that is moved and of the node that it goes to, or the first refusal.
 pub enum Pair {
@@ -23,7 +27,7 @@ fn beside(node: NodeArgument, place: NodeArgument, words: &[u32]) -> Pair
     requires { ⌜ Ready (now words) ⌝ }
     ensures { λ r. ⌜ PairFound (besideChecks node place) node place (now (words .entry)) r ⌝ }
 {
-    let count = wide(words[0]);
+    let count = wide(words[COUNT]);
     let a = node_place(words, node);
     if count <= a {
         return Pair::Refused(Refusal::NoNode);
@@ -38,7 +42,7 @@ fn beside(node: NodeArgument, place: NodeArgument, words: &[u32]) -> Pair
     if b == 0 {
         return Pair::Refused(Refusal::WrongKind);
     }
-    if tree::lies_below(&words[68..1348], count, b, a) {
+    if tree::lies_below(&words[NODES..NODES_END], count, b, a) {
         return Pair::Refused(Refusal::InsideItself);
     }
     Pair::At(a, b)
@@ -49,7 +53,7 @@ fn into(group: NodeArgument, node: NodeArgument, words: &[u32]) -> Pair
     requires { ⌜ Ready (now words) ⌝ }
     ensures { λ r. ⌜ PairFound (intoChecks group node) node group (now (words .entry)) r ⌝ }
 {
-    let count = wide(words[0]);
+    let count = wide(words[COUNT]);
     let b = node_place(words, group);
     if count <= b {
         return Pair::Refused(Refusal::NoNode);
@@ -64,10 +68,26 @@ fn into(group: NodeArgument, node: NodeArgument, words: &[u32]) -> Pair
     if a == 0 {
         return Pair::Refused(Refusal::WrongKind);
     }
-    if tree::lies_below(&words[68..1348], count, b, a) {
+    if tree::lies_below(&words[NODES..NODES_END], count, b, a) {
         return Pair::Refused(Refusal::InsideItself);
     }
     Pair::At(a, b)
+}
+
+// What every move does once its checks have answered.
+fn move_pair(pair: Pair, position: Position, words: &mut [u32]) -> Answer
+    requires { ⌜ Ready (now words) × Movable pair (now words) ⌝ }
+    ensures { λ r. ⌜ Goes pair position (now (words .entry)) r (now (words .exit)) ⌝ }
+{
+    match pair {
+        Pair::At(a, b) => {
+            let count = wide(words[COUNT]);
+            tree::move_node(&mut words[NODES..NODES_END], count, a, position, b);
+            renew(words, count);
+            Answer::Done
+        }
+        Pair::Refused(why) => Answer::Refused(why),
+    }
 }
 
 // /n_before
@@ -76,15 +96,7 @@ pub fn move_before(node: NodeArgument, place: NodeArgument, words: &mut [u32]) -
     ensures { λ r. ⌜ Steps (TreeCommand.Before node place) (now (words .entry)) r (now (words .exit)) ⌝ }
 {
     let pair = beside(node, place, words);
-    match pair {
-        Pair::At(a, b) => {
-            let count = wide(words[0]);
-            tree::move_node(&mut words[68..1348], count, a, Position::Before, b);
-            renew(words, count);
-            Answer::Done
-        }
-        Pair::Refused(why) => Answer::Refused(why),
-    }
+    move_pair(pair, Position::Before, words)
 }
 
 // /n_after
@@ -93,15 +105,7 @@ pub fn move_after(node: NodeArgument, place: NodeArgument, words: &mut [u32]) ->
     ensures { λ r. ⌜ Steps (TreeCommand.After node place) (now (words .entry)) r (now (words .exit)) ⌝ }
 {
     let pair = beside(node, place, words);
-    match pair {
-        Pair::At(a, b) => {
-            let count = wide(words[0]);
-            tree::move_node(&mut words[68..1348], count, a, Position::After, b);
-            renew(words, count);
-            Answer::Done
-        }
-        Pair::Refused(why) => Answer::Refused(why),
-    }
+    move_pair(pair, Position::After, words)
 }
 
 // /g_head
@@ -110,15 +114,7 @@ pub fn move_head(group: NodeArgument, node: NodeArgument, words: &mut [u32]) -> 
     ensures { λ r. ⌜ Steps (TreeCommand.Head group node) (now (words .entry)) r (now (words .exit)) ⌝ }
 {
     let pair = into(group, node, words);
-    match pair {
-        Pair::At(a, b) => {
-            let count = wide(words[0]);
-            tree::move_node(&mut words[68..1348], count, a, Position::Head, b);
-            renew(words, count);
-            Answer::Done
-        }
-        Pair::Refused(why) => Answer::Refused(why),
-    }
+    move_pair(pair, Position::Head, words)
 }
 
 // /g_tail
@@ -127,13 +123,5 @@ pub fn move_tail(group: NodeArgument, node: NodeArgument, words: &mut [u32]) -> 
     ensures { λ r. ⌜ Steps (TreeCommand.Tail group node) (now (words .entry)) r (now (words .exit)) ⌝ }
 {
     let pair = into(group, node, words);
-    match pair {
-        Pair::At(a, b) => {
-            let count = wide(words[0]);
-            tree::move_node(&mut words[68..1348], count, a, Position::Tail, b);
-            renew(words, count);
-            Answer::Done
-        }
-        Pair::Refused(why) => Answer::Refused(why),
-    }
+    move_pair(pair, Position::Tail, words)
 }

@@ -1,4 +1,8 @@
 // What stands at a place of the table.
+use layout::GROUP;
+use layout::NODES;
+use layout::RECORD;
+use layout::SLOT;
 ghost use mathlib.Core.Bool.{not};
 ghost use mathlib.Core.Path.{_≡_};
 ghost use Prim.Native.Nat.{_<_};
@@ -11,5 +15,5 @@ pub fn is_synth(words: &[u32], at: usize) -> bool
     requires { ⌜ Ready (now words) × (at < countIn (now words)) ⌝ }
     ensures { λ r. ⌜ r ≡ not (isGroup (nodeIn (now (words .entry)) at)) ⌝ }
 {
-    words[68 + 5 * at + 3] != 32
+    words[NODES + RECORD * at + SLOT] != GROUP
 }

@@ -89,14 +89,19 @@ unfolding takeDeeper Shallow
 take-stops d [] s = refl
 take-stops d (r ∷ l) s = rw (le-ltb d (r .depth) s)
 
+-- what passes over each record deeper than d passes over a forest that is
+pub deep-past : {A : Type 0} (F : List Node → A) (d : ℕ) → ((r : Node) (l : List Node) → d < r .depth → F (r ∷ l) ≡ F l) → (e : ℕ) (f : Forest Node) (rest : List Node) → d < e → F (flatten e f ++ rest) ≡ F rest
+unfolding flatten
+deep-past F d pass e none rest h = refl
+deep-past F d pass e (node x b a) rest h =
+    pass (level e x) ((flatten (e + 1) b ++ flatten e a) ++ rest) h
+    ∙ ap F (append-assoc (flatten (e + 1) b) (flatten e a) rest)
+    ∙ deep-past F d pass (e + 1) b (flatten e a ++ rest) (omega arith)
+    ∙ deep-past F d pass e a rest h
+
 drop-past : (d e : ℕ) (f : Forest Node) (rest : List Node) → d < e → dropDeeper d (flatten e f ++ rest) ≡ dropDeeper d rest
-unfolding flatten dropDeeper
-drop-past d e none rest h = refl
-drop-past d e (node x b a) rest h =
-    rw (lt-ltb d e h)
-    (ap (λ (l : List Node). dropDeeper d l) (append-assoc (flatten (e + 1) b) (flatten e a) rest)
-    ∙ drop-past d (e + 1) b (flatten e a ++ rest) (omega arith)
-    ∙ drop-past d e a rest h)
+unfolding dropDeeper
+drop-past d = deep-past (λ l. dropDeeper d l) d (λ r l h. rw (lt-ltb d (r .depth) h))
 
 drop-stops : (d : ℕ) (rest : List Node) → Shallow d rest → dropDeeper d rest ≡ rest
 unfolding dropDeeper Shallow
@@ -117,6 +122,35 @@ pub neither : (p q r : Bool) → pick p true (pick q true r) ≡ false → (p �
 neither true q r h = ((cc), (cc), (cc))
 neither false true r h = (refl, (cc), (cc))
 neither false false r h = (refl, refl, h)
+
+-- what passes over each record with another number passes over a forest without n
+pub search-past : {A : Type 0} (F : List Node → A) (n : ℕ) → ((r : Node) (l : List Node) → eqb (r .number) n ≡ false → F (r ∷ l) ≡ F l) → (d : ℕ) (f : Forest Node) (rest : List Node) → has key n f ≡ false → F (flatten d f ++ rest) ≡ F rest
+unfolding flatten has
+search-past F n pass d none rest h = refl
+search-past F n pass d (node x b a) rest h =
+    let w = neither (eqb (x .number) n) (has key n b) (has key n a) h in
+    pass (level d x) ((flatten (d + 1) b ++ flatten d a) ++ rest) (w .0)
+    ∙ ap F (append-assoc (flatten (d + 1) b) (flatten d a) rest)
+    ∙ search-past F n pass (d + 1) b (flatten d a ++ rest) (w .1)
+    ∙ search-past F n pass d a rest (w .2)
+
+-- a walk up to n that carries a number along, past a forest without n: it goes on with some number, with the same one where the forest is deep
+module _ (n : ℕ) (walk : ℕ → List Node → ℕ) (step : Node → ℕ → ℕ) (turn : (p : ℕ) (r : Node) (l : List Node) → eqb (r .number) n ≡ false → walk p (r ∷ l) ≡ walk (step r p) l)
+    (deep : ℕ) (keep : (r : Node) (p : ℕ) → deep ≤ r .depth → step r p ≡ p) where
+  pub walk-past : (p d : ℕ) (f : Forest Node) (rest : List Node) → has key n f ≡ false → (q : ℕ) × (walk p (flatten d f ++ rest) ≡ walk q rest) × (deep ≤ d → q ≡ p)
+  unfolding flatten has
+  walk-past p d none rest h = (p, refl, λ k. refl)
+  walk-past p d (node x b a) rest h =
+      let w = neither (eqb (x .number) n) (has key n b) (has key n a) h in
+      let r = level d x in
+      let u = walk-past (step r p) (d + 1) b (flatten d a ++ rest) (w .1) in
+      let v = walk-past (u .0) d a rest (w .2) in
+      let past : walk p (flatten d (node x b a) ++ rest) ≡ walk (v .0) rest =
+      turn p r ((flatten (d + 1) b ++ flatten d a) ++ rest) (w .0)
+      ∙ ap (λ (l : List Node). walk (step r p) l) (append-assoc (flatten (d + 1) b) (flatten d a) rest)
+      ∙ u .1
+      ∙ v .1 in
+      (v .0, past, λ k. v .2 k ∙ u .2 (omega arith) ∙ keep r p k)
 
 -- a search of the layout is a search of the tree
 lives-flatten : (n d : ℕ) (f : Forest Node) (rest : List Node) → lives n (flatten d f ++ rest) ≡ pick (has key n f) true (lives n rest)
@@ -221,15 +255,8 @@ edit-tree n H h g f = edit-tree-on (λ f. Unit {0}) (λ x b a u. (tt, tt)) n H h
 
 -- the run of a node is its subtree laid out
 run-past : (n d : ℕ) (f : Forest Node) (rest : List Node) → has key n f ≡ false → runOf n (flatten d f ++ rest) ≡ runOf n rest
-unfolding flatten runOf has
-run-past n d none rest h = refl
-run-past n d (node x b a) rest h =
-    let w = neither (eqb (x .number) n) (has key n b) (has key n a) h in
-    let tail = (flatten (d + 1) b ++ flatten d a) ++ rest in
-    ap (λ (p : Bool). pick p (sink d (level d x ∷ takeDeeper d tail)) (runOf n tail)) (w .0)
-    ∙ ap (λ (l : List Node). runOf n l) (append-assoc (flatten (d + 1) b) (flatten d a) rest)
-    ∙ run-past n (d + 1) b (flatten d a ++ rest) (w .1)
-    ∙ run-past n d a rest (w .2)
+unfolding runOf
+run-past n = search-past (λ l. runOf n l) n (λ r l e. rw e)
 
 run-subtree : (n d : ℕ) (f : Forest Node) (rest : List Node) → has key n f ≡ true → Shallow d rest → runOf n (flatten d f ++ rest) ≡ flatten 0 (subtree key n f)
 unfolding flatten runOf has subtree sink

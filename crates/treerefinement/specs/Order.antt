@@ -10,20 +10,15 @@ use Rattle.nodes.specs.declared.Node.{Node}
 use Rattle.nodes.specs.Place.{isGroup}
 use Rattle.nodes.specs.Forest.{Forest, none, node, flatten}
 use Rattle.nodes.specs.Order.{isOn, orderFrom, order, orderTree}
-use Rattle.treerefinement.specs.Flatten.{key, Shallow, shallow-nil, shallow-suc, shallow-flatten}
+use Rattle.treerefinement.specs.Flatten.{key, Shallow, shallow-nil, shallow-suc, shallow-flatten, deep-past}
 
 abbrev orderOf : Forest Node → List ℕ
 orderOf f = orderTree key isGroup isOn f
 
 -- what is deeper than the limit is passed over
 order-past : (limit e : ℕ) (f : Forest Node) (rest : List Node) → limit < e → orderFrom limit (flatten e f ++ rest) ≡ orderFrom limit rest
-unfolding flatten orderFrom
-order-past limit e none rest h = refl
-order-past limit e (node x b a) rest h =
-    rw (lt-leb e limit h)
-    (ap (λ (l : List Node). orderFrom limit l) (append-assoc (flatten (e + 1) b) (flatten e a) rest)
-    ∙ order-past limit (e + 1) b (flatten e a ++ rest) (omega arith)
-    ∙ order-past limit e a rest h)
+unfolding orderFrom
+order-past limit = deep-past (λ l. orderFrom limit l) limit (λ r l h. rw (lt-leb (r .depth) limit h))
 
 -- any limit is as good that what follows does not pass
 order-limit : (limit other d : ℕ) (rest : List Node) → Shallow d rest → d ≤ limit → d ≤ other → orderFrom limit rest ≡ orderFrom other rest

@@ -10,7 +10,7 @@ use Rattle.words.specs.Choice.{pick}
 use Rattle.nodes.specs.declared.Node.{Node}
 use Rattle.nodes.specs.Forest.{Forest, none, node, flatten, has}
 use Rattle.nodes.specs.Structure.{noNode, depthOf, lastAbove, parentOf, parentIn, parent}
-use Rattle.treerefinement.specs.Flatten.{key, neither}
+use Rattle.treerefinement.specs.Flatten.{key, neither, search-past, walk-past}
 
 -- the depth of n in a forest at d
 unfoldable pub depthIn : ℕ → ℕ → Forest Node → ℕ
@@ -18,14 +18,8 @@ depthIn d n none = 0
 depthIn d n (node x b a) = pick (eqb (x .number) n) d (pick (has key n b) (depthIn (d + 1) n b) (depthIn d n a))
 
 depth-past : (n d : ℕ) (f : Forest Node) (rest : List Node) → has key n f ≡ false → depthOf n (flatten d f ++ rest) ≡ depthOf n rest
-unfolding flatten depthOf has
-depth-past n d none rest h = refl
-depth-past n d (node x b a) rest h =
-    let w = neither (eqb (x .number) n) (has key n b) (has key n a) h in
-    rw (w .0)
-    (ap (λ (l : List Node). depthOf n l) (append-assoc (flatten (d + 1) b) (flatten d a) rest)
-    ∙ depth-past n (d + 1) b (flatten d a ++ rest) (w .1)
-    ∙ depth-past n d a rest (w .2))
+unfolding depthOf
+depth-past n = search-past (λ l. depthOf n l) n (λ r l e. rw e)
 
 pub depth-flatten : (n d : ℕ) (f : Forest Node) (rest : List Node) → has key n f ≡ true → depthOf n (flatten d f ++ rest) ≡ depthIn d n f
 unfolding flatten depthOf has depthIn
@@ -71,20 +65,8 @@ parent-inner n d p q (node x b a) h = go (eqb (x .number) n) (has key n b) h (pa
 
 -- past a forest without n the search goes on with some number; with the same one if the forest is deep
 above-past : (p e n d : ℕ) (f : Forest Node) (rest : List Node) → has key n f ≡ false → (q : ℕ) × (lastAbove p e n (flatten d f ++ rest) ≡ lastAbove q e n rest) × (e ≤ d → q ≡ p)
-unfolding flatten lastAbove has
-above-past p e n d none rest h = (p, refl, λ k. refl)
-above-past p e n d (node x b a) rest h =
-    let w = neither (eqb (x .number) n) (has key n b) (has key n a) h in
-    let p′ = pick (ltb d e) (x .number) p in
-    let tail = (flatten (d + 1) b ++ flatten d a) ++ rest in
-    let u = above-past p′ e n (d + 1) b (flatten d a ++ rest) (w .1) in
-    let v = above-past (u .0) e n d a rest (w .2) in
-    let past : pick (eqb (x .number) n) p (lastAbove p′ e n tail) ≡ lastAbove (v .0) e n rest =
-    ap (λ (i : Bool). pick i p (lastAbove p′ e n tail)) (w .0)
-    ∙ ap (λ (l : List Node). lastAbove p′ e n l) (append-assoc (flatten (d + 1) b) (flatten d a) rest)
-    ∙ u .1
-    ∙ v .1 in
-    (v .0, past, λ k. v .2 k ∙ u .2 (omega arith) ∙ ap (λ (i : Bool). pick i (x .number) p) (le-ltb d e k))
+unfolding lastAbove
+above-past p e n = walk-past n (λ j l. lastAbove j e n l) (λ r j. pick (ltb (r .depth) e) (r .number) j) (λ j r l h. rw h) e (λ r j k. rw (le-ltb (r .depth) e k)) p
 
 above-flatten : (p n d : ℕ) (f : Forest Node) (rest : List Node) → has key n f ≡ true → lastAbove p (depthIn d n f) n (flatten d f ++ rest) ≡ parentIn key p n f
 unfolding flatten lastAbove has parentIn depthIn

@@ -1,8 +1,8 @@
 -- A node's neighbours in the table are its neighbours in the plain tree.
 use Prim.{Unit, tt}
-use Prim.Native.Nat.{ℕ, _+_, _<_}
+use Prim.Native.Nat.{ℕ, suc, _+_, _<_}
 use mathlib.Core.Bool.{Bool, true, false}
-use mathlib.Core.Path.{_≡_, refl, sym, ap, ap₂, _∙_}
+use mathlib.Core.Path.{_≡_, refl, sym, ap, _∙_}
 use mathlib.Core.List.{List, [], _∷_, _++_, append-assoc, append-nil}
 use native.Mathlib.Omega.{arith}
 use lib.Dec.{ltb, eqb}
@@ -12,7 +12,7 @@ use Rattle.nodes.specs.declared.Node.{Node}
 use Rattle.nodes.specs.Edit.{dropDeeper}
 use Rattle.nodes.specs.Forest.{Forest, none, node, flatten, has, below}
 use Rattle.nodes.specs.Structure.{noNode, firstOr, lastOr, depthOf, lastBeside, previousOf, previousIn, previous, firstBeside, nextOf, tops, firstTop, lastTop, next, headOf, tailOf, head, tail}
-use Rattle.treerefinement.specs.Flatten.{key, neither, Shallow, dropped}
+use Rattle.treerefinement.specs.Flatten.{key, neither, Shallow, dropped, search-past, walk-past}
 use Rattle.treerefinement.specs.Parent.{depthIn, depth-flatten, depth-least}
 use Rattle.treerefinement.specs.Family.{children-tree}
 
@@ -45,20 +45,10 @@ previous-inner n d p q (node x b a) h = go (eqb (x .number) n) (has key n b) h
 
 -- past a forest without n the search goes on with some number; with the same one if the forest is deeper than n
 beside-past : (p e n d : ℕ) (f : Forest Node) (rest : List Node) → has key n f ≡ false → (q : ℕ) × (lastBeside p e n (flatten d f ++ rest) ≡ lastBeside q e n rest) × (e < d → q ≡ p)
-unfolding flatten lastBeside has
-beside-past p e n d none rest h = (p, refl, λ k. refl)
-beside-past p e n d (node x b a) rest h =
-    let w = neither (eqb (x .number) n) (has key n b) (has key n a) h in
-    let p′ = pick (ltb d e) noNode (pick (eqb d e) (x .number) p) in
-    let tail = (flatten (d + 1) b ++ flatten d a) ++ rest in
-    let u = beside-past p′ e n (d + 1) b (flatten d a ++ rest) (w .1) in
-    let v = beside-past (u .0) e n d a rest (w .2) in
-    let past : pick (eqb (x .number) n) p (lastBeside p′ e n tail) ≡ lastBeside (v .0) e n rest =
-    ap (λ (i : Bool). pick i p (lastBeside p′ e n tail)) (w .0)
-    ∙ ap (λ (l : List Node). lastBeside p′ e n l) (append-assoc (flatten (d + 1) b) (flatten d a) rest)
-    ∙ u .1
-    ∙ v .1 in
-    (v .0, past, λ k. v .2 k ∙ u .2 (omega arith) ∙ ap₂ (λ (i j : Bool). pick i noNode (pick j (x .number) p)) (le-ltb d e (omega arith)) (ne-eqb d e (λ q. omega arith)))
+unfolding lastBeside
+beside-past p e n =
+    walk-past n (λ j l. lastBeside j e n l) (λ r j. pick (ltb (r .depth) e) noNode (pick (eqb (r .depth) e) (r .number) j)) (λ j r l h. rw h) (suc e)
+    (λ r j k. rw (le-ltb (r .depth) e (omega arith), ne-eqb (r .depth) e (λ q. omega arith))) p
 
 beside-flatten : (p n d : ℕ) (f : Forest Node) (rest : List Node) → has key n f ≡ true → lastBeside p (depthIn d n f) n (flatten d f ++ rest) ≡ previousIn key p n f
 unfolding flatten lastBeside has previousIn depthIn
@@ -130,14 +120,8 @@ first-top d none (r ∷ l) s = rw (ne-eqb (r .depth) d (λ q. omega arith))
 first-top d (node x b a) rest s = rw (eq-eqb d d refl)
 
 next-past : (n d : ℕ) (f : Forest Node) (rest : List Node) → has key n f ≡ false → nextOf n (flatten d f ++ rest) ≡ nextOf n rest
-unfolding flatten nextOf has
-next-past n d none rest h = refl
-next-past n d (node x b a) rest h =
-    let w = neither (eqb (x .number) n) (has key n b) (has key n a) h in
-    rw (w .0)
-    (ap (λ (l : List Node). nextOf n l) (append-assoc (flatten (d + 1) b) (flatten d a) rest)
-    ∙ next-past n (d + 1) b (flatten d a ++ rest) (w .1)
-    ∙ next-past n d a rest (w .2))
+unfolding nextOf
+next-past n = search-past (λ l. nextOf n l) n (λ r l e. rw e)
 
 next-flatten : (n d : ℕ) (f : Forest Node) (rest : List Node) → has key n f ≡ true → Above d rest → nextOf n (flatten d f ++ rest) ≡ next key n f
 unfolding flatten nextOf has next

@@ -73,15 +73,19 @@ nosynth-subtree m n (node x b a) s = go (eqb (x .number) n) (has key n b) (nosyn
     go false false i j = j
 
 module _ (test : ℕ → Bool) (t : List Node) (h : rooted t ≡ true) where
-  -- an edit of the tree after which m stays is an edit of the table after which its parent stays
-  carry : (E : List Node → List Node) (e : Forest Node → Forest Node) → E (flatten 0 (build t)) ≡ flatten 0 (e (build t)) → (m : ℕ) → Stays m (e (build t)) (build t) → parentOf m (E t) ≡ parentOf m t
-  carry E e same m s =
-      ap (λ (l : List Node). parentOf m (E l)) (sym (build-flatten t h))
-      ∙ ap (λ (l : List Node). parentOf m l) same
-      ∙ parent-tree m (e (build t))
-      ∙ s .parents noNode
-      ∙ sym (parent-tree m (build t))
-      ∙ ap (λ (l : List Node). parentOf m l) (build-flatten t h)
+  -- one law for every edit E of the table that is the edit e of the tree: where a node stays in the tree, its parent stays in the table
+  edited : (E : List Node → List Node) (e : Forest Node → Forest Node) → left test (E t) ≡ left test t → E (flatten 0 (build t)) ≡ flatten 0 (e (build t))
+      → ((m : ℕ) → test m ≡ false → Stays m (e (build t)) (build t)) → Untouched test (E t) t
+  edited E e records same stays = record {
+    records = records;
+    parents = λ m k.
+        ap (λ (l : List Node). parentOf m (E l)) (sym (build-flatten t h))
+        ∙ ap (λ (l : List Node). parentOf m l) same
+        ∙ parent-tree m (e (build t))
+        ∙ stays m k .parents noNode
+        ∙ sym (parent-tree m (build t))
+        ∙ ap (λ (l : List Node). parentOf m l) (build-flatten t h);
+  }
 
   inside : (m n : ℕ) → has key m (subtree key n (build t)) ≡ isBelow m n t
   inside m n = sym (below-tree m n (build t)) ∙ ap (λ (l : List Node). isBelow m n l) (build-flatten t h)
@@ -92,34 +96,24 @@ module _ (test : ℕ → Bool) (t : List Node) (h : rooted t ≡ true) where
     outside m e = inside m n ∙ apart-from test m (isBelow m n t) (c m) e
 
     pub untouched-cut : Untouched test (cut n t) t
-    untouched-cut = record {
-      records = left-cut test n t c;
-      parents = λ m e. carry (λ l. cut n l) (λ f. free key n f) (cut-tree n (build t)) m (stays-free m n (build t) (outside m e));
-    }
+    untouched-cut = edited (λ l. cut n l) (λ f. free key n f) (left-cut test n t c) (cut-tree n (build t)) (λ m e. stays-free m n (build t) (outside m e))
 
   pub untouched-setRun : (n flag : ℕ) → test n ≡ true → Untouched test (setRun n flag t) t
-  untouched-setRun n flag k = record {
-    records = left-setRun test n flag t k;
-    parents = λ m e. carry (λ l. setRun n flag l) (λ f. change key n (withRun flag) f) (setRun-tree n flag (build t)) m (stays-run m n (build t) flag);
-  }
+  untouched-setRun n flag k =
+      edited (λ l. setRun n flag l) (λ f. change key n (withRun flag) f) (left-setRun test n flag t k) (setRun-tree n flag (build t)) (λ m e. stays-run m n (build t) flag)
 
   pub untouched-cutBelow : (n : ℕ) → apart t ≡ true → ((m : ℕ) → isBelow m n t ≡ true → eqb m n ≡ false → test m ≡ true) → Untouched test (cutBelow n t) t
-  untouched-cutBelow n a c = record {
-    records = left-cutBelow test n t a c;
-    parents = λ m e. carry (λ l. cutBelow n l) (λ f. freeBelow key n f) (cutBelow-tree n (build t)) m (go m e (eqb m n) refl);
-  }
+  untouched-cutBelow n a c =
+      edited (λ l. cutBelow n l) (λ f. freeBelow key n f) (left-cutBelow test n t a c) (cutBelow-tree n (build t)) (λ m e. go m e (eqb m n) refl)
     where
       go : (m : ℕ) → test m ≡ false → (b : Bool) → eqb m n ≡ b → Stays m (freeBelow key n (build t)) (build t)
       go m e true q = stays-freeBelow-self m n (build t) (eqb-true m n q)
       go m e false q = stays-freeBelow m n (build t) (inside m n ∙ apart-from test m (isBelow m n t) (λ b. c m b q) e)
 
   pub untouched-deepFree : (n : ℕ) → ((m : ℕ) → isBelow m n t ≡ true → synthLives m t ≡ true → test m ≡ true) → Untouched test (deepFree n t) t
-  untouched-deepFree n c = record {
-    records = left-deepFree test n t c;
-    parents = λ m e.
-        carry (λ l. deepFree n l) (λ f. freeDeep key isGroup n f) (deepFree-tree n (build t) leaves) m
-        (stays-freeDeep m n (build t) (go m e (isBelow m n t) refl) leaves);
-  }
+  untouched-deepFree n c =
+      edited (λ l. deepFree n l) (λ f. freeDeep key isGroup n f) (left-deepFree test n t c) (deepFree-tree n (build t) leaves)
+      (λ m e. stays-freeDeep m n (build t) (go m e (isBelow m n t) refl) leaves)
     where
       leaves : Leaves (build t)
       leaves = tree-leaves (build t) (build-tree t h)
@@ -135,62 +129,36 @@ module _ (test : ℕ → Bool) (t : List Node) (h : rooted t ≡ true) where
     new : (m : ℕ) → test m ≡ false → has key m g ≡ false
     new m e = sym (ap (λ (l : List Node). lives m l) laid ∙ lives-has m 0 g) ∙ apart-from test m (lives m xs) (c m) e
 
-    put : (add : List Node → List Node → List Node) (e : Forest Node → Forest Node) → add (flatten 0 g) (flatten 0 (build t)) ≡ flatten 0 (e (build t)) → (m : ℕ) → Stays m (e (build t)) (build t)
-        → parentOf m (add xs t) ≡ parentOf m t
-    put add e same m s = carry (λ l. add xs l) e (ap (λ (ys : List Node). add ys (flatten 0 (build t))) laid ∙ same) m s
+    put : (add : List Node → List Node → List Node) (e : Forest Node → Forest Node) → left test (add xs t) ≡ left test t → add (flatten 0 g) (flatten 0 (build t)) ≡ flatten 0 (e (build t))
+        → ((m : ℕ) → test m ≡ false → Stays m (e (build t)) (build t)) → Untouched test (add xs t) t
+    put add e records same stays = edited (λ l. add xs l) e records (ap (λ (ys : List Node). add ys (flatten 0 (build t))) laid ∙ same) stays
 
     pub untouched-addHead : Untouched test (addHead xs n t) t
-    untouched-addHead = record {
-      records = left-addHead test xs c n t;
-      parents = λ m e. put (λ xs l. addHead xs n l) (λ f. putHead key g n f) (addHead-tree g n (build t)) m (stays-putHead m n (build t) g (new m e));
-    }
+    untouched-addHead = put (λ xs l. addHead xs n l) (λ f. putHead key g n f) (left-addHead test xs c n t) (addHead-tree g n (build t)) (λ m e. stays-putHead m n (build t) g (new m e))
 
     pub untouched-addTail : Untouched test (addTail xs n t) t
-    untouched-addTail = record {
-      records = left-addTail test xs c n t;
-      parents = λ m e. put (λ xs l. addTail xs n l) (λ f. putTail key g n f) (addTail-tree g n (build t)) m (stays-putTail m n (build t) g (new m e));
-    }
+    untouched-addTail = put (λ xs l. addTail xs n l) (λ f. putTail key g n f) (left-addTail test xs c n t) (addTail-tree g n (build t)) (λ m e. stays-putTail m n (build t) g (new m e))
 
     pub untouched-addBefore : Untouched test (addBefore xs n t) t
-    untouched-addBefore = record {
-      records = left-addBefore test xs c n t;
-      parents = λ m e. put (λ xs l. addBefore xs n l) (λ f. putBefore key g n f) (addBefore-tree g n (build t)) m (stays-putBefore m n (build t) g (new m e));
-    }
+    untouched-addBefore = put (λ xs l. addBefore xs n l) (λ f. putBefore key g n f) (left-addBefore test xs c n t) (addBefore-tree g n (build t)) (λ m e. stays-putBefore m n (build t) g (new m e))
 
     pub untouched-addAfter : Untouched test (addAfter xs n t) t
-    untouched-addAfter = record {
-      records = left-addAfter test xs c n t;
-      parents = λ m e. put (λ xs l. addAfter xs n l) (λ f. putAfter key g n f) (addAfter-tree g n (build t)) m (stays-putAfter m n (build t) g (new m e));
-    }
+    untouched-addAfter = put (λ xs l. addAfter xs n l) (λ f. putAfter key g n f) (left-addAfter test xs c n t) (addAfter-tree g n (build t)) (λ m e. stays-putAfter m n (build t) g (new m e))
 
     pub untouched-addOver : Covers test (runOf n t) → Untouched test (addOver xs n t) t
-    untouched-addOver k = record {
-      records = left-addOver test n t k xs c;
-      parents = λ m e. put (λ xs l. addOver xs n l) (λ f. putOver key g n f) (addOver-tree g n (build t)) m (stays-putOver m n (build t) g (new m e) (outside n k m e));
-    }
+    untouched-addOver k =
+        put (λ xs l. addOver xs n l) (λ f. putOver key g n f) (left-addOver test n t k xs c) (addOver-tree g n (build t)) (λ m e. stays-putOver m n (build t) g (new m e) (outside n k m e))
 
   -- the node a moved
   module _ (a n : ℕ) (c : Covers test (runOf a t)) where
     pub untouched-moveHead : Untouched test (moveHead a n t) t
-    untouched-moveHead = record {
-      records = left-moveHead test a n t c;
-      parents = λ m e. carry (λ l. moveHead a n l) (λ f. placeHead key a n f) (moveHead-tree a n (build t)) m (stays-placeHead m a n (build t) (outside a c m e));
-    }
+    untouched-moveHead = edited (λ l. moveHead a n l) (λ f. placeHead key a n f) (left-moveHead test a n t c) (moveHead-tree a n (build t)) (λ m e. stays-placeHead m a n (build t) (outside a c m e))
 
     pub untouched-moveTail : Untouched test (moveTail a n t) t
-    untouched-moveTail = record {
-      records = left-moveTail test a n t c;
-      parents = λ m e. carry (λ l. moveTail a n l) (λ f. placeTail key a n f) (moveTail-tree a n (build t)) m (stays-placeTail m a n (build t) (outside a c m e));
-    }
+    untouched-moveTail = edited (λ l. moveTail a n l) (λ f. placeTail key a n f) (left-moveTail test a n t c) (moveTail-tree a n (build t)) (λ m e. stays-placeTail m a n (build t) (outside a c m e))
 
     pub untouched-moveBefore : Untouched test (moveBefore a n t) t
-    untouched-moveBefore = record {
-      records = left-moveBefore test a n t c;
-      parents = λ m e. carry (λ l. moveBefore a n l) (λ f. placeBefore key a n f) (moveBefore-tree a n (build t)) m (stays-placeBefore m a n (build t) (outside a c m e));
-    }
+    untouched-moveBefore = edited (λ l. moveBefore a n l) (λ f. placeBefore key a n f) (left-moveBefore test a n t c) (moveBefore-tree a n (build t)) (λ m e. stays-placeBefore m a n (build t) (outside a c m e))
 
     pub untouched-moveAfter : Untouched test (moveAfter a n t) t
-    untouched-moveAfter = record {
-      records = left-moveAfter test a n t c;
-      parents = λ m e. carry (λ l. moveAfter a n l) (λ f. placeAfter key a n f) (moveAfter-tree a n (build t)) m (stays-placeAfter m a n (build t) (outside a c m e));
-    }
+    untouched-moveAfter = edited (λ l. moveAfter a n l) (λ f. placeAfter key a n f) (left-moveAfter test a n t c) (moveAfter-tree a n (build t)) (λ m e. stays-placeAfter m a n (build t) (outside a c m e))

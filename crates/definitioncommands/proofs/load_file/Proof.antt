@@ -1,7 +1,6 @@
 -- `definitioncommands::load_file` meets its contract: refusal 12, or the file loaded.
 
 use mathlib.Core.Path.{sym, _∙_}
-
 use borrow.Author.Needs.{needs}
 use Rattle.definitions.specs.Lent.{receive-lent}
 use Rattle.definitioncommands.specs.Steps.{formed-table, receive-full, receive-done, full-fact, held-here}
@@ -51,10 +50,13 @@ same-length-2 c = search needs
 
 returns : tie.Need-returns
 returns c =
-    let a = c .before .before .before .before .before .before .before .before .before .before .before .before .before .args in
-    let fact = full-fact (a .bytes .now) (a .words .now) (a .arena .now) (c .before .before .before .before .before .before .before .wide .result) (a .count) (c .before .before .staying-count .result) (c .before .before .before .before .before .before .held-slots .result)
-    (c .before .before .before .before .before .before .before .wide .ensures) (c .before .before .before .before .before .before .held-slots .ensures) (c .before .before .before .before .before .before .before .before .before .before .before .before .before .pre .1 .1) (c .before .before .staying-count .ensures) in
-    receive-full (a .bytes .now) (a .words .now) (a .arena .now) (c .before .before .before .before .before .before .before .before .before .before .before .before .before .pre .1 .0) (sym fact ∙ sym (c .before .no-slot .ensures) ∙ c .if1 .taken)
+    let t = c .before .before in
+    let h = t .before .before .before .before in
+    let w = h .before in
+    let s = w .before .before .before .before .before .before in
+    let a = s .args in
+    let fact = full-fact (a .bytes .now) (a .words .now) (a .arena .now) (w .wide .result) (a .count) (t .staying-count .result) (h .held-slots .result) (w .wide .ensures) (h .held-slots .ensures) (s .pre .1 .1) (t .staying-count .ensures) in
+    receive-full (a .bytes .now) (a .words .now) (a .arena .now) (s .pre .1 .0) (sym fact ∙ sym (c .before .no-slot .ensures) ∙ c .if1 .taken)
 
 sub-load : tie.Need-sub-load
 sub-load c = search needs
@@ -78,12 +80,17 @@ same-length-4 c = search needs
 
 returns-2 : tie.Need-returns-2
 returns-2 c =
-    let a = c .before .before .before .before .before .before .before .before .before .before .before .before .before .before .before .before .before .before .before .before .args in
-    let fact = full-fact (a .bytes .now) (a .words .now) (a .arena .now) (c .before .before .before .before .before .before .before .before .before .before .before .before .before .before .wide .result) (a .count) (c .before .before .before .before .before .before .before .before .before .staying-count .result) (c .before .before .before .before .before .before .before .before .before .before .before .before .before .held-slots .result)
-    (c .before .before .before .before .before .before .before .before .before .before .before .before .before .before .wide .ensures) (c .before .before .before .before .before .before .before .before .before .before .before .before .before .held-slots .ensures) (c .before .before .before .before .before .before .before .before .before .before .before .before .before .before .before .before .before .before .before .before .pre .1 .1) (c .before .before .before .before .before .before .before .before .before .staying-count .ensures) in
-    let held = held-here (a .bytes .now) (a .words .now) (a .arena .now) (c .before .before .before .before .before .before .before .before .before .before .before .before .before .before .wide .result) (c .before .before .before .before .before .before .before .before .before .before .before .before .before .held-slots .result) (c .before .before .before .before .before .before .before .before .before .before .before .before .before .before .wide .ensures) (c .before .before .before .before .before .before .before .before .before .before .before .before .before .held-slots .ensures) in
-    receive-done (a .bytes .now) (a .words .now) (a .arena .now) _ _ (c .before .before .before .before .before .before .before .before .before .before .before .before .before .before .before .before .before .before .before .before .pre .1 .0) (sym fact ∙ sym (c .before .before .before .before .before .before .before .before .no-slot .ensures) ∙ c .before .before .before .before .before .before .before .if1 .left)
-    (receive-lent (a .words .now) (a .arena .now) (a .bytes .now) (c .before .before .before .before .before .before .before .before .before .before .before .before .before .held-slots .result) (c .before .before .before .before .load .last .0) (c .before .before .before .before .load .last .1 .0) (c .before .before .before .before .before .before .before .before .before .before .before .before .before .before .before .before .before .before .before .before .pre .0 .size) held (c .before .before .before .before .load .ensures))
+    let l = c .before .before .before .before in
+    let i = c .before .before .before .before .before .before .before in
+    let t = i .before .before in
+    let h = t .before .before .before .before in
+    let w = h .before in
+    let s = w .before .before .before .before .before .before in
+    let a = s .args in
+    let fact = full-fact (a .bytes .now) (a .words .now) (a .arena .now) (w .wide .result) (a .count) (t .staying-count .result) (h .held-slots .result) (w .wide .ensures) (h .held-slots .ensures) (s .pre .1 .1) (t .staying-count .ensures) in
+    let held = held-here (a .bytes .now) (a .words .now) (a .arena .now) (w .wide .result) (h .held-slots .result) (w .wide .ensures) (h .held-slots .ensures) in
+    receive-done (a .bytes .now) (a .words .now) (a .arena .now) _ _ (s .pre .1 .0) (sym fact ∙ sym (i .before .no-slot .ensures) ∙ i .if1 .left)
+    (receive-lent (a .words .now) (a .arena .now) (a .bytes .now) (h .held-slots .result) (l .load .last .0) (l .load .last .1 .0) (s .pre .0 .size) held (l .load .ensures))
 
 pub load-file-spec : {M : Type 1} → statement M
 load-file-spec =

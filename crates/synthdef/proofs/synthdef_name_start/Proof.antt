@@ -1,13 +1,13 @@
 use mathlib.Core.Path.{sym, ap}
 use native.Mathlib.Omega.{arith}
 use borrow.Author.Needs.{needs}
-use Rattle.files.specs.File.{nameStart}
-use Rattle.files.specs.Spans.{span-inside}
+use Rattle.reader.specs.Spans.{nameStart}
+use Rattle.reader.specs.SpanLaws.{span-inside}
 use Rattle.synthdef.proofs.synthdef_name_start.Statement.{statement}
 use Rattle.synthdef.proofs.synthdef_name_start.Tie as tie
 
-definition-at-requires : tie.Need-definition-at-requires
-definition-at-requires c κs = search needs
+definition-span-requires : tie.Need-definition-span-requires
+definition-span-requires c κs = search needs
 
 enum-known-start : tie.Need-enum-known-start
 enum-known-start c = search needs
@@ -15,19 +15,19 @@ enum-known-start c = search needs
 add-result : tie.Need-add-result
 add-result c =
     let a = c .before .before .before .before .before .args in
-    let inside = span-inside (a .file .now) (a .index) (sym (rw (c .before .start .given .1) at (c .before .before .before .definition-at .ensures))) in
+    let inside = span-inside (a .file .now) (a .index) (sym (rw (c .before .start .given .1) at (c .before .before .before .definition-span .ensures))) in
     omega arith
 
 enum-told : tie.Need-enum-told
 enum-told c = search needs
 
 returns : tie.Need-returns
-returns c = ap nameStart (rw (c .before .start .given .1) at (c .before .before .before .definition-at .ensures))
+returns c = ap nameStart (rw (c .before .start .given .1) at (c .before .before .before .definition-span .ensures))
 
 returns-2 : tie.Need-returns-2
-returns-2 c = ap nameStart (rw (c .enum-told .given .1) at (c .before .before .definition-at .ensures))
+returns-2 c = ap nameStart (rw (c .enum-told .given .1) at (c .before .before .definition-span .ensures))
 
 pub synthdef-name-start-spec : {M : Type 1} → statement M
 synthdef-name-start-spec =
     tie.close
-    (tie.spec definition-at-requires enum-known-start add-result enum-told returns returns-2)
+    (tie.spec definition-span-requires enum-known-start add-result enum-told returns returns-2)

@@ -1,10 +1,8 @@
 -- `making::rows::row_for` meets its contract: each case is the definition's.
 use native.Mathlib.Omega.{arith}
 use borrow.Author.Needs.{needs}
-use mathlib.Core.Path.{_≡_, _∙_}
-use Rattle.nodes.specs.Table.{rows}
+use mathlib.Core.Path.{_≡_}
 use Rattle.tree.specs.declared.action.Action.the-variants.{Put, Replace}
-use Rattle.making.specs.Rows.{same-free}
 use Rattle.making.proofs.rows.row_for.Statement.{statement}
 use Rattle.making.proofs.rows.row_for.Tie as tie
 
@@ -24,7 +22,7 @@ returns : tie.Need-returns
 returns c =
     let a = c .before .before .before .before .before .args in
     let case : a .action ≡ Put (c .before .before .action .given .0 .0) = cc in
-    rw case (c .free-row .ensures ∙ same-free (rows (a .count) (a .nodes .now)))
+    rw case (c .free-row .ensures)
 
 returns-2 : tie.Need-returns-2
 returns-2 c =

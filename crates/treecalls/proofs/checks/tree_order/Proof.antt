@@ -3,7 +3,8 @@ use mathlib.Core.Path.{sym, _∙_}
 use native.Mathlib.Omega.{arith}
 use borrow.Author.Needs.{needs}
 use borrow.Author.Tests.{not-true, not-false}
-use Rattle.treecalls.specs.Orders.{no-table, no-words, order-sized, order-refused, order-done}
+use Rattle.treecalls.specs.Found.{tabled-sized}
+use Rattle.treecalls.specs.Orders.{no-table, no-words, order-refused, order-done}
 use Rattle.treecalls.proofs.checks.tree_order.Statement.{statement}
 use Rattle.treecalls.proofs.checks.tree_order.Tie as tie
 
@@ -23,7 +24,7 @@ returns-2 c =
 running-order-requires : tie.Need-running-order-requires
 running-order-requires c κs =
     let a = c .before .before .before .before .before .args in
-    order-sized (a .nodes .now) (a .count) (sym (c .before .before .has-table .ensures) ∙ not-false (c .before .before .has-table .result) (c .before .if1 .left))
+    tabled-sized (a .nodes .now) (a .count) (sym (c .before .before .has-table .ensures) ∙ not-false (c .before .before .has-table .result) (c .before .if1 .left))
 
 write-order-requires : tie.Need-write-order-requires
 write-order-requires c κs = omega arith

@@ -4,7 +4,8 @@ use native.Mathlib.Omega.{arith}
 use borrow.Author.Needs.{needs}
 use borrow.Author.Tests.{not-true, not-false}
 use Rattle.treecalls.specs.Calls.{bit}
-use Rattle.treecalls.specs.Orders.{no-table, no-words, order-sized, order-ready}
+use Rattle.treecalls.specs.Found.{tabled-sized}
+use Rattle.treecalls.specs.Orders.{no-table, no-words, order-ready}
 use Rattle.treecalls.proofs.checks.tree_same_order.Statement.{statement}
 use Rattle.treecalls.proofs.checks.tree_same_order.Tie as tie
 
@@ -24,7 +25,7 @@ returns-2 c =
 same-order-requires : tie.Need-same-order-requires
 same-order-requires c κs =
     let a = c .before .before .before .before .before .args in
-    (omega arith, order-sized (a .nodes .now) (a .count) (sym (c .before .before .has-table .ensures) ∙ not-false (c .before .before .has-table .result) (c .before .if1 .left)))
+    (omega arith, tabled-sized (a .nodes .now) (a .count) (sym (c .before .before .has-table .ensures) ∙ not-false (c .before .before .has-table .result) (c .before .if1 .left)))
 
 answer-bit-requires : tie.Need-answer-bit-requires
 answer-bit-requires c κs = search needs

@@ -1,0 +1,79 @@
+-- `treecommands::moves::move_pair` meets its contract: the node moved and what is derived written afresh, or the refusal passed on.
+use borrow.Author.Needs.{needs}
+use mathlib.Core.Path.{_≡_, refl, sym, subst}
+use Rattle.model.specs.declared.Answer.the-variants.{Done, Refused}
+use Rattle.treecommands.specs.declared.moves.Pair.{Pair}
+use Rattle.treecommands.specs.declared.moves.Pair.the-variants as pair
+use Rattle.treecommands.specs.Moving.{Movable, Goes, gone}
+use Rattle.treecommands.proofs.moves.move_pair.Statement.{statement}
+use Rattle.treecommands.proofs.moves.move_pair.Tie as tie
+
+enum-known-pair : tie.Need-enum-known-pair
+enum-known-pair c = search needs
+
+slice-read-wide : tie.Need-slice-read-wide
+slice-read-wide c = search needs
+
+wide-requires : tie.Need-wide-requires
+wide-requires c κs = search needs
+
+sub-move-node : tie.Need-sub-move-node
+sub-move-node c = search needs
+
+part-move-node-start : tie.Need-part-move-node-start
+part-move-node-start c = search needs
+
+part-move-node-end : tie.Need-part-move-node-end
+part-move-node-end c = search needs
+
+move-node-requires : tie.Need-move-node-requires
+move-node-requires c κs =
+    let s = c .before .before .before .before .before .before .before in
+    let found = c .before .before .before .before .pair .given in
+    let fact : s .args .pair ≡ pair.At (found .0 .0) (found .0 .1 .0) = found .1 in
+    let moving : Movable (pair.At (found .0 .0) (found .0 .1 .0)) (s .args .words .now) = subst (λ (x : Pair). Movable x (s .args .words .now)) fact (s .pre .1) in
+    rw (c .before .wide .ensures) moving
+
+renew-requires : tie.Need-renew-requires
+renew-requires c κs = search needs
+
+enum-known-pair-2 : tie.Need-enum-known-pair-2
+enum-known-pair-2 c = search needs
+
+same-length : tie.Need-same-length
+same-length c = search needs
+
+returns : tie.Need-returns
+returns c =
+    let a = c .before .before .before .before .before .before .before .before .before .before .before .before .before .before .args in
+    let found = c .before .before .before .before .before .before .before .before .before .before .before .pair .given in
+    let fact : a .pair ≡ pair.At (found .0 .0) (found .0 .1 .0) = found .1 in
+    let wide = c .before .before .before .before .before .before .before .before .wide in
+    let moved = c .before .before .before .before .before .before .move-node in
+    let renew = c .before .before .renew in
+    subst (λ (x : Pair). Goes x (a .position) (a .words .now) Done (renew .last .0)) (sym fact)
+    (gone (found .0 .0) (found .0 .1 .0) (a .position) (a .words .now) (wide .result) (wide .ensures) (moved .last .0) (moved .ensures) (renew .last .0) (renew .ensures))
+
+returns-2 : tie.Need-returns-2
+returns-2 c =
+    let a = c .before .before .before .before .args in
+    let found = c .before .pair2 .given in
+    let fact : a .pair ≡ pair.Refused (found .0 .0) = found .1 in
+    subst (λ (x : Pair). Goes x (a .position) (a .words .now) (Refused (found .0 .0)) (a .words .now)) (sym fact) (refl, refl)
+
+pub move-pair-spec : {M : Type 1} → statement M
+move-pair-spec =
+    tie.close
+    (tie.spec
+    enum-known-pair
+    slice-read-wide
+    wide-requires
+    sub-move-node
+    part-move-node-start
+    part-move-node-end
+    move-node-requires
+    renew-requires
+    enum-known-pair-2
+    same-length
+    returns
+    returns-2)
