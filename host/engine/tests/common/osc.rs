@@ -222,13 +222,13 @@ pub fn recast(message: &[u8], mut send: impl FnMut(&[u8])) {
     // Tags that promise more or less than there is.
     let whole = osc(address, arguments, none);
     let front = osc(address, &[], none).len() - 4;
+    let after = whole.len() - body(arguments);
     for tags in [
         &b",iiiiiiiiiiii\0\0\0"[..],
         b",\0\0\0",
         b"\0\0\0\0",
         b",,\0\0",
     ] {
-        let after = osc(address, arguments, none).len() - body(arguments);
         send(&[&whole[..front], tags, &whole[after..]].concat());
     }
     if let [Argument::Bytes(blob)] = arguments {
@@ -251,11 +251,10 @@ pub fn recast(message: &[u8], mut send: impl FnMut(&[u8])) {
     }
 }
 
-/// How many bytes arguments take.
+/// How many bytes arguments take: each alone, without an address and a tag of four bytes.
 fn body(arguments: &[Argument]) -> usize {
-    let bare = osc(b"/", &[], [0; 3]).len() - 4;
-    let tags = 4 * ((1 + arguments.len()) / 4 + 1);
-    osc(b"/", arguments, [0; 3]).len() - bare - tags
+    let alone = |&argument| osc(b"/", &[argument], [0; 3]).len() - 8;
+    arguments.iter().map(alone).sum()
 }
 
 /// Addresses near one, and of other commands.
