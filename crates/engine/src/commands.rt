@@ -14,7 +14,7 @@ ghost use Rattle.model.specs.Formed.{formed};
 ghost use Rattle.model.specs.Apply.{Does};
 
 // A command in a well-formed state.
-fn step(
+pub(crate) fn step(
     command: Command,
     bytes: &[u8],
     words: &mut [u32],
