@@ -1,0 +1,17 @@
+pub mod Codec
+pub mod Sound
+pub mod Padding
+pub mod Numbers
+pub mod Strings
+pub mod Blobs
+pub mod Arguments
+pub mod Form
+pub mod Slots
+pub mod Taken
+pub mod Rows
+pub mod Commands
+pub mod Looked
+pub mod Answers
+pub mod Back
+pub mod Standing
+pub mod Theorems
