@@ -12,6 +12,7 @@ pub mod Rows
 pub mod Commands
 pub mod Looked
 pub mod Answers
+pub mod Every
 pub mod Back
 pub mod Standing
 pub mod Theorems

@@ -7,7 +7,9 @@ use mathlib.Core.Option.{some}
 use lib.ListN.{length}
 use Rattle.words.specs.Bytes.{AreBytes}
 use Rattle.model.specs.declared.Answer.the-variants.{Replied}
+use Rattle.model.specs.declared.Query.the-variants as query
 use Rattle.model.specs.declared.Command.{Command}
+use Rattle.model.specs.declared.Command.the-variants as command
 use Rattle.calls.specs.declared.Parsed.the-variants.{Call}
 use Rattle.messages.specs.Form.{parsed, Message, readMessage}
 use Rattle.messages.specs.Table.{Row, table, Given}
@@ -18,6 +20,7 @@ use Rattle.messagelaws.specs.Slots.{Words, none-unfit}
 use Rattle.messagelaws.specs.Commands.{Is}
 use Rattle.messagelaws.specs.Looked.{looked, looked-message}
 use Rattle.messagelaws.specs.Answers.{Fits, fits-answer, answer-fits}
+use Rattle.messagelaws.specs.Every.{numbersOf, callOf, Called, every-called}
 use Rattle.messagelaws.specs.Back.{partOf, back}
 use Rattle.messagelaws.specs.Standing.{looked-command, Unfound, Standing, no-row, in-row, standing}
 
@@ -34,6 +37,13 @@ pub record ReadBack (g : Given) (c : Command) : Type 0 where
 
 pub read-answered : (g : Given) (c : Command) (room n : ℕ) → Words (g .numbers) → writeAnswer g room ≡ Replied n → commandIn (g .numbers) ≡ Call c → ReadBack g c
 read-answered g c room n w a h = let f = answer-fits g room n a in record { row = f .row; known = f .known; stands = back g f c w h }
+
+-- and so of every command but export, which has no address, with any bytes beside it: its own call has a row
+pub command-called : (c : Command) → (c ≡ command.Query query.Export → ⊥) → Called c
+command-called c h = every-called c h
+
+pub command-back : (c : Command) (part : List ℕ) (room n : ℕ) → (c ≡ command.Query query.Export → ⊥) → Words (numbersOf c) → writeAnswer (callOf c part) room ≡ Replied n → ReadBack (callOf c part) c
+command-back c part room n h w a = read-answered (callOf c part) c room n w a (every-called c h .is)
 
 -- Writing what was read gives the message back, byte for byte: the writer accepts the call and answers the message's length
 pub record Rewrites (s : List ℕ) (g : Given) : Type 0 where
