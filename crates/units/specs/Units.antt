@@ -179,7 +179,7 @@ stood-first s start outs stride marks h p none = record {
 unfoldable pub Ran : (k : ℕ) (s : List ℕ) (start from to at stride : ℕ) (marks outs : List ℕ) → Read (Unit {0}) → Type 0
 Ran k s start from to at stride marks outs (got _ next) =
     Stood s start outs stride marks next to × ((n : ℕ) → ending (readUnits k s n (outsFrom s start to) next) ≡ ending (readUnits k s ((to - from) + n) (outsFrom s start from) at))
-Ran k s start from to at stride marks outs (bad q place) = (n : ℕ) → ending (readUnits k s ((to - from) + n) (outsFrom s start from) at) ≡ bad q place
+Ran k s start from to at stride marks outs (bad q place) = (length outs ≡ remembered) × ((n : ℕ) → ending (readUnits k s ((to - from) + n) (outsFrom s start from) at) ≡ bad q place)
 
 -- The turns of the loop of a run.
 module _ (k : ℕ) (s : List ℕ) (start : ℕ) {outs : List ℕ} {stride : ℕ} {marks : List ℕ} {at i : ℕ} (st : Stood s start outs stride marks at i) where
@@ -230,7 +230,12 @@ run-whole k s start count stride marks outs (got u next) h =
     h .1 0 ∙ rw same
 run-whole k s start count stride marks outs (bad q place) h =
     let same : (count - 0) + 0 ≡ count = omega arith in
-    sym (rw same at (h 0))
+    sym (rw same at (h .1 0))
+
+pub run-sized : (k : ℕ) (s : List ℕ) (start from to at stride : ℕ) (marks outs : List ℕ) (r : Read (Unit {0})) → Ran k s start from to at stride marks outs r → length outs ≡ remembered
+unfolding Ran
+run-sized k s start from to at stride marks outs (got u next) h = h .0 .sized
+run-sized k s start from to at stride marks outs (bad q place) h = h .0
 
 -- The turns of a loop that reads units run by run, behind i of them: what is left to read, from the present place, reads as the whole does from the first.
 pub record Standing (k : ℕ) (s : List ℕ) (start count : ℕ) (outs : List ℕ) (stride : ℕ) (marks : List ℕ) (known at i : ℕ) : Type 0 where
@@ -286,7 +291,7 @@ module _ (k : ℕ) (s : List ℕ) (start count : ℕ) {outs : List ℕ} {stride 
   unfolding Ran
   stands-bad outs' {to} l h r =
       let same : (to - i) + (count - to) ≡ count - i = omega arith in
-      sym (st .left) ∙ (rw same at (r (count - to)))
+      sym (st .left) ∙ (rw same at (r .1 (count - to)))
 
   pub stands-done : count ≤ i → ending (readUnits k s count [] start) ≡ got tt at
   unfolding readUnits

@@ -17,15 +17,17 @@ ghost use Rattle.format.specs.Fields.{rate, indexBelow};
 ghost use Rattle.format.specs.Read.{ending, repeat};
 ghost use Rattle.format.specs.Reader.{input, readUnits};
 ghost use Rattle.units.specs.Marks.{unitCounts, unitOutputs, unitEnd, unitPlace, mostMarks, Marked, Marking};
-ghost use Rattle.units.specs.Units.{outsFrom, skipUnit, Remembered, Stood, Ran};
+ghost use Rattle.units.specs.Units.{remembered, outsFrom, skipUnit, Remembered, Stood, Ran};
 
 // The outputs of the last so many units are remembered. A unit takes at least 12 bytes and a definition 20 besides,
 // so a definition within the size limit has fewer units than this.
-const REMEMBERED: usize = 256;
+pub const REMEMBERED: usize = 256;
 
-// A definition of more units has marks besides, at most so many: where every so many units start. The outputs of a unit
-// further back are found by a walk from its mark.
-const MOST_MARKS: usize = 65536;
+// A definition of more units has marks besides, where every so many units start: so many marks, or in a long one more. The
+// outputs of a unit further back are found by a walk from its mark.
+const MANY_MARKS: usize = 65536;
+
+const MOST_MARKS: usize = 262144;
 
 // The place of the counts of the unit at a place.
 fn unit_counts(s: &[u8], at: usize) -> usize
@@ -315,21 +317,26 @@ fn read_run(
     Step::Next(Cursor { at: at })
 }
 
-// So many units that are remembered, the first of a definition.
-fn read_few(s: &[u8], cursor: Cursor, constants: u32, count: u32) -> Step
-    ensures { λ r. ⌜ stepOf r ≡ ending (readUnits constants (now (s .entry)) count [] (cursor .at)) ⌝ }
+// So many units, the first of a definition, with no marks. What the lent ring holds before and after it says nothing.
+fn read_few(
+    s: &[u8],
+    cursor: Cursor,
+    constants: u32,
+    count: u32,
+    outs: &mut [u32; REMEMBERED],
+) -> Step
+    requires { ⌜ length (now outs) ≡ remembered ⌝ }
+    ensures { λ r. ⌜ (stepOf r ≡ ending (readUnits constants (now (s .entry)) count [] (cursor .at))) × (length (now (outs .exit)) ≡ remembered) ⌝ }
 {
-    let start = cursor.at;
-    let mut outs = [0; REMEMBERED];
     let marks = [0u32; 1];
     read_run(
         s,
         cursor,
         constants,
-        start,
+        cursor.at,
         0,
         count,
-        &mut outs,
+        outs,
         1,
         &marks[..0],
     )
@@ -389,22 +396,41 @@ fn read_marked(
     Step::Next(Cursor { at: at })
 }
 
-// So many units can't all be remembered, and at most so many of them are there. That it calls itself keeps it a function by itself where it
-// is compiled, so that the marks' room is not part of what every definition takes.
+// So many units, the first of a definition, with as many marks as there are at most.
+fn read_most(s: &[u8], cursor: Cursor, constants: u32, count: u32, stride: u32) -> Step
+    requires { ⌜ 0 < stride ⌝ }
+    ensures { λ r. ⌜ stepOf r ≡ ending (readUnits constants (now (s .entry)) count [] (cursor .at)) ⌝ }
+{
+    let mut marks = [0u32; MOST_MARKS];
+    read_marked(s, cursor, constants, count, stride, &mut marks)
+}
+
+// So many units can't all be remembered, and at most so many of them are there. Since it calls itself, the compiler keeps it and
+// what it calls apart: the marks' room is not part of what every definition takes.
 fn read_many(s: &[u8], cursor: Cursor, constants: u32, count: u32, most: usize) -> Step
     ensures { λ r. ⌜ stepOf r ≡ ending (readUnits constants (now (s .entry)) count [] (cursor .at)) ⌝ }
 {
     if wide(count) < most {
         return read_many(s, cursor, constants, count, wide(count));
     }
-    let stride = most / MOST_MARKS + 2;
-    let mut marks = [0u32; MOST_MARKS];
-    read_marked(s, cursor, constants, count, stride as u32, &mut marks)
+    if 2 * MANY_MARKS < most {
+        let stride = most / MOST_MARKS + 2;
+        return read_most(s, cursor, constants, count, stride as u32);
+    }
+    let mut marks = [0u32; MANY_MARKS];
+    read_marked(s, cursor, constants, count, 2, &mut marks)
 }
 
-// So many units, the first of a definition.
-pub fn read_units(s: &[u8], cursor: Cursor, constants: u32, count: u32) -> Step
-    ensures { λ r. ⌜ stepOf r ≡ ending (readUnits constants (now (s .entry)) count [] (cursor .at)) ⌝ }
+// So many units, the first of a definition. What the lent ring holds before and after it says nothing.
+pub fn read_units(
+    s: &[u8],
+    cursor: Cursor,
+    constants: u32,
+    count: u32,
+    outs: &mut [u32; REMEMBERED],
+) -> Step
+    requires { ⌜ length (now outs) ≡ remembered ⌝ }
+    ensures { λ r. ⌜ (stepOf r ≡ ending (readUnits constants (now (s .entry)) count [] (cursor .at))) × (length (now (outs .exit)) ≡ remembered) ⌝ }
 {
     let at = cursor.at;
     if REMEMBERED < wide(count) {
@@ -415,5 +441,5 @@ pub fn read_units(s: &[u8], cursor: Cursor, constants: u32, count: u32) -> Step
             }
         }
     }
-    read_few(s, cursor, constants, count)
+    read_few(s, cursor, constants, count, outs)
 }

@@ -8,6 +8,7 @@ use Rattle.units.proofs.read_many.Reads as read-many
 use Rattle.units.proofs.read_many.Kinds as read-many-kinds
 use Rattle.units.proofs.+read_many.Lts-read_many as read-many-lts
 use Rattle.units.proofs.read_marked.Reads as read-marked-reads
+use Rattle.units.proofs.read_most.Reads as read-most-reads
 use Rattle.words.proofs.wide.Reads as wide-reads
 use Rattle.units.proofs.+read_many.{statement}
 use Rattle.units.proofs.+read_many.Tie.{close}
@@ -27,6 +28,8 @@ read-many-wide-requires : (t : ℕ) → read-many-lts.Need-wide-requires (
   wide-reads.Learnt,
   read-many-below t,
   read-many.Post,
+  read-most-reads.Asked,
+  read-most-reads.Learnt,
   read-marked-reads.Asked,
   read-marked-reads.Learnt,
 ) (read-many-at t) read-many.Post
@@ -37,6 +40,8 @@ read-many-wide-requires-2 : (t : ℕ) → read-many-lts.Need-wide-requires-2 (
   wide-reads.Learnt,
   read-many-below t,
   read-many.Post,
+  read-most-reads.Asked,
+  read-most-reads.Learnt,
   read-marked-reads.Asked,
   read-marked-reads.Learnt,
 ) (read-many-at t) read-many.Post
@@ -47,48 +52,95 @@ read-many-read-many-requires : (t : ℕ) → read-many-lts.Need-read-many-requir
   wide-reads.Learnt,
   read-many-below t,
   read-many.Post,
+  read-most-reads.Asked,
+  read-most-reads.Learnt,
   read-marked-reads.Asked,
   read-marked-reads.Learnt,
 ) (read-many-at t) read-many.Post
 read-many-read-many-requires t c κs =
     let s = c .before .before .before .before in
-    (omega (arith, s .pre .0), tt)
+    let less : c .wide2 .result < s .args .most = omega arith in
+    (omega (arith, s .pre .0, less), tt)
 
 read-many-returns : (t : ℕ) → read-many-lts.Need-returns (
   wide-reads.Asked,
   wide-reads.Learnt,
   read-many-below t,
   read-many.Post,
+  read-most-reads.Asked,
+  read-most-reads.Learnt,
   read-marked-reads.Asked,
   read-marked-reads.Learnt,
 ) (read-many-at t) read-many.Post
 read-many-returns t c = c .read-many .ensures
+
+read-many-mul-if2 : (t : ℕ) → read-many-lts.Need-mul-if2 (
+  wide-reads.Asked,
+  wide-reads.Learnt,
+  read-many-below t,
+  read-many.Post,
+  read-most-reads.Asked,
+  read-most-reads.Learnt,
+  read-marked-reads.Asked,
+  read-marked-reads.Learnt,
+) (read-many-at t) read-many.Post
+read-many-mul-if2 t c = omega arith
 
 read-many-add-stride : (t : ℕ) → read-many-lts.Need-add-stride (
   wide-reads.Asked,
   wide-reads.Learnt,
   read-many-below t,
   read-many.Post,
+  read-most-reads.Asked,
+  read-most-reads.Learnt,
   read-marked-reads.Asked,
   read-marked-reads.Learnt,
 ) (read-many-at t) read-many.Post
 read-many-add-stride t c = omega arith
 
-read-many-cast-read-marked : (t : ℕ) → read-many-lts.Need-cast-read-marked (
+read-many-cast-read-most : (t : ℕ) → read-many-lts.Need-cast-read-most (
   wide-reads.Asked,
   wide-reads.Learnt,
   read-many-below t,
   read-many.Post,
+  read-most-reads.Asked,
+  read-most-reads.Learnt,
   read-marked-reads.Asked,
   read-marked-reads.Learnt,
 ) (read-many-at t) read-many.Post
-read-many-cast-read-marked t c = omega arith
+read-many-cast-read-most t c = omega arith
+
+read-many-read-most-requires : (t : ℕ) → read-many-lts.Need-read-most-requires (
+  wide-reads.Asked,
+  wide-reads.Learnt,
+  read-many-below t,
+  read-many.Post,
+  read-most-reads.Asked,
+  read-most-reads.Learnt,
+  read-marked-reads.Asked,
+  read-marked-reads.Learnt,
+) (read-many-at t) read-many.Post
+read-many-read-most-requires t c κs = omega arith
+
+read-many-returns-2 : (t : ℕ) → read-many-lts.Need-returns-2 (
+  wide-reads.Asked,
+  wide-reads.Learnt,
+  read-many-below t,
+  read-many.Post,
+  read-most-reads.Asked,
+  read-most-reads.Learnt,
+  read-marked-reads.Asked,
+  read-marked-reads.Learnt,
+) (read-many-at t) read-many.Post
+read-many-returns-2 t c = c .read-most .ensures
 
 read-many-slice-aggregate-read-marked : (t : ℕ) → read-many-lts.Need-slice-aggregate-read-marked (
   wide-reads.Asked,
   wide-reads.Learnt,
   read-many-below t,
   read-many.Post,
+  read-most-reads.Asked,
+  read-most-reads.Learnt,
   read-marked-reads.Asked,
   read-marked-reads.Learnt,
 ) (read-many-at t) read-many.Post
@@ -99,20 +151,24 @@ read-many-read-marked-requires : (t : ℕ) → read-many-lts.Need-read-marked-re
   wide-reads.Learnt,
   read-many-below t,
   read-many.Post,
+  read-most-reads.Asked,
+  read-most-reads.Learnt,
   read-marked-reads.Asked,
   read-marked-reads.Learnt,
 ) (read-many-at t) read-many.Post
 read-many-read-marked-requires t c κs = (omega arith, omega arith)
 
-read-many-returns-2 : (t : ℕ) → read-many-lts.Need-returns-2 (
+read-many-returns-3 : (t : ℕ) → read-many-lts.Need-returns-3 (
   wide-reads.Asked,
   wide-reads.Learnt,
   read-many-below t,
   read-many.Post,
+  read-most-reads.Asked,
+  read-most-reads.Learnt,
   read-marked-reads.Asked,
   read-marked-reads.Learnt,
 ) (read-many-at t) read-many.Post
-read-many-returns-2 t c = c .before .read-marked .ensures
+read-many-returns-3 t c = c .before .read-marked .ensures
 
 pub +read-many-spec : {M : Type 1} → statement M
 +read-many-spec = close μ-read-many λ t. read-many-lts.spec (
@@ -120,6 +176,8 @@ pub +read-many-spec : {M : Type 1} → statement M
   wide-reads.Learnt,
   read-many-below t,
   read-many.Post,
+  read-most-reads.Asked,
+  read-most-reads.Learnt,
   read-marked-reads.Asked,
   read-marked-reads.Learnt,
 )
@@ -129,8 +187,11 @@ pub +read-many-spec : {M : Type 1} → statement M
     (read-many-wide-requires-2 t)
     (read-many-read-many-requires t)
     (read-many-returns t)
+    (read-many-mul-if2 t)
     (read-many-add-stride t)
-    (read-many-cast-read-marked t)
+    (read-many-cast-read-most t)
+    (read-many-read-most-requires t)
+    (read-many-returns-2 t)
     (read-many-slice-aggregate-read-marked t)
     (read-many-read-marked-requires t)
-    (read-many-returns-2 t)
+    (read-many-returns-3 t)

@@ -1,7 +1,7 @@
 use mathlib.Core.Path.{refl}
 use native.Mathlib.Omega.{arith}
 use borrow.Author.Needs.{needs}
-use Rattle.units.specs.Units.{stood-first, run-whole}
+use Rattle.units.specs.Units.{stood-first, run-whole, run-sized}
 use Rattle.units.proofs.read_few.Statement.{statement}
 use Rattle.units.proofs.read_few.Tie as tie
 
@@ -13,13 +13,13 @@ slice-aggregate-read-run c = search needs
 
 read-run-requires : tie.Need-read-run-requires
 read-run-requires c κs =
-    let a = c .before .before .before .args in
-    (omega arith, stood-first (a .s .now) (a .cursor .at) _ 1 _ refl (omega arith) refl)
+    let a = c .before .before .before in
+    (omega arith, stood-first (a .args .s .now) (a .args .cursor .at) (a .args .outs .now) 1 _ (a .pre) (omega arith) refl)
 
 returns : tie.Need-returns
 returns c =
     let a = c .before .before .before .before .args in
-    run-whole (a .constants) (a .s .now) (a .cursor .at) (a .count) 1 _ _ _ (c .read-run .ensures)
+    (run-whole (a .constants) (a .s .now) (a .cursor .at) (a .count) 1 _ _ _ (c .read-run .ensures), run-sized (a .constants) (a .s .now) (a .cursor .at) 0 (a .count) (a .cursor .at) 1 _ _ _ (c .read-run .ensures))
 
 pub read-few-spec : {M : Type 1} → statement M
 read-few-spec =

@@ -47,7 +47,7 @@ returns c =
     let a = c .before .before .before .before .before .before .before .before .before .args in
     let l = c .before .before .before .before .before .before .loop in
     let found = sym (rw (c .before .refusal .given .1) at (c .before .before .before .read-unit .ensures)) in
-    λ n. sym (l .inv .3 n) ∙ run-bad (a .constants) (a .s .now) (a .start) (l .inv .2) ((a .to - l .i) + n) ((a .to - suc (l .i)) + n) found (omega arith)
+    (l .inv .2 .sized, λ n. sym (l .inv .3 n) ∙ run-bad (a .constants) (a .s .now) (a .start) (l .inv .2) ((a .to - l .i) + n) ((a .to - suc (l .i)) + n) found (omega arith))
 
 add-i : tie.Need-add-i Inv-loop μ-loop
 add-i c = omega arith
