@@ -1,5 +1,5 @@
 use Prim.{tt}
-use Prim.Native.Nat.{_+_, _-_, _≤_}
+use Prim.Native.Nat.{_-_, _≤_}
 use native.Mathlib.Omega.{arith}
 use Rattle.model.specs.Layout.{countIn}
 use Rattle.queries.specs.Tally.{Tallied, tally-most, tallied-none, tallied-more, tallied-all}
