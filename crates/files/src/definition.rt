@@ -8,11 +8,14 @@ use format::HIGHEST_SHORT;
 use front::FrontRead;
 use front::read_front;
 use front::skip_floats;
+use units::REMEMBERED;
 use units::read_units;
 ghost use mathlib.Core.Path.{_≡_};
 ghost use Rattle.fields.specs.Answers.{stepOf};
 ghost use Rattle.format.specs.Read.{ending, repeat};
+ghost use lib.ListN.{length};
 ghost use Rattle.format.specs.Reader.{variant, readDefinition};
+ghost use Rattle.units.specs.Units.{remembered};
 
 // One variant, in a definition of so many parameters.
 pub fn read_variant(s: &[u8], cursor: Cursor, parameters: u32) -> Step
@@ -44,14 +47,15 @@ pub fn read_variants(s: &[u8], cursor: Cursor, parameters: u32, count: u32) -> S
     Step::Next(Cursor { at: at })
 }
 
-// The next definition.
-pub fn read_definition(s: &[u8], cursor: Cursor) -> Step
-    ensures { λ r. ⌜ stepOf r ≡ ending (readDefinition (now (s .entry)) (cursor .at)) ⌝ }
+// The next definition. What the lent ring holds before and after it says nothing.
+pub(crate) fn next_definition(s: &[u8], cursor: Cursor, outs: &mut [u32; REMEMBERED]) -> Step
+    requires { ⌜ length (now outs) ≡ remembered ⌝ }
+    ensures { λ r. ⌜ (stepOf r ≡ ending (readDefinition (now (s .entry)) (cursor .at))) × (length (now (outs .exit)) ≡ remembered) ⌝ }
 {
     match read_front(s, cursor) {
         FrontRead::Value(counts, p1) => match p1.count_to(s, HIGHEST) {
             Number::Value(units, p2) => {
-                let p3 = match read_units(s, p2, counts.constants, units) {
+                let p3 = match read_units(s, p2, counts.constants, units, outs) {
                     Step::Next(next) => next,
                     Step::Bad(refusal, place) => {
                         return Step::Bad(refusal, place);
@@ -71,4 +75,12 @@ pub fn read_definition(s: &[u8], cursor: Cursor) -> Step
         },
         FrontRead::Bad(refusal, place) => Step::Bad(refusal, place),
     }
+}
+
+// The next definition.
+pub fn read_definition(s: &[u8], cursor: Cursor) -> Step
+    ensures { λ r. ⌜ stepOf r ≡ ending (readDefinition (now (s .entry)) (cursor .at)) ⌝ }
+{
+    let mut outs = [0; REMEMBERED];
+    next_definition(s, cursor, &mut outs)
 }

@@ -1,5 +1,5 @@
 // A whole file: accepted, with the number of its definitions, or refused, with the reason and the place.
-use crate::definition::read_definition;
+use crate::definition::next_definition;
 use faults::Fault;
 use fields::Cursor;
 use fields::Number;
@@ -10,15 +10,17 @@ use format::FILE_TYPE;
 use format::FILE_VERSION;
 use format::MOST_DEFINITIONS;
 use format::SIZE_LIMIT;
+use units::REMEMBERED;
 use words::wide;
 ghost use mathlib.Core.Path.{_≡_};
 ghost use Prim.Native.Nat.{_≤_};
 ghost use mathlib.Core.List.{[]};
-ghost use lib.ListN.{take};
+ghost use lib.ListN.{length, take};
 ghost use Rattle.fields.specs.Answers.{numberOf, stepOf};
 ghost use Rattle.format.specs.Fields.{stringAt};
 ghost use Rattle.format.specs.Read.{ending};
 ghost use Rattle.format.specs.Reader.{mostDefinitions, among, readHeader, readDefinitions, readFile};
+ghost use Rattle.units.specs.Units.{remembered};
 ghost use Rattle.files.specs.File.{Begun, verdict, namesFrom, skipFitting};
 
 // A file is accepted, and has so many definitions; or it is refused, at a place.
@@ -68,12 +70,18 @@ fn name_among(s: &[u8], at: usize, starts: &[usize; MOST_DEFINITIONS], count: us
 }
 
 // The next definition, no longer than the limit, and named as none of those that start at the first so many of `starts`.
-fn read_fitting(s: &[u8], cursor: Cursor, starts: &[usize; MOST_DEFINITIONS], count: usize) -> Step
-    requires { ⌜ Begun (now starts) count ⌝ }
-    ensures { λ r. ⌜ stepOf r ≡ skipFitting (now (s .entry)) (namesFrom (now (s .entry)) (take count (now (starts .entry)))) (cursor .at) ⌝ }
+fn read_fitting(
+    s: &[u8],
+    cursor: Cursor,
+    starts: &[usize; MOST_DEFINITIONS],
+    count: usize,
+    outs: &mut [u32; REMEMBERED],
+) -> Step
+    requires { ⌜ Begun (now starts) count × (length (now outs) ≡ remembered) ⌝ }
+    ensures { λ r. ⌜ (stepOf r ≡ skipFitting (now (s .entry)) (namesFrom (now (s .entry)) (take count (now (starts .entry)))) (cursor .at)) × (length (now (outs .exit)) ≡ remembered) ⌝ }
 {
     let at = cursor.at;
-    match read_definition(s, cursor) {
+    match next_definition(s, cursor, outs) {
         Step::Next(next) => {
             let end = next.at;
             if SIZE_LIMIT < end - at {
@@ -95,10 +103,11 @@ fn read_definitions(s: &[u8], cursor: Cursor, count: u32) -> Step
 {
     let many = wide(count);
     let mut starts = [0; MOST_DEFINITIONS];
+    let mut outs = [0; REMEMBERED];
     let mut at = cursor.at;
     let mut i = 0;
     while i < many {
-        match read_fitting(s, Cursor { at: at }, &starts, i) {
+        match read_fitting(s, Cursor { at: at }, &starts, i, &mut outs) {
             Step::Next(next) => {
                 starts[i] = at;
                 at = next.at;

@@ -2,6 +2,7 @@ pub mod Answers
 pub mod Same
 pub mod Held
 pub mod Status
+pub mod Tally
 pub mod Shape
 pub mod Found
 pub mod Info

@@ -1,8 +1,11 @@
 // /c_get
+use controls::is_bus;
+use controls::read_bus;
+use layout::BUSES;
+use layout::BUSES_END;
 use model::Answer;
 use refusals::Refusal;
 use replies::send_words;
-use words::wide;
 ghost use Rattle.model.specs.declared.Query.the-variants as query;
 ghost use Rattle.state.specs.Known.{Known};
 ghost use Rattle.state.specs.Does.{Reply};
@@ -12,10 +15,10 @@ pub fn bus_query(words: &[u32], arena: &[u8], bytes: &[u8], out: &mut [u8], bus:
     requires { ⌜ Known (now words) (now arena) ⌝ }
     ensures { λ r. ⌜ Reply (query.Bus bus) (now (bytes .entry)) (now (words .entry)) (now (arena .entry)) (now (out .entry)) r (now (out .exit)) ⌝ }
 {
-    if 4096 <= bus {
+    if !is_bus(bus) {
         return Answer::Refused(Refusal::NoBus);
     }
-    let value = words[17987 + wide(bus)];
+    let value = read_bus(&words[BUSES..BUSES_END], bus);
     let arguments = [bus, value];
     send_words(out, b"/c_set", b",if", &arguments)
 }

@@ -2,6 +2,9 @@
 use controls::controls_missing;
 use controls::node_is_group;
 use controls::read_key;
+use layout::COUNT;
+use layout::NODES;
+use layout::RECORD;
 use model::Answer;
 use names::node_place;
 use refusals::Refusal;
@@ -49,7 +52,7 @@ pub fn control_query(
     ensures { λ r. ⌜ Reply (query.Control node key) (now (bytes .entry)) (now (words .entry)) (now (arena .entry)) (now (out .entry)) r (now (out .exit)) ⌝ }
 {
     let at = node_place(words, node);
-    let count = wide(words[0]);
+    let count = wide(words[COUNT]);
     if count <= at {
         return Answer::Refused(Refusal::NoNode);
     }
@@ -60,6 +63,6 @@ pub fn control_query(
         return Answer::Refused(Refusal::NoControl);
     }
     let value = read_key(words, arena, at, key, bytes);
-    let number = words[68 + 5 * at];
+    let number = words[NODES + RECORD * at];
     send_control(out, number, key, bytes, value)
 }

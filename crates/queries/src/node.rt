@@ -1,4 +1,10 @@
 // /n_query
+use layout::COUNT;
+use layout::GROUP;
+use layout::NODES;
+use layout::NODES_END;
+use layout::RECORD;
+use layout::SLOT;
 use model::Answer;
 use names::node_place;
 use refusals::Refusal;
@@ -26,16 +32,16 @@ pub fn node_query(
     ensures { λ r. ⌜ Reply (query.Node node) (now (bytes .entry)) (now (words .entry)) (now (arena .entry)) (now (out .entry)) r (now (out .exit)) ⌝ }
 {
     let at = node_place(words, node);
-    let count = wide(words[0]);
+    let count = wide(words[COUNT]);
     if count <= at {
         return Answer::Refused(Refusal::NoNode);
     }
-    let nodes = &words[68..1348];
-    let number = nodes[5 * at];
+    let nodes = &words[NODES..NODES_END];
+    let number = nodes[RECORD * at];
     let parent = parent_of(nodes, at);
     let previous = previous_of(nodes, at);
     let next = next_of(nodes, count, at);
-    if nodes[5 * at + 3] == 32 {
+    if nodes[RECORD * at + SLOT] == GROUP {
         let head = head_of(nodes, count, at);
         let tail = tail_of(nodes, count, at);
         let arguments = [number, parent, previous, next, 1, head, tail];

@@ -8,9 +8,9 @@ use lib.ListN.{length, getD, length-append}
 use lib.Dec.{ltb}
 use borrow.Author.Tests.{ltb-true, ltb-false}
 use Rattle.nodes.specs.Place.{isGroup}
-use Rattle.osc.specs.Message.{Argument, int}
+use Rattle.osc.specs.Message.{Argument, int, message}
 use Rattle.model.specs.Layout.{countIn, nodesPlace, nodesWords}
-use Rattle.model.specs.Replies.{treeArguments}
+use Rattle.model.specs.Replies.{treeAddress, flagNumber, treeArguments}
 use Rattle.state.specs.Known.{Known}
 use Rattle.slots.specs.Slots.{slotBytes, part-word}
 use Rattle.controls.specs.Ready.{nodeIn}
@@ -46,6 +46,11 @@ number-fact ws bs i a = sym (part-word nodesPlace nodesWords (5 * i) ws (omega (
 -- all rows from a place on
 abbrev pub leftRows : Bool → List ℕ → List ℕ → ℕ → ℕ → List Argument
 leftRows shown ws bs end i = treeArguments shown (viewTo ws bs end i)
+
+-- the reply's message for the group at the place at, whose run ends at end
+abbrev pub treeMessage : Bool → List ℕ → List ℕ → ℕ → ℕ → List ℕ
+treeMessage shown ws bs end at =
+    message treeAddress (int (flagNumber shown) ∷ (int (nodeIn ws at .number) ∷ (int (childrenAt ws bs end at) ∷ leftRows shown ws bs end (at + 1))))
 
 -- the rows from one place to another of a well-formed state
 pub record Run (ws bs : List ℕ) (from end : ℕ) : Type 0 where

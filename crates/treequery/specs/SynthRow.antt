@@ -16,16 +16,15 @@ use Rattle.nodes.specs.Structure.{noNode}
 use Rattle.osc.specs.Message.{Argument, int, text}
 use Rattle.values.specs.Controls.{ControlValue}
 use Rattle.values.specs.ControlLaws.{word-mapping}
-use Rattle.model.specs.Layout.{busCount, rowWords, nodesPlace, controlsIn}
+use Rattle.model.specs.Layout.{busCount, rowWords, controlsIn}
 use Rattle.format.specs.Names.{firstName}
 use Rattle.model.specs.Engine.{decode, definitionOf, controlsOf}
 use Rattle.model.specs.Replies.{mappingArgument, labelArgument, controlArguments, flagged, noControl}
 use Rattle.controls.specs.Encoded.{frontIn, values-few}
 use Rattle.slots.specs.Slots.{slotBytes}
 use Rattle.controls.specs.Ready.{nodeIn, bytes-short}
-use Rattle.controls.specs.Synth.{slot-word}
 use Rattle.controls.specs.Asked.{controlIn, control-in}
-use Rattle.queries.specs.Held.{At, bounds, held-readable, held-name, held-front, held-first-name}
+use Rattle.queries.specs.Held.{At, held-readable, held-name, held-front, held-first-name}
 use Rattle.treequery.specs.declared.piece.Piece.{Piece}
 use Rattle.treequery.specs.Pieces.{pieceArgument, isSmall, mostBytes}
 use Rattle.treequery.specs.RowArguments.{rowArguments, row-synth, controls-many, controls-length, mapping-low}
@@ -72,13 +71,6 @@ module _ (ws bs : List ℕ) (i : ℕ) (a : At ws bs i) (single : isGroup (nodeIn
 
   many : length (cs ws bs i) ≡ length (frontIn s .values)
   many = controls-many (length (d ws bs i .front .values)) (drop (rowWords * nodeIn ws i .row) (controlsIn ws)) ∙ ap (λ (f : Front). length (f .values)) front
-
-  -- its slot, by the words
-  pub slot-fact : getD ws (nodesPlace + 5 * i + 3) 0 ≡ nodeIn ws i .slot
-  slot-fact = sym (slot-word ws i (bounds ws bs i a .place))
-
-  pub synth-slot : getD ws (nodesPlace + 5 * i + 3) 0 < 32
-  synth-slot = rw slot-fact (bounds ws bs i a .slot single)
 
   pub synth-short : length s ≤ mostBytes
   synth-short = omega (arith, bytes-short ws bs (nodeIn ws i .slot))

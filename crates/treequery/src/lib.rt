@@ -1,4 +1,5 @@
 // /g_queryTree, behind the state check.
+mod children;
 mod count;
 mod piece;
 mod places;

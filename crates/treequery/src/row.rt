@@ -1,11 +1,13 @@
 // One row of the reply: which arguments it has.
 use crate::piece::Piece;
+use layout::CONTROLS;
+use layout::CONTROLS_END;
+use layout::ROW_WORDS;
 use values::Control;
 use values::Mapping;
 use words::wide;
-ghost use Prim.Native.Nat.{ℕ, _+_, _≤_, _<_};
+ghost use Prim.Native.Nat.{_+_, _≤_, _<_};
 ghost use mathlib.Core.Bool.{true};
-ghost use mathlib.Core.List.{List};
 ghost use mathlib.Core.Path.{_≡_};
 ghost use lib.ListN.{length, getD};
 ghost use Rattle.format.specs.Fields.{stringAt};
@@ -16,32 +18,8 @@ ghost use Rattle.model.specs.Layout.{wordsLength, controlsIn};
 ghost use Rattle.model.specs.Replies.{labelArgument};
 ghost use Rattle.controls.specs.Asked.{controlIn};
 ghost use Rattle.treequery.specs.Pieces.{pieceArgument, isSmall};
-ghost use Rattle.treequery.specs.RowArguments.{childrenAt};
-ghost use Rattle.treequery.specs.Children.{Table};
 ghost use Rattle.treequery.specs.Shown.{Shown};
 ghost use Rattle.treequery.specs.Controls.{LabelThere};
-
-// How many children the node at a place has, among the records before an end.
-pub fn children_at(words: &[u32], end: usize, place: usize) -> u32
-    requires { ⌜ Table (now words) end place ⌝ }
-    ensures { λ r. ⌜ ((bs : List ℕ) → r ≡ childrenAt (now (words .entry)) bs end place) ⌝ }
-{
-    let nodes = &words[68..1348];
-    let depth = nodes[5 * place + 1];
-    let mut children: u32 = 0;
-    let mut i = place + 1;
-    while i < end {
-        let other = nodes[5 * i + 1];
-        if other <= depth {
-            return children;
-        }
-        if other - depth == 1 {
-            children += 1;
-        }
-        i += 1;
-    }
-    children
-}
 
 // The string whose length byte is at a place.
 pub fn string_at(definition: &[u8], at: usize) -> Piece
@@ -81,7 +59,7 @@ pub fn value_at(words: &[u32], row: u32, index: u32) -> Piece
     requires { ⌜ (length (now words) ≡ wordsLength) × (row < 256) × (index < 32) ⌝ }
     ensures { λ r. ⌜ Shown (controlIn (controlsIn (now (words .entry))) row index) r ⌝ }
 {
-    let controls = &words[1603..17987];
-    let at = 64 * wide(row) + 2 * wide(index);
+    let controls = &words[CONTROLS..CONTROLS_END];
+    let at = ROW_WORDS * wide(row) + 2 * wide(index);
     shown_piece(Control::from_words(controls[at], controls[at + 1]))
 }

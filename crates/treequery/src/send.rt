@@ -1,9 +1,14 @@
 // The whole reply.
+use crate::children::tree_children;
 use crate::count::count_tree;
 use crate::places::Places;
 use crate::shapes::tree_shapes;
 use crate::write::put_tree;
 use controls::node_is_group;
+use layout::COUNT;
+use layout::NODES;
+use layout::NODES_END;
+use layout::RECORD;
 use model::Answer;
 use names::node_place;
 use osc::padded_length;
@@ -12,21 +17,19 @@ use osc::put_padded;
 use osc::put_zeros;
 use refusals::Refusal;
 use replies::put_words;
-use tree::child_count;
 use tree::subtree_end;
 use values::NodeArgument;
 use words::wide;
+ghost use Prim.Native.Nat.{_+_};
 ghost use mathlib.Core.Bool.{not};
-ghost use mathlib.Core.List.{_∷_};
 ghost use mathlib.Core.Path.{_≡_};
 ghost use lib.Dec.{eqb};
-ghost use Rattle.osc.specs.Message.{int, message};
 ghost use Rattle.model.specs.declared.Query.the-variants as query;
-ghost use Rattle.model.specs.Replies.{treeAddress, flagNumber};
+ghost use Rattle.model.specs.Replies.{flagNumber};
 ghost use Rattle.replies.specs.Sent.{Sends};
 ghost use Rattle.state.specs.Known.{Known};
 ghost use Rattle.state.specs.Does.{Reply};
-ghost use Rattle.treequery.specs.Rows.{Run, leftRows};
+ghost use Rattle.treequery.specs.Rows.{Run, treeMessage};
 ghost use Rattle.treequery.specs.TreeMessage.{treeFront, FrontRoom};
 
 // "Any nonzero flag is 1."
@@ -57,20 +60,19 @@ fn put_front(out: &mut [u8], many: usize, front: usize, shown: bool, number: u32
     put_words(out, front, &arguments);
 }
 
-// The reply of the rows from one place to another.
+// The reply of the group at a place, whose run ends at another.
 fn send_tree(
     out: &mut [u8],
     words: &[u32],
     arena: &[u8],
     shown: bool,
-    from: usize,
+    at: usize,
     end: usize,
-    number: u32,
-    children: u32,
 ) -> Answer
-    requires { ⌜ Run (now words) (now arena) from end ⌝ }
-    ensures { λ r. ⌜ Sends (message treeAddress (int (flagNumber shown) ∷ (int number ∷ (int children ∷ leftRows shown (now (words .entry)) (now (arena .entry)) end from)))) (now (out .entry)) r (now (out .exit)) ⌝ }
+    requires { ⌜ Run (now words) (now arena) (at + 1) end ⌝ }
+    ensures { λ r. ⌜ Sends (treeMessage shown (now (words .entry)) (now (arena .entry)) end at) (now (out .entry)) r (now (out .exit)) ⌝ }
 {
+    let from = at + 1;
     let shapes = tree_shapes(words, arena, shown, from, end);
     let size = count_tree(words, arena, &shapes, shown, from, end);
     let many = size.tag;
@@ -79,12 +81,24 @@ fn send_tree(
     if out.len() < whole {
         return Answer::Refused(Refusal::NoRoom);
     }
-    put_front(out, many, front, shown, number, children);
+    let children = tree_children(words, at, end);
+    let number = words[NODES + RECORD * at];
+    put_front(out, many, front, shown, number, children[at] as u32);
     let places = Places {
         tag: 24,
         byte: front + 12,
     };
-    put_tree(out, places, words, arena, &shapes, shown, from, end);
+    put_tree(
+        out,
+        places,
+        words,
+        arena,
+        &shapes,
+        &children,
+        shown,
+        from,
+        end,
+    );
     Answer::Replied(whole)
 }
 
@@ -101,17 +115,13 @@ pub fn tree_query(
     ensures { λ r. ⌜ Reply (query.Tree group flag) (now (bytes .entry)) (now (words .entry)) (now (arena .entry)) (now (out .entry)) r (now (out .exit)) ⌝ }
 {
     let at = node_place(words, group);
-    let count = wide(words[0]);
+    let count = wide(words[COUNT]);
     if count <= at {
         return Answer::Refused(Refusal::NoNode);
     }
     if !node_is_group(words, at) {
         return Answer::Refused(Refusal::WrongKind);
     }
-    let nodes = &words[68..1348];
-    let number = nodes[5 * at];
-    let children = child_count(nodes, count, at);
-    let end = subtree_end(nodes, count, at);
-    let shown = is_shown(flag);
-    send_tree(out, words, arena, shown, at + 1, end, number, children)
+    let end = subtree_end(&words[NODES..NODES_END], count, at);
+    send_tree(out, words, arena, is_shown(flag), at, end)
 }

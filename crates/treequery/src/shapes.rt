@@ -3,9 +3,9 @@
 use controls::node_definition;
 use controls::node_is_group;
 use controls::node_row;
+use controls::node_slot;
 use controls::parameter_count;
 use readable::labels;
-use words::wide;
 ghost use Prim.Native.Nat.{_<_};
 ghost use mathlib.Core.Bool.{true};
 ghost use mathlib.Core.Path.{_≡_};
@@ -29,7 +29,7 @@ pub fn synth_at(words: &[u32], arena: &[u8], shapes: &[u32; 1056], place: usize)
     ensures { λ r. ⌜ SynthAt (now (words .entry)) (now (arena .entry)) place r ⌝ }
 {
     let row = node_row(words, place);
-    let first = 33 * wide(words[68 + 5 * place + 3]);
+    let first = 33 * node_slot(words, place);
     Synth {
         row: row,
         first: first,
@@ -60,7 +60,7 @@ fn look_up_row(shapes: &mut [u32; 1056], words: &[u32], arena: &[u8], place: usi
     if node_is_group(words, place) {
         return;
     }
-    let slot = wide(words[68 + 5 * place + 3]);
+    let slot = node_slot(words, place);
     if shapes[33 * slot] != 0 {
         return;
     }

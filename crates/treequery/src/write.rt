@@ -3,15 +3,20 @@ use crate::piece::Piece;
 use crate::places::Places;
 use crate::places::put_argument;
 use crate::places::put_pair;
-use crate::row::children_at;
 use crate::row::label_at;
 use crate::row::string_at;
 use crate::row::value_at;
 use crate::shapes::synth_at;
 use controls::node_definition;
 use controls::node_is_group;
+use layout::NODES;
+use layout::RECORD;
+ghost use Prim.Native.Nat.{_≤_};
 ghost use mathlib.Core.Bool.{true};
-ghost use Rattle.treequery.specs.RowArguments.{rowArguments};
+ghost use mathlib.Core.Path.{_≡_};
+ghost use lib.ListN.{length};
+ghost use Rattle.treequery.specs.RowArguments.{childrenAt, rowArguments};
+ghost use Rattle.treequery.specs.Children.{Families};
 ghost use Rattle.treequery.specs.Writing.{Room, Wrote};
 ghost use Rattle.treequery.specs.Controls.{Shaped};
 ghost use Rattle.treequery.specs.Rows.{RowOf, RowsOf, leftRows};
@@ -56,16 +61,17 @@ fn put_row(
     words: &[u32],
     arena: &[u8],
     shapes: &[u32; 1056],
+    children: u32,
     shown: bool,
     end: usize,
     place: usize,
 ) -> Places
-    requires { ⌜ (RowOf shown (now words) (now arena) (now shapes) end place) × (Room places (rowArguments shown (now words) (now arena) end place) (now out)) ⌝ }
+    requires { ⌜ (RowOf shown (now words) (now arena) (now shapes) end place) × (children ≡ childrenAt (now words) (now arena) end place) × (Room places (rowArguments shown (now words) (now arena) end place) (now out)) ⌝ }
     ensures { λ r. ⌜ Wrote places (rowArguments shown (now (words .entry)) (now (arena .entry)) end place) (now (out .entry)) r (now (out .exit)) ⌝ }
 {
-    let number = words[68 + 5 * place];
+    let number = words[NODES + RECORD * place];
     if node_is_group(words, place) {
-        return put_pair(out, places, number, children_at(words, end, place));
+        return put_pair(out, places, number, children);
     }
     let next = put_pair(out, places, number, 4294967295);
     let definition = node_definition(words, arena, place);
@@ -83,17 +89,19 @@ pub fn put_tree(
     words: &[u32],
     arena: &[u8],
     shapes: &[u32; 1056],
+    children: &[u8],
     shown: bool,
     from: usize,
     end: usize,
 ) -> Places
-    requires { ⌜ (RowsOf shown (now words) (now arena) (now shapes) from end) × (Room places (leftRows shown (now words) (now arena) end from) (now out)) ⌝ }
+    requires { ⌜ (RowsOf shown (now words) (now arena) (now shapes) from end) × (end ≤ length (now children)) × (Families (now words) (now arena) from end (now children)) × (Room places (leftRows shown (now words) (now arena) end from) (now out)) ⌝ }
     ensures { λ r. ⌜ Wrote places (leftRows shown (now (words .entry)) (now (arena .entry)) end from) (now (out .entry)) r (now (out .exit)) ⌝ }
 {
     let mut next = places;
     let mut i = from;
     while i < end {
-        next = put_row(out, next, words, arena, shapes, shown, end, i);
+        let many = children[i] as u32;
+        next = put_row(out, next, words, arena, shapes, many, shown, end, i);
         i += 1;
     }
     next

@@ -45,7 +45,7 @@ place-behind s start m (suc n) =
 
 -- the most marks of a definition
 abbrev pub mostMarks : ℕ
-mostMarks = 65536
+mostMarks = 262144
 
 -- where every so many units start, counted from the first one
 pub record Marked (s : List ℕ) (start stride : ℕ) (marks : List ℕ) : Type 0 where

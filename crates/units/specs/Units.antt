@@ -1,5 +1,5 @@
 -- Units one after the other: the outputs of the units before one, and the turns of the loop that reads them.
-use Prim.{tt}
+use Prim.{Unit, tt}
 use Prim.Native.Nat.{ℕ, zero, suc, _+_, _-_, _%_, _≤_, _<_}
 use mathlib.Core.Bool.{Bool, true, false}
 use mathlib.Core.Path.{_≡_, refl, sym, ap, _∙_}
@@ -9,7 +9,7 @@ use native.Mathlib.Omega.{arith}
 use native.Mathlib.Nat.{eq-or-lt-of-le, sub-zero}
 use native.Mathlib.Numerals.{add-one}
 use lib.ListN.{length, getD, set, take, length-set, length-append, List·getD-append}
-use lib.Seq.{getD-at, getD-set-same, getD-set-other}
+use lib.Seq.{getD-at, getD-set-same, getD-set-other, length-take-le}
 use lib.Dec.{ltb, eqb}
 use borrow.Author.Tests.{eq-eqb, ne-eqb, lt-ltb, le-ltb}
 use Rattle.words.specs.Choice.{pick}
@@ -157,71 +157,48 @@ pub input-bad : (k : ℕ) (outs s : List ℕ) (at : ℕ) {u next : ℕ} → inte
     → ending (input k outs s at) ≡ bad BadIndex at
 input-bad k outs s at {u} {next} e h l = rw (e, ne-eqb u minusOne h, le-ltb u (length outs) l)
 
--- The turns of a loop that reads units one by one, behind i of them: what is left to read, from the present place, reads as the whole does from the first.
-pub record Standing (k : ℕ) (s : List ℕ) (start count : ℕ) (outs : List ℕ) (stride : ℕ) (marks : List ℕ) (known at i : ℕ) : Type 0 where
-  pub most : i ≤ count
+-- Behind i units, at a place: they are remembered.
+pub record Stood (s : List ℕ) (start : ℕ) (outs : List ℕ) (stride : ℕ) (marks : List ℕ) (at i : ℕ) : Type 0 where
   pub here : at ≡ unitPlace s start i
   pub sized : length outs ≡ remembered
-  pub room : known ≤ length marks
-  pub few : length marks ≤ mostMarks
-  pub before : Remembered s start i outs stride (take known marks)
-  pub left : ending (readUnits k s (count - i) (outsFrom s start i) at) ≡ ending (readUnits k s count [] start)
+  pub before : Remembered s start i outs stride marks
 
-pub stands-first : (k : ℕ) (s : List ℕ) (start count : ℕ) (outs : List ℕ) (stride : ℕ) (marks : List ℕ) → length outs ≡ remembered → 0 < stride → length marks ≤ mostMarks
-    → Standing k s start count outs stride marks 0 start 0
-unfolding unitPlace outsFrom
-stands-first k s start count outs stride marks h p l = record {
-  most = omega arith;
+pub stood-first : (s : List ℕ) (start : ℕ) (outs : List ℕ) (stride : ℕ) (marks : List ℕ) → length outs ≡ remembered → 0 < stride → length marks ≡ 0 → Stood s start outs stride marks start 0
+unfolding unitPlace
+stood-first s start outs stride marks h p none = record {
   here = refl;
   sized = h;
-  room = omega arith;
-  few = l;
   before = record {
     within = λ l. absurd (omega arith);
     known = λ u l m. absurd (omega arith);
     marked = record { steps = p; placed = λ n l. absurd (omega arith) };
   };
-  left = rw sub-zero;
 }
 
-module _ (k : ℕ) (s : List ℕ) (start count : ℕ) {outs : List ℕ} {stride : ℕ} {marks : List ℕ} {known at i : ℕ} (st : Standing k s start count outs stride marks known at i) where
-  -- the unit at the place may be marked
-  pub stands-marked : {marks' : List ℕ} {known' : ℕ} → Marking marks marks' known stride i (at - start) known' → Standing k s start count outs stride marks' known' at i
+-- What a run of units leaves, from one number to another: behind them the units are remembered, and what is left to read, however much, reads as it does with the run; or the run is bad.
+unfoldable pub Ran : (k : ℕ) (s : List ℕ) (start from to at stride : ℕ) (marks outs : List ℕ) → Read (Unit {0}) → Type 0
+Ran k s start from to at stride marks outs (got _ next) =
+    Stood s start outs stride marks next to × ((n : ℕ) → ending (readUnits k s n (outsFrom s start to) next) ≡ ending (readUnits k s ((to - from) + n) (outsFrom s start from) at))
+Ran k s start from to at stride marks outs (bad q place) = (length outs ≡ remembered) × ((n : ℕ) → ending (readUnits k s ((to - from) + n) (outsFrom s start from) at) ≡ bad q place)
+
+-- The turns of the loop of a run.
+module _ (k : ℕ) (s : List ℕ) (start : ℕ) {outs : List ℕ} {stride : ℕ} {marks : List ℕ} {at i : ℕ} (st : Stood s start outs stride marks at i) where
+  run-shaped : {o next : ℕ} → skipUnit k (outsFrom s start i) s at ≡ got o next → Shaped s (unitPlace s start i) o next
+  run-shaped {o} {next} e = rw (st .here) at (unit-shape k (outsFrom s start i) s at (skip-unit k (outsFrom s start i) s at ∙ e))
+
+  run-turn : (n : ℕ) → ending (readUnits k s (suc n) (outsFrom s start i) at)
+      ≡ andThen (skipUnit k (outsFrom s start i) s at) (λ o next. ending (readUnits k s n (outsFrom s start i ++ (o ∷ [])) next))
+  run-turn n =
+      skip-units k s n (outsFrom s start i) at
+      ∙ ap (λ (r : Read ℕ). andThen r (λ o next. ending (readUnits k s n (outsFrom s start i ++ (o ∷ [])) next))) (skip-unit k (outsFrom s start i) s at)
+
+  pub run-stood : {o next : ℕ} → skipUnit k (outsFrom s start i) s at ≡ got o next → Stood s start (set outs (i % remembered) o) stride marks next (i + 1)
   unfolding unitPlace
-  stands-marked {marks'} {known'} m =
-      let place : start + (at - start) ≡ unitPlace s start i = omega (arith, st .here, place-up s start 0 i (omega arith)) in
-      let next = marking-next s start (st .room) place m (st .before .marked) in
-      record {
-        most = st .most;
-        here = st .here;
-        sized = st .sized;
-        room = next .room;
-        few = omega (arith, marking-same m, st .few);
-        before = record { within = st .before .within; known = st .before .known; marked = next .marked };
-        left = st .left;
-      }
-
-  stands-shaped : {o next : ℕ} → skipUnit k (outsFrom s start i) s at ≡ got o next → Shaped s (unitPlace s start i) o next
-  stands-shaped {o} {next} e = rw (st .here) at (unit-shape k (outsFrom s start i) s at (skip-unit k (outsFrom s start i) s at ∙ e))
-
-  stands-turn : i < count → ending (readUnits k s (count - i) (outsFrom s start i) at)
-      ≡ andThen (skipUnit k (outsFrom s start i) s at) (λ o next. ending (readUnits k s (count - suc i) (outsFrom s start i ++ (o ∷ [])) next))
-  stands-turn l =
-      let more : count - i ≡ suc (count - suc i) = omega arith in
-      rw more (skip-units k s (count - suc i) (outsFrom s start i) at
-      ∙ ap (λ (r : Read ℕ). andThen r (λ o next. ending (readUnits k s (count - suc i) (outsFrom s start i ++ (o ∷ [])) next))) (skip-unit k (outsFrom s start i) s at))
-
-  pub stands-next : {o next : ℕ} → i < count → skipUnit k (outsFrom s start i) s at ≡ got o next
-      → Standing k s start count (set outs (i % remembered) o) stride marks known next (i + 1)
-  unfolding unitPlace outsFrom
-  stands-next {o} {next} l e =
-      let shape = stands-shaped e in
+  run-stood {o} {next} e =
+      let shape = run-shaped e in
       rw add-one record {
-        most = omega arith;
         here = shape .past;
         sized = length-set outs (i % remembered) o ∙ st .sized;
-        room = st .room;
-        few = st .few;
         before = record {
           within = λ m. omega (arith, shape .past, shape .within);
           known = λ u m n.
@@ -232,14 +209,89 @@ module _ (k : ℕ) (s : List ℕ) (start count : ℕ) {outs : List ℕ} {stride 
               (eq-or-lt-of-le upto);
           marked = st .before .marked;
         };
-        left = ap (λ (x : ℕ). ending (readUnits k s (count - suc i) (outsFrom s start i ++ (x ∷ [])) next)) (sym (shape .outputs))
-            ∙ sym (stands-turn l ∙ then-got (λ o next. ending (readUnits k s (count - suc i) (outsFrom s start i ++ (o ∷ [])) next)) e)
-            ∙ st .left;
       }
 
-  pub stands-bad : {q : Fault} {place : ℕ} → i < count → skipUnit k (outsFrom s start i) s at ≡ bad q place → ending (readUnits k s count [] start) ≡ bad q place
-  stands-bad l e =
-      sym (st .left) ∙ stands-turn l ∙ then-bad (λ o next. ending (readUnits k s (count - suc i) (outsFrom s start i ++ (o ∷ [])) next)) e
+  pub run-next : (m n : ℕ) {o next : ℕ} → skipUnit k (outsFrom s start i) s at ≡ got o next → m ≡ suc n
+      → ending (readUnits k s n (outsFrom s start (i + 1)) next) ≡ ending (readUnits k s m (outsFrom s start i) at)
+  unfolding outsFrom
+  run-next m n {o} {next} e h =
+      let shape = run-shaped e in
+      rw (add-one, h) (ap (λ (x : ℕ). ending (readUnits k s n (outsFrom s start i ++ (x ∷ [])) next)) (sym (shape .outputs))
+      ∙ sym (run-turn n ∙ then-got (λ o next. ending (readUnits k s n (outsFrom s start i ++ (o ∷ [])) next)) e))
+
+  pub run-bad : (m n : ℕ) {q : Fault} {place : ℕ} → skipUnit k (outsFrom s start i) s at ≡ bad q place → m ≡ suc n → ending (readUnits k s m (outsFrom s start i) at) ≡ bad q place
+  run-bad m n e h = rw h (run-turn n ∙ then-bad (λ o next. ending (readUnits k s n (outsFrom s start i ++ (o ∷ [])) next)) e)
+
+-- all units of a definition in one run
+pub run-whole : (k : ℕ) (s : List ℕ) (start count stride : ℕ) (marks outs : List ℕ) (r : Read (Unit {0})) → Ran k s start 0 count start stride marks outs r → r ≡ ending (readUnits k s count [] start)
+unfolding Ran readUnits outsFrom
+run-whole k s start count stride marks outs (got u next) h =
+    let same : (count - 0) + 0 ≡ count = omega arith in
+    h .1 0 ∙ rw same
+run-whole k s start count stride marks outs (bad q place) h =
+    let same : (count - 0) + 0 ≡ count = omega arith in
+    sym (rw same at (h .1 0))
+
+pub run-sized : (k : ℕ) (s : List ℕ) (start from to at stride : ℕ) (marks outs : List ℕ) (r : Read (Unit {0})) → Ran k s start from to at stride marks outs r → length outs ≡ remembered
+unfolding Ran
+run-sized k s start from to at stride marks outs (got u next) h = h .0 .sized
+run-sized k s start from to at stride marks outs (bad q place) h = h .0
+
+-- The turns of a loop that reads units run by run, behind i of them: what is left to read, from the present place, reads as the whole does from the first.
+pub record Standing (k : ℕ) (s : List ℕ) (start count : ℕ) (outs : List ℕ) (stride : ℕ) (marks : List ℕ) (known at i : ℕ) : Type 0 where
+  pub most : i ≤ count
+  pub room : known ≤ length marks
+  pub few : length marks ≤ mostMarks
+  pub stood : Stood s start outs stride (take known marks) at i
+  pub left : ending (readUnits k s (count - i) (outsFrom s start i) at) ≡ ending (readUnits k s count [] start)
+
+pub stands-first : (k : ℕ) (s : List ℕ) (start count : ℕ) (outs : List ℕ) (stride : ℕ) (marks : List ℕ) → length outs ≡ remembered → 0 < stride → length marks ≤ mostMarks
+    → Standing k s start count outs stride marks 0 start 0
+unfolding outsFrom
+stands-first k s start count outs stride marks h p l = record {
+  most = omega arith;
+  room = omega arith;
+  few = l;
+  stood = stood-first s start outs stride (take 0 marks) h p (length-take-le 0 marks (omega arith));
+  left = rw sub-zero;
+}
+
+module _ (k : ℕ) (s : List ℕ) (start count : ℕ) {outs : List ℕ} {stride : ℕ} {marks : List ℕ} {known at i : ℕ} (st : Standing k s start count outs stride marks known at i) where
+  -- the unit at the place may be marked
+  pub stands-marked : {marks' : List ℕ} {known' : ℕ} → Marking marks marks' known stride i (at - start) known' → Standing k s start count outs stride marks' known' at i
+  unfolding unitPlace
+  stands-marked {marks'} {known'} m =
+      let place : start + (at - start) ≡ unitPlace s start i = omega (arith, st .stood .here, place-up s start 0 i (omega arith)) in
+      let next = marking-next s start (st .room) place m (st .stood .before .marked) in
+      record {
+        most = st .most;
+        room = next .room;
+        few = omega (arith, marking-same m, st .few);
+        stood = record {
+          here = st .stood .here;
+          sized = st .stood .sized;
+          before = record { within = st .stood .before .within; known = st .stood .before .known; marked = next .marked };
+        };
+        left = st .left;
+      }
+
+  pub stands-next : (outs' : List ℕ) {to next : ℕ} → i ≤ to → to ≤ count → Ran k s start i to at stride (take known marks) outs' (got tt next) → Standing k s start count outs' stride marks known next to
+  unfolding Ran
+  stands-next outs' {to} {next} l h r =
+      let same : (to - i) + (count - to) ≡ count - i = omega arith in
+      record {
+        most = h;
+        room = st .room;
+        few = st .few;
+        stood = r .0;
+        left = r .1 (count - to) ∙ rw same (st .left);
+      }
+
+  pub stands-bad : (outs' : List ℕ) {to : ℕ} {q : Fault} {place : ℕ} → i ≤ to → to ≤ count → Ran k s start i to at stride (take known marks) outs' (bad q place) → ending (readUnits k s count [] start) ≡ bad q place
+  unfolding Ran
+  stands-bad outs' {to} l h r =
+      let same : (to - i) + (count - to) ≡ count - i = omega arith in
+      sym (st .left) ∙ (rw same at (r .1 (count - to)))
 
   pub stands-done : count ≤ i → ending (readUnits k s count [] start) ≡ got tt at
   unfolding readUnits

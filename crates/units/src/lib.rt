@@ -17,15 +17,17 @@ ghost use Rattle.format.specs.Fields.{rate, indexBelow};
 ghost use Rattle.format.specs.Read.{ending, repeat};
 ghost use Rattle.format.specs.Reader.{input, readUnits};
 ghost use Rattle.units.specs.Marks.{unitCounts, unitOutputs, unitEnd, unitPlace, mostMarks, Marked, Marking};
-ghost use Rattle.units.specs.Units.{outsFrom, skipUnit, Remembered};
+ghost use Rattle.units.specs.Units.{remembered, outsFrom, skipUnit, Remembered, Stood, Ran};
 
 // The outputs of the last so many units are remembered. A unit takes at least 12 bytes and a definition 20 besides,
 // so a definition within the size limit has fewer units than this.
-const REMEMBERED: usize = 256;
+pub const REMEMBERED: usize = 256;
 
-// A definition of more units has marks besides, at most so many: where every so many units start. The outputs of a unit
-// further back are found by a walk from its mark.
-const MOST_MARKS: usize = 65536;
+// A definition of more units has marks besides, where every so many units start: so many marks, or in a long one more. The
+// outputs of a unit further back are found by a walk from its mark.
+const MANY_MARKS: usize = 65536;
+
+const MOST_MARKS: usize = 262144;
 
 // The place of the counts of the unit at a place.
 fn unit_counts(s: &[u8], at: usize) -> usize
@@ -274,6 +276,83 @@ fn mark_unit(marks: &mut [u32], known: usize, stride: u32, unit: u32, place: usi
     known + 1
 }
 
+// The units from one number to another, of a definition whose first unit starts at a place.
+fn read_run(
+    s: &[u8],
+    cursor: Cursor,
+    constants: u32,
+    start: usize,
+    from: u32,
+    to: u32,
+    outs: &mut [u32; REMEMBERED],
+    stride: u32,
+    marks: &[u32],
+) -> Step
+    requires { ⌜ (from ≤ to) × Stood (now s) start (now outs) stride (now marks) (cursor .at) from ⌝ }
+    ensures { λ r. ⌜ Ran constants (now (s .entry)) start from to (cursor .at) stride (now (marks .entry)) (now (outs .exit)) (stepOf r) ⌝ }
+{
+    let mut at = cursor.at;
+    let mut i = from;
+    while i < to {
+        match read_unit(
+            s,
+            Cursor { at: at },
+            constants,
+            start,
+            i,
+            outs,
+            stride,
+            marks,
+        ) {
+            Number::Value(outputs, next) => {
+                at = next.at;
+                outs[wide(i) % REMEMBERED] = outputs;
+            }
+            Number::Bad(refusal, place) => {
+                return Step::Bad(refusal, place);
+            }
+        }
+        i += 1;
+    }
+    Step::Next(Cursor { at: at })
+}
+
+// So many units, the first of a definition, with no marks. What the lent ring holds before and after it says nothing.
+fn read_few(
+    s: &[u8],
+    cursor: Cursor,
+    constants: u32,
+    count: u32,
+    outs: &mut [u32; REMEMBERED],
+) -> Step
+    requires { ⌜ length (now outs) ≡ remembered ⌝ }
+    ensures { λ r. ⌜ (stepOf r ≡ ending (readUnits constants (now (s .entry)) count [] (cursor .at))) × (length (now (outs .exit)) ≡ remembered) ⌝ }
+{
+    let marks = [0u32; 1];
+    read_run(
+        s,
+        cursor,
+        constants,
+        cursor.at,
+        0,
+        count,
+        outs,
+        1,
+        &marks[..0],
+    )
+}
+
+// Where the run of units from one number on ends, before the next mark.
+fn run_end(from: u32, stride: u32, count: u32) -> u32
+    requires { ⌜ (from < count) × (0 < stride) ⌝ }
+    ensures { λ r. ⌜ (from < r) × (r ≤ count) ⌝ }
+{
+    if stride < count - from {
+        return from + stride;
+    }
+    count
+}
+
 // So many units, the first of a definition, with room for marks of every so many.
 fn read_marked(
     s: &[u8],
@@ -293,54 +372,74 @@ fn read_marked(
     let mut i = 0;
     while i < count {
         known = mark_unit(marks, known, stride, i, at - start);
-        match read_unit(
+        let to = run_end(i, stride, count);
+        match read_run(
             s,
             Cursor { at: at },
             constants,
             start,
             i,
-            &outs,
+            to,
+            &mut outs,
             stride,
             &marks[..known],
         ) {
-            Number::Value(outputs, next) => {
+            Step::Next(next) => {
                 at = next.at;
-                outs[wide(i) % REMEMBERED] = outputs;
             }
-            Number::Bad(refusal, place) => {
+            Step::Bad(refusal, place) => {
                 return Step::Bad(refusal, place);
             }
         }
-        i += 1;
+        i = to;
     }
     Step::Next(Cursor { at: at })
 }
 
-// So many units can't all be remembered, and stand in so many bytes.
-fn read_many(s: &[u8], cursor: Cursor, constants: u32, count: u32, room: usize) -> Step
+// So many units, the first of a definition, with as many marks as there are at most.
+fn read_most(s: &[u8], cursor: Cursor, constants: u32, count: u32, stride: u32) -> Step
+    requires { ⌜ 0 < stride ⌝ }
     ensures { λ r. ⌜ stepOf r ≡ ending (readUnits constants (now (s .entry)) count [] (cursor .at)) ⌝ }
 {
-    let stride = room / 12 / MOST_MARKS + 1;
     let mut marks = [0u32; MOST_MARKS];
-    if 0xFFFF_FFFF < stride {
-        return read_marked(s, cursor, constants, count, 0xFFFF_FFFF, &mut marks);
-    }
-    read_marked(s, cursor, constants, count, stride as u32, &mut marks)
+    read_marked(s, cursor, constants, count, stride, &mut marks)
 }
 
-// So many units, the first of a definition.
-pub fn read_units(s: &[u8], cursor: Cursor, constants: u32, count: u32) -> Step
+// So many units can't all be remembered, and at most so many of them are there. Since it calls itself, the compiler keeps it and
+// what it calls apart: the marks' room is not part of what every definition takes.
+fn read_many(s: &[u8], cursor: Cursor, constants: u32, count: u32, most: usize) -> Step
     ensures { λ r. ⌜ stepOf r ≡ ending (readUnits constants (now (s .entry)) count [] (cursor .at)) ⌝ }
+{
+    if wide(count) < most {
+        return read_many(s, cursor, constants, count, wide(count));
+    }
+    if 2 * MANY_MARKS < most {
+        let stride = most / MOST_MARKS + 2;
+        return read_most(s, cursor, constants, count, stride as u32);
+    }
+    let mut marks = [0u32; MANY_MARKS];
+    read_marked(s, cursor, constants, count, 2, &mut marks)
+}
+
+// So many units, the first of a definition. What the lent ring holds before and after it says nothing.
+pub fn read_units(
+    s: &[u8],
+    cursor: Cursor,
+    constants: u32,
+    count: u32,
+    outs: &mut [u32; REMEMBERED],
+) -> Step
+    requires { ⌜ length (now outs) ≡ remembered ⌝ }
+    ensures { λ r. ⌜ (stepOf r ≡ ending (readUnits constants (now (s .entry)) count [] (cursor .at))) × (length (now (outs .exit)) ≡ remembered) ⌝ }
 {
     let at = cursor.at;
     if REMEMBERED < wide(count) {
         if at < s.len() {
-            let room = s.len() - at;
-            if 12 * REMEMBERED < room {
-                return read_many(s, cursor, constants, count, room);
+            let most = (s.len() - at) / 12;
+            if REMEMBERED < most {
+                return read_many(s, cursor, constants, count, most);
             }
         }
     }
-    let mut marks = [0u32; 1];
-    read_marked(s, cursor, constants, count, 1, &mut marks)
+    read_few(s, cursor, constants, count, outs)
 }

@@ -25,69 +25,61 @@ unfolding unitPlace
 sub-mark-unit c =
     let a = c .before .before .before .before .before .args in
     let l = c .before .before .loop in
-    omega (arith, l .inv .0 .here, place-up (a .s .now) (a .cursor .at) 0 (l .i) (omega arith))
+    omega (arith, l .inv .0 .stood .here, place-up (a .s .now) (a .cursor .at) 0 (l .i) (omega arith))
 
 mark-unit-requires : tie.Need-mark-unit-requires Inv-loop μ-loop
 mark-unit-requires c κs =
     let l = c .before .before .loop in
     (l .inv .0 .room, l .inv .0 .few)
 
-slice-reshare-prefix-read-unit : tie.Need-slice-reshare-prefix-read-unit Inv-loop μ-loop
-slice-reshare-prefix-read-unit c =
-    let a = c .before .before .before .before .before .before .before .before .before .args in
-    let l = c .before .before .before .before .before .before .loop in
-    let m = c .before .before .before .mark-unit .ensures in
+run-end-requires : tie.Need-run-end-requires Inv-loop μ-loop
+run-end-requires c κs = (omega arith, c .before .before .before .before .before .before .before .before .pre .0)
+
+slice-reshare-prefix-read-run : tie.Need-slice-reshare-prefix-read-run Inv-loop μ-loop
+slice-reshare-prefix-read-run c =
+    let a = c .before .before .before .before .before .before .before .before .before .before .args in
+    let l = c .before .before .before .before .before .before .before .loop in
+    let m = c .before .before .before .before .mark-unit .ensures in
     let st = stands-marked (a .constants) (a .s .now) (a .cursor .at) (a .count) (l .inv .0) m in
     st .room
 
-slice-aggregate-read-unit : tie.Need-slice-aggregate-read-unit Inv-loop μ-loop
-slice-aggregate-read-unit c =
-    let a = c .before .before .before .before .before .before .before .before .before .before .args in
-    let l = c .before .before .before .before .before .before .before .loop in
-    let m = c .before .before .before .before .mark-unit .ensures in
+slice-aggregate-read-run : tie.Need-slice-aggregate-read-run Inv-loop μ-loop
+slice-aggregate-read-run c =
+    let a = c .before .before .before .before .before .before .before .before .before .before .before .args in
+    let l = c .before .before .before .before .before .before .before .before .loop in
+    let m = c .before .before .before .before .before .mark-unit .ensures in
     let st = stands-marked (a .constants) (a .s .now) (a .cursor .at) (a .count) (l .inv .0) m in
     sym (length-take-le _ _ (st .room))
 
-read-unit-requires : tie.Need-read-unit-requires Inv-loop μ-loop
-read-unit-requires c κs =
-    let a = c .before .before .before .before .before .before .before .before .before .before .args in
-    let l = c .before .before .before .before .before .before .before .loop in
-    let m = c .before .before .before .before .mark-unit .ensures in
+read-run-requires : tie.Need-read-run-requires Inv-loop μ-loop
+read-run-requires c κs =
+    let a = c .before .before .before .before .before .before .before .before .before .before .before .args in
+    let l = c .before .before .before .before .before .before .before .before .loop in
+    let m = c .before .before .before .before .before .mark-unit .ensures in
     let st = stands-marked (a .constants) (a .s .now) (a .cursor .at) (a .count) (l .inv .0) m in
-    st .before
+    (omega (arith, c .before .before .run-end .ensures), st .stood)
 
-enum-known-outputs : tie.Need-enum-known-outputs Inv-loop μ-loop
-enum-known-outputs c = search needs
-
-wide-requires : tie.Need-wide-requires Inv-loop μ-loop
-wide-requires c κs = search needs
-
-mul-outs : tie.Need-mul-outs Inv-loop μ-loop
-mul-outs c = omega arith
-
-array-write-outs : tie.Need-array-write-outs Inv-loop μ-loop
-array-write-outs c = omega arith
+enum-known-next : tie.Need-enum-known-next Inv-loop μ-loop
+enum-known-next c = search needs
 
 enum-known-refusal : tie.Need-enum-known-refusal Inv-loop μ-loop
 enum-known-refusal c = search needs
 
 same-length : tie.Need-same-length Inv-loop μ-loop
-same-length c = marking-same (c .before .before .before .before .before .before .before .before .mark-unit .ensures) ∙ c .before .before .before .before .before .before .before .before .before .before .before .loop .inv .1
+same-length c = marking-same (c .before .before .before .before .before .before .before .before .before .mark-unit .ensures) ∙ c .before .before .before .before .before .before .before .before .before .before .before .before .loop .inv .1
 
 returns : tie.Need-returns Inv-loop μ-loop
 returns c =
-    let a = c .before .before .before .before .before .before .before .before .before .before .before .before .before .before .args in
-    let l = c .before .before .before .before .before .before .before .before .before .before .before .loop in
-    let m = c .before .before .before .before .before .before .before .before .mark-unit .ensures in
+    let a = c .before .before .before .before .before .before .before .before .before .before .before .before .before .before .before .args in
+    let l = c .before .before .before .before .before .before .before .before .before .before .before .before .loop in
+    let m = c .before .before .before .before .before .before .before .before .before .mark-unit .ensures in
     let st = stands-marked (a .constants) (a .s .now) (a .cursor .at) (a .count) (l .inv .0) m in
-    let found = sym (rw (c .before .refusal .given .1) at (c .before .before .before .read-unit .ensures)) in
-    sym (stands-bad (a .constants) (a .s .now) (a .cursor .at) (a .count) st (c .before .before .before .before .before .before .before .before .before .before .loop-test .taken) found)
-
-add-i : tie.Need-add-i Inv-loop μ-loop
-add-i c = omega arith
+    let to = c .before .before .before .before .before .before .run-end .ensures in
+    let found = rw (c .before .refusal .given .1) at (c .before .before .before .read-run .ensures) in
+    sym (stands-bad (a .constants) (a .s .now) (a .cursor .at) (a .count) st _ (omega (arith, to)) (to .1) found)
 
 loop-less : tie.Need-loop-less Inv-loop μ-loop
-loop-less c = omega arith
+loop-less c = omega (arith, c .before .before .before .before .before .before .run-end .ensures)
 
 loop-again : tie.Need-loop-again Inv-loop μ-loop
 loop-again c =
@@ -95,8 +87,9 @@ loop-again c =
     let l = c .before .before .before .before .before .before .before .before .before .before .before .before .loop in
     let m = c .before .before .before .before .before .before .before .before .before .mark-unit .ensures in
     let st = stands-marked (a .constants) (a .s .now) (a .cursor .at) (a .count) (l .inv .0) m in
-    let found = sym (rw (c .before .before .outputs .given .1) at (c .before .before .before .before .read-unit .ensures)) in
-    (rw (c .wide .ensures) (stands-next (a .constants) (a .s .now) (a .cursor .at) (a .count) st (c .before .before .before .before .before .before .before .before .before .before .before .loop-test .taken) found), marking-same m ∙ l .inv .1)
+    let to = c .before .before .before .before .before .before .run-end .ensures in
+    let found = rw (c .before .next .given .1) at (c .before .before .before .read-run .ensures) in
+    (stands-next (a .constants) (a .s .now) (a .cursor .at) (a .count) st _ (omega (arith, to)) (to .1) found, marking-same m ∙ l .inv .1)
 
 same-length-2 : tie.Need-same-length-2 Inv-loop μ-loop
 same-length-2 c = c .before .loop .inv .1
@@ -115,17 +108,14 @@ read-marked-spec =
     loop-holds
     sub-mark-unit
     mark-unit-requires
-    slice-reshare-prefix-read-unit
-    slice-aggregate-read-unit
-    read-unit-requires
-    enum-known-outputs
-    wide-requires
-    mul-outs
-    array-write-outs
+    run-end-requires
+    slice-reshare-prefix-read-run
+    slice-aggregate-read-run
+    read-run-requires
+    enum-known-next
     enum-known-refusal
     same-length
     returns
-    add-i
     loop-less
     loop-again
     same-length-2

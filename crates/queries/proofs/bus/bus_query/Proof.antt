@@ -1,12 +1,10 @@
-use Prim.Native.Nat.{ℕ, _+_}
-use mathlib.Core.Path.{ap, _∙_}
+use Prim.Native.Nat.{ℕ}
+use mathlib.Core.Path.{sym, ap, _∙_}
 use mathlib.Core.List.{[], _∷_}
-use native.Mathlib.Omega.{arith}
 use borrow.Author.Needs.{needs}
-use lib.ListN.{getD}
+use borrow.Author.Tests.{not-true, not-false}
 use Rattle.refusals.specs.declared.Refusal.the-variants.{NoBus}
 use Rattle.model.specs.declared.Query.the-variants as query
-use Rattle.model.specs.Layout.{busesPlace}
 use Rattle.model.specs.Engine.{decode}
 use Rattle.model.specs.Replies.{busAddress}
 use Rattle.replies.specs.Sent.{wordMessage}
@@ -15,22 +13,27 @@ use Rattle.queries.specs.Same.{busTags, bus-fires, bus-passes, bus-reply
 use Rattle.queries.proofs.bus.bus_query.Statement.{statement}
 use Rattle.queries.proofs.bus.bus_query.Tie as tie
 
+is-bus-requires : tie.Need-is-bus-requires
+is-bus-requires c κs = search needs
+
 returns : tie.Need-returns
 returns c =
-    let a = c .before .before .before .before .before .args in
-    reply-refused (query.Bus (a .bus)) (a .bytes .now) (a .words .now) (a .arena .now) (a .out .now) NoBus (bus-fires (a .bus) (a .bytes .now) (decode (a .words .now) (a .arena .now)) (omega arith))
+    let a = c .before .before .before .before .before .before .args in
+    let b = c .before .is-bus in
+    reply-refused (query.Bus (a .bus)) (a .bytes .now) (a .words .now) (a .arena .now) (a .out .now) NoBus
+    (bus-fires (a .bus) (a .bytes .now) (decode (a .words .now) (a .arena .now)) (sym (b .ensures) ∙ not-true (b .result) (c .if1 .taken)))
 
-wide-requires : tie.Need-wide-requires
-wide-requires c κs = search needs
+sub-read-bus : tie.Need-sub-read-bus
+sub-read-bus c = search needs
 
-add-value : tie.Need-add-value
-add-value c = search needs
+part-read-bus-start : tie.Need-part-read-bus-start
+part-read-bus-start c = search needs
 
-mul-value : tie.Need-mul-value
-mul-value c = search needs
+part-read-bus-end : tie.Need-part-read-bus-end
+part-read-bus-end c = search needs
 
-shared-slice-read-value : tie.Need-shared-slice-read-value
-shared-slice-read-value c = search needs
+read-bus-requires : tie.Need-read-bus-requires
+read-bus-requires c κs = search needs
 
 slice-aggregate-send-words : tie.Need-slice-aggregate-send-words
 slice-aggregate-send-words c = search needs
@@ -49,23 +52,26 @@ same-length c = search needs
 
 returns-2 : tie.Need-returns-2
 returns-2 c =
-    let a = c .before .before .before .before .before .before .before .before .before .before .before .before .before .before .args in
+    let a = c .before .before .before .before .before .before .before .before .before .before .before .before .before .before .before .args in
     let ws = a .words .now in
-    let w = c .before .before .before .before .before .before .before .before .wide in
-    reply-sent (query.Bus (a .bus)) (a .bytes .now) ws (a .arena .now) (a .out .now) (wordMessage busAddress busTags (a .bus ∷ (getD ws (busesPlace + w .result) 0 ∷ []))) (c .before .before .send-words .result) (c .before .before .send-words .last .0)
-    (bus-passes (a .bus) (a .bytes .now) (decode ws (a .arena .now)) (omega arith))
-    (ap (λ (k : ℕ). wordMessage busAddress busTags (a .bus ∷ (getD ws (busesPlace + k) 0 ∷ []))) (w .ensures) ∙ bus-reply (a .bus) (a .bytes .now) ws (a .arena .now) (omega arith))
-    (c .before .before .send-words .ensures)
+    let b = c .before .before .before .before .before .before .before .before .before .before .is-bus in
+    let value = c .before .before .before .before .before .before .before .read-bus in
+    let sent = c .before .before .send-words in
+    reply-sent (query.Bus (a .bus)) (a .bytes .now) ws (a .arena .now) (a .out .now) (wordMessage busAddress busTags (a .bus ∷ (value .result ∷ []))) (sent .result) (sent .last .0)
+    (bus-passes (a .bus) (a .bytes .now) (decode ws (a .arena .now)) (sym (b .ensures) ∙ not-false (b .result) (c .before .before .before .before .before .before .before .before .before .if1 .left)))
+    (ap (λ (v : ℕ). wordMessage busAddress busTags (a .bus ∷ (v ∷ []))) (value .ensures) ∙ bus-reply (a .bus) (a .bytes .now) ws (a .arena .now))
+    (sent .ensures)
 
 pub bus-query-spec : {M : Type 1} → statement M
 bus-query-spec =
     tie.close
     (tie.spec
+    is-bus-requires
     returns
-    wide-requires
-    add-value
-    mul-value
-    shared-slice-read-value
+    sub-read-bus
+    part-read-bus-start
+    part-read-bus-end
+    read-bus-requires
     slice-aggregate-send-words
     slice-aggregate-send-words-2
     slice-aggregate-send-words-3

@@ -1,34 +1,54 @@
-use Prim.Native.Nat.{_-_, _%_}
-use mathlib.Core.List.{[], _∷_}
+use Prim.Native.Nat.{ℕ, _-_, _%_}
+use mathlib.Core.Path.{_≡_, ap, _∙_}
+use mathlib.Core.List.{List, [], _∷_}
 use native.Mathlib.Omega.{arith}
 use borrow.Author.Needs.{needs}
+use lib.ListN.{length, drop, getD, length-drop}
+use lib.Seq.{length-take-le}
+use Rattle.nodes.specs.Place.{groupSlot}
 use Rattle.model.specs.declared.Query.the-variants as query
 use Rattle.model.specs.Layout.{countIn}
-use Rattle.model.specs.Engine.{decode}
-use Rattle.model.specs.Replies.{statusAddress}
+use Rattle.model.specs.Engine.{Slot, decode, residents}
+use Rattle.model.specs.Replies.{statusAddress, groupCount}
+use Rattle.slots.specs.Slots.{slots-lent}
 use Rattle.replies.specs.Sent.{wordMessage}
 use Rattle.queries.specs.Answers.{reply-sent}
-use Rattle.queries.specs.Status.{statusTags, kinds-all, status-passes, status-reply}
+use Rattle.queries.specs.Status.{viewFrom, statusTags, kinds-all, status-passes, status-reply}
+use Rattle.queries.specs.Tally.{slotted, groups-all}
 use Rattle.queries.proofs.status.status_query.Statement.{statement}
 use Rattle.queries.proofs.status.status_query.Tie as tie
 
-unit-count-requires : tie.Need-unit-count-requires
-unit-count-requires c κs = search needs
+slot-counts-requires : tie.Need-slot-counts-requires
+slot-counts-requires c κs = let s = c .before .before .before .before in slotted (s .args .words .now) (s .args .arena .now) (s .pre)
 
-group-count-requires : tie.Need-group-count-requires
-group-count-requires c κs = search needs
+unit-count-requires : tie.Need-unit-count-requires
+unit-count-requires c κs = (c .before .before .before .before .before .before .pre, c .before .slot-counts .ensures)
+
+array-read-groups : tie.Need-array-read-groups
+array-read-groups c = search needs
 
 shared-slice-read-synths : tie.Need-shared-slice-read-synths
 shared-slice-read-synths c = search needs
 
 sub-synths : tie.Need-sub-synths
-sub-synths c = omega (arith, c .before .group-count .ensures, kinds-all (c .before .before .before .before .before .before .before .args .words .now) (c .before .before .before .before .before .before .before .args .arena .now))
+sub-synths c =
+    let a = c .before .before .before .before .before .before .before .before .args in
+    omega (arith, c .before .before .before .slot-counts .ensures groupSlot (omega arith), groups-all (a .words .now) (a .arena .now), kinds-all (a .words .now) (a .arena .now))
+
+sub-resident-count : tie.Need-sub-resident-count
+sub-resident-count c = search needs
+
+part-resident-count-start : tie.Need-part-resident-count-start
+part-resident-count-start c = search needs
+
+part-resident-count-end : tie.Need-part-resident-count-end
+part-resident-count-end c = search needs
 
 resident-count-requires : tie.Need-resident-count-requires
-resident-count-requires c κs = search needs
+resident-count-requires c κs = let s = c .before .before .before .before .before .before .before .before .before in length-take-le 64 (drop 4 (s .args .words .now)) (simp length-drop (omega (arith, s .pre .size)))
 
-cast-t13 : tie.Need-cast-t13
-cast-t13 c = search needs
+cast-t17 : tie.Need-cast-t17
+cast-t17 c = search needs
 
 slice-aggregate-send-words : tie.Need-slice-aggregate-send-words
 slice-aggregate-send-words c = search needs
@@ -47,30 +67,37 @@ same-length c = search needs
 
 returns : tie.Need-returns
 returns c =
-    let a = c .before .before .before .before .before .before .before .before .before .before .before .before .before .before .before .args in
+    let a = c .before .before .before .before .before .before .before .before .before .before .before .before .before .before .before .before .before .args in
     let ws = a .words .now in
     let bs = a .arena .now in
     let units = c .before .before .before .before .before .before .before .before .before .before .unit-count in
-    let groups = c .before .before .before .before .before .before .before .before .before .group-count in
+    let groups : ℕ = getD (c .before .before .before .before .before .before .before .before .before .before .before .before .slot-counts .result) groupSlot 0 in
+    let are : groups ≡ groupCount (viewFrom ws bs 0) = c .before .before .before .before .before .before .before .before .before .before .before .before .slot-counts .ensures groupSlot (omega arith) ∙ groups-all ws bs in
     let names = c .before .before .before .before .before .before .before .resident-count in
-    let synths = countIn ws - groups .result in
+    let synths = countIn ws - groups in
+    let sent = c .before .before .send-words in
     reply-sent query.Status (a .bytes .now) ws bs (a .out .now)
-    (wordMessage statusAddress statusTags (units .result % 4294967296 ∷ (synths ∷ (groups .result ∷ (names .result ∷ [])))))
-    (c .before .before .send-words .result) (c .before .before .send-words .last .0)
+    (wordMessage statusAddress statusTags (units .result % 4294967296 ∷ (synths ∷ (groups ∷ (names .result ∷ [])))))
+    (sent .result) (sent .last .0)
     (status-passes (a .bytes .now) (decode ws bs))
-    (status-reply (units .result) synths (groups .result) (names .result) (a .bytes .now) ws bs (units .ensures) (omega (arith, groups .ensures, kinds-all ws bs)) (groups .ensures) (names .ensures))
-    (c .before .before .send-words .ensures)
+    (status-reply (units .result) synths groups (names .result) (a .bytes .now) ws bs (units .ensures) (omega (arith, are, kinds-all ws bs)) are
+    (names .ensures bs ∙ ap (λ (l : List Slot). length (residents l)) (slots-lent ws bs)))
+    (sent .ensures)
 
 pub status-query-spec : {M : Type 1} → statement M
 status-query-spec =
     tie.close
     (tie.spec
+    slot-counts-requires
     unit-count-requires
-    group-count-requires
+    array-read-groups
     shared-slice-read-synths
     sub-synths
+    sub-resident-count
+    part-resident-count-start
+    part-resident-count-end
     resident-count-requires
-    cast-t13
+    cast-t17
     slice-aggregate-send-words
     slice-aggregate-send-words-2
     slice-aggregate-send-words-3

@@ -1,20 +1,27 @@
-use Prim.Native.Nat.{ℕ, _+_}
-use mathlib.Core.Path.{_≡_, ap, _∙_, subst}
+use Prim.Native.Nat.{ℕ, _+_, _*_, _<_}
+use mathlib.Core.Path.{_≡_, ap, ap₂, _∙_, subst}
 use mathlib.Core.List.{List, _++_}
 use native.Mathlib.Omega.{arith}
 use borrow.Author.Needs.{needs}
-use lib.ListN.{length}
+use lib.ListN.{length, getD}
 use Rattle.refusals.specs.declared.Refusal.the-variants.{NoRoom}
 use Rattle.osc.specs.Message.{tags, arguments}
 use Rattle.osc.specs.Over.{over}
 use Rattle.osc.specs.Lengths.{tags-size}
 use Rattle.model.specs.declared.Answer.the-variants.{Refused, Replied}
+use Rattle.model.specs.Layout.{nodesPlace}
 use Rattle.model.specs.Replies.{flagNumber}
 use Rattle.replies.specs.Sent.{Sends, sends-none, sends-all}
-use Rattle.treequery.specs.Rows.{leftRows}
-use Rattle.treequery.specs.TreeMessage.{treeHead, treeBody, tree-message, frontAt, message-size, tree-put}
+use Rattle.controls.specs.Ready.{nodeIn}
+use Rattle.treequery.specs.RowArguments.{childrenAt}
+use Rattle.treequery.specs.Nested.{nested}
+use Rattle.treequery.specs.Rows.{number-fact, leftRows, run-at}
+use Rattle.treequery.specs.TreeMessage.{treeHead, treeBody, tree-message, frontAt, treeFront, message-size, tree-put}
 use Rattle.treequery.proofs.send.send_tree.Statement.{statement}
 use Rattle.treequery.proofs.send.send_tree.Tie as tie
+
+add-from : tie.Need-add-from
+add-from c = omega (arith, c .before .before .before .pre .order, c .before .before .before .pre .ends, c .before .before .before .pre .state .few)
 
 tree-shapes-requires : tie.Need-tree-shapes-requires
 tree-shapes-requires c κs = search needs
@@ -41,72 +48,118 @@ returns : tie.Need-returns
 returns c =
     let s = c .before .before .before .before .before .before .before .before .before in
     let a = s .args in
-    let left = leftRows (a .shown) (a .words .now) (a .arena .now) (a .end) (a .from) in
+    let ws = a .words .now in
+    let bs = a .arena .now in
+    let flag = flagNumber (a .shown) in
+    let left = leftRows (a .shown) ws bs (a .end) (a .at + 1) in
     let size = c .before .before .before .count-tree in
     let many = size .result .tag in
     let b = size .ensures .byte in
     let front = 20 + c .before .before .padded-length .result in
     let f : front ≡ frontAt many = ap (λ (k : ℕ). 20 + k) (c .before .before .padded-length .ensures) in
-    let message = treeHead (tags left) ++ treeBody (flagNumber (a .shown)) (a .number) (a .children) (arguments left) in
-    let whole : length message ≡ frontAt many + 12 + length (arguments left) = message-size (tags left) (arguments left) many (flagNumber (a .shown)) (a .number) (a .children) (size .ensures .tag) in
-    subst (λ (l : List ℕ). Sends l (a .out .now) (Refused NoRoom) (a .out .now)) (tree-message (flagNumber (a .shown)) (a .number) (a .children) left)
+    let message = treeHead (tags left) ++ treeBody flag (nodeIn ws (a .at) .number) (childrenAt ws bs (a .end) (a .at)) (arguments left) in
+    let whole : length message ≡ frontAt many + 12 + length (arguments left) = message-size (tags left) (arguments left) many flag (nodeIn ws (a .at) .number) (childrenAt ws bs (a .end) (a .at)) (size .ensures .tag) in
+    subst (λ (l : List ℕ). Sends l (a .out .now) (Refused NoRoom) (a .out .now)) (tree-message flag (nodeIn ws (a .at) .number) (childrenAt ws bs (a .end) (a .at)) left)
     (sends-none message (a .out .now) (omega (arith, c .if1 .taken)))
+
+tree-children-requires : tie.Need-tree-children-requires
+tree-children-requires c κs = let s = c .before .before .before .before .before .before .before .before .before in nested (s .args .words .now) (s .args .arena .now) (s .pre .state) (s .args .at) (s .args .end) (omega (arith, s .pre .order)) (s .pre .ends)
+
+mul-number : tie.Need-mul-number
+mul-number c = let s = c .before .before .before .before .before .before .before .before .before .before in omega (arith, s .pre .order, s .pre .ends, s .pre .state .few)
+
+add-number : tie.Need-add-number
+add-number c = let s = c .before .before .before .before .before .before .before .before .before .before in omega (arith, s .pre .order, s .pre .ends, s .pre .state .few)
+
+mul-number-2 : tie.Need-mul-number-2
+mul-number-2 c = let s = c .before .before .before .before .before .before .before .before .before .before in omega (arith, s .pre .order, s .pre .ends, s .pre .state .few)
+
+shared-slice-read-number : tie.Need-shared-slice-read-number
+shared-slice-read-number c = let s = c .before .before .before .before .before .before .before .before .before .before .before in omega (arith, s .pre .order, s .pre .ends, s .pre .state .few, s .pre .state .size)
+
+array-read-put-front : tie.Need-array-read-put-front
+array-read-put-front c = let s = c .before .before .before .before .before .before .before .before .before .before .before .before in omega (arith, s .pre .order, s .pre .ends, s .pre .state .few)
+
+cast-put-front : tie.Need-cast-put-front
+cast-put-front c = search needs
 
 put-front-requires : tie.Need-put-front-requires
 put-front-requires c κs =
-    let s = c .before .before .before .before .before .before .before .before .before .before in
+    let s = c .before .before .before .before .before .before .before .before .before .before .before .before in
     let a = s .args in
-    let left = leftRows (a .shown) (a .words .now) (a .arena .now) (a .end) (a .from) in
-    let size = c .before .before .before .before .count-tree in
+    let ws = a .words .now in
+    let bs = a .arena .now in
+    let flag = flagNumber (a .shown) in
+    let left = leftRows (a .shown) ws bs (a .end) (a .at + 1) in
+    let size = c .before .before .before .before .before .before .count-tree in
     let many = size .result .tag in
     let b = size .ensures .byte in
-    let front = 20 + c .before .before .before .padded-length .result in
-    let f : front ≡ frontAt many = ap (λ (k : ℕ). 20 + k) (c .before .before .before .padded-length .ensures) in
-    record { few = size .ensures .few; is = f; room = omega (arith, c .before .if1 .left) }
+    let front = 20 + c .before .before .before .before .before .padded-length .result in
+    let f : front ≡ frontAt many = ap (λ (k : ℕ). 20 + k) (c .before .before .before .before .before .padded-length .ensures) in
+    record { few = size .ensures .few; is = f; room = omega (arith, c .before .before .before .if1 .left) }
 
-add-t17 : tie.Need-add-t17
-add-t17 c = search needs
+add-t18 : tie.Need-add-t18
+add-t18 c = search needs
+
+slice-aggregate-put-tree : tie.Need-slice-aggregate-put-tree
+slice-aggregate-put-tree c = search needs
 
 put-tree-requires : tie.Need-put-tree-requires
 put-tree-requires c κs =
-    let s = c .before .before .before .before .before .before .before .before .before .before .before .before .before .before .before in
+    let s = c .before .before .before .before .before .before .before .before .before .before .before .before .before .before .before .before .before .before in
     let a = s .args in
-    let left = leftRows (a .shown) (a .words .now) (a .arena .now) (a .end) (a .from) in
-    let size = c .before .before .before .before .before .before .before .before .before .count-tree in
+    let ws = a .words .now in
+    let bs = a .arena .now in
+    let flag = flagNumber (a .shown) in
+    let left = leftRows (a .shown) ws bs (a .end) (a .at + 1) in
+    let size = c .before .before .before .before .before .before .before .before .before .before .before .before .count-tree in
     let many = size .result .tag in
     let b = size .ensures .byte in
-    let front = 20 + c .before .before .before .before .before .before .before .before .padded-length .result in
-    let f : front ≡ frontAt many = ap (λ (k : ℕ). 20 + k) (c .before .before .before .before .before .before .before .before .padded-length .ensures) in
+    let front = 20 + c .before .before .before .before .before .before .before .before .before .before .before .padded-length .result in
+    let f : front ≡ frontAt many = ap (λ (k : ℕ). 20 + k) (c .before .before .before .before .before .before .before .before .before .before .before .padded-length .ensures) in
     let e = size .ensures .tag in
-    (record { run = s .pre; fact = c .before .before .before .before .before .before .before .before .before .before .before .tree-shapes .ensures }, record { apart = omega (arith, tags-size left); room = omega (arith, c .before .before .before .before .before .before .if1 .left) })
+    let long : length (c .before .before .before .before .before .before .before .before .tree-children .result) ≡ 256 = search needs in (
+      record { run = s .pre; fact = c .before .before .before .before .before .before .before .before .before .before .before .before .before .before .tree-shapes .ensures },
+      omega (arith, s .pre .ends, s .pre .state .few),
+      λ i h l. c .before .before .before .before .before .before .before .before .tree-children .ensures bs i (omega arith) l,
+      record { apart = omega (arith, tags-size left); room = omega (arith, c .before .before .before .before .before .before .before .before .before .if1 .left) },
+    )
 
 same-length : tie.Need-same-length
 same-length c = search needs
 
 returns-2 : tie.Need-returns-2
 returns-2 c =
-    let s = c .before .before .before .before .before .before .before .before .before .before .before .before .before .before .before .before .before .before in
+    let s = c .before .before .before .before .before .before .before .before .before .before .before .before .before .before .before .before .before .before .before .before .before in
     let a = s .args in
-    let left = leftRows (a .shown) (a .words .now) (a .arena .now) (a .end) (a .from) in
-    let size = c .before .before .before .before .before .before .before .before .before .before .before .before .count-tree in
+    let ws = a .words .now in
+    let bs = a .arena .now in
+    let flag = flagNumber (a .shown) in
+    let left = leftRows (a .shown) ws bs (a .end) (a .at + 1) in
+    let size = c .before .before .before .before .before .before .before .before .before .before .before .before .before .before .before .count-tree in
     let many = size .result .tag in
     let b = size .ensures .byte in
-    let front = 20 + c .before .before .before .before .before .before .before .before .before .before .before .padded-length .result in
-    let f : front ≡ frontAt many = ap (λ (k : ℕ). 20 + k) (c .before .before .before .before .before .before .before .before .before .before .before .padded-length .ensures) in
-    let message = treeHead (tags left) ++ treeBody (flagNumber (a .shown)) (a .number) (a .children) (arguments left) in
-    let whole : length message ≡ frontAt many + 12 + length (arguments left) = message-size (tags left) (arguments left) many (flagNumber (a .shown)) (a .number) (a .children) (size .ensures .tag) in
+    let front = 20 + c .before .before .before .before .before .before .before .before .before .before .before .before .before .before .padded-length .result in
+    let f : front ≡ frontAt many = ap (λ (k : ℕ). 20 + k) (c .before .before .before .before .before .before .before .before .before .before .before .before .before .before .padded-length .ensures) in
+    let message = treeHead (tags left) ++ treeBody flag (nodeIn ws (a .at) .number) (childrenAt ws bs (a .end) (a .at)) (arguments left) in
+    let whole : length message ≡ frontAt many + 12 + length (arguments left) = message-size (tags left) (arguments left) many flag (nodeIn ws (a .at) .number) (childrenAt ws bs (a .end) (a .at)) (size .ensures .tag) in
     let put = c .before .before .put-tree in
+    let live : a .at < a .end = omega (arith, s .pre .order) in
+    let fitted = c .before .before .before .before .before .before .before .before .before .before .before .before .if1 .left in
+    let numbers : treeFront many front flag (getD ws (nodesPlace + 5 * a .at) 0) (getD (c .before .before .before .before .before .before .before .before .before .before .before .tree-children .result) (a .at) 0) (a .out .now) ≡ treeFront many front flag (nodeIn ws (a .at) .number) (childrenAt ws bs (a .end) (a .at)) (a .out .now) =
+    ap₂ (λ (x y : ℕ). treeFront many front flag x y (a .out .now)) (number-fact ws bs (a .at) (run-at ws bs (a .at + 1) (a .end) (a .at) (s .pre) live)) (c .before .before .before .before .before .before .before .before .before .before .before .tree-children .ensures bs (a .at) (omega arith) live) in
     let written : put .last .0 ≡ over 0 message (a .out .now) =
     put .ensures .buffer
-    ∙ ap (λ (l : List ℕ). over (front + 12) (arguments left) (over 24 (tags left) l)) (c .before .before .before .before .before .before .before .put-front .ensures)
-    ∙ tree-put (tags left) (arguments left) (a .out .now) many front (flagNumber (a .shown)) (a .number) (a .children) (size .ensures .tag) f (omega (arith, c .before .before .before .before .before .before .before .before .before .if1 .left)) in
-    subst (λ (l : List ℕ). Sends l (a .out .now) (Replied (front + 12 + size .result .byte)) (put .last .0)) (tree-message (flagNumber (a .shown)) (a .number) (a .children) left)
-    (sends-all message (a .out .now) (front + 12 + size .result .byte) (put .last .0) (omega arith) (omega (arith, c .before .before .before .before .before .before .before .before .before .if1 .left)) written)
+    ∙ ap (λ (l : List ℕ). over (front + 12) (arguments left) (over 24 (tags left) l)) (c .before .before .before .before .before .before .before .before .put-front .ensures ∙ numbers)
+    ∙ tree-put (tags left) (arguments left) (a .out .now) many front flag (nodeIn ws (a .at) .number) (childrenAt ws bs (a .end) (a .at)) (size .ensures .tag) f (omega (arith, fitted)) in
+    subst (λ (l : List ℕ). Sends l (a .out .now) (Replied (front + 12 + size .result .byte)) (put .last .0)) (tree-message flag (nodeIn ws (a .at) .number) (childrenAt ws bs (a .end) (a .at)) left)
+    (sends-all message (a .out .now) (front + 12 + size .result .byte) (put .last .0) (omega arith) (omega (arith, fitted)) written)
 
 pub send-tree-spec : {M : Type 1} → statement M
 send-tree-spec =
     tie.close
     (tie.spec
+    add-from
     tree-shapes-requires
     count-tree-requires
     add-padded-length
@@ -115,8 +168,16 @@ send-tree-spec =
     add-whole
     add-whole-2
     returns
+    tree-children-requires
+    mul-number
+    add-number
+    mul-number-2
+    shared-slice-read-number
+    array-read-put-front
+    cast-put-front
     put-front-requires
-    add-t17
+    add-t18
+    slice-aggregate-put-tree
     put-tree-requires
     same-length
     returns-2)

@@ -1,25 +1,16 @@
-use Prim.Native.Nat.{ℕ, _+_}
+use Prim.Native.Nat.{ℕ}
 use mathlib.Core.Path.{_≡_, sym, ap, _∙_}
-use mathlib.Core.List.{List, _∷_}
 use native.Mathlib.Omega.{arith}
 use borrow.Author.Needs.{needs}
 use borrow.Author.Tests.{not-true, not-false}
-use lib.ListN.{length}
 use Rattle.words.specs.Parts.{region}
 use Rattle.refusals.specs.declared.Refusal.the-variants.{NoNode, WrongKind}
-
-use Rattle.nodes.specs.Structure.{childCount}
 use Rattle.nodes.specs.Sizes.{endAt}
-use Rattle.tree.specs.Around.{childrenAt, childrenOf-at}
-use Rattle.osc.specs.Message.{int, message}
 use Rattle.model.specs.declared.Query.the-variants as query
-use Rattle.model.specs.Layout.{countIn, nodesIn, nodesPlace, nodesWords}
-use Rattle.model.specs.Replies.{treeAddress, flagNumber}
-use Rattle.controls.specs.Ready.{nodeIn}
+use Rattle.model.specs.Layout.{countIn, nodesPlace, nodesWords}
 use Rattle.queries.specs.Answers.{reply-refused, reply-sent}
 use Rattle.queries.specs.Held.{At}
-use Rattle.queries.specs.Info.{here-number}
-use Rattle.treequery.specs.Rows.{leftRows}
+use Rattle.treequery.specs.Rows.{treeMessage}
 use Rattle.treequery.specs.Subtree.{end-most, tree-unknown, tree-synth, tree-passes, tree-reply}
 use Rattle.treequery.proofs.send.tree_query.Statement.{statement}
 use Rattle.treequery.proofs.send.tree_query.Tie as tie
@@ -56,26 +47,14 @@ returns-2 c =
     reply-refused (query.Tree (a .group) (a .flag)) (a .bytes .now) ws bs (a .out .now) WrongKind
     (tree-synth (a .group) (a .bytes .now) ws bs (n .result) (n .ensures) (record { state = s .pre; live = omega (arith, c .before .before .before .wide .ensures) }) (a .flag) (sym (c .before .node-is-group .ensures) ∙ not-true (c .before .node-is-group .result) (c .if2 .taken)))
 
-sub-nodes : tie.Need-sub-nodes
-sub-nodes c = search needs
+sub-subtree-end : tie.Need-sub-subtree-end
+sub-subtree-end c = search needs
 
-part-nodes-start : tie.Need-part-nodes-start
-part-nodes-start c = search needs
+part-subtree-end-start : tie.Need-part-subtree-end-start
+part-subtree-end-start c = search needs
 
-part-nodes-end : tie.Need-part-nodes-end
-part-nodes-end c = search needs
-
-mul-number : tie.Need-mul-number
-mul-number c = search needs
-
-mul-number-2 : tie.Need-mul-number-2
-mul-number-2 c = search needs
-
-shared-slice-read-number : tie.Need-shared-slice-read-number
-shared-slice-read-number c = search needs
-
-child-count-requires : tie.Need-child-count-requires
-child-count-requires c κs = search needs
+part-subtree-end-end : tie.Need-part-subtree-end-end
+part-subtree-end-end c = search needs
 
 subtree-end-requires : tie.Need-subtree-end-requires
 subtree-end-requires c κs = search needs
@@ -83,18 +62,12 @@ subtree-end-requires c κs = search needs
 is-shown-requires : tie.Need-is-shown-requires
 is-shown-requires c κs = search needs
 
-add-send-tree : tie.Need-add-send-tree
-add-send-tree c = search needs
-
 send-tree-requires : tie.Need-send-tree-requires
 send-tree-requires c κs =
-    let s = c .before .before .before .before .before .before .before .before .before .before .before .before .before .before .before .before in
-    let a = s .args in
-    let ws = a .words .now in
-    let bs = a .arena .now in
-    let n = c .before .before .before .before .before .before .before .before .before .before .before .node-place in
-    let us = region nodesPlace nodesWords ws in
-    let w = c .before .before .before .before .before .before .before .before .before .wide in
+    let s = c .before .before .before .before .before .before .before .before .before .before .before .before .before .before in
+    let us = region nodesPlace nodesWords (s .args .words .now) in
+    let n = c .before .before .before .before .before .before .before .before .before .node-place in
+    let w = c .before .before .before .before .before .before .before .wide in
     let e = c .before .before .subtree-end in
     record {
       state = s .pre;
@@ -107,30 +80,22 @@ same-length c = search needs
 
 returns-3 : tie.Need-returns-3
 returns-3 c =
-    let s = c .before .before .before .before .before .before .before .before .before .before .before .before .before .before .before .before .before .before .before in
+    let s = c .before .before .before .before .before .before .before .before .before .before .before .before .before .before .before .before .before in
     let a = s .args in
     let ws = a .words .now in
     let bs = a .arena .now in
-    let n = c .before .before .before .before .before .before .before .before .before .before .before .before .before .before .node-place in
+    let n = c .before .before .before .before .before .before .before .before .before .before .before .before .node-place in
     let us = region nodesPlace nodesWords ws in
-    let w = c .before .before .before .before .before .before .before .before .before .before .before .before .wide in
-    let at : ℕ = n .result in
-    let there : At ws bs at = record { state = s .pre; live = omega (arith, w .ensures) } in
-    let m : ℕ = nodeIn ws at .number in
-    let shown = c .before .before .before .before .is-shown in
+    let w = c .before .before .before .before .before .before .before .before .before .before .wide in
+    let there : At ws bs (n .result) = record { state = s .pre; live = omega (arith, w .ensures) } in
+    let shown = c .before .before .before .is-shown in
     let end = c .before .before .before .before .before .subtree-end in
-    let children = c .before .before .before .before .before .before .child-count in
     let sent = c .before .before .send-tree in
-    let ends : end .result ≡ endAt (countIn ws) us at = end .ensures ∙ ap (λ (k : ℕ). endAt k us at) (w .ensures) in
-    let counted : children .result ≡ childCount m (nodesIn ws) =
-    children .ensures
-    ∙ ap (λ (k : ℕ). length (childrenAt k us at)) (w .ensures)
-    ∙ ap (λ (l : List ℕ). length l) (sym (childrenOf-at (countIn ws) us m at (here-number (a .group) ws bs at (n .ensures) there) (there .live))) in
-    reply-sent (query.Tree (a .group) (a .flag)) (a .bytes .now) ws bs (a .out .now)
-    (message treeAddress (int (flagNumber (shown .result)) ∷ (int m ∷ (int (children .result) ∷ leftRows (shown .result) ws bs (end .result) (at + 1)))))
-    (sent .result) (sent .last .0)
-    (tree-passes (a .group) (a .bytes .now) ws bs (n .result) (n .ensures) there (a .flag) (sym (c .before .before .before .before .before .before .before .before .before .before .node-is-group .ensures) ∙ not-false (c .before .before .before .before .before .before .before .before .before .before .node-is-group .result) (c .before .before .before .before .before .before .before .before .before .if2 .left)))
-    (tree-reply (a .group) (a .bytes .now) ws bs (n .result) (n .ensures) there (a .flag) (end .result) (children .result) (shown .result) (shown .ensures) ends counted)
+    let group = c .before .before .before .before .before .before .before .before .node-is-group in
+    let ends : end .result ≡ endAt (countIn ws) us (n .result) = end .ensures ∙ ap (λ (k : ℕ). endAt k us (n .result)) (w .ensures) in
+    reply-sent (query.Tree (a .group) (a .flag)) (a .bytes .now) ws bs (a .out .now) (treeMessage (shown .result) ws bs (end .result) (n .result)) (sent .result) (sent .last .0)
+    (tree-passes (a .group) (a .bytes .now) ws bs (n .result) (n .ensures) there (a .flag) (sym (group .ensures) ∙ not-false (group .result) (c .before .before .before .before .before .before .before .if2 .left)))
+    (tree-reply (a .group) (a .bytes .now) ws bs (n .result) (n .ensures) there (a .flag) (end .result) (shown .result) (shown .ensures) ends)
     (sent .ensures)
 
 pub tree-query-spec : {M : Type 1} → statement M
@@ -143,16 +108,11 @@ tree-query-spec =
     returns
     node-is-group-requires
     returns-2
-    sub-nodes
-    part-nodes-start
-    part-nodes-end
-    mul-number
-    mul-number-2
-    shared-slice-read-number
-    child-count-requires
+    sub-subtree-end
+    part-subtree-end-start
+    part-subtree-end-end
     subtree-end-requires
     is-shown-requires
-    add-send-tree
     send-tree-requires
     same-length
     returns-3)

@@ -2,15 +2,15 @@ use Prim.Native.Nat.{ℕ, _*_}
 use mathlib.Core.Path.{sym, ap, _∙_, subst}
 use mathlib.Core.List.{List}
 use native.Mathlib.Omega.{arith}
+use native.Mathlib.Nat.{pos-of-ne-zero}
 use borrow.Author.Needs.{needs}
 use lib.ListN.{getD}
-use native.Mathlib.Nat.{pos-of-ne-zero}
 use Rattle.slots.specs.Slots.{slotBytes}
 use Rattle.controls.specs.Ready.{nodeIn}
 use Rattle.queries.specs.Held.{bounds}
 use Rattle.treequery.specs.Shapes.{Filled}
 use Rattle.treequery.specs.LookUp.{looked-group, looked-before, looked-now}
-use Rattle.treequery.specs.SynthRow.{slot-fact, synth-slot, synth-readable}
+use Rattle.treequery.specs.SynthRow.{synth-readable}
 use Rattle.treequery.proofs.shapes.look_up_row.Statement.{statement}
 use Rattle.treequery.proofs.shapes.look_up_row.Tie as tie
 
@@ -22,65 +22,57 @@ returns c =
     let s = c .before .before .before .before in
     looked-group (s .args .words .now) (s .args .arena .now) (s .args .place) (s .args .shapes .now) (s .pre .1) (sym (c .before .node-is-group .ensures) ∙ c .if1 .taken)
 
-mul-wide : tie.Need-mul-wide
-mul-wide c = search needs
-
-add-wide : tie.Need-add-wide
-add-wide c = search needs
-
-add-wide-2 : tie.Need-add-wide-2
-add-wide-2 c = search needs
-
-mul-wide-2 : tie.Need-mul-wide-2
-mul-wide-2 c = search needs
-
-shared-slice-read-wide : tie.Need-shared-slice-read-wide
-shared-slice-read-wide c = search needs
-
-wide-requires : tie.Need-wide-requires
-wide-requires c κs = search needs
+node-slot-requires : tie.Need-node-slot-requires
+node-slot-requires c κs =
+    let s = c .before .before .before .before in
+    let bound = bounds (s .args .words .now) (s .args .arena .now) (s .args .place) (s .pre .0) in
+    (bound .size, bound .place)
 
 mul-if2 : tie.Need-mul-if2
-mul-if2 c = omega (arith, c .wide .ensures, synth-slot (c .before .before .before .before .before .before .args .words .now) (c .before .before .before .before .before .before .args .arena .now) (c .before .before .before .before .before .before .args .place) (c .before .before .before .before .before .before .pre .0) (sym (c .before .before .before .node-is-group .ensures) ∙ c .before .before .if1 .left))
+mul-if2 c =
+    let s = c .before .before .before .before .before in
+    omega (arith, c .node-slot .ensures, bounds (s .args .words .now) (s .args .arena .now) (s .args .place) (s .pre .0) .slot (sym (c .before .before .node-is-group .ensures) ∙ c .before .if1 .left))
 
 mul-if2-2 : tie.Need-mul-if2-2
-mul-if2-2 c = omega (arith, c .wide .ensures, synth-slot (c .before .before .before .before .before .before .args .words .now) (c .before .before .before .before .before .before .args .arena .now) (c .before .before .before .before .before .before .args .place) (c .before .before .before .before .before .before .pre .0) (sym (c .before .before .before .node-is-group .ensures) ∙ c .before .before .if1 .left))
+mul-if2-2 c =
+    let s = c .before .before .before .before .before in
+    omega (arith, c .node-slot .ensures, bounds (s .args .words .now) (s .args .arena .now) (s .args .place) (s .pre .0) .slot (sym (c .before .before .node-is-group .ensures) ∙ c .before .if1 .left))
 
 element-copy-out-if2 : tie.Need-element-copy-out-if2
-element-copy-out-if2 c = omega (arith, c .wide .ensures, synth-slot (c .before .before .before .before .before .before .args .words .now) (c .before .before .before .before .before .before .args .arena .now) (c .before .before .before .before .before .before .args .place) (c .before .before .before .before .before .before .pre .0) (sym (c .before .before .before .node-is-group .ensures) ∙ c .before .before .if1 .left))
+element-copy-out-if2 c =
+    let s = c .before .before .before .before .before in
+    omega (arith, c .node-slot .ensures, bounds (s .args .words .now) (s .args .arena .now) (s .args .place) (s .pre .0) .slot (sym (c .before .before .node-is-group .ensures) ∙ c .before .if1 .left))
 
 returns-2 : tie.Need-returns-2
 returns-2 c =
-    let s = c .before .before .before .before .before .before .before .before in
-    let ws = s .args .words .now in
-    let slot = c .before .before .wide .ensures ∙ slot-fact ws (s .args .arena .now) (s .args .place) (s .pre .0) (sym (c .before .before .before .before .before .node-is-group .ensures) ∙ c .before .before .before .before .if1 .left) in
-    looked-before ws (s .args .arena .now) (s .args .place) (s .args .shapes .now) (s .pre .1)
-    (pos-of-ne-zero (λ e. c .if2 .taken (ap (λ (k : ℕ). getD (s .args .shapes .now) (33 * k) 0) slot ∙ e)))
+    let s = c .before .before .before .before .before .before .before in
+    looked-before (s .args .words .now) (s .args .arena .now) (s .args .place) (s .args .shapes .now) (s .pre .1)
+    (pos-of-ne-zero (λ e. c .if2 .taken (ap (λ (k : ℕ). getD (s .args .shapes .now) (33 * k) 0) (c .before .before .node-slot .ensures) ∙ e)))
 
 node-definition-requires : tie.Need-node-definition-requires
 node-definition-requires c κs =
-    let s = c .before .before .before .before .before .before .before .before .before in
+    let s = c .before .before .before .before .before .before .before .before in
     let bound = bounds (s .args .words .now) (s .args .arena .now) (s .args .place) (s .pre .0) in
-    (bound .size, bound .place, bound .slot (sym (c .before .before .before .before .before .before .node-is-group .ensures) ∙ c .before .before .before .before .before .if1 .left))
+    (bound .size, bound .place, bound .slot (sym (c .before .before .before .before .before .node-is-group .ensures) ∙ c .before .before .before .before .if1 .left))
 
 look-up-requires : tie.Need-look-up-requires
 look-up-requires c κs =
-    let s = c .before .before .before .before .before .before .before .before .before .before in
+    let s = c .before .before .before .before .before .before .before .before .before in
     let ws = s .args .words .now in
     let bs = s .args .arena .now in
-    let one = (sym (c .before .before .before .before .before .before .before .node-is-group .ensures) ∙ c .before .before .before .before .before .before .if1 .left) in
-    (omega (arith, c .before .before .before .before .wide .ensures, synth-slot ws bs (s .args .place) (s .pre .0) one), s .pre .1 .size, rw (c .node-definition .ensures) (synth-readable ws bs (s .args .place) (s .pre .0) one))
+    let one = sym (c .before .before .before .before .before .before .node-is-group .ensures) ∙ c .before .before .before .before .before .if1 .left in
+    (omega (arith, c .before .before .before .before .node-slot .ensures, bounds ws bs (s .args .place) (s .pre .0) .slot one), s .pre .1 .size, rw (c .node-definition .ensures) (synth-readable ws bs (s .args .place) (s .pre .0) one))
 
 returns-3 : tie.Need-returns-3
 returns-3 c =
-    let s = c .before .before .before .before .before .before .before .before .before .before .before in
+    let s = c .before .before .before .before .before .before .before .before .before .before in
     let ws = s .args .words .now in
     let bs = s .args .arena .now in
-    let one = (sym (c .before .before .before .before .before .before .before .before .node-is-group .ensures) ∙ c .before .before .before .before .before .before .before .if1 .left) in
-    let slot = c .before .before .before .before .before .wide .ensures ∙ slot-fact ws bs (s .args .place) (s .pre .0) one in
+    let one = sym (c .before .before .before .before .before .before .before .node-is-group .ensures) ∙ c .before .before .before .before .before .before .if1 .left in
+    let slot = c .before .before .before .before .before .node-slot in
     looked-now ws bs (s .args .place) (s .args .shapes .now) (s .pre .1) (c .look-up .last .0) (bounds ws bs (s .args .place) (s .pre .0) .slot one)
-    (subst (λ (k : ℕ). Filled (slotBytes ws bs (nodeIn ws (s .args .place) .slot)) k (s .args .shapes .now) (c .look-up .last .0)) slot
-    (subst (λ (d : List ℕ). Filled d (c .before .before .before .before .before .wide .result) (s .args .shapes .now) (c .look-up .last .0)) (c .before .node-definition .ensures) (c .look-up .ensures)))
+    (subst (λ (k : ℕ). Filled (slotBytes ws bs (nodeIn ws (s .args .place) .slot)) k (s .args .shapes .now) (c .look-up .last .0)) (slot .ensures)
+    (subst (λ (d : List ℕ). Filled d (slot .result) (s .args .shapes .now) (c .look-up .last .0)) (c .before .node-definition .ensures) (c .look-up .ensures)))
 
 pub look-up-row-spec : {M : Type 1} → statement M
 look-up-row-spec =
@@ -88,12 +80,7 @@ look-up-row-spec =
     (tie.spec
     node-is-group-requires
     returns
-    mul-wide
-    add-wide
-    add-wide-2
-    mul-wide-2
-    shared-slice-read-wide
-    wide-requires
+    node-slot-requires
     mul-if2
     mul-if2-2
     element-copy-out-if2

@@ -33,27 +33,24 @@ shared-slice-read-number c = search needs
 node-is-group-requires : tie.Need-node-is-group-requires
 node-is-group-requires c κs = search needs
 
-children-at-requires : tie.Need-children-at-requires
-children-at-requires c κs = search needs
-
 put-pair-requires : tie.Need-put-pair-requires
 put-pair-requires c κs =
-    let s = c .before .before .before .before .before .before .before .before in
+    let s = c .before .before .before .before .before .before .before in
     let ws = s .args .words .now in
     let bs = s .args .arena .now in
     let i = s .args .place in
-    rw (sym (group-turn (s .args .shown) ws bs (s .args .end) i (getD ws (nodesPlace + 5 * i) 0) (c .children-at .result) (sym (c .before .before .before .node-is-group .ensures) ∙ c .before .before .if1 .taken) (number-fact ws bs i (s .pre .0 .at)) (c .children-at .ensures bs))) (s .pre .1)
+    rw (sym (group-turn (s .args .shown) ws bs (s .args .end) i (getD ws (nodesPlace + 5 * i) 0) (s .args .children) (sym (c .before .before .node-is-group .ensures) ∙ c .before .if1 .taken) (number-fact ws bs i (s .pre .0 .at)) (s .pre .1))) (s .pre .2)
 
 same-length : tie.Need-same-length
 same-length c = search needs
 
 returns : tie.Need-returns
 returns c =
-    let s = c .before .before .before .before .before .before .before .before .before .before .before in
+    let s = c .before .before .before .before .before .before .before .before .before .before in
     let ws = s .args .words .now in
     let bs = s .args .arena .now in
     let i = s .args .place in
-    rw (group-turn (s .args .shown) ws bs (s .args .end) i (getD ws (nodesPlace + 5 * i) 0) (c .before .before .before .children-at .result) (sym (c .before .before .before .before .before .before .node-is-group .ensures) ∙ c .before .before .before .before .before .if1 .taken) (number-fact ws bs i (s .pre .0 .at)) (c .before .before .before .children-at .ensures bs)) (c .before .before .put-pair .ensures)
+    rw (group-turn (s .args .shown) ws bs (s .args .end) i (getD ws (nodesPlace + 5 * i) 0) (s .args .children) (sym (c .before .before .before .before .before .node-is-group .ensures) ∙ c .before .before .before .before .if1 .taken) (number-fact ws bs i (s .pre .0 .at)) (s .pre .1)) (c .before .before .put-pair .ensures)
 
 put-pair-requires-2 : tie.Need-put-pair-requires-2
 put-pair-requires-2 c κs =
@@ -64,7 +61,7 @@ put-pair-requires-2 c κs =
     let at = s .pre .0 .at in
     let one = sym (c .before .before .node-is-group .ensures) ∙ c .before .if1 .left in
     let n = getD ws (nodesPlace + 5 * i) 0 in
-    left-some (int n ∷ (int noNode ∷ [])) (text (stringAt (slotBytes ws bs (nodeIn ws i .slot)) 0) ∷ controlsShown ws bs i (s .args .shown)) (left-all (s .pre .1)) (synth-pair ws bs i at one (s .args .shown) (s .args .end) n (number-fact ws bs i at))
+    left-some (int n ∷ (int noNode ∷ [])) (text (stringAt (slotBytes ws bs (nodeIn ws i .slot)) 0) ∷ controlsShown ws bs i (s .args .shown)) (left-all (s .pre .2)) (synth-pair ws bs i at one (s .args .shown) (s .args .end) n (number-fact ws bs i at))
 
 node-definition-requires : tie.Need-node-definition-requires
 node-definition-requires c κs =
@@ -100,7 +97,7 @@ put-argument-requires c κs =
     let n = getD ws (nodesPlace + 5 * i) 0 in
     let shown = controlsShown ws bs i (s .args .shown) in
     let turn = synth-turn ws bs i at one (s .args .shown) (s .args .end) n d p (number-fact ws bs i at) (c .before .before .node-definition .ensures) (c .string-at .ensures .0) in
-    let h1 = left-less (int n ∷ (int noNode ∷ [])) (pieceArgument d p ∷ shown) (left-all (s .pre .1)) turn (c .before .before .before .before .before .put-pair2 .ensures) in
+    let h1 = left-less (int n ∷ (int noNode ∷ [])) (pieceArgument d p ∷ shown) (left-all (s .pre .2)) turn (c .before .before .before .before .before .put-pair2 .ensures) in
     record { short = rw (c .before .before .node-definition .ensures) (synth-short ws bs i at one); small = c .string-at .ensures .1; room = left-some (pieceArgument d p ∷ []) shown h1 refl }
 
 put-controls-requires : tie.Need-put-controls-requires
@@ -116,7 +113,7 @@ put-controls-requires c κs =
     let n = getD ws (nodesPlace + 5 * i) 0 in
     let shown = controlsShown ws bs i (s .args .shown) in
     let turn = synth-turn ws bs i at one (s .args .shown) (s .args .end) n d p (number-fact ws bs i at) (c .before .before .before .before .before .before .before .node-definition .ensures) (c .before .before .before .before .before .string-at .ensures .0) in
-    let h1 = left-less (int n ∷ (int noNode ∷ [])) (pieceArgument d p ∷ shown) (left-all (s .pre .1)) turn (c .before .before .before .before .before .before .before .before .before .before .put-pair2 .ensures) in
+    let h1 = left-less (int n ∷ (int noNode ∷ [])) (pieceArgument d p ∷ shown) (left-all (s .pre .2)) turn (c .before .before .before .before .before .before .before .before .before .before .put-pair2 .ensures) in
     let h2 = left-less (pieceArgument d p ∷ []) shown h1 refl (c .before .before .before .before .put-argument .ensures) in
     (record { at = at; single = one; shape = s .pre .0 .shape (c .before .if2 .taken) one }, rw (c .before .if2 .taken) at (h2 .room))
 
@@ -136,7 +133,7 @@ returns-2 c =
     let n = getD ws (nodesPlace + 5 * i) 0 in
     let shown = controlsShown ws bs i (s .args .shown) in
     let turn = synth-turn ws bs i at one (s .args .shown) (s .args .end) n d p (number-fact ws bs i at) (c .before .before .before .before .before .before .before .before .before .before .node-definition .ensures) (c .before .before .before .before .before .before .before .before .string-at .ensures .0) in
-    let h1 = left-less (int n ∷ (int noNode ∷ [])) (pieceArgument d p ∷ shown) (left-all (s .pre .1)) turn (c .before .before .before .before .before .before .before .before .before .before .before .before .before .put-pair2 .ensures) in
+    let h1 = left-less (int n ∷ (int noNode ∷ [])) (pieceArgument d p ∷ shown) (left-all (s .pre .2)) turn (c .before .before .before .before .before .before .before .before .before .before .before .before .before .put-pair2 .ensures) in
     let h2 = left-less (pieceArgument d p ∷ []) shown h1 refl (c .before .before .before .before .before .before .before .put-argument .ensures) in
     let whole = controlsShown ws bs i true in
     left-none (left-less whole [] h2 (ap (controlsShown ws bs i) (c .before .before .before .before .if2 .taken) ∙ sym (append-nil whole)) (c .before .before .put-controls .ensures)) refl
@@ -157,7 +154,7 @@ returns-3 c =
     let n = getD ws (nodesPlace + 5 * i) 0 in
     let shown = controlsShown ws bs i (s .args .shown) in
     let turn = synth-turn ws bs i at one (s .args .shown) (s .args .end) n d p (number-fact ws bs i at) (c .before .before .before .before .before .before .node-definition .ensures) (c .before .before .before .before .string-at .ensures .0) in
-    let h1 = left-less (int n ∷ (int noNode ∷ [])) (pieceArgument d p ∷ shown) (left-all (s .pre .1)) turn (c .before .before .before .before .before .before .before .before .before .put-pair2 .ensures) in
+    let h1 = left-less (int n ∷ (int noNode ∷ [])) (pieceArgument d p ∷ shown) (left-all (s .pre .2)) turn (c .before .before .before .before .before .before .before .before .before .put-pair2 .ensures) in
     let h2 = left-less (pieceArgument d p ∷ []) shown h1 refl (c .before .before .before .put-argument .ensures) in
     left-none h2 (synth-hidden ws bs i at one (s .args .shown) (c .if2 .left))
 
@@ -170,7 +167,6 @@ put-row-spec =
     mul-number-2
     shared-slice-read-number
     node-is-group-requires
-    children-at-requires
     put-pair-requires
     same-length
     returns

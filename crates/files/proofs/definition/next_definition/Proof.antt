@@ -1,0 +1,106 @@
+use mathlib.Core.Path.{sym}
+use borrow.Author.Needs.{needs}
+use Rattle.files.specs.Skips.{skip-definition}
+use Rattle.files.proofs.definition.next_definition.Statement.{statement}
+use Rattle.files.proofs.definition.next_definition.Tie as tie
+
+read-front-requires : tie.Need-read-front-requires
+read-front-requires c κs = search needs
+
+enum-known-counts : tie.Need-enum-known-counts
+enum-known-counts c = search needs
+
+count-to-requires : tie.Need-count-to-requires
+count-to-requires c κs = search needs
+
+enum-known-units : tie.Need-enum-known-units
+enum-known-units c = search needs
+
+read-units-requires : tie.Need-read-units-requires
+read-units-requires c κs = c .before .before .before .before .before .before .before .before .before .before .pre
+
+enum-known-next : tie.Need-enum-known-next
+enum-known-next c = search needs
+
+enum-known-refusal : tie.Need-enum-known-refusal
+enum-known-refusal c = search needs
+
+returns : tie.Need-returns
+returns c =
+    let a = c .before .before .before .before .before .before .before .before .before .before .before .before .before .before .args in
+    let e1 = sym (rw (c .before .before .before .before .before .before .before .before .before .before .counts .given .1) at (c .before .before .before .before .before .before .before .before .before .before .before .before .read-front .ensures)) in
+    let e2 = sym (rw (c .before .before .before .before .before .before .units .given .1) at (c .before .before .before .before .before .before .before .before .count-to .ensures)) in
+    let e3 = sym (rw (c .before .refusal .given .1) at (c .before .before .before .read-units .ensures .0)) in
+    (rw (skip-definition (a .s .now) (a .cursor .at), e1, e2, e3), c .before .before .before .read-units .ensures .1)
+
+short-count-to-requires : tie.Need-short-count-to-requires
+short-count-to-requires c κs = search needs
+
+enum-known-variants : tie.Need-enum-known-variants
+enum-known-variants c = search needs
+
+read-variants-requires : tie.Need-read-variants-requires
+read-variants-requires c κs = search needs
+
+enum-known-refusal-2 : tie.Need-enum-known-refusal-2
+enum-known-refusal-2 c = search needs
+
+enum-known-refusal-3 : tie.Need-enum-known-refusal-3
+enum-known-refusal-3 c = search needs
+
+enum-known-refusal-4 : tie.Need-enum-known-refusal-4
+enum-known-refusal-4 c = search needs
+
+returns-2 : tie.Need-returns-2
+returns-2 c =
+    let a = c .before .before .before .before .before .before .before .before .before .before .before .before .before .before .before .before .before .before .before .args in
+    let e1 = sym (rw (c .before .before .before .before .before .before .before .before .before .before .before .before .before .before .before .counts .given .1) at (c .before .before .before .before .before .before .before .before .before .before .before .before .before .before .before .before .before .read-front .ensures)) in
+    let e2 = sym (rw (c .before .before .before .before .before .before .before .before .before .before .before .units .given .1) at (c .before .before .before .before .before .before .before .before .before .before .before .before .before .count-to .ensures)) in
+    let e3 = sym (rw (c .before .before .before .before .before .before .next .given .1) at (c .before .before .before .before .before .before .before .before .read-units .ensures .0)) in
+    let e4 = sym (rw (c .before .before .variants .given .1) at (c .before .before .before .before .short-count-to .ensures)) in
+    (rw (skip-definition (a .s .now) (a .cursor .at), e1, e2, e3, e4) (c .read-variants .ensures), c .before .before .before .before .before .before .before .before .read-units .ensures .1)
+
+returns-3 : tie.Need-returns-3
+returns-3 c =
+    let a = c .before .before .before .before .before .before .before .before .before .before .before .before .before .before .before .before .before .before .args in
+    let e1 = sym (rw (c .before .before .before .before .before .before .before .before .before .before .before .before .before .before .counts .given .1) at (c .before .before .before .before .before .before .before .before .before .before .before .before .before .before .before .before .read-front .ensures)) in
+    let e2 = sym (rw (c .before .before .before .before .before .before .before .before .before .before .units .given .1) at (c .before .before .before .before .before .before .before .before .before .before .before .before .count-to .ensures)) in
+    let e3 = sym (rw (c .before .before .before .before .before .next .given .1) at (c .before .before .before .before .before .before .before .read-units .ensures .0)) in
+    let e4 = sym (rw (c .before .refusal2 .given .1) at (c .before .before .before .short-count-to .ensures)) in
+    (rw (skip-definition (a .s .now) (a .cursor .at), e1, e2, e3, e4), c .before .before .before .before .before .before .before .read-units .ensures .1)
+
+returns-4 : tie.Need-returns-4
+returns-4 c =
+    let a = c .before .before .before .before .before .before .before .before .before .args in
+    let e1 = sym (rw (c .before .before .before .before .before .counts .given .1) at (c .before .before .before .before .before .before .before .read-front .ensures)) in
+    let e2 = sym (rw (c .before .refusal3 .given .1) at (c .before .before .before .count-to .ensures)) in
+    (rw (skip-definition (a .s .now) (a .cursor .at), e1, e2), c .before .before .before .before .before .before .before .before .before .pre)
+
+returns-5 : tie.Need-returns-5
+returns-5 c =
+    let a = c .before .before .before .before .before .args in
+    let e1 = sym (rw (c .before .refusal4 .given .1) at (c .before .before .before .read-front .ensures)) in
+    (rw (skip-definition (a .s .now) (a .cursor .at), e1), c .before .before .before .before .before .pre)
+
+pub next-definition-spec : {M : Type 1} → statement M
+next-definition-spec =
+    tie.close
+    (tie.spec
+    read-front-requires
+    enum-known-counts
+    count-to-requires
+    enum-known-units
+    read-units-requires
+    enum-known-next
+    enum-known-refusal
+    returns
+    short-count-to-requires
+    enum-known-variants
+    read-variants-requires
+    enum-known-refusal-2
+    enum-known-refusal-3
+    enum-known-refusal-4
+    returns-2
+    returns-3
+    returns-4
+    returns-5)

@@ -1,0 +1,95 @@
+use Prim.Native.Nat.{ℕ, suc, _+_, _-_, _≤_}
+use mathlib.Core.Path.{_≡_, refl, sym, _∙_}
+use native.Mathlib.Omega.{arith}
+use borrow.Author.Needs.{needs}
+use Rattle.format.specs.Read.{ending}
+use Rattle.format.specs.Reader.{readUnits}
+use Rattle.units.specs.Units.{outsFrom, Stood, Ran, run-stood, run-next, run-bad}
+use Rattle.units.proofs.read_run.Statement.{statement}
+use Rattle.units.proofs.read_run.Tie as tie
+
+abbrev Inv-loop : tie.InvT-loop
+Inv-loop s constants start from to outs₀ stride marks at₀ i₀ outs at i =
+    (from ≤ i)
+    × (i ≤ to)
+    × Stood s start outs stride marks at i
+    × ((n : ℕ) → ending (readUnits constants s ((to - i) + n) (outsFrom s start i) at) ≡ ending (readUnits constants s ((to - from) + n) (outsFrom s start from) at₀))
+
+abbrev μ-loop : tie.MeasureT-loop
+μ-loop s constants start from to outs₀ stride marks at₀ i₀ outs at i = to - i
+
+loop-holds : tie.Need-loop-holds Inv-loop μ-loop
+loop-holds c =
+    let a = c .before .before in
+    (omega arith, a .pre .0, a .pre .1, λ n. refl)
+
+read-unit-requires : tie.Need-read-unit-requires Inv-loop μ-loop
+read-unit-requires c κs = c .before .before .loop .inv .2 .before
+
+enum-known-outputs : tie.Need-enum-known-outputs Inv-loop μ-loop
+enum-known-outputs c = search needs
+
+wide-requires : tie.Need-wide-requires Inv-loop μ-loop
+wide-requires c κs = search needs
+
+mul-outs : tie.Need-mul-outs Inv-loop μ-loop
+mul-outs c = omega arith
+
+element-write-outs : tie.Need-element-write-outs Inv-loop μ-loop
+element-write-outs c = omega arith
+
+enum-known-refusal : tie.Need-enum-known-refusal Inv-loop μ-loop
+enum-known-refusal c = search needs
+
+returns : tie.Need-returns Inv-loop μ-loop
+unfolding Ran
+returns c =
+    let a = c .before .before .before .before .before .before .before .before .before .args in
+    let l = c .before .before .before .before .before .before .loop in
+    let found = sym (rw (c .before .refusal .given .1) at (c .before .before .before .read-unit .ensures)) in
+    (l .inv .2 .sized, λ n. sym (l .inv .3 n) ∙ run-bad (a .constants) (a .s .now) (a .start) (l .inv .2) ((a .to - l .i) + n) ((a .to - suc (l .i)) + n) found (omega arith))
+
+add-i : tie.Need-add-i Inv-loop μ-loop
+add-i c = omega arith
+
+loop-less : tie.Need-loop-less Inv-loop μ-loop
+loop-less c = omega arith
+
+loop-again : tie.Need-loop-again Inv-loop μ-loop
+loop-again c =
+    let a = c .before .before .before .before .before .before .before .before .before .before .args in
+    let l = c .before .before .before .before .before .before .before .loop in
+    let found = sym (rw (c .before .before .outputs .given .1) at (c .before .before .before .before .read-unit .ensures)) in (
+      omega arith,
+      omega arith,
+      rw (c .wide .ensures) (run-stood (a .constants) (a .s .now) (a .start) (l .inv .2) found),
+      λ n. run-next (a .constants) (a .s .now) (a .start) (l .inv .2) ((a .to - l .i) + n) ((a .to - (l .i + 1)) + n) found (omega arith) ∙ l .inv .3 n,
+    )
+
+returns-2 : tie.Need-returns-2 Inv-loop μ-loop
+unfolding Ran
+returns-2 c =
+    let a = c .before .before .before .before .args in
+    let l = c .before .loop in
+    let done : l .i ≡ a .to = omega arith in
+    let none : (n : ℕ) → (a .to - l .i) + n ≡ n = λ n. omega arith in
+    (rw done at (l .inv .2), λ n. rw (none n, done) at (l .inv .3 n))
+
+pub read-run-spec : {M : Type 1} → statement M
+read-run-spec =
+    tie.close
+    (tie.spec
+    Inv-loop
+    μ-loop
+    loop-holds
+    read-unit-requires
+    enum-known-outputs
+    wide-requires
+    mul-outs
+    element-write-outs
+    enum-known-refusal
+    returns
+    add-i
+    loop-less
+    loop-again
+    returns-2)
