@@ -10,7 +10,7 @@ use borrow.Author.Tests.{le-leb, lt-leb}
 use Rattle.words.specs.Choice.{pick, both}
 use Rattle.words.specs.Parts.{region}
 use Rattle.format.specs.NameLaws.{region-cons}
-use Rattle.messages.specs.Form.{Parse, parsed, faulty, zeros, paddedAt}
+use Rattle.messages.specs.Form.{Parse, parsed, faulty, andThen, zeros, paddedAt}
 
 pick-same : {A : Type 0} (b : Bool) (x : A) → x ≡ pick b x x
 pick-same true x = refl
@@ -19,6 +19,14 @@ pick-same false x = refl
 both-no : (a : Bool) → both a false ≡ false
 both-no true = refl
 both-no false = refl
+
+-- a reading that goes on, by what was read first
+module _ {A B : Type 0} where
+  pub goes-on : (p : Parse A) (more : A → ℕ → Parse B) {x : A} {next : ℕ} → parsed x next ≡ p → more x next ≡ andThen p more
+  goes-on p more h = ap (λ (q : Parse A). andThen q more) h
+
+  pub stops : (p : Parse A) (more : A → ℕ → Parse B) → faulty ≡ p → faulty ≡ andThen p more
+  stops p more h = ap (λ (q : Parse A). andThen q more) h
 
 -- one zero more
 pub zeros-turn : (s : List ℕ) (i to : ℕ) → i < to → i < length s

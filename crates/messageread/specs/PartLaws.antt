@@ -9,12 +9,16 @@ use lib.ListN.{length}
 use Rattle.words.specs.Parts.{region}
 use Rattle.messages.specs.Form.{Parse, parsed, faulty, zeros, paddedAt}
 use Rattle.messageread.specs.declared.cursor.Cursor.{Cursor}
+use Rattle.messageread.specs.declared.cursor.Text.{Text}
 use Rattle.messageread.specs.declared.cursor.Text.the-variants.{Value, Faulty}
 use Rattle.messageread.specs.Answers.{PartRead}
 use Rattle.messageread.specs.FormLaws.{padded-cut, padded-marked, padded-read}
 
 pub no-part : (s : List ℕ) (reading : Parse (List ℕ)) → faulty ≡ reading → PartRead s reading Faulty
 no-part s reading h = record { reads = h; inside = tt }
+
+pub part-by : (s : List ℕ) (p q : Parse (List ℕ)) (r : Text) → p ≡ q → PartRead s p r → PartRead s q r
+part-by s p q r e h = record { reads = h .reads ∙ e; inside = h .inside }
 
 module _ (pad : ℕ) (fits : List ℕ → Bool) (s : List ℕ) (at end : ℕ) (behind : at ≤ end) where
   pub part-cut : length s < end + pad → PartRead s (paddedAt (end - at) pad fits s at) Faulty

@@ -8,8 +8,10 @@ use borrow.Author.Needs.{needs}
 use borrow.Author.Tests.{lt-ltb, le-ltb, le-leb, lt-leb, eq-eqb, ne-eqb}
 use lib.ListN.{length, take, drop, getD, set, length-set, length-drop}
 use borrow.Author.Needs.{needs}
-use Rattle.messages.specs.Form.{parsed, faulty, numberAt, blobAt}
-use Rattle.messageread.specs.PartLaws.{no-part}
+use Rattle.messages.specs.Form.{numberAt, blobAt}
+use Rattle.messageread.specs.Answers.{bytesAt}
+use Rattle.messageread.specs.FormLaws.{goes-on, stops}
+use Rattle.messageread.specs.PartLaws.{no-part, part-by}
 use Rattle.messageread.proofs.cursor.Cursor.blob.Statement.{statement}
 use Rattle.messageread.proofs.cursor.Cursor.blob.Tie as tie
 use Rattle.messageread.proofs.cursor.Cursor.blob.Reads as reads
@@ -32,14 +34,17 @@ bytes-requires c κs = search needs
 returns : tie.Need-returns
 returns c =
     let a = c .before .before .before .before .args in
-    let found : numberAt (a .message .now) (a .self .at) ≡ faulty = cc in
-    no-part (a .message .now) (blobAt (a .message .now) (a .self .at)) (rw found)
+    let s = a .message .now in
+    let found = rw (c .enum-told .given .1) at (c .before .before .number .ensures) in
+    no-part s (blobAt s (a .self .at)) (stops (numberAt s (a .self .at)) (λ n next. bytesAt n s next) found)
 
 returns-2 : tie.Need-returns-2
 returns-2 c =
     let a = c .before .before .before .before .before .before .args in
-    let found : numberAt (a .message .now) (a .self .at) ≡ parsed (c .before .before .n .given .0 .0) (c .before .before .n .given .0 .1 .0 .at) = cc in
-    rw found (c .bytes .ensures)
+    let s = a .message .now in
+    let g = c .before .before .n .given in
+    let found = rw (g .1) at (c .before .before .before .before .number .ensures) in
+    part-by s (bytesAt (g .0 .0) s (g .0 .1 .0 .at)) (blobAt s (a .self .at)) (c .bytes .result) (goes-on (numberAt s (a .self .at)) (λ n next. bytesAt n s next) found) (c .bytes .ensures)
 
 pub blob-spec : {M : Type 1} → statement M
 blob-spec =
