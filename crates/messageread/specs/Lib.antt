@@ -4,3 +4,9 @@ pub mod FormLaws
 pub mod TextLaws
 pub mod EndLaws
 pub mod PartLaws
+pub mod Keep
+pub mod TakeLaws
+pub mod StepLaws
+pub mod WalkLaws
+pub mod Lookup
+pub mod LookupLaws

@@ -1,0 +1,80 @@
+use Prim.Native.Nat.{ℕ, zero, suc, _+_, _*_, _-_, _≤_, _<_}
+use mathlib.Core.Bool.{Bool, true, false, not}
+use mathlib.Core.Path.{_≡_, refl, sym, ap, _∙_}
+use mathlib.Core.List.{List, [], _∷_, _++_, append-assoc}
+use native.Mathlib.Omega.{arith}
+use native.Mathlib.Numerals.{add-one}
+use borrow.Author.Needs.{needs}
+use borrow.Author.Tests.{lt-ltb, le-ltb, le-leb, lt-leb, eq-eqb, ne-eqb}
+use lib.ListN.{length, take, drop, getD, set, length-set, length-drop}
+use borrow.Author.Needs.{needs}
+use Rattle.messageread.proofs.rows.candidate.Statement.{statement}
+use Rattle.messageread.proofs.rows.candidate.Tie as tie
+use Rattle.messageread.proofs.rows.candidate.Reads as reads
+use Rattle.messageread.proofs.rows.candidate.Lts as lts
+use Rattle.messageread.proofs.rows.wide.Reads as wide-reads
+
+returns : tie.Need-returns
+returns c = ?
+
+sub-last : tie.Need-sub-last
+sub-last c = search needs
+
+shared-slice-read-wide : tie.Need-shared-slice-read-wide
+shared-slice-read-wide c = search needs
+
+wide-requires : tie.Need-wide-requires
+wide-requires c κs = search needs
+
+mul-key : tie.Need-mul-key
+mul-key c = search needs
+
+shared-slice-read-wide-2 : tie.Need-shared-slice-read-wide-2
+shared-slice-read-wide-2 c = search needs
+
+wide-requires-2 : tie.Need-wide-requires-2
+wide-requires-2 c κs = search needs
+
+mul-key-2 : tie.Need-mul-key-2
+mul-key-2 c = search needs
+
+add-key : tie.Need-add-key
+add-key c = search needs
+
+shared-slice-read-wide-3 : tie.Need-shared-slice-read-wide-3
+shared-slice-read-wide-3 c = search needs
+
+wide-requires-3 : tie.Need-wide-requires-3
+wide-requires-3 c κs = search needs
+
+mul-key-3 : tie.Need-mul-key-3
+mul-key-3 c = search needs
+
+add-key-2 : tie.Need-add-key-2
+add-key-2 c = search needs
+
+array-read-result : tie.Need-array-read-result
+array-read-result c = search needs
+
+returns-2 : tie.Need-returns-2
+returns-2 c = ?
+
+pub candidate-spec : {M : Type 1} → statement M
+candidate-spec =
+    tie.close
+    (tie.spec
+    returns
+    sub-last
+    shared-slice-read-wide
+    wide-requires
+    mul-key
+    shared-slice-read-wide-2
+    wide-requires-2
+    mul-key-2
+    add-key
+    shared-slice-read-wide-3
+    wide-requires-3
+    mul-key-3
+    add-key-2
+    array-read-result
+    returns-2)

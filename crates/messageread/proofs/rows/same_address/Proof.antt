@@ -1,0 +1,68 @@
+use Prim.Native.Nat.{ℕ, zero, suc, _+_, _*_, _-_, _≤_, _<_}
+use mathlib.Core.Bool.{Bool, true, false, not}
+use mathlib.Core.Path.{_≡_, refl, sym, ap, _∙_}
+use mathlib.Core.List.{List, [], _∷_, _++_, append-assoc}
+use native.Mathlib.Omega.{arith}
+use native.Mathlib.Numerals.{add-one}
+use borrow.Author.Needs.{needs}
+use borrow.Author.Tests.{lt-ltb, le-ltb, le-leb, lt-leb, eq-eqb, ne-eqb}
+use lib.ListN.{length, take, drop, getD, set, length-set, length-drop}
+use Rattle.messageread.proofs.rows.same_address.Statement.{statement}
+use Rattle.messageread.proofs.rows.same_address.Tie as tie
+use Rattle.messageread.proofs.rows.same_address.Reads as reads
+use Rattle.messageread.proofs.rows.same_address.Lts as lts
+use Rattle.messages.proofs.address_byte.Reads as address-byte-reads
+use Rattle.messages.proofs.address_length.Reads as address-length-reads
+
+abbrev Inv-loop : tie.InvT-loop
+Inv-loop address op i₀ i = ?
+
+abbrev μ-loop : tie.MeasureT-loop
+μ-loop address op i₀ i = ?
+
+address-length-requires : tie.Need-address-length-requires Inv-loop μ-loop
+address-length-requires c κs = omega arith
+
+returns : tie.Need-returns Inv-loop μ-loop
+returns c = ?
+
+loop-holds : tie.Need-loop-holds Inv-loop μ-loop
+loop-holds c = ?
+
+shared-slice-read-if2 : tie.Need-shared-slice-read-if2 Inv-loop μ-loop
+shared-slice-read-if2 c = omega arith
+
+address-byte-requires : tie.Need-address-byte-requires Inv-loop μ-loop
+address-byte-requires c κs = omega arith
+
+returns-2 : tie.Need-returns-2 Inv-loop μ-loop
+returns-2 c = ?
+
+add-i : tie.Need-add-i Inv-loop μ-loop
+add-i c = omega arith
+
+loop-less : tie.Need-loop-less Inv-loop μ-loop
+loop-less c = omega arith
+
+loop-again : tie.Need-loop-again Inv-loop μ-loop
+loop-again c = ?
+
+returns-3 : tie.Need-returns-3 Inv-loop μ-loop
+returns-3 c = ?
+
+pub same-address-spec : {M : Type 1} → statement M
+same-address-spec =
+    tie.close
+    (tie.spec
+    Inv-loop
+    μ-loop
+    address-length-requires
+    returns
+    loop-holds
+    shared-slice-read-if2
+    address-byte-requires
+    returns-2
+    add-i
+    loop-less
+    loop-again
+    returns-3)
