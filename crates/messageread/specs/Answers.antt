@@ -1,6 +1,6 @@
 -- What the answers of the reading functions say, each as a reading.
 use Prim.{Unit}
-use Prim.Native.Nat.{ℕ, _-_, _%_, _≤_}
+use Prim.Native.Nat.{ℕ, _-_, _%_, _≤_, _<_}
 use mathlib.Core.Bool.{true}
 use mathlib.Core.Path.{_≡_}
 use mathlib.Core.List.{List}
@@ -34,6 +34,15 @@ Inside s text.Faulty = Unit {0}
 pub record PartRead (s : List ℕ) (reading : Parse (List ℕ)) (r : Text) : Type 0 where
   pub reads : textOf s r ≡ reading
   pub inside : Inside s r
+
+-- a string that is not empty
+abbrev pub Full : List ℕ → Text → Type 0
+Full s (text.Value start end next) = (start < end) × (end ≤ length s)
+Full s text.Faulty = Unit {0}
+
+pub record HeadRead (s : List ℕ) (reading : Parse (List ℕ)) (r : Text) : Type 0 where
+  pub reads : textOf s r ≡ reading
+  pub full : Full s r
 
 -- the bytes of a blob behind their number
 abbrev pub bytesAt : ℕ → List ℕ → ℕ → Parse (List ℕ)

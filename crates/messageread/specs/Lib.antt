@@ -10,3 +10,7 @@ pub mod StepLaws
 pub mod WalkLaws
 pub mod Lookup
 pub mod LookupLaws
+pub mod FindLaws
+pub mod Finish
+pub mod ReadLaws
+pub mod HeadLaws

@@ -89,12 +89,12 @@ module _ (address ts : List ℕ) where
   meets-zero = refl
 
   -- the first row that meets them
-  miss : (rows : List Row) (op : ℕ) → ((i : ℕ) → meets (rowFrom rows (suc i)) address ts ≡ false) → opFrom op rows address ts ≡ 0
+  pub miss : (rows : List Row) (op : ℕ) → ((i : ℕ) → meets (rowFrom rows (suc i)) address ts ≡ false) → opFrom op rows address ts ≡ 0
   unfolding opFrom rowFrom
   miss [] op h = refl
   miss (r ∷ rows) op h = rw (h 0) (miss rows (suc op) (λ i. h (suc i)))
 
-  hit : (rows : List Row) (op i : ℕ) → meets (rowFrom rows (suc i)) address ts ≡ true → ((j : ℕ) → j < i → meets (rowFrom rows (suc j)) address ts ≡ false)
+  pub hit : (rows : List Row) (op i : ℕ) → meets (rowFrom rows (suc i)) address ts ≡ true → ((j : ℕ) → j < i → meets (rowFrom rows (suc j)) address ts ≡ false)
       → opFrom op rows address ts ≡ op + i
   unfolding opFrom rowFrom
   hit [] op i h none-before = (cc)
@@ -102,12 +102,3 @@ module _ (address ts : List ℕ) where
   hit (r ∷ rows) op (suc i) h none-before =
       let sum : suc op + i ≡ op + suc i = omega arith in
       rw (none-before 0 (omega arith)) (hit rows (suc op) i h (λ j l. none-before (suc j) (omega arith)) ∙ sum)
-
--- each address leads to its op, or to the one before it
-leadsFrom : ℕ → List Row → Bool
-leadsFrom op [] = true
-leadsFrom op (r ∷ rows) = both (either (eqb op (candidateOf (r .address))) (eqb op (suc (candidateOf (r .address))))) (leadsFrom (suc op) rows)
-
-table-leads : leadsFrom 1 table ≡ true
-unfolding leadsFrom
-table-leads = refl

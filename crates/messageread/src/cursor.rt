@@ -1,10 +1,10 @@
 // The place in a message: it goes in and comes back by value. Each method reads one field.
 use fields::word_at;
-ghost use Prim.Native.Nat.{_-_, _+_};
+ghost use Prim.Native.Nat.{_-_, _<_};
 ghost use mathlib.Core.Path.{_≡_};
 ghost use Rattle.words.specs.Parts.{region};
-ghost use Rattle.messages.specs.Form.{zeros, numberAt, stringAt, blobAt};
-ghost use Rattle.messageread.specs.Answers.{numberOf, PartRead, bytesAt};
+ghost use Rattle.messages.specs.Form.{zeros, numberAt, stringAt, blobAt, headed};
+ghost use Rattle.messageread.specs.Answers.{numberOf, PartRead, HeadRead, bytesAt};
 ghost use Rattle.messageread.specs.Ends.{Ends};
 
 pub struct Cursor {
@@ -89,6 +89,25 @@ impl Cursor {
             return Text::Value(at, end, Cursor { at: next });
         }
         Text::Faulty
+    }
+
+    // A string that begins with a byte.
+    pub(crate) fn headed(self, message: &[u8], byte: u8) -> Text
+        requires { ⌜ 0 < byte ⌝ }
+        ensures { λ r. ⌜ HeadRead (now (message .entry)) (headed byte (stringAt (now (message .entry)) (self .at))) r ⌝ }
+    {
+        match self.text(message) {
+            Text::Faulty => Text::Faulty,
+            Text::Value(start, end, next) => {
+                if end <= start {
+                    return Text::Faulty;
+                }
+                if message[start] != byte {
+                    return Text::Faulty;
+                }
+                Text::Value(start, end, next)
+            }
+        }
     }
 
     // The bytes of a blob behind their number.

@@ -15,7 +15,7 @@ use Rattle.messageread.proofs.rows.candidate.Lts as lts
 use Rattle.messageread.proofs.rows.wide.Reads as wide-reads
 
 returns : tie.Need-returns
-returns c = ?
+returns c = rw (lt-ltb (length (c .before .before .args .address .now)) 6 (c .if1 .taken))
 
 sub-last : tie.Need-sub-last
 sub-last c = search needs
@@ -57,7 +57,9 @@ array-read-result : tie.Need-array-read-result
 array-read-result c = search needs
 
 returns-2 : tie.Need-returns-2
-returns-2 c = ?
+returns-2 c =
+    let a = c .before .before .before .before .before .before .before .before .args in
+    rw (le-ltb (length (a .address .now)) 6 (c .before .before .before .before .before .before .if1 .left), c .before .before .before .before .wide .ensures .0, c .before .before .wide2 .ensures .0, c .wide3 .ensures .0)
 
 pub candidate-spec : {M : Type 1} → statement M
 candidate-spec =

@@ -7,6 +7,9 @@ use native.Mathlib.Numerals.{add-one}
 use borrow.Author.Needs.{needs}
 use borrow.Author.Tests.{lt-ltb, le-ltb, le-leb, lt-leb, eq-eqb, ne-eqb}
 use lib.ListN.{length, take, drop, getD, set, length-set, length-drop}
+use Rattle.format.specs.Reader.{sameName}
+use Rattle.fields.specs.SameLaws.{same-lengths, same-turn, same-end}
+use Rattle.messages.specs.Rows.{addressOf}
 use Rattle.messageread.proofs.rows.same_address.Statement.{statement}
 use Rattle.messageread.proofs.rows.same_address.Tie as tie
 use Rattle.messageread.proofs.rows.same_address.Reads as reads
@@ -15,28 +18,34 @@ use Rattle.messages.proofs.address_byte.Reads as address-byte-reads
 use Rattle.messages.proofs.address_length.Reads as address-length-reads
 
 abbrev Inv-loop : tie.InvT-loop
-Inv-loop address op i₀ i = ?
+Inv-loop address op i₀ i = (i ≤ length address) × (sameName (drop i address) (drop i (addressOf op)) ≡ sameName address (addressOf op))
 
 abbrev μ-loop : tie.MeasureT-loop
-μ-loop address op i₀ i = ?
+μ-loop address op i₀ i = length address - i
 
 address-length-requires : tie.Need-address-length-requires Inv-loop μ-loop
-address-length-requires c κs = omega arith
+address-length-requires c κs = search needs
 
 returns : tie.Need-returns Inv-loop μ-loop
-returns c = ?
+returns c =
+    let a = c .before .before .before .args in
+    sym (same-lengths (a .address .now) (addressOf (a .op)) (λ e. c .if1 .taken (e ∙ sym (c .before .address-length .ensures))))
 
 loop-holds : tie.Need-loop-holds Inv-loop μ-loop
-loop-holds c = ?
+loop-holds c = (omega arith, refl)
 
 shared-slice-read-if2 : tie.Need-shared-slice-read-if2 Inv-loop μ-loop
 shared-slice-read-if2 c = omega arith
 
 address-byte-requires : tie.Need-address-byte-requires Inv-loop μ-loop
-address-byte-requires c κs = omega arith
+address-byte-requires c κs = search needs
 
 returns-2 : tie.Need-returns-2 Inv-loop μ-loop
-returns-2 c = ?
+returns-2 c =
+    let a = c .before .before .before .before .before .before .before .before .args in
+    let l = c .before .before .before .before .loop in
+    let size = c .before .before .before .before .before .before .address-length .ensures in
+    rw (ne-eqb (getD (a .address .now) (l .i) 0) (getD (addressOf (a .op)) (l .i) 0) (λ e. c .if2 .taken (e ∙ sym (c .before .address-byte .ensures)))) at (sym (same-turn (a .address .now) (addressOf (a .op)) (l .i) (omega arith) (omega arith)) ∙ l .inv .1)
 
 add-i : tie.Need-add-i Inv-loop μ-loop
 add-i c = omega arith
@@ -45,10 +54,18 @@ loop-less : tie.Need-loop-less Inv-loop μ-loop
 loop-less c = omega arith
 
 loop-again : tie.Need-loop-again Inv-loop μ-loop
-loop-again c = ?
+loop-again c =
+    let a = c .before .before .before .before .before .before .before .before .args in
+    let l = c .before .before .before .before .loop in
+    let size = c .before .before .before .before .before .before .address-length .ensures in
+    (omega arith, rw (eq-eqb (getD (a .address .now) (l .i) 0) (getD (addressOf (a .op)) (l .i) 0) (c .if2 .left ∙ c .before .address-byte .ensures)) at (sym (same-turn (a .address .now) (addressOf (a .op)) (l .i) (omega arith) (omega arith)) ∙ l .inv .1))
 
 returns-3 : tie.Need-returns-3 Inv-loop μ-loop
-returns-3 c = ?
+returns-3 c =
+    let a = c .before .before .before .before .before .args in
+    let l = c .before .loop in
+    let size = c .before .before .before .address-length .ensures in
+    sym (same-end (a .address .now) (addressOf (a .op)) (l .i) (omega arith) (omega arith)) ∙ l .inv .1
 
 pub same-address-spec : {M : Type 1} → statement M
 same-address-spec =

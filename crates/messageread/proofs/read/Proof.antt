@@ -1,0 +1,39 @@
+use Prim.Native.Nat.{ℕ, zero, suc, _+_, _*_, _-_, _≤_, _<_}
+use mathlib.Core.Bool.{Bool, true, false, not}
+use mathlib.Core.Path.{_≡_, refl, sym, ap, _∙_}
+use mathlib.Core.List.{List, [], _∷_, _++_, append-assoc}
+use native.Mathlib.Omega.{arith}
+use native.Mathlib.Numerals.{add-one}
+use borrow.Author.Needs.{needs}
+use borrow.Author.Tests.{lt-ltb, le-ltb, le-leb, lt-leb, eq-eqb, ne-eqb}
+use lib.ListN.{length, take, drop, getD, set, length-set, length-drop}
+use borrow.Author.Needs.{needs}
+use Rattle.messageread.proofs.read.Statement.{statement}
+use Rattle.messageread.proofs.read.Tie as tie
+use Rattle.messageread.proofs.read.Reads as reads
+use Rattle.messageread.proofs.read.Lts as lts
+use Rattle.messageread.proofs.behind_address.Reads as behind-address-reads
+use Rattle.messageread.proofs.cursor.Cursor.headed.Reads as headed-reads
+
+headed-requires : tie.Need-headed-requires
+headed-requires c κs = search needs
+
+enum-told : tie.Need-enum-told
+enum-told c = search needs
+
+enum-known-start : tie.Need-enum-known-start
+enum-known-start c = search needs
+
+behind-address-requires : tie.Need-behind-address-requires
+behind-address-requires c κs = search needs
+
+returns : tie.Need-returns
+returns c = ?
+
+returns-2 : tie.Need-returns-2
+returns-2 c = ?
+
+pub read-spec : {M : Type 1} → statement M
+read-spec =
+    tie.close
+    (tie.spec headed-requires enum-told enum-known-start behind-address-requires returns returns-2)

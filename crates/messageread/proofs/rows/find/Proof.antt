@@ -1,0 +1,53 @@
+use Prim.Native.Nat.{ℕ, zero, suc, _+_, _*_, _-_, _≤_, _<_}
+use mathlib.Core.Bool.{Bool, true, false, not}
+use mathlib.Core.Path.{_≡_, refl, sym, ap, _∙_}
+use mathlib.Core.List.{List, [], _∷_, _++_, append-assoc}
+use native.Mathlib.Omega.{arith}
+use native.Mathlib.Numerals.{add-one}
+use borrow.Author.Needs.{needs}
+use borrow.Author.Tests.{lt-ltb, le-ltb, le-leb, lt-leb, eq-eqb, ne-eqb}
+use lib.ListN.{length, take, drop, getD, set, length-set, length-drop}
+use borrow.Author.Needs.{needs}
+use Rattle.messageread.proofs.rows.find.Statement.{statement}
+use Rattle.messageread.proofs.rows.find.Tie as tie
+use Rattle.messageread.proofs.rows.find.Reads as reads
+use Rattle.messageread.proofs.rows.find.Lts as lts
+use Rattle.messageread.proofs.rows.candidate.Reads as candidate-reads
+use Rattle.messageread.proofs.rows.meets_row.Reads as meets-row-reads
+
+candidate-requires : tie.Need-candidate-requires
+candidate-requires c κs = search needs
+
+cast-first : tie.Need-cast-first
+cast-first c = search needs
+
+meets-row-requires : tie.Need-meets-row-requires
+meets-row-requires c κs = search needs
+
+returns : tie.Need-returns
+returns c = ?
+
+add-second : tie.Need-add-second
+add-second c = search needs
+
+meets-row-requires-2 : tie.Need-meets-row-requires-2
+meets-row-requires-2 c κs = search needs
+
+returns-2 : tie.Need-returns-2
+returns-2 c = ?
+
+returns-3 : tie.Need-returns-3
+returns-3 c = ?
+
+pub find-spec : {M : Type 1} → statement M
+find-spec =
+    tie.close
+    (tie.spec
+    candidate-requires
+    cast-first
+    meets-row-requires
+    returns
+    add-second
+    meets-row-requires-2
+    returns-2
+    returns-3)

@@ -1,0 +1,38 @@
+use Prim.Native.Nat.{ℕ, zero, suc, _+_, _*_, _-_, _≤_, _<_}
+use mathlib.Core.Bool.{Bool, true, false, not}
+use mathlib.Core.Path.{_≡_, refl, sym, ap, _∙_}
+use mathlib.Core.List.{List, [], _∷_, _++_, append-assoc}
+use native.Mathlib.Omega.{arith}
+use native.Mathlib.Numerals.{add-one}
+use borrow.Author.Needs.{needs}
+use borrow.Author.Tests.{lt-ltb, le-ltb, le-leb, lt-leb, eq-eqb, ne-eqb}
+use lib.ListN.{length, take, drop, getD, set, length-set, length-drop}
+use borrow.Author.Needs.{needs}
+use Rattle.messageread.proofs.rows.meets_row.Statement.{statement}
+use Rattle.messageread.proofs.rows.meets_row.Tie as tie
+use Rattle.messageread.proofs.rows.meets_row.Reads as reads
+use Rattle.messageread.proofs.rows.meets_row.Lts as lts
+use Rattle.messageread.proofs.rows.fits.Reads as fits-reads
+use Rattle.messageread.proofs.rows.same_address.Reads as same-address-reads
+
+returns : tie.Need-returns
+returns c = ?
+
+returns-2 : tie.Need-returns-2
+returns-2 c = ?
+
+same-address-requires : tie.Need-same-address-requires
+same-address-requires c κs = search needs
+
+fits-requires : tie.Need-fits-requires
+fits-requires c κs = search needs
+
+returns-3 : tie.Need-returns-3
+returns-3 c = ?
+
+returns-4 : tie.Need-returns-4
+returns-4 c = ?
+
+pub meets-row-spec : {M : Type 1} → statement M
+meets-row-spec =
+    tie.close (tie.spec returns returns-2 same-address-requires fits-requires returns-3 returns-4)
