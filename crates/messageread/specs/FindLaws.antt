@@ -69,13 +69,13 @@ module _ (address ts : List ℕ) where
       sum ∙ sym (hit address ts table 1 i e (λ j before. quiet-at (suc i) l j (λ z. absurd (omega arith)) (λ z. absurd (omega arith))))
 
   pub find-second : (h : ℕ) → h ≡ candidateOf address → meets (rowOf h) address ts ≡ false → meets (rowOf (h + 1)) address ts ≡ true → h + 1 ≡ opFrom 1 table address ts
-  find-second h l no e =
+  find-second h l quiet-first e =
       let next : h + 1 ≡ suc h = omega arith in
       let sum : h + 1 ≡ 1 + h = omega arith in
       let there : meets (rowOf (suc h)) address ts ≡ true = ap (λ (k : ℕ). meets (rowOf k) address ts) (sym next) ∙ e in
-      sum ∙ sym (hit address ts table 1 h there (λ j before. quiet-at h l j (λ z. ap (λ (k : ℕ). meets (rowOf k) address ts) z ∙ no) (λ z. absurd (omega arith))))
+      sum ∙ sym (hit address ts table 1 h there (λ j before. quiet-at h l j (λ z. ap (λ (k : ℕ). meets (rowOf k) address ts) z ∙ quiet-first) (λ z. absurd (omega arith))))
 
   pub find-none : (h : ℕ) → h ≡ candidateOf address → meets (rowOf h) address ts ≡ false → meets (rowOf (h + 1)) address ts ≡ false → 0 ≡ opFrom 1 table address ts
-  find-none h l no neither =
+  find-none h l quiet-first neither =
       let next : suc h ≡ h + 1 = omega arith in
-      sym (miss address ts table 1 (λ i. quiet-at h l i (λ z. ap (λ (k : ℕ). meets (rowOf k) address ts) z ∙ no) (λ z. ap (λ (k : ℕ). meets (rowOf k) address ts) (z ∙ next) ∙ neither)))
+      sym (miss address ts table 1 (λ i. quiet-at h l i (λ z. ap (λ (k : ℕ). meets (rowOf k) address ts) z ∙ quiet-first) (λ z. ap (λ (k : ℕ). meets (rowOf k) address ts) (z ∙ next) ∙ neither)))

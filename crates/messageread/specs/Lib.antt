@@ -14,3 +14,4 @@ pub mod FindLaws
 pub mod Finish
 pub mod ReadLaws
 pub mod HeadLaws
+pub mod FinishLaws

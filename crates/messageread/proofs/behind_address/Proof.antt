@@ -8,6 +8,11 @@ use borrow.Author.Needs.{needs}
 use borrow.Author.Tests.{lt-ltb, le-ltb, le-leb, lt-leb, eq-eqb, ne-eqb}
 use lib.ListN.{length, take, drop, getD, set, length-set, length-drop}
 use borrow.Author.Needs.{needs}
+use mathlib.Core.Path.{subst}
+use Rattle.words.specs.Parts.{region}
+use Rattle.messageread.specs.declared.cursor.Text.{Text}
+use Rattle.messageread.specs.Answers.{Full}
+use Rattle.messageread.specs.FinishLaws.{no-tags, tagged, stands-by}
 use Rattle.messageread.proofs.behind_address.Statement.{statement}
 use Rattle.messageread.proofs.behind_address.Tie as tie
 use Rattle.messageread.proofs.behind_address.Reads as reads
@@ -31,7 +36,11 @@ part-requires : tie.Need-part-requires
 part-requires c κs = search needs
 
 add-part : tie.Need-add-part
-add-part c = omega arith
+add-part c =
+    let a = c .before .before .before .before .before .before .args in
+    let g = c .before .before .start .given in
+    let full = subst (λ (t : Text). Full (a .message .now) t) (g .1) (c .before .before .before .before .headed .ensures .full) in
+    omega arith
 
 part-requires-2 : tie.Need-part-requires-2
 part-requires-2 c κs = search needs
@@ -46,7 +55,10 @@ finish-requires : tie.Need-finish-requires
 finish-requires c κs = search needs
 
 returns : tie.Need-returns
-returns c = ?
+returns c =
+    let a = c .before .before .before .before .args in
+    let s = a .message .now in
+    no-tags s (region (a .from) (a .to - a .from) s) (a .next .at) (rw (c .enum-told .given .1) at (c .before .before .headed .ensures .reads))
 
 returns-2 : tie.Need-returns-2
 returns-2 c = ?
