@@ -1,15 +1,15 @@
 -- Laws of a string's end: the bytes that were passed are none of them a zero, and at most 127.
-use Prim.Native.Nat.{ℕ, suc, _+_, _-_, _%_, _≤_, _<_}
-use mathlib.Core.Bool.{true, false}
-use mathlib.Core.Path.{_≡_, refl, sym, ap, _∙_}
+use Prim.Native.Nat.{ℕ, _+_, _-_, _%_, _≤_, _<_}
+use mathlib.Core.Bool.{false}
+use mathlib.Core.Path.{_≡_, refl, _∙_}
 use mathlib.Core.List.{List}
 use native.Mathlib.Omega.{arith}
-use lib.ListN.{length, take, drop, getD, drop-of-length-le}
+use lib.ListN.{length, drop, getD, drop-of-length-le}
 use borrow.Author.Tests.{le-leb, lt-leb}
 use Rattle.words.specs.Parts.{region}
 use Rattle.format.specs.Fields.{nameBytes}
-use Rattle.messages.specs.Form.{textLength, stringAt, faulty}
-use Rattle.messageread.specs.Ends.{Ended, Ends}
+use Rattle.messages.specs.Form.{textLength}
+use Rattle.messageread.specs.Ends.{Ends}
 use Rattle.messageread.specs.FormLaws.{padded-cut, padded-unfit}
 use Rattle.messageread.specs.TextLaws.{textGood, text-good, length-zero, length-turn, good-zero, good-turn}
 
@@ -33,7 +33,7 @@ module _ (s : List ℕ) (at : ℕ) where
         record {
           behind = omega arith;
           size = omega arith;
-          good = rw (le-leb (getD s i 0) 127 low) at (p .good ∙ good-turn s i h e)
+          good = rw (le-leb (getD s i 0) 127 low) at (p .good ∙ good-turn s i h e);
         }
 
     pub ends-zero : i < length s → getD s i 0 ≡ 0 → Ends s at i
@@ -44,9 +44,9 @@ module _ (s : List ℕ) (at : ℕ) where
           ended = λ l. record {
             behind = p .behind;
             size = size;
-            good = rw size at (text-good (drop at s)) ∙ p .good ∙ good-zero s i h e
+            good = rw size at (text-good (drop at s)) ∙ p .good ∙ good-zero s i h e;
           };
-          cut = λ l. absurd (omega arith)
+          cut = λ l. absurd (omega arith);
         }
 
     pub ends-high : i < length s → (getD s i 0 ≡ 0 → ⊥) → 127 < getD s i 0 → Ends s at (length s)
@@ -55,7 +55,7 @@ module _ (s : List ℕ) (at : ℕ) where
         text-good (drop at s) ∙ (rw (lt-leb (getD s i 0) 127 high) at (p .good ∙ good-turn s i h e)) in
         record {
           ended = λ l. absurd (omega arith);
-          cut = λ l. padded-unfit (textLength (drop at s)) (4 - textLength (drop at s) % 4) nameBytes s at bad
+          cut = λ l. padded-unfit (textLength (drop at s)) (4 - textLength (drop at s) % 4) nameBytes s at bad;
         }
 
     pub ends-cut : length s ≤ i → Ends s at (length s)
@@ -65,5 +65,5 @@ module _ (s : List ℕ) (at : ℕ) where
         let size = p .size in
         record {
           ended = λ l. absurd (omega arith);
-          cut = λ l. padded-cut (textLength (drop at s)) (4 - textLength (drop at s) % 4) nameBytes s at (omega arith)
+          cut = λ l. padded-cut (textLength (drop at s)) (4 - textLength (drop at s) % 4) nameBytes s at (omega arith);
         }

@@ -1,16 +1,16 @@
 -- Laws of an address's candidate: no op but it and the one behind it can have the address.
-use Prim.Native.Nat.{ℕ, zero, suc, _+_, _≤_, _<_}
+use Prim.Native.Nat.{ℕ, zero, suc, _+_}
 use mathlib.Core.Bool.{Bool, true, false}
 use mathlib.Core.Path.{_≡_, refl, sym, ap, _∙_}
 use mathlib.Core.List.{List, [], _∷_}
-use mathlib.Core.Option.{Option, none, some}
+use mathlib.Core.Option.{some}
 use native.Mathlib.Omega.{arith}
 use lib.Dec.{eqb}
-use borrow.Author.Tests.{eq-eqb, ne-eqb, eqb-true, eqb-false}
-use Rattle.words.specs.Choice.{pick, both, either, both-true}
+use borrow.Author.Tests.{ne-eqb, eqb-true, eqb-false}
+use Rattle.words.specs.Choice.{both, either, both-true}
 use Rattle.format.specs.Reader.{sameName}
 use Rattle.order.specs.Same.{same-true}
-use Rattle.messages.specs.Table.{Row, table, fitAll}
+use Rattle.messages.specs.Table.{Row, table}
 use Rattle.messages.specs.Write.{rowFrom, rowOf}
 use Rattle.messageread.specs.Lookup.{meets, opFrom, candidateOf}
 use Rattle.messageread.specs.LookupLaws.{miss, hit}

@@ -9,7 +9,7 @@ use Rattle.messages.specs.Form.{Parse, parsed, faulty, andThen, stringAt, heade
 use Rattle.osc.specs.Message.{Argument}
 use Rattle.messages.specs.declared.Received.{Received}
 use Rattle.messages.specs.Table.{Given}
-use Rattle.messages.specs.Receive.{Meaning, malformed, unknown, commandIn, calls, meaningOf, handed, Within}
+use Rattle.messages.specs.Receive.{Meaning, malformed, unknown, commandIn, calls, handed, Within}
 
 abbrev pub endOf : List ℕ → ℕ → Parse Given → Meaning
 endOf s op (parsed g end) = pick (eqb end (length s)) (pick (eqb op 0) unknown (calls (commandIn (g .numbers)) (g .bytes))) malformed

@@ -10,10 +10,10 @@ use Rattle.calls.specs.declared.Parsed.{Parsed}
 use Rattle.calls.specs.declared.Parsed.the-variants.{Call, Nothing}
 use Rattle.messages.specs.declared.Received.{Received}
 use Rattle.messages.specs.declared.Received.the-variants as received
-use Rattle.messages.specs.Form.{Parse, parsed, faulty, andThen, stringAt, headed, argumentsAt, readMessage}
-use Rattle.messages.specs.Table.{table, Given}
+use Rattle.messages.specs.Form.{parsed, faulty, andThen, stringAt, headed, argumentsAt, readMessage}
+use Rattle.messages.specs.Table.{table}
 use Rattle.messages.specs.Rows.{slotsOf}
-use Rattle.messages.specs.Receive.{bare, Meaning, unknown, commandIn, calls, meaningOf, meaning, Reads}
+use Rattle.messages.specs.Receive.{bare, Meaning, commandIn, calls, meaningOf, meaning, Reads}
 use Rattle.messageread.specs.declared.keep.Kept.{Kept}
 use Rattle.messageread.specs.FormLaws.{goes-on, stops}
 use Rattle.messageread.specs.Keep.{given, Holds, takenAt}
@@ -37,14 +37,14 @@ module _ (s : List ℕ) (op : ℕ) (kept : Kept) (end : ℕ) where
   pub no-command : end ≡ length s → (op ≡ 0 → ⊥) → Nothing ≡ commandIn (given s op kept .numbers) → Stands s (endOf s op (parsed (given s op kept) end)) received.Unknown
   no-command e z h = record {
     stands = called e z ∙ ap (λ (p : Parsed). calls p (given s op kept .bytes)) (sym h);
-    within = tt
+    within = tt;
   }
 
   pub a-command : (c : Command) → end ≡ length s → (op ≡ 0 → ⊥) → Call c ≡ commandIn (given s op kept .numbers) → Holds s kept
       → Stands s (endOf s op (parsed (given s op kept) end)) (received.Command c (kept .start) (kept .end))
   a-command c e z h held = record {
     stands = called e z ∙ ap (λ (p : Parsed). calls p (given s op kept .bytes)) (sym h);
-    within = (held .behind, held .inside)
+    within = (held .behind, held .inside);
   }
 
 module _ (s address : List ℕ) (next : ℕ) where
@@ -69,5 +69,5 @@ module _ (s : List ℕ) where
   pub addressed : (address : List ℕ) (next : ℕ) (r : Received) → parsed address next ≡ headed 47 (stringAt s 0) → Stands s (meaningOf (afterAddress s address next)) r → Reads s r
   addressed address next r h t = record {
     stands = by-address ∙ ap meaningOf (sym (goes-on (headed 47 (stringAt s 0)) (afterAddress s) h)) ∙ t .stands;
-    within = t .within
+    within = t .within;
   }

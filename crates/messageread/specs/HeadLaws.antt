@@ -1,10 +1,10 @@
 -- Laws of a string that begins with a byte.
 use Prim.{tt}
 use Prim.Native.Nat.{ℕ, _-_, _≤_, _<_}
-use mathlib.Core.Path.{_≡_, refl, sym, ap, _∙_}
-use mathlib.Core.List.{List, []}
+use mathlib.Core.Path.{_≡_, sym, ap, _∙_}
+use mathlib.Core.List.{List}
 use native.Mathlib.Omega.{arith}
-use lib.ListN.{length, drop, getD}
+use lib.ListN.{length, getD}
 use lib.Dec.{eqb}
 use borrow.Author.Tests.{eq-eqb, ne-eqb}
 use Rattle.words.specs.Choice.{pick}
@@ -27,7 +27,7 @@ module _ (byte : ℕ) (s : List ℕ) (p : Parse (List ℕ)) where
     other-head : (getD (region start (end - start) s) 0 0 ≡ byte → ⊥) → HeadRead s (headed byte p) Faulty
     other-head e = record {
       reads = sym (ap (λ b. pick b (parsed (region start (end - start) s) (next .at)) faulty) (ne-eqb (getD (region start (end - start) s) 0 0) byte e)) ∙ goes-on p test found;
-      full = tt
+      full = tt;
     }
 
     pub empty-head : 0 < byte → end ≤ start → HeadRead s (headed byte p) Faulty
@@ -45,5 +45,5 @@ module _ (byte : ℕ) (s : List ℕ) (p : Parse (List ℕ)) where
       pub right-head : getD s start 0 ≡ byte → HeadRead s (headed byte p) (Value start end next)
       right-head e = record {
         reads = sym (ap (λ b. pick b (parsed (region start (end - start) s) (next .at)) faulty) (eq-eqb (getD (region start (end - start) s) 0 0) byte (first ∙ e))) ∙ goes-on p test found;
-        full = (l, m)
+        full = (l, m);
       }

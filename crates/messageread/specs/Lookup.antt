@@ -1,6 +1,6 @@
 -- The op of an address and its tags.
 use Prim.Native.Nat.{ℕ, suc, _+_, _-_, _*_, _%_}
-use mathlib.Core.Bool.{Bool, true, false}
+use mathlib.Core.Bool.{Bool, false}
 use mathlib.Core.List.{List, [], _∷_}
 use mathlib.Core.Option.{Option, none, some}
 use lib.ListN.{length, getD}

@@ -1,26 +1,20 @@
 -- Laws of the lookup.
 use Prim.Native.Nat.{ℕ, zero, suc, _+_, _≤_, _<_}
 use mathlib.Core.Bool.{Bool, true, false}
-use mathlib.Core.Path.{_≡_, refl, sym, ap, _∙_}
+use mathlib.Core.Path.{_≡_, refl, ap, _∙_}
 use mathlib.Core.List.{List, [], _∷_}
-use mathlib.Core.Option.{Option, none, some}
 use native.Mathlib.Omega.{arith}
 use native.Mathlib.Numerals.{add-one}
 use native.Mathlib.Nat.{add-zero}
 use lib.ListN.{length, drop, getD, drop-of-length-le}
 use lib.Seq.{drop-cons}
 use lib.Dec.{eqb}
-use borrow.Author.Tests.{eq-eqb, ne-eqb, eqb-true, eqb-false}
-use Rattle.words.specs.Choice.{pick, both, either, both-true, either-false}
+use Rattle.words.specs.Choice.{both}
 use Rattle.format.specs.Reader.{sameName}
-use Rattle.order.specs.Same.{same-true}
-use Rattle.osc.specs.Message.{Argument, tags}
-use Rattle.messages.specs.Form.{Message}
-use Rattle.messages.specs.Table.{Slot, at-a, at-b, at-c, value, name, file, Row, table, Given, takes, fitAll, takeAll}
+use Rattle.messages.specs.Table.{Slot, at-a, at-b, at-c, value, name, file, Row, table, takes, fitAll}
 use Rattle.messages.specs.Rows.{codeOf, codeAt, slotsIn, addressIn, slotsOf, addressOf}
 use Rattle.messages.specs.Write.{rowFrom, rowOf}
-use Rattle.messages.specs.Receive.{bare, lookUp}
-use Rattle.messageread.specs.Lookup.{meets, opFrom, takesBy, candidateOf}
+use Rattle.messageread.specs.Lookup.{meets, opFrom, takesBy}
 
 -- tags against slots, one more and none
 takes-code : (slot : Slot) (tag : ℕ) → takes slot tag ≡ takesBy (codeOf slot) tag

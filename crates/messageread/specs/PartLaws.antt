@@ -2,13 +2,12 @@
 use Prim.{tt}
 use Prim.Native.Nat.{ℕ, _+_, _-_, _≤_, _<_}
 use mathlib.Core.Bool.{Bool, true, false}
-use mathlib.Core.Path.{_≡_, refl, sym, ap, _∙_}
+use mathlib.Core.Path.{_≡_, sym, ap, _∙_}
 use mathlib.Core.List.{List}
 use native.Mathlib.Omega.{arith}
 use lib.ListN.{length}
 use Rattle.words.specs.Parts.{region}
 use Rattle.messages.specs.Form.{Parse, parsed, faulty, zeros, paddedAt}
-use Rattle.messageread.specs.declared.cursor.Cursor.{Cursor}
 use Rattle.messageread.specs.declared.cursor.Text.{Text}
 use Rattle.messageread.specs.declared.cursor.Text.the-variants.{Value, Faulty}
 use Rattle.messageread.specs.Answers.{PartRead}
@@ -39,5 +38,5 @@ module _ (pad : ℕ) (fits : List ℕ → Bool) (s : List ℕ) (at end : ℕ) (b
       let there : at + (end - at + pad) ≡ end + pad = omega arith in
       record {
         reads = ap (λ (k : ℕ). parsed (region at (end - at) s) k) (sym there) ∙ padded-read (end - at) pad fits s at (omega arith) f (zeros-behind ∙ z);
-        inside = (behind, omega arith)
+        inside = (behind, omega arith);
       }

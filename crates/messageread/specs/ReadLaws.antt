@@ -15,7 +15,7 @@ use Rattle.messages.specs.Form.{Parse, parsed, faulty, andThen, mapParse, Messa
 use Rattle.messages.specs.Table.{Row, table, Given, takeAll}
 use Rattle.messages.specs.Rows.{slotsIn, slotsOf}
 use Rattle.messages.specs.Write.{rowFrom}
-use Rattle.messages.specs.Receive.{bare, lookUp, Meaning, malformed, unknown, commandIn, calls, known, meaningOf}
+use Rattle.messages.specs.Receive.{bare, lookUp, malformed, unknown, commandIn, calls, known, meaningOf}
 use Rattle.messageread.specs.Lookup.{meets, opFrom}
 use Rattle.messageread.specs.Finish.{endOf, messageEnd}
 use Rattle.messageread.specs.Keep.{takenAt}
@@ -92,7 +92,7 @@ chosen-known (suc n) xs = rw (ne-eqb (suc n) 0 (λ z. omega arith))
 module _ (s address ts : List ℕ) (op : ℕ) (found : op ≡ opFrom 1 table address ts) where
   ended : (whole : Bool) (xs : List Argument) (end : ℕ) → tags xs ≡ ts
       → meaningOf (pick whole (parsed (record { address = address; arguments = xs }) end) faulty)
-        ≡ pick whole (pick (eqb op 0) unknown (calls (commandIn (takeAll (slotsOf op) xs (bare op) .numbers)) (takeAll (slotsOf op) xs (bare op) .bytes))) malformed
+      ≡ pick whole (pick (eqb op 0) unknown (calls (commandIn (takeAll (slotsOf op) xs (bare op) .numbers)) (takeAll (slotsOf op) xs (bare op) .bytes))) malformed
   ended true xs end e =
       ap known (lookup-is (record { address = address; arguments = xs })
       ∙ ap (λ (l : List ℕ). chosen (opFrom 1 table address l) xs) e

@@ -1,7 +1,7 @@
 -- Laws of a step: what one argument leaves.
 use Prim.{tt}
 use Prim.Native.Nat.{ℕ, _-_, _≤_}
-use mathlib.Core.Path.{_≡_, refl, sym, ap, _∙_}
+use mathlib.Core.Path.{_≡_, sym, ap, _∙_}
 use mathlib.Core.List.{List, []}
 use native.Mathlib.Omega.{arith}
 use lib.ListN.{length}
@@ -12,14 +12,12 @@ use Rattle.messages.specs.Form.{Parse, parsed, faulty, andThen, mapParse, numbe
 use Rattle.messages.specs.Table.{Slot, Given}
 use Rattle.messages.specs.Rows.{codeAt}
 use Rattle.messageread.specs.declared.cursor.Cursor.{Cursor}
-use Rattle.messageread.specs.declared.cursor.Number.{Number}
-use Rattle.messageread.specs.declared.cursor.Text.{Text}
 use Rattle.messageread.specs.declared.keep.Kept.{Kept}
 use Rattle.messageread.specs.declared.keep.Step.{Step}
 use Rattle.messageread.specs.declared.keep.Step.the-variants.{Next, Faulty}
 use Rattle.messageread.specs.FormLaws.{goes-on, stops}
 use Rattle.messageread.specs.TakeLaws.{mapped}
-use Rattle.messageread.specs.Keep.{taken, takeBy, given, Holds, Keeps, Steps, argumentTaken}
+use Rattle.messageread.specs.Keep.{taken, takeBy, given, Keeps, Steps, argumentTaken}
 
 -- how a reading goes on with what it takes
 abbrev pub numberTaken : ℕ → ℕ → Given → ℕ → ℕ → Parse Given
@@ -36,14 +34,14 @@ module _ (s : List ℕ) (op : ℕ) (kept : Kept) where
       → Steps s op kept (andThen p (numberTaken code kind (given s op kept))) (Next r next)
   number-step p code kind n r next h k = record {
     reads = ap (λ (g : Given). parsed g (next .at)) (k .takes s op) ∙ goes-on p (numberTaken code kind (given s op kept)) h;
-    holds = k .holds s (omega arith) (omega arith)
+    holds = k .holds s (omega arith) (omega arith);
   }
 
   pub part-step : (p : Parse (List ℕ)) (code start end : ℕ) (r : Kept) (next : Cursor) → parsed (region start (end - start) s) (next .at) ≡ p → start ≤ end → end ≤ length s
       → Keeps code 1 0 start end kept r → Steps s op kept (andThen p (partTaken code (given s op kept))) (Next r next)
   part-step p code start end r next h l m k = record {
     reads = ap (λ (g : Given). parsed g (next .at)) (k .takes s op) ∙ goes-on p (partTaken code (given s op kept)) h;
-    holds = k .holds s l m
+    holds = k .holds s l m;
   }
 
   pub step-by : (p q : Parse Given) (r : Step) → p ≡ q → Steps s op kept p r → Steps s op kept q r

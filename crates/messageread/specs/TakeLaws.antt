@@ -41,20 +41,20 @@ take-none (slot ∷ slots) g = refl
 module _ (slots : List Slot) (k : ℕ) (g : Given) where
   after-rest : (x : Argument) (q : Parse (List Argument))
       → andThen (andThen q (λ xs end. parsed (x ∷ xs) end)) (λ xs end. parsed (takeAll (drop k slots) xs g) end)
-        ≡ andThen q (λ xs end. parsed (takeAll (drop (suc k) slots) xs (takeBy (codeAt slots k) x g)) end)
+      ≡ andThen q (λ xs end. parsed (takeAll (drop (suc k) slots) xs (takeBy (codeAt slots k) x g)) end)
   after-rest x (parsed xs end) = ap (λ (h : Given). parsed h end) (take-one slots k x xs g)
   after-rest x faulty = refl
 
   after-one : (p : Parse Argument) (rest : ℕ → Parse (List Argument))
       → andThen (andThen p (λ x next. andThen (rest next) (λ xs end. parsed (x ∷ xs) end))) (λ xs end. parsed (takeAll (drop k slots) xs g) end)
-        ≡ andThen (andThen p (λ x next. parsed (takeBy (codeAt slots k) x g) next)) (λ h next. andThen (rest next) (λ xs end. parsed (takeAll (drop (suc k) slots) xs h) end))
+      ≡ andThen (andThen p (λ x next. parsed (takeBy (codeAt slots k) x g) next)) (λ h next. andThen (rest next) (λ xs end. parsed (takeAll (drop (suc k) slots) xs h) end))
   after-one (parsed x next) rest = after-rest x (rest next)
   after-one faulty rest = refl
 
 -- one argument, and those behind it
 pub taken-turn : (slots : List Slot) (tags : List ℕ) (k : ℕ) (s : List ℕ) (at : ℕ) (g : Given) → k < length tags
     → takenAt (drop k slots) (drop k tags) s at g
-      ≡ andThen (argumentTaken slots k (getD tags k 0) s at g) (λ h next. takenAt (drop (k + 1) slots) (drop (k + 1) tags) s next h)
+    ≡ andThen (argumentTaken slots k (getD tags k 0) s at g) (λ h next. takenAt (drop (k + 1) slots) (drop (k + 1) tags) s next h)
 unfolding argumentsAt
 taken-turn slots tags k s at g l =
     subst

@@ -1,18 +1,17 @@
 -- Laws of the bytes of a string, up to its first zero.
-use Prim.Native.Nat.{ℕ, suc, _+_, _-_, _%_, _≤_, _<_}
+use Prim.Native.Nat.{ℕ, suc, _+_, _<_}
 use mathlib.Core.Bool.{Bool, true, false}
-use mathlib.Core.Path.{_≡_, refl, sym, ap, _∙_}
+use mathlib.Core.Path.{_≡_, refl}
 use mathlib.Core.List.{List, [], _∷_}
 use native.Mathlib.Numerals.{add-one}
 use native.Mathlib.Omega.{arith}
 use lib.ListN.{length, take, drop, getD}
 use lib.Seq.{drop-cons}
 use lib.Dec.{leb, eqb}
-use borrow.Author.Tests.{eq-eqb, ne-eqb, le-leb, lt-leb, eqb-false}
+use borrow.Author.Tests.{eq-eqb, ne-eqb, le-leb, eqb-false}
 use Rattle.words.specs.Choice.{pick, both}
-use Rattle.words.specs.Parts.{region}
 use Rattle.format.specs.Fields.{nameBytes}
-use Rattle.messages.specs.Form.{textLength, zeros}
+use Rattle.messages.specs.Form.{textLength}
 
 -- the bytes before the first zero are at most 127
 unfoldable pub textGood : List ℕ → Bool

@@ -6,7 +6,7 @@ use mathlib.Core.List.{List}
 use native.Mathlib.Omega.{arith}
 use lib.ListN.{length, drop, getD}
 use Rattle.messages.specs.Form.{Parse, parsed, faulty}
-use Rattle.messages.specs.Table.{Slot, Given}
+use Rattle.messages.specs.Table.{Given}
 use Rattle.messages.specs.Rows.{slotsOf}
 use Rattle.messages.specs.Receive.{bare}
 use Rattle.messageread.specs.declared.cursor.Cursor.{Cursor}
@@ -32,7 +32,7 @@ module _ (s tags : List ℕ) (from op : ℕ) where
     pub walk-stops : k < length tags → faulty ≡ argumentTaken (slotsOf op) k (getD tags k 0) s at (given s op kept) → Walks s op (takenAt (slotsOf op) tags s from (bare op)) Faulty
     walk-stops l h = record {
       reads = stops (argumentTaken (slotsOf op) k (getD tags k 0) s at (given s op kept)) rest h ∙ sym (taken-turn (slotsOf op) tags k s at (given s op kept) l) ∙ w .goes;
-      holds = tt
+      holds = tt;
     }
 
     pub walk-goes : (more : Kept) (next : ℕ) → k < length tags → parsed (given s op more) next ≡ argumentTaken (slotsOf op) k (getD tags k 0) s at (given s op kept)
@@ -40,11 +40,11 @@ module _ (s tags : List ℕ) (from op : ℕ) where
     walk-goes more next l h held = record {
       some-left = omega arith;
       holds = held;
-      goes = goes-on (argumentTaken (slotsOf op) k (getD tags k 0) s at (given s op kept)) rest h ∙ sym (taken-turn (slotsOf op) tags k s at (given s op kept) l) ∙ w .goes
+      goes = goes-on (argumentTaken (slotsOf op) k (getD tags k 0) s at (given s op kept)) rest h ∙ sym (taken-turn (slotsOf op) tags k s at (given s op kept) l) ∙ w .goes;
     }
 
   pub walk-ends : (kept : Kept) (at : Cursor) (k : ℕ) → Walking s tags from op kept (at .at) k → length tags ≤ k → Walks s op (takenAt (slotsOf op) tags s from (bare op)) (Next kept at)
   walk-ends kept at k w l = record {
     reads = sym (taken-end (slotsOf op) tags k s (at .at) (given s op kept) l) ∙ w .goes;
-    holds = w .holds
+    holds = w .holds;
   }

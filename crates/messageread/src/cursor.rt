@@ -59,7 +59,7 @@ fn blank(message: &[u8], from: usize, to: usize) -> bool
 }
 
 impl Cursor {
-    pub fn number(self, message: &[u8]) -> Number
+    pub(crate) fn number(self, message: &[u8]) -> Number
         ensures { λ r. ⌜ numberOf r ≡ numberAt (now (message .entry)) (self .at) ⌝ }
     {
         let at = self.at;
@@ -72,7 +72,7 @@ impl Cursor {
         Number::Value(word_at(message, at), Cursor { at: at + 4 })
     }
 
-    pub fn text(self, message: &[u8]) -> Text
+    pub(crate) fn text(self, message: &[u8]) -> Text
         ensures { λ r. ⌜ PartRead (now (message .entry)) (stringAt (now (message .entry)) (self .at)) r ⌝ }
     {
         let at = self.at;
@@ -137,7 +137,7 @@ impl Cursor {
         Text::Faulty
     }
 
-    pub fn blob(self, message: &[u8]) -> Text
+    pub(crate) fn blob(self, message: &[u8]) -> Text
         ensures { λ r. ⌜ PartRead (now (message .entry)) (blobAt (now (message .entry)) (self .at)) r ⌝ }
     {
         match self.number(message) {

@@ -33,7 +33,15 @@ fn argument(message: &[u8], at: Cursor, tag: u8, op: u32, k: usize, kept: Kept) 
 pub(crate) fn walk(message: &[u8], tags: &[u8], from: usize, op: u32) -> Step
     ensures { λ r. ⌜ Walks (now (message .entry)) op (takenAt (slotsOf op) (now (tags .entry)) (now (message .entry)) from (bare op)) r ⌝ }
 {
-    let mut kept = Kept { a: 0, b: 0, c: 0, d: 0, e: 0, start: 0, end: 0 };
+    let mut kept = Kept {
+        a: 0,
+        b: 0,
+        c: 0,
+        d: 0,
+        e: 0,
+        start: 0,
+        end: 0,
+    };
     let mut at = Cursor { at: from };
     let mut k = 0;
     while k < tags.len() {

@@ -1,12 +1,4 @@
-use Prim.Native.Nat.{ℕ, zero, suc, _+_, _*_, _-_, _≤_, _<_}
-use mathlib.Core.Bool.{Bool, true, false, not}
-use mathlib.Core.Path.{_≡_, refl, sym, ap, _∙_}
-use mathlib.Core.List.{List, [], _∷_, _++_, append-assoc}
-use native.Mathlib.Omega.{arith}
-use native.Mathlib.Numerals.{add-one}
-use borrow.Author.Needs.{needs}
-use borrow.Author.Tests.{lt-ltb, le-ltb, le-leb, lt-leb, eq-eqb, ne-eqb}
-use lib.ListN.{length, take, drop, getD, set, length-set, length-drop}
+use mathlib.Core.Path.{ap}
 use borrow.Author.Needs.{needs}
 use Prim.{tt}
 use mathlib.Core.Path.{subst}
@@ -18,9 +10,6 @@ use Rattle.messageread.specs.Finish.{endOf}
 use Rattle.messageread.specs.FinishLaws.{stands-by, left-over, no-op, no-command, a-command}
 use Rattle.messageread.proofs.finish.Statement.{statement}
 use Rattle.messageread.proofs.finish.Tie as tie
-use Rattle.messageread.proofs.finish.Reads as reads
-use Rattle.messageread.proofs.finish.Lts as lts
-use Rattle.calls.proofs.command_of.Reads as command-of-reads
 
 enum-told : tie.Need-enum-told
 enum-told c = search needs

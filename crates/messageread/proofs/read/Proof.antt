@@ -1,21 +1,9 @@
-use Prim.Native.Nat.{ℕ, zero, suc, _+_, _*_, _-_, _≤_, _<_}
-use mathlib.Core.Bool.{Bool, true, false, not}
-use mathlib.Core.Path.{_≡_, refl, sym, ap, _∙_}
-use mathlib.Core.List.{List, [], _∷_, _++_, append-assoc}
-use native.Mathlib.Omega.{arith}
-use native.Mathlib.Numerals.{add-one}
-use borrow.Author.Needs.{needs}
-use borrow.Author.Tests.{lt-ltb, le-ltb, le-leb, lt-leb, eq-eqb, ne-eqb}
-use lib.ListN.{length, take, drop, getD, set, length-set, length-drop}
+use Prim.Native.Nat.{_-_}
 use borrow.Author.Needs.{needs}
 use Rattle.words.specs.Parts.{region}
 use Rattle.messageread.specs.FinishLaws.{no-address, addressed}
 use Rattle.messageread.proofs.read.Statement.{statement}
 use Rattle.messageread.proofs.read.Tie as tie
-use Rattle.messageread.proofs.read.Reads as reads
-use Rattle.messageread.proofs.read.Lts as lts
-use Rattle.messageread.proofs.behind_address.Reads as behind-address-reads
-use Rattle.messageread.proofs.cursor.Cursor.headed.Reads as headed-reads
 
 headed-requires : tie.Need-headed-requires
 headed-requires c κs = search needs

@@ -1,7 +1,6 @@
-use Prim.Native.Nat.{_+_, _-_, _≤_}
-use mathlib.Core.Path.{_≡_, refl, sym, _∙_}
+use Prim.Native.Nat.{_-_}
 use native.Mathlib.Omega.{arith}
-use lib.ListN.{length, drop}
+use lib.ListN.{length}
 use Rattle.messageread.specs.EndLaws.{Passed, none-passed, one-passed, ends-zero, ends-high, ends-cut}
 use Rattle.messageread.proofs.cursor.text_end.Statement.{statement}
 use Rattle.messageread.proofs.cursor.text_end.Tie as tie

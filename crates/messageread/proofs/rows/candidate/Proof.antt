@@ -1,18 +1,8 @@
-use Prim.Native.Nat.{ℕ, zero, suc, _+_, _*_, _-_, _≤_, _<_}
-use mathlib.Core.Bool.{Bool, true, false, not}
-use mathlib.Core.Path.{_≡_, refl, sym, ap, _∙_}
-use mathlib.Core.List.{List, [], _∷_, _++_, append-assoc}
-use native.Mathlib.Omega.{arith}
-use native.Mathlib.Numerals.{add-one}
 use borrow.Author.Needs.{needs}
-use borrow.Author.Tests.{lt-ltb, le-ltb, le-leb, lt-leb, eq-eqb, ne-eqb}
-use lib.ListN.{length, take, drop, getD, set, length-set, length-drop}
-use borrow.Author.Needs.{needs}
+use borrow.Author.Tests.{lt-ltb, le-ltb}
+use lib.ListN.{length}
 use Rattle.messageread.proofs.rows.candidate.Statement.{statement}
 use Rattle.messageread.proofs.rows.candidate.Tie as tie
-use Rattle.messageread.proofs.rows.candidate.Reads as reads
-use Rattle.messageread.proofs.rows.candidate.Lts as lts
-use Rattle.messageread.proofs.rows.wide.Reads as wide-reads
 
 returns : tie.Need-returns
 returns c = rw (lt-ltb (length (c .before .before .args .address .now)) 6 (c .if1 .taken))

@@ -1,20 +1,8 @@
-use Prim.Native.Nat.{ℕ, zero, suc, _+_, _*_, _-_, _≤_, _<_}
-use mathlib.Core.Bool.{Bool, true, false, not}
-use mathlib.Core.Path.{_≡_, refl, sym, ap, _∙_}
-use mathlib.Core.List.{List, [], _∷_, _++_, append-assoc}
-use native.Mathlib.Omega.{arith}
-use native.Mathlib.Numerals.{add-one}
-use borrow.Author.Needs.{needs}
-use borrow.Author.Tests.{lt-ltb, le-ltb, le-leb, lt-leb, eq-eqb, ne-eqb}
-use lib.ListN.{length, take, drop, getD, set, length-set, length-drop}
+use mathlib.Core.Path.{sym, _∙_}
 use borrow.Author.Needs.{needs}
 use Rattle.messageread.specs.FindLaws.{find-first, find-second, find-none}
 use Rattle.messageread.proofs.rows.find.Statement.{statement}
 use Rattle.messageread.proofs.rows.find.Tie as tie
-use Rattle.messageread.proofs.rows.find.Reads as reads
-use Rattle.messageread.proofs.rows.find.Lts as lts
-use Rattle.messageread.proofs.rows.candidate.Reads as candidate-reads
-use Rattle.messageread.proofs.rows.meets_row.Reads as meets-row-reads
 
 candidate-requires : tie.Need-candidate-requires
 candidate-requires c κs = search needs

@@ -1,12 +1,9 @@
-use Prim.Native.Nat.{ℕ, zero, suc, _+_, _*_, _-_, _≤_, _<_}
-use mathlib.Core.Bool.{Bool, true, false, not}
+use Prim.Native.Nat.{ℕ, _-_, _≤_}
+use mathlib.Core.Bool.{true, false}
 use mathlib.Core.Path.{_≡_, refl, sym, ap, _∙_}
-use mathlib.Core.List.{List, [], _∷_, _++_, append-assoc}
 use native.Mathlib.Omega.{arith}
-use native.Mathlib.Numerals.{add-one}
 use borrow.Author.Needs.{needs}
-use borrow.Author.Tests.{lt-ltb, le-ltb, le-leb, lt-leb, eq-eqb, ne-eqb}
-use lib.ListN.{length, take, drop, getD, set, length-set, length-drop}
+use lib.ListN.{length, drop, getD}
 use lib.Dec.{eqb}
 use Rattle.messages.specs.Table.{fitAll}
 use Rattle.messages.specs.Rows.{slotsOf, codeAt}
@@ -14,10 +11,6 @@ use Rattle.messageread.specs.Lookup.{takesBy}
 use Rattle.messageread.specs.LookupLaws.{fit-turn, fit-end}
 use Rattle.messageread.proofs.rows.fits.Statement.{statement}
 use Rattle.messageread.proofs.rows.fits.Tie as tie
-use Rattle.messageread.proofs.rows.fits.Reads as reads
-use Rattle.messageread.proofs.rows.fits.Lts as lts
-use Rattle.messageread.proofs.rows.takes.Reads as takes-reads
-use Rattle.messages.proofs.slot_code.Reads as slot-code-reads
 
 abbrev Inv-loop : tie.InvT-loop
 Inv-loop tags op k₀ k = (k ≤ length tags) × (fitAll (drop k (slotsOf op)) (drop k tags) ≡ fitAll (slotsOf op) tags)

@@ -1,22 +1,12 @@
-use Prim.Native.Nat.{ℕ, zero, suc, _+_, _*_, _-_, _≤_, _<_}
-use mathlib.Core.Bool.{Bool, true, false, not}
-use mathlib.Core.Path.{_≡_, refl, sym, ap, _∙_}
-use mathlib.Core.List.{List, [], _∷_, _++_, append-assoc}
+use Prim.Native.Nat.{ℕ}
+use mathlib.Core.Path.{_≡_, sym, ap, _∙_}
 use native.Mathlib.Omega.{arith}
-use native.Mathlib.Numerals.{add-one}
-use borrow.Author.Needs.{needs}
-use borrow.Author.Tests.{lt-ltb, le-ltb, le-leb, lt-leb, eq-eqb, ne-eqb}
-use lib.ListN.{length, take, drop, getD, set, length-set, length-drop}
 use borrow.Author.Needs.{needs}
 use Rattle.messages.specs.Write.{rowOf}
 use Rattle.messageread.specs.Lookup.{meets}
 use Rattle.messageread.specs.LookupLaws.{meets-parts, meets-past, meets-zero}
 use Rattle.messageread.proofs.rows.meets_row.Statement.{statement}
 use Rattle.messageread.proofs.rows.meets_row.Tie as tie
-use Rattle.messageread.proofs.rows.meets_row.Reads as reads
-use Rattle.messageread.proofs.rows.meets_row.Lts as lts
-use Rattle.messageread.proofs.rows.fits.Reads as fits-reads
-use Rattle.messageread.proofs.rows.same_address.Reads as same-address-reads
 
 returns : tie.Need-returns
 returns c =

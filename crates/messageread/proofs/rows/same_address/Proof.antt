@@ -1,21 +1,14 @@
-use Prim.Native.Nat.{ℕ, zero, suc, _+_, _*_, _-_, _≤_, _<_}
-use mathlib.Core.Bool.{Bool, true, false, not}
-use mathlib.Core.Path.{_≡_, refl, sym, ap, _∙_}
-use mathlib.Core.List.{List, [], _∷_, _++_, append-assoc}
+use Prim.Native.Nat.{_-_, _≤_}
+use mathlib.Core.Path.{_≡_, refl, sym, _∙_}
 use native.Mathlib.Omega.{arith}
-use native.Mathlib.Numerals.{add-one}
 use borrow.Author.Needs.{needs}
-use borrow.Author.Tests.{lt-ltb, le-ltb, le-leb, lt-leb, eq-eqb, ne-eqb}
-use lib.ListN.{length, take, drop, getD, set, length-set, length-drop}
+use borrow.Author.Tests.{eq-eqb, ne-eqb}
+use lib.ListN.{length, drop, getD}
 use Rattle.format.specs.Reader.{sameName}
 use Rattle.fields.specs.SameLaws.{same-lengths, same-turn, same-end}
 use Rattle.messages.specs.Rows.{addressOf}
 use Rattle.messageread.proofs.rows.same_address.Statement.{statement}
 use Rattle.messageread.proofs.rows.same_address.Tie as tie
-use Rattle.messageread.proofs.rows.same_address.Reads as reads
-use Rattle.messageread.proofs.rows.same_address.Lts as lts
-use Rattle.messages.proofs.address_byte.Reads as address-byte-reads
-use Rattle.messages.proofs.address_length.Reads as address-length-reads
 
 abbrev Inv-loop : tie.InvT-loop
 Inv-loop address op i₀ i = (i ≤ length address) × (sameName (drop i address) (drop i (addressOf op)) ≡ sameName address (addressOf op))

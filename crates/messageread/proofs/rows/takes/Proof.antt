@@ -1,16 +1,6 @@
-use Prim.Native.Nat.{ℕ, zero, suc, _+_, _*_, _-_, _≤_, _<_}
-use mathlib.Core.Bool.{Bool, true, false, not}
-use mathlib.Core.Path.{_≡_, refl, sym, ap, _∙_}
-use mathlib.Core.List.{List, [], _∷_, _++_, append-assoc}
-use native.Mathlib.Omega.{arith}
-use native.Mathlib.Numerals.{add-one}
-use borrow.Author.Needs.{needs}
-use borrow.Author.Tests.{lt-ltb, le-ltb, le-leb, lt-leb, eq-eqb, ne-eqb}
-use lib.ListN.{length, take, drop, getD, set, length-set, length-drop}
+use borrow.Author.Tests.{eq-eqb, ne-eqb}
 use Rattle.messageread.proofs.rows.takes.Statement.{statement}
 use Rattle.messageread.proofs.rows.takes.Tie as tie
-use Rattle.messageread.proofs.rows.takes.Reads as reads
-use Rattle.messageread.proofs.rows.takes.Lts as lts
 
 returns : tie.Need-returns
 returns c = rw (eq-eqb (c .before .args .code) 0 (c .if1 .taken))

@@ -1,12 +1,3 @@
-use Prim.Native.Nat.{ℕ, zero, suc, _+_, _*_, _-_, _≤_, _<_}
-use mathlib.Core.Bool.{Bool, true, false, not}
-use mathlib.Core.Path.{_≡_, refl, sym, ap, _∙_}
-use mathlib.Core.List.{List, [], _∷_, _++_, append-assoc}
-use native.Mathlib.Omega.{arith}
-use native.Mathlib.Numerals.{add-one}
-use borrow.Author.Needs.{needs}
-use borrow.Author.Tests.{lt-ltb, le-ltb, le-leb, lt-leb, eq-eqb, ne-eqb}
-use lib.ListN.{length, take, drop, getD, set, length-set, length-drop}
 use borrow.Author.Needs.{needs}
 use Rattle.messages.specs.Form.{andThen, parsed, argumentAt}
 use Rattle.messages.specs.Rows.{slotsOf, codeAt}
@@ -15,14 +6,6 @@ use Rattle.messageread.specs.Keep.{given, argumentTaken, takeBy}
 use Rattle.messageread.specs.StepLaws.{no-step, step-by, numberTaken, partTaken, int-taken, float-taken, text-taken, blob-taken, other-tag}
 use Rattle.messageread.proofs.walk.argument.Statement.{statement}
 use Rattle.messageread.proofs.walk.argument.Tie as tie
-use Rattle.messageread.proofs.walk.argument.Reads as reads
-use Rattle.messageread.proofs.walk.argument.Lts as lts
-use Rattle.messageread.proofs.cursor.Cursor.blob.Reads as blob-reads
-use Rattle.messageread.proofs.cursor.Cursor.number.Reads as number-reads
-use Rattle.messageread.proofs.cursor.Cursor.text.Reads as text-reads
-use Rattle.messageread.proofs.keep.keep_number.Reads as keep-number-reads
-use Rattle.messageread.proofs.keep.keep_part.Reads as keep-part-reads
-use Rattle.messages.proofs.slot_code.Reads as slot-code-reads
 
 slot-code-requires : tie.Need-slot-code-requires
 slot-code-requires c κs = search needs

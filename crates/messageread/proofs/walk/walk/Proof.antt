@@ -1,21 +1,13 @@
-use Prim.Native.Nat.{ℕ, zero, suc, _+_, _*_, _-_, _≤_, _<_}
-use mathlib.Core.Bool.{Bool, true, false, not}
-use mathlib.Core.Path.{_≡_, refl, sym, ap, _∙_}
-use mathlib.Core.List.{List, [], _∷_, _++_, append-assoc}
+use Prim.Native.Nat.{_-_}
 use native.Mathlib.Omega.{arith}
-use native.Mathlib.Numerals.{add-one}
 use borrow.Author.Needs.{needs}
-use borrow.Author.Tests.{lt-ltb, le-ltb, le-leb, lt-leb, eq-eqb, ne-eqb}
-use lib.ListN.{length, take, drop, getD, set, length-set, length-drop}
+use lib.ListN.{length}
 use mathlib.Core.Path.{subst}
 use Rattle.messageread.specs.declared.keep.Step.{Step}
 use Rattle.messageread.specs.Keep.{StepHolds}
 use Rattle.messageread.specs.WalkLaws.{Walking, walk-begins, walk-stops, walk-goes, walk-ends}
 use Rattle.messageread.proofs.walk.walk.Statement.{statement}
 use Rattle.messageread.proofs.walk.walk.Tie as tie
-use Rattle.messageread.proofs.walk.walk.Reads as reads
-use Rattle.messageread.proofs.walk.walk.Lts as lts
-use Rattle.messageread.proofs.walk.argument.Reads as argument-reads
 
 abbrev Inv-loop : tie.InvT-loop
 Inv-loop message tags from op kept₀ at₀ k₀ kept at k = Walking message tags from op kept (at .at) k

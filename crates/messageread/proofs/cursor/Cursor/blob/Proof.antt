@@ -1,12 +1,3 @@
-use Prim.Native.Nat.{ℕ, zero, suc, _+_, _*_, _-_, _≤_, _<_}
-use mathlib.Core.Bool.{Bool, true, false, not}
-use mathlib.Core.Path.{_≡_, refl, sym, ap, _∙_}
-use mathlib.Core.List.{List, [], _∷_, _++_, append-assoc}
-use native.Mathlib.Omega.{arith}
-use native.Mathlib.Numerals.{add-one}
-use borrow.Author.Needs.{needs}
-use borrow.Author.Tests.{lt-ltb, le-ltb, le-leb, lt-leb, eq-eqb, ne-eqb}
-use lib.ListN.{length, take, drop, getD, set, length-set, length-drop}
 use borrow.Author.Needs.{needs}
 use Rattle.messages.specs.Form.{numberAt, blobAt}
 use Rattle.messageread.specs.Answers.{bytesAt}
@@ -14,10 +5,6 @@ use Rattle.messageread.specs.FormLaws.{goes-on, stops}
 use Rattle.messageread.specs.PartLaws.{no-part, part-by}
 use Rattle.messageread.proofs.cursor.Cursor.blob.Statement.{statement}
 use Rattle.messageread.proofs.cursor.Cursor.blob.Tie as tie
-use Rattle.messageread.proofs.cursor.Cursor.blob.Reads as reads
-use Rattle.messageread.proofs.cursor.Cursor.blob.Lts as lts
-use Rattle.messageread.proofs.cursor.Cursor.bytes.Reads as bytes-reads
-use Rattle.messageread.proofs.cursor.Cursor.number.Reads as number-reads
 
 number-requires : tie.Need-number-requires
 number-requires c κs = search needs

@@ -1,22 +1,15 @@
-use Prim.Native.Nat.{ℕ, zero, suc, _+_, _*_, _-_, _≤_, _<_}
-use mathlib.Core.Bool.{Bool, true, false, not}
-use mathlib.Core.Path.{_≡_, refl, sym, ap, _∙_}
-use mathlib.Core.List.{List, [], _∷_, _++_, append-assoc}
+use Prim.Native.Nat.{_+_, _-_}
+use mathlib.Core.Bool.{true}
+use mathlib.Core.Path.{_≡_, refl, sym, _∙_}
 use native.Mathlib.Omega.{arith}
-use native.Mathlib.Numerals.{add-one}
 use borrow.Author.Needs.{needs}
-use borrow.Author.Tests.{lt-ltb, le-ltb, le-leb, lt-leb, eq-eqb, ne-eqb}
-use lib.ListN.{length, take, drop, getD, set, length-set, length-drop}
-use borrow.Author.Needs.{needs}
+use borrow.Author.Tests.{le-leb, lt-leb}
 use Prim.Native.Nat.{_%_}
 use Rattle.format.specs.Fields.{highest32}
 use Rattle.messageread.specs.Answers.{bytesAt}
 use Rattle.messageread.specs.PartLaws.{no-part, part-cut, part-marked, part-read}
 use Rattle.messageread.proofs.cursor.Cursor.bytes.Statement.{statement}
 use Rattle.messageread.proofs.cursor.Cursor.bytes.Tie as tie
-use Rattle.messageread.proofs.cursor.Cursor.bytes.Reads as reads
-use Rattle.messageread.proofs.cursor.Cursor.bytes.Lts as lts
-use Rattle.messageread.proofs.cursor.blank.Reads as blank-reads
 
 returns : tie.Need-returns
 returns c =

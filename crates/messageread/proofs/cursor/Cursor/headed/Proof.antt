@@ -1,12 +1,4 @@
-use Prim.Native.Nat.{ℕ, zero, suc, _+_, _*_, _-_, _≤_, _<_}
-use mathlib.Core.Bool.{Bool, true, false, not}
-use mathlib.Core.Path.{_≡_, refl, sym, ap, _∙_}
-use mathlib.Core.List.{List, [], _∷_, _++_, append-assoc}
 use native.Mathlib.Omega.{arith}
-use native.Mathlib.Numerals.{add-one}
-use borrow.Author.Needs.{needs}
-use borrow.Author.Tests.{lt-ltb, le-ltb, le-leb, lt-leb, eq-eqb, ne-eqb}
-use lib.ListN.{length, take, drop, getD, set, length-set, length-drop}
 use borrow.Author.Needs.{needs}
 use mathlib.Core.Path.{subst}
 use Rattle.messages.specs.Form.{stringAt}
@@ -15,9 +7,6 @@ use Rattle.messageread.specs.Answers.{Inside}
 use Rattle.messageread.specs.HeadLaws.{no-head, empty-head, wrong-head, right-head}
 use Rattle.messageread.proofs.cursor.Cursor.headed.Statement.{statement}
 use Rattle.messageread.proofs.cursor.Cursor.headed.Tie as tie
-use Rattle.messageread.proofs.cursor.Cursor.headed.Reads as reads
-use Rattle.messageread.proofs.cursor.Cursor.headed.Lts as lts
-use Rattle.messageread.proofs.cursor.Cursor.text.Reads as text-reads
 
 text-requires : tie.Need-text-requires
 text-requires c κs = search needs

@@ -1,12 +1,6 @@
-use Prim.Native.Nat.{ℕ, zero, suc, _+_, _*_, _-_, _≤_, _<_}
-use mathlib.Core.Bool.{Bool, true, false, not}
-use mathlib.Core.Path.{_≡_, refl, sym, ap, _∙_}
-use mathlib.Core.List.{List, [], _∷_, _++_, append-assoc}
+use Prim.Native.Nat.{_-_}
+use mathlib.Core.Path.{sym, _∙_}
 use native.Mathlib.Omega.{arith}
-use native.Mathlib.Numerals.{add-one}
-use borrow.Author.Needs.{needs}
-use borrow.Author.Tests.{lt-ltb, le-ltb, le-leb, lt-leb, eq-eqb, ne-eqb}
-use lib.ListN.{length, take, drop, getD, set, length-set, length-drop}
 use borrow.Author.Needs.{needs}
 use Prim.Native.Nat.{_%_}
 use Rattle.format.specs.Fields.{nameBytes}
@@ -14,10 +8,6 @@ use Rattle.messages.specs.Form.{stringAt}
 use Rattle.messageread.specs.PartLaws.{no-part, part-cut, part-marked, part-read}
 use Rattle.messageread.proofs.cursor.Cursor.text.Statement.{statement}
 use Rattle.messageread.proofs.cursor.Cursor.text.Tie as tie
-use Rattle.messageread.proofs.cursor.Cursor.text.Reads as reads
-use Rattle.messageread.proofs.cursor.Cursor.text.Lts as lts
-use Rattle.messageread.proofs.cursor.blank.Reads as blank-reads
-use Rattle.messageread.proofs.cursor.text_end.Reads as text-end-reads
 
 text-end-requires : tie.Need-text-end-requires
 text-end-requires c κs = search needs
