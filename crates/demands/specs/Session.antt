@@ -12,7 +12,7 @@ use Rattle.model.specs.declared.Answer.{Answer}
 use Rattle.model.specs.declared.Answer.the-variants.{Refused}
 use Rattle.model.specs.Formed.{formed}
 use Rattle.model.specs.Apply.{Does}
-use Rattle.model.specs.Chain.{State, Call, leftBy, Fresh}
+use Rattle.model.specs.Chain.{State, Call, leftBy}
 use Rattle.model.specs.Demands.{refusalIn, Ends, Demand3}
 use Rattle.messages.specs.Receive.{Meaning, malformed, unknown, means, meaning}
 use Rattle.messages.specs.Sent.{Sends}

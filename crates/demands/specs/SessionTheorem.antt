@@ -6,23 +6,21 @@ use mathlib.Core.Path.{_≡_, refl, sym, ap, ap₂, _∙_, subst}
 use mathlib.Core.List.{List, [], _∷_, _++_}
 use lib.ListN.{length}
 use native.Mathlib.Omega.{arith}
-use Rattle.words.specs.Choice.{pick}
 use Rattle.refusals.specs.declared.Refusal.{Refusal}
-use Rattle.refusals.specs.declared.Refusal.the-variants.{BadState, Malformed, UnknownMessage}
+use Rattle.refusals.specs.declared.Refusal.the-variants.{Malformed, UnknownMessage}
 use Rattle.refusals.specs.Refusals.{numberOf}
-use Rattle.model.specs.declared.Command.{Command}
-use Rattle.model.specs.declared.Answer.{Answer}
+
 use Rattle.model.specs.declared.Answer.the-variants.{Refused}
 use Rattle.model.specs.Formed.{formed}
-use Rattle.model.specs.Apply.{answerIn, answer, isAccepted, Does}
-use Rattle.model.specs.Chain.{State, engineIn, Call, Applied, Chain, leftBy, Fresh}
-use Rattle.model.specs.Demands.{refusalIn, Ends}
+use Rattle.model.specs.Apply.{answerIn, answer, isAccepted}
+use Rattle.model.specs.Chain.{State, engineIn, Call, Chain, leftBy, Fresh}
+use Rattle.model.specs.Demands.{refusalIn}
 use Rattle.sequence.specs.Fresh.{fresh-state, fresh-formed}
 use Rattle.sequence.specs.Sound.{never-one}
-use Rattle.messages.specs.Receive.{Meaning, malformed, unknown, means, meaning}
-use Rattle.messages.specs.Sent.{Refuses, Serves, Sends}
+use Rattle.messages.specs.Receive.{Meaning, malformed, unknown, means}
+use Rattle.messages.specs.Sent.{Refuses, Serves}
 use Rattle.demands.specs.Theorems.{demand1, demand3}
-use Rattle.demands.specs.Session.{Given, command, message, Made, Promised, Session, leftAfter, meaningIn, callOf, callsBy, callsOf, commandsOf, EndsWith, EndsBy, Demand1OfCalls, CallHolds, AllHold, Demand3OfCalls}
+use Rattle.demands.specs.Session.{Given, command, message, Made, Promised, Session, leftAfter, meaningIn, callOf, callsBy, commandsOf, EndsWith, EndsBy, Demand1OfCalls, AllHold, Demand3OfCalls}
 
 -- what is done by its meaning
 abbrev Served : Meaning → Made → State → Type 0

@@ -1,7 +1,7 @@
 -- A message at the engine: what it does, by what the reader handed on.
 use Prim.Native.Nat.{ℕ, _-_}
 use mathlib.Core.Bool.{true, false}
-use mathlib.Core.Path.{_≡_, refl, sym, ap, _∙_, subst}
+use mathlib.Core.Path.{_≡_, refl, sym, subst}
 use mathlib.Core.List.{List}
 use lib.ListN.{drop}
 use Rattle.words.specs.Bytes.{AreBytes}
@@ -17,7 +17,7 @@ use Rattle.state.specs.Does.{does-bad}
 use Rattle.definitions.specs.Exporting.{bytes-take, bytes-drop}
 use Rattle.messages.specs.declared.Received.{Received}
 use Rattle.messages.specs.declared.Received.the-variants as received
-use Rattle.messages.specs.Receive.{Meaning, meaning, handed, Reads}
+use Rattle.messages.specs.Receive.{Meaning, handed, Reads}
 use Rattle.messages.specs.Sent.{Refuses, Serves, Sends}
 
 pub part-bytes : (start end : ℕ) (s : List ℕ) → AreBytes s → AreBytes (region start (end - start) s)
