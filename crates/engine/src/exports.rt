@@ -1,6 +1,6 @@
 // What Rust and C call: slices as a pointer and a length, integers and floats as their 32-bit patterns.
 use crate::commands::apply;
-use crate::message::message;
+use crate::sent::message;
 use calls::Parsed;
 use calls::call_number;
 use calls::command_of;

@@ -1,7 +1,7 @@
 // The engine: `fresh`, `apply`, which every command goes through, `message`, which takes it as bytes, and what other languages call. Nothing here asks anything of what it is lent.
 mod commands;
 mod exports;
-mod message;
+mod sent;
 mod query;
 mod start;
 
@@ -12,5 +12,5 @@ pub use exports::engine_message;
 pub use exports::message_write;
 pub use exports::engine_arena;
 pub use exports::engine_words;
-pub use message::message;
+pub use sent::message;
 pub use start::fresh;
