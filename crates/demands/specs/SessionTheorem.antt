@@ -9,7 +9,6 @@ use native.Mathlib.Omega.{arith}
 use Rattle.refusals.specs.declared.Refusal.{Refusal}
 use Rattle.refusals.specs.declared.Refusal.the-variants.{Malformed, UnknownMessage}
 use Rattle.refusals.specs.Refusals.{numberOf}
-
 use Rattle.model.specs.declared.Answer.the-variants.{Refused}
 use Rattle.model.specs.Formed.{formed}
 use Rattle.model.specs.Apply.{answerIn, answer, isAccepted}

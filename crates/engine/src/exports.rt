@@ -1,10 +1,10 @@
 // What Rust and C call: slices as a pointer and a length, integers and floats as their 32-bit patterns.
 use crate::commands::apply;
 use crate::sent::message;
+use crate::start::fresh;
 use calls::Parsed;
 use calls::call_number;
 use calls::command_of;
-use crate::start::fresh;
 use layout::ARENA;
 use layout::WORDS;
 use messages::Numbers;
@@ -88,7 +88,7 @@ pub extern "C" fn message_write(
     ensures { λ r. ⌜ Wrote (commandOf op a b c d e) (record { numbers = record { op = op; a = a; b = b; c = c; d = d; e = e }; bytes = now (bytes .entry) }) (now (out .entry)) r (now (out .exit)) ⌝ }
 {
     match command_of(op, a, b, c, d, e) {
-        Parsed::Call(_command) => {
+        Parsed::Call(command) => {
             let numbers = Numbers {
                 op: op,
                 a: a,
