@@ -1,8 +1,6 @@
 -- `engine::sent::message` meets its contract: what was read, the check, and then the step.
-use Prim.Native.Nat.{ℕ}
 use mathlib.Core.Path.{sym, _∙_, subst}
-use mathlib.Core.List.{List}
-use native.Mathlib.Omega.{arith}
+
 use borrow.Author.Needs.{needs}
 use borrow.Author.Tests.{not-true, not-false}
 use Rattle.messages.specs.declared.Received.{Received}
