@@ -72,6 +72,35 @@ uint64_t engine_apply(uint32_t op, uint32_t a, uint32_t b, uint32_t c, uint32_t 
                       uint8_t *arena, size_t arena_length,
                       uint8_t *reply, size_t reply_length);
 
+/* Does the command that an OSC message is, or refuses it and changes nothing. Answers as engine_apply
+ * does, where the refusals come in this order: 1; 26 where the message is malformed; 27 where no
+ * command has its address, or not with these tags; those of the command. A place counts from the first
+ * byte of the file, not of the message.
+ *
+ * A message is a padded address, a padded tag string and the arguments: int32 (i), float32 (f), a
+ * padded string (s), or bytes after their length, padded (b). Numbers have their highest byte first. A
+ * string has bytes from 1 to 127, and one to four zeros after it. The addresses with their tags, where
+ * k is i or s (an index or a name) and v is f or i:
+ *
+ *   /d_recv  b     /n_free     i    /n_before  ii   /n_set   ikv    /c_get        i
+ *   /d_free  s     /g_freeAll  i    /n_after   ii   /n_fill  ikiv   /n_query      i
+ *   /s_new   siii  /g_deepFree i    /g_head    ii   /n_map   iki    /s_get        ik
+ *   /g_new   iii   /n_run      ii   /g_tail    ii   /c_set   iv     /g_queryTree  ii
+ *                                                   /c_fill  iiv    /status */
+uint64_t engine_message(const uint8_t *message, size_t message_length,
+                        uint32_t *words, size_t words_length,
+                        uint8_t *arena, size_t arena_length,
+                        uint8_t *reply, size_t reply_length);
+
+/* Writes a command, given as engine_apply takes it, as the OSC message that is read as that command,
+ * from the first byte of out on; bytes past it stay. What the command does not take is not looked at.
+ * Answers 256 times the message's length; or a refusal's number, and then nothing is written: 255 as
+ * above; 26 where a name has a byte that is not from 1 to 127, or a file is longer than 2,147,483,647
+ * bytes; 27 where the command has no address (export); 24 where out is too short. */
+uint64_t message_write(uint32_t op, uint32_t a, uint32_t b, uint32_t c, uint32_t d, uint32_t e,
+                       const uint8_t *bytes, size_t bytes_length,
+                       uint8_t *out, size_t out_length);
+
 #ifdef __cplusplus
 }
 #endif

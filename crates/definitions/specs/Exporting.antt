@@ -23,7 +23,7 @@ use Rattle.definitions.specs.Slots.{SlotsFit, Whole, Formed}
 use Rattle.definitions.specs.Retiring.{whole-size}
 
 -- parts of bytes are bytes
-bytes-take : (n : ℕ) (s : List ℕ) → AreBytes s → AreBytes (take n s)
+pub bytes-take : (n : ℕ) (s : List ℕ) → AreBytes s → AreBytes (take n s)
 bytes-take n s b i = by (ltb i n) refl
   where
     by : (t : Bool) → ltb i n ≡ t → getD (take n s) i 0 < 256
@@ -32,7 +32,7 @@ bytes-take n s b i = by (ltb i n) refl
         let short : length (take n s) ≤ i = omega (arith, length-take n s, ltb-false i n e) in
         rw (List·getD-eq-default (take n s) 0 {n = i} short) (omega arith)
 
-bytes-drop : (n : ℕ) (s : List ℕ) → AreBytes s → AreBytes (drop n s)
+pub bytes-drop : (n : ℕ) (s : List ℕ) → AreBytes s → AreBytes (drop n s)
 bytes-drop n s b i = rw (getD-drop n s i 0) (b (n + i))
 
 pub bytes-on : (table arena : List ℕ) (k : ℕ) → AreBytes arena → AreBytes (bytesOn table arena k)

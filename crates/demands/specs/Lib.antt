@@ -1,3 +1,5 @@
 pub mod Loads
 pub mod Theorems
+pub mod Session
+pub mod SessionTheorem
 pub mod Played

@@ -10,6 +10,9 @@ use Rattle.model.specs.declared.Command.{Command}
 use Rattle.model.specs.declared.Answer.{Answer}
 use Rattle.model.specs.declared.Answer.the-variants.{Done, Refused}
 use Rattle.model.specs.Apply.{Does, sized, freshAnswer, Freshly}
+use Rattle.messages.specs.Table.{Given}
+use Rattle.messages.specs.Write.{Writes}
+use Rattle.messages.specs.Sent.{Sends}
 use Rattle.calls.specs.declared.Parsed.{Parsed}
 use Rattle.calls.specs.declared.Parsed.the-variants.{Call, Nothing}
 use Rattle.calls.specs.Numbers.{callNumber}
@@ -36,6 +39,27 @@ pub record Unknown (ws bs out : List ℕ) (r : ℕ) (ws′ bs′ out′ : List �
 abbrev pub Called : Parsed → (bytes ws bs out : List ℕ) (r : ℕ) (ws′ bs′ out′ : List ℕ) → Type 0
 Called (Call c) bytes ws bs out r ws′ bs′ out′ = Answered c bytes ws bs out r ws′ bs′ out′
 Called Nothing bytes ws bs out r ws′ bs′ out′ = Unknown ws bs out r ws′ bs′ out′
+
+-- a message: what it does, and its answer as a number
+pub record Sent (message ws bs out : List ℕ) (r : ℕ) (ws′ bs′ out′ : List ℕ) : Type 0 where
+  pub answer : Answer
+  pub number : r ≡ callNumber answer
+  pub sends : Sends message ws bs out answer ws′ bs′ out′
+
+-- a command written as a message, and the answer as a number
+pub record AnsweredAs (g : Given) (out : List ℕ) (r : ℕ) (out′ : List ℕ) : Type 0 where
+  pub answer : Answer
+  pub number : r ≡ callNumber answer
+  pub writes : Writes g out answer out′
+
+-- an `op` or a value's kind that is none answers 255, and nothing is written
+pub record Unwritten (out : List ℕ) (r : ℕ) (out′ : List ℕ) : Type 0 where
+  pub number : r ≡ 255
+  pub left : out′ ≡ out
+
+abbrev pub Wrote : Parsed → (g : Given) (out : List ℕ) (r : ℕ) (out′ : List ℕ) → Type 0
+Wrote (Call c) g out r out′ = AnsweredAs g out r out′
+Wrote Nothing g out r out′ = Unwritten out r out′
 
 -- a fresh engine's number is 0 or 1
 pub fresh-small : (ws bs : List ℕ) → callNumber (freshAnswer ws bs) ≤ 1

@@ -1,7 +1,7 @@
 // A command on any words, any arena and any reply buffer: the state check, and then the step of its kind.
+use crate::query::query_step;
 use controlcommands::bus_step;
 use controlcommands::control_step;
-use crate::query::query_step;
 use definitioncommands::definition_step;
 use making::tree_step;
 use model::Answer;
@@ -14,7 +14,7 @@ ghost use Rattle.model.specs.Formed.{formed};
 ghost use Rattle.model.specs.Apply.{Does};
 
 // A command in a well-formed state.
-fn step(
+pub(crate) fn step(
     command: Command,
     bytes: &[u8],
     words: &mut [u32],

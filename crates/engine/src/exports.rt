@@ -1,15 +1,18 @@
 // What Rust and C call: slices as a pointer and a length, integers and floats as their 32-bit patterns.
 use crate::commands::apply;
+use crate::sent::message;
+use crate::start::fresh;
 use calls::Parsed;
 use calls::call_number;
 use calls::command_of;
-use crate::start::fresh;
 use layout::ARENA;
 use layout::WORDS;
+use messages::Numbers;
+use messagewrite::write;
 ghost use mathlib.Core.Path.{_≡_};
 ghost use Rattle.model.specs.Layout.{wordsLength, arenaLength};
 ghost use Rattle.calls.specs.Ops.{commandOf};
-ghost use Rattle.engine.specs.Calls.{Made, Called};
+ghost use Rattle.engine.specs.Calls.{Made, Called, Sent, Wrote};
 
 // The length of the words.
 #[no_mangle]
@@ -53,6 +56,49 @@ pub extern "C" fn engine_apply(
 {
     match command_of(op, a, b, c, d, e) {
         Parsed::Call(command) => call_number(apply(command, bytes, words, arena, reply)),
+        Parsed::Nothing => 255,
+    }
+}
+
+// One call: a message, on what is lent.
+#[no_mangle]
+pub extern "C" fn engine_message(
+    sent: &[u8],
+    words: &mut [u32],
+    arena: &mut [u8],
+    reply: &mut [u8],
+) -> u64
+    ensures { λ r. ⌜ Sent (now (sent .entry)) (now (words .entry)) (now (arena .entry)) (now (reply .entry)) r (now (words .exit)) (now (arena .exit)) (now (reply .exit)) ⌝ }
+{
+    call_number(message(sent, words, arena, reply))
+}
+
+// The command of `op` with its numbers as a message in the lent buffer.
+#[no_mangle]
+pub extern "C" fn message_write(
+    op: u32,
+    a: u32,
+    b: u32,
+    c: u32,
+    d: u32,
+    e: u32,
+    bytes: &[u8],
+    out: &mut [u8],
+) -> u64
+    ensures { λ r. ⌜ Wrote (commandOf op a b c d e) (record { numbers = record { op = op; a = a; b = b; c = c; d = d; e = e }; bytes = now (bytes .entry) }) (now (out .entry)) r (now (out .exit)) ⌝ }
+{
+    match command_of(op, a, b, c, d, e) {
+        Parsed::Call(command) => {
+            let numbers = Numbers {
+                op: op,
+                a: a,
+                b: b,
+                c: c,
+                d: d,
+                e: e,
+            };
+            call_number(write(numbers, bytes, out))
+        }
         Parsed::Nothing => 255,
     }
 }

@@ -1,12 +1,16 @@
-// The engine: `fresh`, `apply`, which every command goes through, and what other languages call. Nothing here asks anything of what it is lent.
+// The engine: `fresh`, `apply`, which every command goes through, `message`, which takes it as bytes, and what other languages call. Nothing here asks anything of what it is lent.
 mod commands;
 mod exports;
 mod query;
+mod sent;
 mod start;
 
 pub use commands::apply;
 pub use exports::engine_apply;
-pub use exports::engine_fresh;
 pub use exports::engine_arena;
+pub use exports::engine_fresh;
+pub use exports::engine_message;
 pub use exports::engine_words;
+pub use exports::message_write;
+pub use sent::message;
 pub use start::fresh;

@@ -8,5 +8,6 @@ pub use cursor::Step;
 pub use cursor::Text;
 pub use cursor::word_at;
 pub use name::name_at;
+pub use name::name_bytes;
 pub use name::part;
 pub use name::same_name;

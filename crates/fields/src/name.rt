@@ -6,7 +6,7 @@ ghost use Rattle.format.specs.Fields.{nameBytes, stringAt};
 ghost use Rattle.format.specs.Reader.{sameName};
 
 // The bytes from one place to another are bytes of a name.
-pub(crate) fn name_bytes(s: &[u8], from: usize, to: usize) -> bool
+pub fn name_bytes(s: &[u8], from: usize, to: usize) -> bool
     ensures { λ r. ⌜ r ≡ nameBytes (region from (to - from) (now (s .entry))) ⌝ }
 {
     let mut i = from;

@@ -6,26 +6,33 @@ use lib.Dec.{ltb}
 use Rattle.words.specs.Choice.{pick}
 use Rattle.words.specs.Bytes.{bytes32}
 
--- int32, float32 (its pattern), string
+-- int32, float32 (its pattern), string, blob (bytes of any kind)
 pub data Argument : Type 0 where
   int : ℕ → Argument
   float : ℕ → Argument
   text : List ℕ → Argument
+  blob : List ℕ → Argument
 
--- the tag of an argument: i, f, s
+-- the tag of an argument: i, f, s, b
 abbrev pub tagOf : Argument → ℕ
 tagOf (int n) = 105
 tagOf (float p) = 102
 tagOf (text s) = 115
+tagOf (blob s) = 98
 
 -- "strings end in one to four zeros", so that their length is a multiple of four
 abbrev pub padded : List ℕ → List ℕ
 padded s = s ++ replicate (4 - length s % 4) 0
 
+-- a blob's bytes behind their number, and none to three zeros: "preceeded by a 32 bit length field and padded to a multiple of 4 bytes" (document 004)
+abbrev pub paddedBlob : List ℕ → List ℕ
+paddedBlob s = bytes32 (length s) ++ (s ++ replicate ((4 - length s % 4) % 4) 0)
+
 abbrev pub argumentBytes : Argument → List ℕ
 argumentBytes (int n) = bytes32 n
 argumentBytes (float p) = bytes32 p
 argumentBytes (text s) = padded s
+argumentBytes (blob s) = paddedBlob s
 
 unfoldable pub tags : List Argument → List ℕ
 tags [] = []

@@ -1,7 +1,7 @@
--- The refusals' numbers: paper 01, "Refusal numbers". Those of a file, 2 to 11, are in `faults`.
+-- The refusals' numbers: paper 01, "Refusal numbers", and from 26 on paper 02. Those of a file, 2 to 11, are in `faults`.
 use Prim.Native.Nat.{ℕ}
 use Rattle.refusals.specs.declared.Refusal.{Refusal}
-use Rattle.refusals.specs.declared.Refusal.the-variants.{BadState, NoSlot, BadFlag, BadNumber, NumberLive, NoDefinition, NoNode, WrongKind, InsideItself, NodesFull, NoControl, NoBus, BadValue, NoRoom, NoNumber}
+use Rattle.refusals.specs.declared.Refusal.the-variants.{BadState, NoSlot, BadFlag, BadNumber, NumberLive, NoDefinition, NoNode, WrongKind, InsideItself, NodesFull, NoControl, NoBus, BadValue, NoRoom, NoNumber, Malformed, UnknownMessage}
 
 abbrev pub numberOf : Refusal → ℕ
 -- "a state buffer has the wrong size, or a rule .. doesn't hold"
@@ -34,3 +34,7 @@ numberOf BadValue = 23
 numberOf NoRoom = 24
 -- "no number left for a new -1"
 numberOf NoNumber = 25
+-- paper 02, 1/14: "malformed (also an address without its "/" or tags without their comma), with a tag other than these, padding not zero or bytes left over"
+numberOf Malformed = 26
+-- "unknown address, or tags that don't fit it"
+numberOf UnknownMessage = 27

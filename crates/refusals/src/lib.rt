@@ -18,6 +18,8 @@ pub enum Refusal {
     BadValue,
     NoRoom,
     NoNumber,
+    Malformed,
+    UnknownMessage,
 }
 
 // A refusal's number.
@@ -40,5 +42,7 @@ pub fn refusal_number(refusal: Refusal) -> u32
         Refusal::BadValue => 23,
         Refusal::NoRoom => 24,
         Refusal::NoNumber => 25,
+        Refusal::Malformed => 26,
+        Refusal::UnknownMessage => 27,
     }
 }

@@ -1,7 +1,9 @@
-//! `limudvek play FILE`: sends a script's commands to an engine, one a line, and prints the answers.
+//! `limudvek play FILE`: sends a script's commands to an engine as messages, one a line, and prints the
+//! answers.
 
 pub(crate) mod line;
 pub(crate) mod message;
+pub mod messages;
 pub(crate) mod tree;
 
 use limudvek::{refusal, show};
@@ -17,8 +19,14 @@ use std::process::ExitCode;
 /// What `limudvek help` prints: the usage, an empty line, and what a script can hold.
 const HELP: &str = include_str!("../../help.txt");
 
+/// The address of the reply that is printed as a tree.
+const QUERY_TREE_REPLY: &[u8] = b"/g_queryTree.reply";
+
 /// Longer than any reply or export.
 const REPLY: usize = 1 << 20;
+
+/// All of a message but its name or its file takes less.
+const FRAME: usize = 64;
 
 /// The exit status where a line can't be read, and where the script can't be.
 const LINES_UNREADABLE: u8 = 1;
@@ -29,20 +37,51 @@ pub trait Applies {
     /// Does a command, given as the exported function `engine_apply` takes it, and answers alike.
     fn apply(&mut self, op: u32, numbers: [u32; 5], bytes: &[u8], reply: &mut [u8]) -> u64;
 
+    /// Does the command that a message is, and answers as `engine_message`.
+    fn message(&mut self, message: &[u8], reply: &mut [u8]) -> u64;
+
+    /// Writes a command as a message, and answers as `message_write`.
+    fn write(op: u32, numbers: [u32; 5], bytes: &[u8], out: &mut [u8]) -> u64;
+
     /// The words of its state, which docs/LAYOUT.md describes.
     fn words(&self) -> &[u32];
 }
 
 impl Applies for engine::Engine {
     fn apply(&mut self, op: u32, numbers: [u32; 5], bytes: &[u8], reply: &mut [u8]) -> u64 {
-        match self.apply(op, numbers, bytes, reply) {
-            Ok(length) => 256 * length as u64,
-            Err(refused) => u64::from(refused.number) + 256 * refused.place,
-        }
+        packed(self.apply(op, numbers, bytes, reply))
+    }
+
+    fn message(&mut self, message: &[u8], reply: &mut [u8]) -> u64 {
+        packed(self.message(message, reply))
+    }
+
+    fn write(op: u32, numbers: [u32; 5], bytes: &[u8], out: &mut [u8]) -> u64 {
+        engine::write_message(op, numbers, bytes, out)
     }
 
     fn words(&self) -> &[u32] {
         self.words()
+    }
+}
+
+fn packed(answer: Result<usize, engine::Refused>) -> u64 {
+    match answer {
+        Ok(length) => 256 * length as u64,
+        Err(refused) => u64::from(refused.number) + 256 * refused.place,
+    }
+}
+
+/// The message of a command, or why it can't be written.
+pub(crate) fn written<D: Applies>(call: &Call) -> Result<Vec<u8>, u32> {
+    let mut message = vec![0; call.bytes.len() + FRAME];
+    let answer = D::write(call.op, call.numbers, &call.bytes, &mut message);
+    match answer % 256 {
+        0 => {
+            message.truncate((answer / 256) as usize);
+            Ok(message)
+        }
+        number => Err(number as u32),
     }
 }
 
@@ -77,6 +116,11 @@ pub fn file(name: &OsStr, engine: &mut impl Applies) -> ExitCode {
             .map_err(Stopped::Input)
             .and_then(|script| play(BufReader::new(script), folder, engine, &mut out))
     };
+    status(name, played)
+}
+
+/// The exit status of what was read whole, or in parts, or not at all.
+pub(crate) fn status(name: &OsStr, played: Result<bool, Stopped>) -> ExitCode {
     match played {
         Ok(true) => ExitCode::SUCCESS,
         Ok(false) => ExitCode::from(LINES_UNREADABLE),
@@ -136,7 +180,7 @@ pub fn prompt(
 }
 
 /// The next line without its end, none where nothing is left.
-fn next_line(input: &mut impl BufRead) -> Result<Option<Vec<u8>>, Stopped> {
+pub(crate) fn next_line(input: &mut impl BufRead) -> Result<Option<Vec<u8>>, Stopped> {
     let mut text = Vec::new();
     match input.read_until(b'\n', &mut text) {
         Ok(0) => Ok(None),
@@ -147,6 +191,27 @@ fn next_line(input: &mut impl BufRead) -> Result<Option<Vec<u8>>, Stopped> {
             Ok(Some(text))
         }
         Err(error) => Err(Stopped::Input(error)),
+    }
+}
+
+/// The command that loads a file, or why the file can't be read.
+pub(crate) fn load(file: &[u8], folder: &Path) -> Result<Call, String> {
+    let path = folder.join(OsStr::from_bytes(file));
+    match fs::read(path) {
+        Ok(bytes) => Ok(Call::new(line::D_RECV, bytes)),
+        Err(error) => Err(format!("{}: {error}", show::path(file))),
+    }
+}
+
+/// Prints whether a command was accepted, and if not, why and where.
+fn verdict(text: &str, number: u32, place: usize, out: &mut impl Write) -> io::Result<()> {
+    if number == 0 {
+        return writeln!(out, "{text}: ok");
+    }
+    write!(out, "{text}: refused {number}: {}", refusal::reason(number))?;
+    match number {
+        2..=11 => writeln!(out, ", at byte {place}"),
+        _ => writeln!(out),
     }
 }
 
@@ -192,15 +257,10 @@ impl<D: Applies> Player<'_, D> {
                 writeln!(out, "tree: ok")?;
                 self.tree(out)?;
             }
-            Line::Load { text, file } => {
-                let path = folder.join(OsStr::from_bytes(&file));
-                match fs::read(path) {
-                    Ok(bytes) => self.call(&text, &Call::new(line::D_RECV, bytes), out)?,
-                    Err(error) => {
-                        return Ok(Some(format!("{}: {error}", show::path(&file))));
-                    }
-                }
-            }
+            Line::Load { text, file } => match load(&file, folder) {
+                Ok(call) => self.call(&text, &call, out)?,
+                Err(why) => return Ok(Some(why)),
+            },
             Line::Call { text, call } => self.call(&text, &call, out)?,
         }
         Ok(None)
@@ -214,35 +274,51 @@ impl<D: Applies> Player<'_, D> {
         ((answer % 256) as u32, (answer / 256) as usize)
     }
 
+    /// Sends a message. Answers as `send`.
+    fn message(&mut self, message: &[u8]) -> (u32, usize) {
+        let answer = self.engine.message(message, &mut self.reply);
+        ((answer % 256) as u32, (answer / 256) as usize)
+    }
+
+    /// Sends a command as a message, or as it is where it has no address, and prints the answer.
     fn call(&mut self, text: &str, call: &Call, out: &mut impl Write) -> io::Result<()> {
-        match self.send(call) {
-            (0, length) => {
-                writeln!(out, "{text}: ok")?;
-                self.decoded(call.op, length, out)
+        if call.op == line::EXPORT {
+            let (number, length) = self.send(call);
+            verdict(text, number, length, out)?;
+            if number == 0 {
+                let file = &self.reply[..length];
+                writeln!(out, "  {length} bytes, {}", show::definitions(file))?;
             }
-            (number, place) => {
-                write!(out, "{text}: refused {number}: {}", refusal::reason(number))?;
-                match number {
-                    2..=11 => writeln!(out, ", at byte {place}"),
-                    _ => writeln!(out),
-                }
+            return Ok(());
+        }
+        match written::<D>(call) {
+            Ok(message) => {
+                let (number, length) = self.message(&message);
+                self.answered(text, number, length, out)
+            }
+            Err(number) => {
+                let why = refusal::unwritten(number);
+                writeln!(out, "{text}: refused {number} before it was sent: {why}")
             }
         }
     }
 
-    /// Prints a query's reply or the names in an export.
-    fn decoded(&self, op: u32, length: usize, out: &mut impl Write) -> io::Result<()> {
-        let reply = &self.reply[..length];
-        match op {
-            line::EXPORT => {
-                writeln!(out, "  {length} bytes, {}", show::definitions(reply))
-            }
-            _ if length > 0 => match Message::read(reply) {
-                Some(message) if op == line::QUERY_TREE => tree::reply(&message, out),
-                Some(message) => writeln!(out, "  {message}"),
-                None => writeln!(out, "  the reply is no message"),
-            },
-            _ => Ok(()),
+    /// Prints the answer to a message, and the reply if there is one.
+    fn answered(
+        &self,
+        text: &str,
+        number: u32,
+        length: usize,
+        out: &mut impl Write,
+    ) -> io::Result<()> {
+        verdict(text, number, length, out)?;
+        if number != 0 || length == 0 {
+            return Ok(());
+        }
+        match Message::read(&self.reply[..length]) {
+            Some(message) if message.address == QUERY_TREE_REPLY => tree::reply(&message, out),
+            Some(message) => writeln!(out, "  {message}"),
+            None => writeln!(out, "  the reply is no message"),
         }
     }
 

@@ -1,8 +1,9 @@
 //! `play` on the independent engine and, as the built program, on the proved one.
 
-use cli::play::{play, prompt, Applies};
-use independent::engine::packed;
-use independent::{layout, Call, Engine};
+mod common;
+
+use cli::play::{play, prompt};
+use common::{examples, Independent, EVERY};
 use std::cell::RefCell;
 use std::collections::BTreeSet;
 use std::fs;
@@ -11,42 +12,6 @@ use std::path::Path;
 use std::process::{Command, Stdio};
 
 const PROGRAM: &str = env!("CARGO_BIN_EXE_limudvek");
-
-/// The independent engine, with its state as words.
-struct Independent {
-    engine: Engine,
-    words: Vec<u32>,
-}
-
-impl Independent {
-    fn new() -> Independent {
-        let engine = Engine::new();
-        let (words, _) = layout::state(&engine.view());
-        Independent { engine, words }
-    }
-}
-
-impl Applies for Independent {
-    fn apply(&mut self, op: u32, numbers: [u32; 5], bytes: &[u8], reply: &mut [u8]) -> u64 {
-        let call = Call {
-            op,
-            numbers,
-            bytes: bytes.to_vec(),
-        };
-        let command = call.command().expect("a script has known commands only");
-        let answer = self.engine.apply(&command, reply);
-        (self.words, _) = layout::state(&self.engine.view());
-        packed(answer)
-    }
-
-    fn words(&self) -> &[u32] {
-        &self.words
-    }
-}
-
-fn examples() -> std::path::PathBuf {
-    Path::new(env!("CARGO_MANIFEST_DIR")).join("../../examples")
-}
 
 /// Plays a script beside the examples. Answers what is printed, and whether each line could be read.
 fn played(script: &[u8]) -> (String, bool) {
@@ -160,7 +125,8 @@ fn lines_that_cannot_be_read() {
     assert!(lines[1].starts_with("line 2: no such file: "), "{text}");
     assert_eq!(
         lines[2],
-        "/d_free \\xff: refused 16: no resident definition has this name"
+        "/d_free \\xff: refused 26 before it was sent: a name has a byte that is not from 1 to 127, or \
+         the file is longer than 2,147,483,647 bytes"
     );
     assert!(!read);
 }
@@ -174,15 +140,6 @@ fn a_refused_file_has_its_place() {
          file, at byte 0\n",
     );
 }
-
-/// A line for every command, each accepted.
-const EVERY: &str = "/d_recv ping.scsyndef\n/g_new 1 0 0\n/g_new 2 1 0\n/s_new ping 10 0 1\n\
-    /s_new ping 11 1 1\n/n_before 11 10\n/n_after 11 10\n/g_head 2 11\n/g_tail 2 10\n\
-    /n_run 11 0\n/n_set 10 0 1\n/n_set 10 freq 2\n/n_fill 10 0 1 3\n\
-    /n_fill 10 freq 1 4\n/n_map 11 0 5\n/n_map 11 freq 6\n/c_set 6 0.5\n\
-    /c_fill 7 2 0.25\n/c_get 8\n/s_get 11 0\n/s_get 11 freq\n/n_query 2\n\
-    /g_queryTree 2 1\n/g_queryTree 2 0\ntree\nexport\n/n_free 10\n/g_deepFree 0\n/g_freeAll 0\n\
-    /d_free ping\n/status\ntree\n";
 
 #[test]
 fn every_command_has_its_kind() {

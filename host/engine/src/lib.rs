@@ -28,6 +28,28 @@ mod proved {
             reply: *mut u8,
             reply_length: usize,
         ) -> u64;
+        pub fn engine_message(
+            message: *const u8,
+            message_length: usize,
+            words: *mut u32,
+            words_length: usize,
+            arena: *mut u8,
+            arena_length: usize,
+            reply: *mut u8,
+            reply_length: usize,
+        ) -> u64;
+        pub fn message_write(
+            op: u32,
+            a: u32,
+            b: u32,
+            c: u32,
+            d: u32,
+            e: u32,
+            bytes: *const u8,
+            bytes_length: usize,
+            out: *mut u8,
+            out_length: usize,
+        ) -> u64;
     }
 }
 
@@ -92,11 +114,65 @@ pub fn apply(
     }
 }
 
+/// Does the command that an OSC message is, or refuses it and changes nothing: with 1, then with 26
+/// where it is malformed and with 27 where no command has its address and tags, then as `apply`, which
+/// it answers like. A place counts from the file's first byte.
+pub fn message(message: &[u8], words: &mut [u32], arena: &mut [u8], reply: &mut [u8]) -> u64 {
+    // SAFETY: as above.
+    unsafe {
+        proved::engine_message(
+            message.as_ptr(),
+            message.len(),
+            words.as_mut_ptr(),
+            words.len(),
+            arena.as_mut_ptr(),
+            arena.len(),
+            reply.as_mut_ptr(),
+            reply.len(),
+        )
+    }
+}
+
+/// Writes a command, given as `apply` takes it, as an OSC message from the first byte of `out` on. What
+/// the command has no use for is not looked at. Answers 256 times the message's length, or a refusal,
+/// and then nothing is written: `UNKNOWN`, then 26 for a name with a byte that is not from 1 to 127 or
+/// a file over 2,147,483,647 bytes, then 27 for a command that has no address, then 24 where `out` is
+/// too short.
+pub fn write_message(op: u32, numbers: [u32; 5], bytes: &[u8], out: &mut [u8]) -> u64 {
+    let [a, b, c, d, e] = numbers;
+    // SAFETY: as above.
+    unsafe {
+        proved::message_write(
+            op,
+            a,
+            b,
+            c,
+            d,
+            e,
+            bytes.as_ptr(),
+            bytes.len(),
+            out.as_mut_ptr(),
+            out.len(),
+        )
+    }
+}
+
 /// A refusal: its number, and for a file (2 to 11) the place of the first byte at fault.
 #[derive(Clone, Copy, Debug, PartialEq, Eq)]
 pub struct Refused {
     pub number: u32,
     pub place: u64,
+}
+
+/// The parts of an answer's number.
+fn unpacked(answer: u64) -> Result<usize, Refused> {
+    match answer % 256 {
+        0 => Ok((answer / 256) as usize),
+        number => Err(Refused {
+            number: number as u32,
+            place: answer / 256,
+        }),
+    }
 }
 
 /// An engine with runs of its own.
@@ -134,13 +210,13 @@ impl Engine {
         reply: &mut [u8],
     ) -> Result<usize, Refused> {
         let answer = apply(op, numbers, bytes, &mut self.words, &mut self.arena, reply);
-        match answer % 256 {
-            0 => Ok((answer / 256) as usize),
-            number => Err(Refused {
-                number: number as u32,
-                place: answer / 256,
-            }),
-        }
+        unpacked(answer)
+    }
+
+    /// Does the command that an OSC message is, or refuses it and changes nothing. Answers as `apply`.
+    pub fn message(&mut self, message: &[u8], reply: &mut [u8]) -> Result<usize, Refused> {
+        let answer = self::message(message, &mut self.words, &mut self.arena, reply);
+        unpacked(answer)
     }
 
     pub fn words(&self) -> &[u32] {

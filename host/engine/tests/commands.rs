@@ -17,7 +17,7 @@ const LONGEST: usize = 2000;
 /// What came how often.
 #[derive(Default)]
 struct Tally {
-    /// Each answer; 26 stands for the unknown.
+    /// Each answer. No command is refused with 26, whose place stands for the unknown.
     answers: [usize; 27],
     /// New nodes by action 4 where 256 live.
     replaced_when_full: usize,

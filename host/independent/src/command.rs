@@ -7,6 +7,24 @@ pub enum Key<'a> {
     Name(&'a [u8]),
 }
 
+impl<'a> Key<'a> {
+    /// The index, 0 for a name.
+    fn index(self) -> i32 {
+        match self {
+            Key::Index(index) => index,
+            Key::Name(_) => 0,
+        }
+    }
+
+    /// The name, empty for an index.
+    fn name(self) -> &'a [u8] {
+        match self {
+            Key::Index(_) => &[],
+            Key::Name(name) => name,
+        }
+    }
+}
+
 /// A value as it was sent. A float is its 32 bits.
 #[derive(Clone, Copy, Debug, PartialEq, Eq)]
 pub enum Value {
@@ -102,6 +120,70 @@ impl Call {
             numbers: numbers.map(|number| number as u32),
             bytes: bytes.to_vec(),
         }
+    }
+
+    /// A command as a call.
+    pub fn of(command: &Command) -> Call {
+        let by = |key: Key, op: u32| match key {
+            Key::Index(_) => op,
+            Key::Name(_) => op + 1,
+        };
+        let (op, a, b, c) = match *command {
+            Command::Receive(_) => (1, 0, 0, 0),
+            Command::Delete(_) => (2, 0, 0, 0),
+            Command::NewSynth {
+                number,
+                action,
+                target,
+                ..
+            } => (3, number, action, target),
+            Command::NewGroup {
+                number,
+                action,
+                target,
+            } => (4, number, action, target),
+            Command::Free(node) => (5, node, 0, 0),
+            Command::FreeAll(group) => (6, group, 0, 0),
+            Command::DeepFree(group) => (7, group, 0, 0),
+            Command::Before(node, place) => (8, node, place, 0),
+            Command::After(node, place) => (9, node, place, 0),
+            Command::Head(group, node) => (10, group, node, 0),
+            Command::Tail(group, node) => (11, group, node, 0),
+            Command::Run(node, flag) => (12, node, flag, 0),
+            Command::Set { node, key, .. } => (by(key, 13), node, key.index(), 0),
+            Command::Fill {
+                node, key, count, ..
+            } => (by(key, 15), node, key.index(), count),
+            Command::Map { node, key, bus } => (by(key, 17), node, key.index(), bus),
+            Command::SetBus { bus, .. } => (19, bus, 0, 0),
+            Command::FillBuses { start, count, .. } => (20, start, 0, count),
+            Command::Get { node, key } => (by(key, 21), node, key.index(), 0),
+            Command::GetBus(bus) => (23, bus, 0, 0),
+            Command::Query(node) => (24, node, 0, 0),
+            Command::QueryTree { group, flag } => (25, group, flag, 0),
+            Command::Status => (26, 0, 0, 0),
+            Command::Export => (27, 0, 0, 0),
+        };
+        let (mark, pattern) = match *command {
+            Command::Set { value, .. }
+            | Command::Fill { value, .. }
+            | Command::SetBus { value, .. }
+            | Command::FillBuses { value, .. } => match value {
+                Value::Float(pattern) => (0, pattern as i32),
+                Value::Integer(number) => (1, number),
+            },
+            _ => (0, 0),
+        };
+        let bytes = match *command {
+            Command::Receive(bytes) | Command::Delete(bytes) => bytes,
+            Command::NewSynth { definition, .. } => definition,
+            Command::Set { key, .. }
+            | Command::Fill { key, .. }
+            | Command::Map { key, .. }
+            | Command::Get { key, .. } => key.name(),
+            _ => &[],
+        };
+        Call::new(op, [a, b, c, mark, pattern], bytes)
     }
 
     /// The command, or none where the kind is unknown, or a value is marked neither float nor integer.

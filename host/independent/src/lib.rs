@@ -1,4 +1,4 @@
-//! SynthDef2 files and the engine as the papers describe them, written without a look at the proved
+//! SynthDef2 files, messages and the engine as the papers describe them, written without a look at the proved
 //! code: the two are compared on many files and commands, so neither is to copy the other's mistakes.
 
 mod after;
@@ -8,6 +8,7 @@ pub mod engine;
 mod formed;
 pub mod layout;
 pub mod linked;
+mod message;
 mod random;
 mod read;
 mod write;
@@ -17,6 +18,7 @@ pub use command::{Call, Command, Key, Value};
 pub use definition::{Definition, Input, Unit, Variant};
 pub use engine::{Answer, Engine, View};
 pub use formed::{depths, nodes_formed, running, well_formed};
+pub use message::{read_message, write_message, Argument, Message};
 pub use random::{Random, Shape};
 pub use read::{check, read, read_definition};
 pub use write::{write, Field, Rule, Written};

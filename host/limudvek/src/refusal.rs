@@ -28,6 +28,17 @@ pub fn reason(number: u32) -> &'static str {
         23 => "an integer value is from -16,777,216 to 16,777,216",
         24 => "what would be written is longer than its buffer",
         25 => "no generated number is left",
+        26 => "this is no OSC message: it is cut or malformed, or bytes are left over",
+        27 => "no command has this address, or not with these arguments",
         _ => "the reason has no words yet",
+    }
+}
+
+/// Why a command can't be written as a message.
+pub fn unwritten(number: u32) -> &'static str {
+    match number {
+        26 => "a name has a byte that is not from 1 to 127, or the file is longer than 2,147,483,647 bytes",
+        27 => "it has no address",
+        _ => reason(number),
     }
 }

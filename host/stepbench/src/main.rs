@@ -1,10 +1,12 @@
 //! The proved engine's time as a multiple of the independent Rust engine's, for the same commands in
-//! one run: whole (`apply`), and with the time of its state check taken off (`step`).
+//! one run: whole (`apply`), and with the time of its state check taken off (`step`); and messages
+//! against commands as they are, their reading and writing against plain Rust.
 //!
 //! Run it from `host/`, after `./archives engine`, by `cargo run --release -p stepbench`.
 
 mod clock;
 mod commands;
+mod messages;
 
 use clock::{least, SAMPLES};
 use commands::{commands, definition, definitions, engine_of};
@@ -65,6 +67,7 @@ fn main() {
             measure(name, nodes, &calls);
         }
     }
+    messages::measure();
     checks();
 }
 

@@ -194,7 +194,7 @@ fn control(shown: &Argument, own: u32) -> Option<Control> {
             let bus = Some(bus.parse().ok()?);
             Some(Control { own, bus })
         }
-        Argument::Int(_) => None,
+        Argument::Int(_) | Argument::Bytes(_) => None,
     }
 }
 

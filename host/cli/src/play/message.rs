@@ -1,6 +1,7 @@
-//! OSC messages, as replies are.
+//! OSC messages as text. What is shown need not be of the right form to the last byte: that the engine
+//! says.
 
-use limudvek::show::quoted;
+use limudvek::show::{counted, quoted};
 use std::fmt;
 
 #[derive(Clone, Debug, PartialEq)]
@@ -8,6 +9,8 @@ pub enum Argument {
     Int(i32),
     Float(f32),
     String(Vec<u8>),
+    /// Bytes, by how many they are.
+    Bytes(usize),
 }
 
 #[derive(Clone, Debug, PartialEq)]
@@ -37,6 +40,12 @@ impl Message {
                     let (bytes, rest) = rest.split_first_chunk()?;
                     (Argument::Float(f32::from_be_bytes(*bytes)), rest)
                 }
+                b'b' => {
+                    let (length, rest) = rest.split_first_chunk()?;
+                    let length = u32::from_be_bytes(*length) as usize;
+                    let rest = rest.get(length.next_multiple_of(4)..)?;
+                    (Argument::Bytes(length), rest)
+                }
                 _ => return None,
             };
             arguments.push(argument);
@@ -61,6 +70,7 @@ impl fmt::Display for Argument {
             Argument::Int(number) => write!(f, "{number}"),
             Argument::Float(number) => write!(f, "{number:?}"),
             Argument::String(text) => f.write_str(&quoted(text)),
+            Argument::Bytes(count) => write!(f, "({})", counted(*count, "byte")),
         }
     }
 }

@@ -11,7 +11,7 @@ use cli::page::Page;
 use expected::{marks, shown};
 use html::Piece;
 use independent::engine::{Theme, MOST_NODES};
-use independent::{write, Definition, Engine};
+use independent::{write, write_message, Definition, Engine};
 use json::Json;
 use look::{data, lines, made, pieces};
 use replay::{Marks, Replay};
@@ -24,6 +24,9 @@ use std::process::{Command, Stdio};
 use std::time::{SystemTime, UNIX_EPOCH};
 
 const PROGRAM: &str = env!("CARGO_BIN_EXE_limudvek");
+
+/// The refusal of a line with a name that no message can hold.
+const UNWRITTEN: u32 = 26;
 
 fn examples() -> PathBuf {
     Path::new(env!("CARGO_MANIFEST_DIR")).join("../../examples")
@@ -66,7 +69,10 @@ fn random_scripts_show_what_the_independent_engine_holds() {
         for (step, sent) in steps.iter().zip(&sent) {
             let before = model.view();
             let command = sent.call.as_ref().and_then(|call| call.command());
-            let answer = command.map(|command| model.apply(&command, &mut reply));
+            let answer = command.map(|command| match write_message(&command, &mut reply) {
+                Err(fault) if fault.number == UNWRITTEN => Err(fault),
+                _ => model.apply(&command, &mut reply),
+            });
             let after = model.view();
             let mut expected = marks(
                 &before,
@@ -90,7 +96,10 @@ fn random_scripts_show_what_the_independent_engine_holds() {
             match answer {
                 Some(Ok(_)) => assert!(!class.contains("re") && answered.starts_with("ok")),
                 Some(Err(fault)) => {
-                    let start = format!("refused {}: ", fault.number);
+                    let start = match fault.number {
+                        UNWRITTEN => format!("refused {UNWRITTEN} before it was sent: "),
+                        number => format!("refused {number}: "),
+                    };
                     assert!(class.contains("refused") && answered.starts_with(&start));
                 }
                 None => assert!(class.contains("unread") || answered.starts_with("ok\n  0 group")),

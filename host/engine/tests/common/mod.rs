@@ -2,6 +2,7 @@
 #![allow(dead_code)]
 
 pub mod desk;
+pub mod osc;
 pub mod pair;
 pub mod shuffle;
 pub mod tally;

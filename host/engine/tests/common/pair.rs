@@ -1,7 +1,7 @@
 //! The proved engine and the independent one side by side.
 
 use independent::engine::packed;
-use independent::{layout, leave, Call, Command, Engine, Random};
+use independent::{layout, leave, read_message, Call, Command, Engine, Random};
 
 /// Longer than any reply.
 const LONGEST: usize = 1 << 20;
@@ -61,8 +61,21 @@ impl Pair {
 
     /// Sends a command to both. Answers the refusal's number, or 0, or says where they differ.
     pub fn send(&mut self, call: &Call, random: &mut Random) -> Result<u32, String> {
-        let room = self.room(call, random);
-        let answer = self.compare(call, room, random.byte())?;
+        let command = known(call);
+        let room = self.room(command, random);
+        let answer = self.compare(command, room, random.byte(), |words, arena, reply| {
+            apply(call, words, arena, reply)
+        })?;
+        Ok((answer % 256) as u32)
+    }
+
+    /// Sends a message to both. Answers as `send`.
+    pub fn message(&mut self, message: &[u8], random: &mut Random) -> Result<u32, String> {
+        let command = read_message(message).map_err(|fault| packed(Err(fault)));
+        let room = self.room(command, random);
+        let answer = self.compare(command, room, random.byte(), |words, arena, reply| {
+            engine::message(message, words, arena, reply)
+        })?;
         Ok((answer % 256) as u32)
     }
 
@@ -77,27 +90,38 @@ impl Pair {
 
     /// Sends both a command that replies, with room for it. Answers the reply.
     pub fn ask(&mut self, call: &Call) -> Result<&[u8], String> {
-        let length = self.length(call);
-        match self.compare(call, length + 1, 0xa5)? {
+        let command = known(call);
+        let length = self.length(command);
+        let send = |words: &mut [u32], arena: &mut [u8], reply: &mut [u8]| {
+            apply(call, words, arena, reply)
+        };
+        match self.compare(command, length + 1, 0xa5, send)? {
             answer if answer == 256 * length as u64 => Ok(&self.reply[..length]),
             answer => Err(format!("answer {:?}, but it replies", parts(answer))),
         }
     }
 
-    /// Sends a command to both with a reply buffer of some length. Answers what both answer.
-    fn compare(&mut self, call: &Call, room: usize, filling: u8) -> Result<u64, String> {
+    /// Sends a command to both with a reply buffer of some length, or what is none and has a settled
+    /// answer. Answers what both answer.
+    fn compare(
+        &mut self,
+        command: Result<Command, u64>,
+        room: usize,
+        filling: u8,
+        send: impl FnOnce(&mut [u32], &mut [u8], &mut [u8]) -> u64,
+    ) -> Result<u64, String> {
         self.sent += 1;
         let reply = &mut self.reply[..room];
         let expected_reply = &mut self.expected_reply[..room];
         reply.fill(filling);
         expected_reply.fill(filling);
-        let expected = match call.command() {
-            Some(command) => {
+        let expected = match command {
+            Ok(command) => {
                 let answer = self.model.apply(&command, expected_reply);
                 if answer.is_ok() && !replies(&command) {
                     let view = self.model.view();
                     leave(
-                        call.op,
+                        Call::of(&command).op,
                         &view,
                         &mut self.expected_words,
                         &mut self.expected_arena,
@@ -105,9 +129,9 @@ impl Pair {
                 }
                 packed(answer)
             }
-            None => engine::UNKNOWN,
+            Err(answer) => answer,
         };
-        let answer = apply(call, &mut self.words, &mut self.arena, reply);
+        let answer = send(&mut self.words, &mut self.arena, reply);
         if answer != expected {
             let (answer, expected) = (parts(answer), parts(expected));
             return Err(format!("answer {answer:?}, expected {expected:?}"));
@@ -127,12 +151,26 @@ impl Pair {
 
     /// Sends a command that must be refused by 1, or be unknown.
     pub fn refuse(&mut self, call: &Call) -> Result<(), String> {
-        let expected = match call.command() {
-            Some(_) => 1,
-            None => engine::UNKNOWN,
-        };
+        let expected = known(call).map_or_else(|unknown| unknown, |_| 1);
+        self.broken(expected, |words, arena, reply| {
+            apply(call, words, arena, reply)
+        })
+    }
+
+    /// Sends a message that must be refused by 1, whatever it is.
+    pub fn refuse_message(&mut self, message: &[u8]) -> Result<(), String> {
+        self.broken(1, |words, arena, reply| {
+            engine::message(message, words, arena, reply)
+        })
+    }
+
+    fn broken(
+        &mut self,
+        expected: u64,
+        send: impl FnOnce(&mut [u32], &mut [u8], &mut [u8]) -> u64,
+    ) -> Result<(), String> {
         let mut reply = [7; 300];
-        let answer = apply(call, &mut self.words, &mut self.arena, &mut reply);
+        let answer = send(&mut self.words, &mut self.arena, &mut reply);
         if answer != expected {
             let answer = parts(answer);
             return Err(format!("answer {answer:?}, but a rule is broken"));
@@ -146,9 +184,9 @@ impl Pair {
     }
 
     /// How long the reply to a command is.
-    fn length(&mut self, call: &Call) -> usize {
-        match call.command() {
-            Some(command) if replies(&command) => {
+    fn length(&mut self, command: Result<Command, u64>) -> usize {
+        match command {
+            Ok(command) if replies(&command) => {
                 let answer = self.model.apply(&command, &mut self.expected_reply);
                 answer.unwrap_or(0)
             }
@@ -157,8 +195,8 @@ impl Pair {
     }
 
     /// How long the reply buffer is to be: long enough, just so, or too short.
-    fn room(&mut self, call: &Call, random: &mut Random) -> usize {
-        let length = self.length(call);
+    fn room(&mut self, command: Result<Command, u64>, random: &mut Random) -> usize {
+        let length = self.length(command);
         match random.below(8) {
             0 => length.saturating_sub(1),
             1 if length > 0 => random.below(length),
@@ -175,6 +213,11 @@ impl Pair {
             Err("the views differ".to_string())
         }
     }
+}
+
+/// The command of a call, or the answer to one that is unknown.
+fn known(call: &Call) -> Result<Command<'_>, u64> {
+    call.command().ok_or(engine::UNKNOWN)
 }
 
 /// The proved engine's answer to a command.

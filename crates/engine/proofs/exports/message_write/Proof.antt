@@ -1,0 +1,47 @@
+-- `engine::exports::message_write` meets its contract.
+use mathlib.Core.Path.{_≡_, refl, sym, _∙_}
+use borrow.Author.Needs.{needs}
+use Rattle.calls.specs.declared.Parsed.the-variants.{Nothing}
+use Rattle.engine.proofs.exports.message_write.Statement.{statement}
+use Rattle.engine.proofs.exports.message_write.Tie as tie
+
+command-of-requires : tie.Need-command-of-requires
+command-of-requires c κs = search needs
+
+enum-known-command : tie.Need-enum-known-command
+enum-known-command c = search needs
+
+write-requires : tie.Need-write-requires
+write-requires c κs = search needs
+
+call-number-requires : tie.Need-call-number-requires
+call-number-requires c κs = search needs
+
+enum-told : tie.Need-enum-told
+enum-told c = search needs
+
+same-length : tie.Need-same-length
+same-length c = search needs
+
+returns : tie.Need-returns
+returns c =
+    let fact = c .before .before .before .before .before .before .command .given in
+    rw (sym (c .before .before .before .before .before .before .before .before .command-of .ensures) ∙ fact .1) (record { answer = c .before .before .before .write .result; number = c .call-number .ensures; writes = c .before .before .before .write .ensures })
+
+returns-2 : tie.Need-returns-2
+returns-2 c =
+    let fact : c .before .before .command-of .result ≡ Nothing = cc in
+    rw (sym (c .before .before .command-of .ensures) ∙ fact) (record { number = refl; left = refl })
+
+pub message-write-spec : {M : Type 1} → statement M
+message-write-spec =
+    tie.close
+    (tie.spec
+    command-of-requires
+    enum-known-command
+    write-requires
+    call-number-requires
+    enum-told
+    same-length
+    returns
+    returns-2)

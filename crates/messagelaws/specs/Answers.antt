@@ -1,0 +1,43 @@
+-- The writer's answers: a length where it accepts.
+use Prim.Native.Nat.{ℕ, _≤_}
+use mathlib.Core.Path.{_≡_, refl, sym, ap, _∙_}
+use mathlib.Core.Bool.{Bool, true, false}
+use mathlib.Core.List.{List}
+use mathlib.Core.Option.{Option, none, some}
+use native.Mathlib.Omega.{arith}
+use lib.ListN.{length}
+use lib.Dec.{ltb}
+use borrow.Author.Tests.{le-ltb}
+use Rattle.words.specs.Choice.{pick}
+use Rattle.refusals.specs.declared.Refusal.the-variants.{NoRoom, Malformed}
+use Rattle.model.specs.declared.Answer.the-variants.{Replied, Refused}
+use Rattle.model.specs.Checks.{firstOf}
+use Rattle.messages.specs.Table.{Row, Given}
+use Rattle.messages.specs.Write.{rowOf, anyUnfit, messageBy, messageFrom, messageOf, writeChecks, writeAnswer}
+
+-- a call that the writer accepts: its row, and no name or file in it that is unfit
+pub record Fits (g : Given) : Type 0 where
+  pub row : Row
+  pub known : rowOf (g .numbers .op) ≡ some row
+  pub fit : anyUnfit (g .bytes) (row .slots) ≡ false
+
+pub fits-answer : (g : Given) (s : List ℕ) → Fits g → messageOf g ≡ s → (room : ℕ) → length s ≤ room → writeAnswer g room ≡ Replied (length s)
+unfolding writeAnswer messageOf firstOf
+fits-answer g s f b room h =
+    let wrote : messageBy (f .row) g ≡ s = sym (ap (λ (o : Option Row). messageFrom o g) (f .known)) ∙ b in
+    ap (λ (o : Option Row). firstOf (writeChecks o g room) (Replied (length (messageFrom o g)))) (f .known)
+    ∙ rw (f .fit, wrote, le-ltb room (length s) h)
+
+pub answer-fits : (g : Given) (room n : ℕ) → writeAnswer g room ≡ Replied n → Fits g
+unfolding writeAnswer messageOf firstOf
+answer-fits g room n a = by (rowOf (g .numbers .op)) refl a
+  where
+    choose : (r : Row) → rowOf (g .numbers .op) ≡ some r → (u : Bool) → anyUnfit (g .bytes) (r .slots) ≡ u
+        → pick u (Refused Malformed) (pick (ltb room (length (messageBy r g))) (Refused NoRoom) (Replied (length (messageBy r g)))) ≡ Replied n
+        → Fits g
+    choose r e true f a = let z : _≡_ {A = ℕ} 0 1 = cc in absurd (omega arith)
+    choose r e false f a = record { row = r; known = e; fit = f }
+
+    by : (o : Option Row) → rowOf (g .numbers .op) ≡ o → firstOf (writeChecks o g room) (Replied (length (messageFrom o g))) ≡ Replied n → Fits g
+    by none e a = let z : _≡_ {A = ℕ} 0 1 = cc in absurd (omega arith)
+    by (some r) e a = choose r e (anyUnfit (g .bytes) (r .slots)) refl a

@@ -1,0 +1,48 @@
+use mathlib.Core.Path.{sym, _∙_}
+use borrow.Author.Needs.{needs}
+use Rattle.messageread.specs.FindLaws.{find-first, find-second, find-none}
+use Rattle.messageread.proofs.rows.find.Statement.{statement}
+use Rattle.messageread.proofs.rows.find.Tie as tie
+
+candidate-requires : tie.Need-candidate-requires
+candidate-requires c κs = search needs
+
+cast-first : tie.Need-cast-first
+cast-first c = search needs
+
+meets-row-requires : tie.Need-meets-row-requires
+meets-row-requires c κs = search needs
+
+returns : tie.Need-returns
+returns c =
+    let a = c .before .before .before .before .before .args in
+    find-first (a .address .now) (a .tags .now) (c .before .before .candidate .result) (c .before .before .candidate .ensures) (sym (c .before .meets-row .ensures) ∙ c .if1 .taken)
+
+add-second : tie.Need-add-second
+add-second c = search needs
+
+meets-row-requires-2 : tie.Need-meets-row-requires-2
+meets-row-requires-2 c κs = search needs
+
+returns-2 : tie.Need-returns-2
+returns-2 c =
+    let a = c .before .before .before .before .before .before .before .args in
+    find-second (a .address .now) (a .tags .now) (c .before .before .before .before .candidate .result) (c .before .before .before .before .candidate .ensures) (sym (c .before .before .before .meets-row .ensures) ∙ c .before .before .if1 .left) (sym (c .before .meets-row2 .ensures) ∙ c .if2 .taken)
+
+returns-3 : tie.Need-returns-3
+returns-3 c =
+    let a = c .before .before .before .before .before .before .before .args in
+    find-none (a .address .now) (a .tags .now) (c .before .before .before .before .candidate .result) (c .before .before .before .before .candidate .ensures) (sym (c .before .before .before .meets-row .ensures) ∙ c .before .before .if1 .left) (sym (c .before .meets-row2 .ensures) ∙ c .if2 .left)
+
+pub find-spec : {M : Type 1} → statement M
+find-spec =
+    tie.close
+    (tie.spec
+    candidate-requires
+    cast-first
+    meets-row-requires
+    returns
+    add-second
+    meets-row-requires-2
+    returns-2
+    returns-3)

@@ -1,0 +1,17 @@
+pub mod Answers
+pub mod Ends
+pub mod FormLaws
+pub mod TextLaws
+pub mod EndLaws
+pub mod PartLaws
+pub mod Keep
+pub mod TakeLaws
+pub mod StepLaws
+pub mod WalkLaws
+pub mod Lookup
+pub mod LookupLaws
+pub mod FindLaws
+pub mod Finish
+pub mod ReadLaws
+pub mod HeadLaws
+pub mod FinishLaws

@@ -1,0 +1,60 @@
+// The walk along the tags: the form of every argument, and what the command takes of them.
+use crate::cursor::Cursor;
+use crate::keep::Kept;
+use crate::keep::Step;
+use crate::keep::keep_number;
+use crate::keep::keep_part;
+use messages::slot_code;
+ghost use Rattle.messages.specs.Rows.{slotsOf};
+ghost use Rattle.messages.specs.Receive.{bare};
+ghost use Rattle.messageread.specs.Keep.{Steps, Walks, argumentTaken, given, takenAt};
+
+// The argument of a tag, at the slot k of an op's row.
+fn argument(message: &[u8], at: Cursor, tag: u8, op: u32, k: usize, kept: Kept) -> Step
+    ensures { λ r. ⌜ Steps (now (message .entry)) op kept (argumentTaken (slotsOf op) k tag (now (message .entry)) (at .at) (given (now (message .entry)) op kept)) r ⌝ }
+{
+    let code = slot_code(op, k);
+    if tag == 105 {
+        return keep_number(at.number(message), code, 1, kept);
+    }
+    if tag == 102 {
+        return keep_number(at.number(message), code, 0, kept);
+    }
+    if tag == 115 {
+        return keep_part(at.text(message), code, kept);
+    }
+    if tag == 98 {
+        return keep_part(at.blob(message), code, kept);
+    }
+    Step::Faulty
+}
+
+// The arguments of the tags from a place on, with an op's slots.
+pub(crate) fn walk(message: &[u8], tags: &[u8], from: usize, op: u32) -> Step
+    ensures { λ r. ⌜ Walks (now (message .entry)) op (takenAt (slotsOf op) (now (tags .entry)) (now (message .entry)) from (bare op)) r ⌝ }
+{
+    let mut kept = Kept {
+        a: 0,
+        b: 0,
+        c: 0,
+        d: 0,
+        e: 0,
+        start: 0,
+        end: 0,
+    };
+    let mut at = Cursor { at: from };
+    let mut k = 0;
+    while k < tags.len() {
+        match argument(message, at, tags[k], op, k, kept) {
+            Step::Next(more, next) => {
+                kept = more;
+                at = next;
+            }
+            Step::Faulty => {
+                return Step::Faulty;
+            }
+        }
+        k += 1;
+    }
+    Step::Next(kept, at)
+}

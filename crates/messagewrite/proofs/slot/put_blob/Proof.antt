@@ -1,0 +1,60 @@
+use Prim.Native.Nat.{ℕ, _+_, _-_, _%_}
+use mathlib.Core.Path.{refl}
+use native.Mathlib.Omega.{arith}
+use borrow.Author.Needs.{needs}
+use lib.ListN.{length, replicate, length-replicate}
+use Rattle.words.specs.Bytes.{bytes32}
+use Rattle.messagewrite.specs.Pieces.{three-parts}
+use Rattle.messagewrite.proofs.slot.put_blob.Statement.{statement}
+use Rattle.messagewrite.proofs.slot.put_blob.Tie as tie
+
+cast-put-int : tie.Need-cast-put-int
+cast-put-int c = search needs
+
+put-int-requires : tie.Need-put-int-requires
+put-int-requires c κs = search needs
+
+add-put-bytes : tie.Need-add-put-bytes
+add-put-bytes c = search needs
+
+put-bytes-requires : tie.Need-put-bytes-requires
+put-bytes-requires c κs = search needs
+
+add-put-zeros : tie.Need-add-put-zeros
+add-put-zeros c = search needs
+
+add-put-zeros-2 : tie.Need-add-put-zeros-2
+add-put-zeros-2 c = search needs
+
+sub-put-zeros : tie.Need-sub-put-zeros
+sub-put-zeros c = search needs
+
+put-zeros-requires : tie.Need-put-zeros-requires
+put-zeros-requires c κs = search needs
+
+same-length : tie.Need-same-length
+same-length c = search needs
+
+returns : tie.Need-returns
+returns c =
+    let a = c .before .before .before .before .before .before .before .before .before .before .before .before .before .before .args in
+    let s = a .bytes .now in
+    let size = length s in
+    let zeros = (4 - size % 4) % 4 in
+    three-parts (a .at) (bytes32 size) s (a .out .now) (c .before .before .before .before .before .before .before .before .before .before .put-int .last .0) (c .before .before .before .before .before .before .put-bytes .last .0) (a .at + 4) (omega arith) (c .before .before .before .before .before .before .before .before .before .before .put-int .ensures) (c .before .before .before .before .before .before .put-bytes .ensures)
+    (replicate zeros 0) (c .before .before .put-zeros .last .0) (a .at + 4 + size) refl (omega (arith, length-replicate {A = ℕ} zeros 0)) (c .before .before .put-zeros .ensures)
+
+pub put-blob-spec : {M : Type 1} → statement M
+put-blob-spec =
+    tie.close
+    (tie.spec
+    cast-put-int
+    put-int-requires
+    add-put-bytes
+    put-bytes-requires
+    add-put-zeros
+    add-put-zeros-2
+    sub-put-zeros
+    put-zeros-requires
+    same-length
+    returns)

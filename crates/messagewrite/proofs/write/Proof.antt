@@ -1,0 +1,82 @@
+use Prim.Native.Nat.{_<_}
+use mathlib.Core.Path.{_≡_, sym, _∙_}
+use native.Mathlib.Omega.{arith}
+use borrow.Author.Needs.{needs}
+use lib.ListN.{length}
+use Rattle.messages.specs.Rows.{addressOf}
+use Rattle.messagewrite.specs.Codes.{given, fitting-none, fitting-some}
+use Rattle.messagewrite.specs.Whole.{wholeSize, writes-unknown, writes-unfit, writes-short, writes-whole}
+use Rattle.messagewrite.proofs.write.Statement.{statement}
+use Rattle.messagewrite.proofs.write.Tie as tie
+
+address-length-requires : tie.Need-address-length-requires
+address-length-requires c κs = search needs
+
+returns : tie.Need-returns
+returns c = writes-unknown (given (c .before .before .before .before .args .numbers) (c .before .before .before .before .args .bytes .now)) (c .before .before .before .before .args .out .now) (sym (c .before .address-length .ensures) ∙ c .if1 .taken)
+
+slot-count-requires : tie.Need-slot-count-requires
+slot-count-requires c κs = search needs
+
+any-unfit-requires : tie.Need-any-unfit-requires
+any-unfit-requires c κs = search needs
+
+returns-2 : tie.Need-returns-2
+returns-2 c =
+    let a = c .before .before .before .before .before .before .before .args in
+    let g = given (a .numbers) (a .bytes .now) in
+    let op = a .numbers .op in
+    let h : 0 < length (addressOf op) = omega (arith, c .before .before .before .before .address-length .ensures) in
+    writes-unfit g (a .out .now) h (sym (c .before .any-unfit .ensures) ∙ c .if2 .taken)
+
+message-size-requires : tie.Need-message-size-requires
+message-size-requires c κs = search needs
+
+returns-3 : tie.Need-returns-3
+returns-3 c =
+    let a = c .before .before .before .before .before .before .before .before .before .args in
+    let g = given (a .numbers) (a .bytes .now) in
+    let op = a .numbers .op in
+    let h : 0 < length (addressOf op) = omega (arith, c .before .before .before .before .before .before .address-length .ensures) in
+    let whole = wholeSize op (length (a .bytes .now)) in
+    writes-short g (a .out .now) h (sym (c .before .before .before .any-unfit .ensures) ∙ c .before .before .if2 .left)
+    (fitting-none whole (length (a .out .now)) (sym (c .before .message-size .ensures) ∙ c .if3 .taken) (omega arith))
+
+put-message-requires : tie.Need-put-message-requires
+put-message-requires c κs =
+    let a = c .before .before .before .before .before .before .before .before .before .before .args in
+    let whole = wholeSize (a .numbers .op) (length (a .bytes .now)) in
+    record {
+      is = c .before .before .before .before .before .slot-count .ensures;
+      fit = sym (c .before .before .before .before .any-unfit .ensures) ∙ c .before .before .before .if2 .left;
+      room = fitting-some whole (length (a .out .now)) (λ z. c .before .if3 .left (c .before .before .message-size .ensures ∙ z)) .1;
+    }
+
+same-length : tie.Need-same-length
+same-length c = search needs
+
+returns-4 : tie.Need-returns-4
+returns-4 c =
+    let a = c .before .before .before .before .before .before .before .before .before .before .before .before .before .args in
+    let g = given (a .numbers) (a .bytes .now) in
+    let op = a .numbers .op in
+    let h : 0 < length (addressOf op) = omega (arith, c .before .before .before .before .before .before .before .before .before .before .address-length .ensures) in
+    let whole = wholeSize op (length (a .bytes .now)) in
+    let some = fitting-some whole (length (a .out .now)) (λ z. c .before .before .before .before .if3 .left (c .before .before .before .before .before .message-size .ensures ∙ z)) in
+    let is : c .before .before .before .before .before .message-size .result ≡ whole = c .before .before .before .before .before .message-size .ensures ∙ some .0 in
+    writes-whole g (a .out .now) h (sym (c .before .before .before .before .before .before .before .any-unfit .ensures) ∙ c .before .before .before .before .before .before .if2 .left) (c .before .before .before .before .before .message-size .result) (c .before .before .put-message .last .0) is (omega arith) (c .before .before .put-message .ensures)
+
+pub write-spec : {M : Type 1} → statement M
+write-spec =
+    tie.close
+    (tie.spec
+    address-length-requires
+    returns
+    slot-count-requires
+    any-unfit-requires
+    returns-2
+    message-size-requires
+    returns-3
+    put-message-requires
+    same-length
+    returns-4)

@@ -1,0 +1,5 @@
+pub mod Codes
+pub mod Slots
+pub mod TableRows
+pub mod Whole
+pub mod Pieces

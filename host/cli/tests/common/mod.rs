@@ -1,0 +1,67 @@
+//! What the tests of scripts and of messages share.
+
+use cli::play::Applies;
+use independent::engine::packed;
+use independent::{layout, read_message, write_message, Call, Engine};
+use std::path::{Path, PathBuf};
+
+/// The independent engine, with its state as words.
+pub struct Independent {
+    engine: Engine,
+    words: Vec<u32>,
+}
+
+impl Independent {
+    pub fn new() -> Independent {
+        let engine = Engine::new();
+        let (words, _) = layout::state(&engine.view());
+        Independent { engine, words }
+    }
+}
+
+impl Applies for Independent {
+    fn apply(&mut self, op: u32, numbers: [u32; 5], bytes: &[u8], reply: &mut [u8]) -> u64 {
+        let call = Call {
+            op,
+            numbers,
+            bytes: bytes.to_vec(),
+        };
+        let command = call.command().expect("a script has known commands only");
+        let answer = self.engine.apply(&command, reply);
+        (self.words, _) = layout::state(&self.engine.view());
+        packed(answer)
+    }
+
+    fn message(&mut self, message: &[u8], reply: &mut [u8]) -> u64 {
+        let answer = read_message(message).and_then(|command| self.engine.apply(&command, reply));
+        (self.words, _) = layout::state(&self.engine.view());
+        packed(answer)
+    }
+
+    fn write(op: u32, numbers: [u32; 5], bytes: &[u8], out: &mut [u8]) -> u64 {
+        let call = Call {
+            op,
+            numbers,
+            bytes: bytes.to_vec(),
+        };
+        let command = call.command().expect("a script has known commands only");
+        packed(write_message(&command, out))
+    }
+
+    fn words(&self) -> &[u32] {
+        &self.words
+    }
+}
+
+pub fn examples() -> PathBuf {
+    Path::new(env!("CARGO_MANIFEST_DIR")).join("../../examples")
+}
+
+/// A line for every command, each accepted.
+pub const EVERY: &str = "/d_recv ping.scsyndef\n/g_new 1 0 0\n/g_new 2 1 0\n/s_new ping 10 0 1\n\
+    /s_new ping 11 1 1\n/n_before 11 10\n/n_after 11 10\n/g_head 2 11\n/g_tail 2 10\n\
+    /n_run 11 0\n/n_set 10 0 1\n/n_set 10 freq 2\n/n_fill 10 0 1 3\n\
+    /n_fill 10 freq 1 4\n/n_map 11 0 5\n/n_map 11 freq 6\n/c_set 6 0.5\n\
+    /c_fill 7 2 0.25\n/c_get 8\n/s_get 11 0\n/s_get 11 freq\n/n_query 2\n\
+    /g_queryTree 2 1\n/g_queryTree 2 0\ntree\nexport\n/n_free 10\n/g_deepFree 0\n/g_freeAll 0\n\
+    /d_free ping\n/status\ntree\n";
