@@ -1,105 +1,18 @@
--- The entries of the table in code are those of the table: one test at each entry, which is computed.
-use Prim.Native.Nat.{ℕ, zero, suc, _+_, _*_, _/_, _%_, _≤_, _<_}
-use mathlib.Core.Bool.{Bool, true, false}
-use mathlib.Core.Path.{_≡_, refl, sym, ap, ap₂, _∙_, subst}
+-- The table in code is the table: an op's row is the row of its number, and an op past the last has none.
+use Prim.Native.Nat.{ℕ, zero, suc, _+_, _-_, _*_, _/_, _%_, _≤_, _<_}
+use mathlib.Core.Path.{_≡_, refl, sym, ap, _∙_}
 use mathlib.Core.List.{List, [], _∷_}
 use mathlib.Core.Option.{none}
 use native.Mathlib.Omega.{arith}
-use native.Mathlib.Nat.{add-zero, zero-add, add-suc, suc-add, le-of-suc-le-suc, not-suc-le-zero}
-use lib.Dec.{T, leb, eqb, eqb→eq, leb→le}
-use lib.ListN.{length, getD, List·getD-eq-default}
-use Rattle.words.specs.Choice.{both}
-use Rattle.messages.specs.Table.{Slot, Row, table}
+use native.Mathlib.Numerals.{add-one}
+use native.Mathlib.Nat.{le-of-suc-le-suc, not-suc-le-zero}
+use lib.ListN.{length, drop}
+use Rattle.format.specs.Fields.{word}
+use Rattle.messages.specs.Table.{Slot, at-a, at-b, at-c, value, name, file, Row, table}
 use Rattle.messages.specs.Write.{rowFrom}
-use Rattle.messages.specs.Rows.{codeAt, slotsIn, addressIn, slotsOf, addressOf}
+use Rattle.messages.specs.TableRows.{few-slots}
+use Rattle.messages.specs.Rows.{codeOf, codeAt, packed, slotsIn, addressIn, slotsOf, addressOf}
 
-both-left : (a b : Bool) → T (both a b) → T a
-both-left true b t = tt
-both-left false b t = t
-
-both-right : (a b : Bool) → T (both a b) → T b
-both-right true b t = t
-both-right false b t = absurd t
-
--- a test passes at each entry of a list and its place, counted from i
-abbrev every : (ℕ → ℕ → Bool) → ℕ → List ℕ → Bool
-every f i [] = true
-every f i (x ∷ xs) = both (f i x) (every f (suc i) xs)
-
-from : (f : ℕ → ℕ → Bool) (xs : List ℕ) (i : ℕ) → T (every f i xs) → (k : ℕ) → k < length xs → T (f (i + k) (getD xs k 0))
-from f [] i t k h = absurd (not-suc-le-zero h)
-from f (x ∷ xs) i t zero h = subst (λ (m : ℕ). T (f m x)) (sym (add-zero i)) (both-left (f i x) (every f (suc i) xs) t)
-from f (x ∷ xs) i t (suc k) h =
-    subst (λ (m : ℕ). T (f m (getD xs k 0))) (suc-add i k ∙ sym (add-suc i k))
-    (from f xs (suc i) (both-right (f i x) (every f (suc i) xs) t) k (le-of-suc-le-suc h))
-
-at : (f : ℕ → ℕ → Bool) (xs : List ℕ) → T (every f 0 xs) → (k : ℕ) → k < length xs → T (f k (getD xs k 0))
-at f xs t k h = subst (λ (m : ℕ). T (f m (getD xs k 0))) (zero-add k) (from f xs 0 t k h)
-
-abbrev pub slotEntries : List ℕ
-slotEntries =
-    0 ∷ 0 ∷ 0 ∷ 0 ∷
-    6 ∷ 0 ∷ 0 ∷ 0 ∷
-    5 ∷ 0 ∷ 0 ∷ 0 ∷
-    5 ∷ 1 ∷ 2 ∷ 3 ∷
-    1 ∷ 2 ∷ 3 ∷ 0 ∷
-    1 ∷ 0 ∷ 0 ∷ 0 ∷
-    1 ∷ 0 ∷ 0 ∷ 0 ∷
-    1 ∷ 0 ∷ 0 ∷ 0 ∷
-    1 ∷ 2 ∷ 0 ∷ 0 ∷
-    1 ∷ 2 ∷ 0 ∷ 0 ∷
-    1 ∷ 2 ∷ 0 ∷ 0 ∷
-    1 ∷ 2 ∷ 0 ∷ 0 ∷
-    1 ∷ 2 ∷ 0 ∷ 0 ∷
-    1 ∷ 2 ∷ 4 ∷ 0 ∷
-    1 ∷ 5 ∷ 4 ∷ 0 ∷
-    1 ∷ 2 ∷ 3 ∷ 4 ∷
-    1 ∷ 5 ∷ 3 ∷ 4 ∷
-    1 ∷ 2 ∷ 3 ∷ 0 ∷
-    1 ∷ 5 ∷ 3 ∷ 0 ∷
-    1 ∷ 4 ∷ 0 ∷ 0 ∷
-    1 ∷ 3 ∷ 4 ∷ 0 ∷
-    1 ∷ 2 ∷ 0 ∷ 0 ∷
-    1 ∷ 5 ∷ 0 ∷ 0 ∷
-    1 ∷ 0 ∷ 0 ∷ 0 ∷
-    1 ∷ 0 ∷ 0 ∷ 0 ∷
-    1 ∷ 2 ∷ 0 ∷ 0 ∷
-    0 ∷ 0 ∷ 0 ∷ 0 ∷ []
-
-abbrev pub lengthEntries : List ℕ
-lengthEntries = 0 ∷ 7 ∷ 7 ∷ 6 ∷ 6 ∷ 7 ∷ 10 ∷ 11 ∷ 9 ∷ 8 ∷ 7 ∷ 7 ∷ 6 ∷ 6 ∷ 6 ∷ 7 ∷ 7 ∷ 6 ∷ 6 ∷ 6 ∷ 7 ∷ 6 ∷ 6 ∷ 6 ∷ 8 ∷ 12 ∷ 7 ∷ []
-
-abbrev pub addressEntries : List ℕ
-addressEntries =
-    0 ∷ 0 ∷ 0 ∷ 0 ∷ 0 ∷ 0 ∷ 0 ∷ 0 ∷ 0 ∷ 0 ∷ 0 ∷ 0 ∷
-    47 ∷ 100 ∷ 95 ∷ 114 ∷ 101 ∷ 99 ∷ 118 ∷ 0 ∷ 0 ∷ 0 ∷ 0 ∷ 0 ∷
-    47 ∷ 100 ∷ 95 ∷ 102 ∷ 114 ∷ 101 ∷ 101 ∷ 0 ∷ 0 ∷ 0 ∷ 0 ∷ 0 ∷
-    47 ∷ 115 ∷ 95 ∷ 110 ∷ 101 ∷ 119 ∷ 0 ∷ 0 ∷ 0 ∷ 0 ∷ 0 ∷ 0 ∷
-    47 ∷ 103 ∷ 95 ∷ 110 ∷ 101 ∷ 119 ∷ 0 ∷ 0 ∷ 0 ∷ 0 ∷ 0 ∷ 0 ∷
-    47 ∷ 110 ∷ 95 ∷ 102 ∷ 114 ∷ 101 ∷ 101 ∷ 0 ∷ 0 ∷ 0 ∷ 0 ∷ 0 ∷
-    47 ∷ 103 ∷ 95 ∷ 102 ∷ 114 ∷ 101 ∷ 101 ∷ 65 ∷ 108 ∷ 108 ∷ 0 ∷ 0 ∷
-    47 ∷ 103 ∷ 95 ∷ 100 ∷ 101 ∷ 101 ∷ 112 ∷ 70 ∷ 114 ∷ 101 ∷ 101 ∷ 0 ∷
-    47 ∷ 110 ∷ 95 ∷ 98 ∷ 101 ∷ 102 ∷ 111 ∷ 114 ∷ 101 ∷ 0 ∷ 0 ∷ 0 ∷
-    47 ∷ 110 ∷ 95 ∷ 97 ∷ 102 ∷ 116 ∷ 101 ∷ 114 ∷ 0 ∷ 0 ∷ 0 ∷ 0 ∷
-    47 ∷ 103 ∷ 95 ∷ 104 ∷ 101 ∷ 97 ∷ 100 ∷ 0 ∷ 0 ∷ 0 ∷ 0 ∷ 0 ∷
-    47 ∷ 103 ∷ 95 ∷ 116 ∷ 97 ∷ 105 ∷ 108 ∷ 0 ∷ 0 ∷ 0 ∷ 0 ∷ 0 ∷
-    47 ∷ 110 ∷ 95 ∷ 114 ∷ 117 ∷ 110 ∷ 0 ∷ 0 ∷ 0 ∷ 0 ∷ 0 ∷ 0 ∷
-    47 ∷ 110 ∷ 95 ∷ 115 ∷ 101 ∷ 116 ∷ 0 ∷ 0 ∷ 0 ∷ 0 ∷ 0 ∷ 0 ∷
-    47 ∷ 110 ∷ 95 ∷ 115 ∷ 101 ∷ 116 ∷ 0 ∷ 0 ∷ 0 ∷ 0 ∷ 0 ∷ 0 ∷
-    47 ∷ 110 ∷ 95 ∷ 102 ∷ 105 ∷ 108 ∷ 108 ∷ 0 ∷ 0 ∷ 0 ∷ 0 ∷ 0 ∷
-    47 ∷ 110 ∷ 95 ∷ 102 ∷ 105 ∷ 108 ∷ 108 ∷ 0 ∷ 0 ∷ 0 ∷ 0 ∷ 0 ∷
-    47 ∷ 110 ∷ 95 ∷ 109 ∷ 97 ∷ 112 ∷ 0 ∷ 0 ∷ 0 ∷ 0 ∷ 0 ∷ 0 ∷
-    47 ∷ 110 ∷ 95 ∷ 109 ∷ 97 ∷ 112 ∷ 0 ∷ 0 ∷ 0 ∷ 0 ∷ 0 ∷ 0 ∷
-    47 ∷ 99 ∷ 95 ∷ 115 ∷ 101 ∷ 116 ∷ 0 ∷ 0 ∷ 0 ∷ 0 ∷ 0 ∷ 0 ∷
-    47 ∷ 99 ∷ 95 ∷ 102 ∷ 105 ∷ 108 ∷ 108 ∷ 0 ∷ 0 ∷ 0 ∷ 0 ∷ 0 ∷
-    47 ∷ 115 ∷ 95 ∷ 103 ∷ 101 ∷ 116 ∷ 0 ∷ 0 ∷ 0 ∷ 0 ∷ 0 ∷ 0 ∷
-    47 ∷ 115 ∷ 95 ∷ 103 ∷ 101 ∷ 116 ∷ 0 ∷ 0 ∷ 0 ∷ 0 ∷ 0 ∷ 0 ∷
-    47 ∷ 99 ∷ 95 ∷ 103 ∷ 101 ∷ 116 ∷ 0 ∷ 0 ∷ 0 ∷ 0 ∷ 0 ∷ 0 ∷
-    47 ∷ 110 ∷ 95 ∷ 113 ∷ 117 ∷ 101 ∷ 114 ∷ 121 ∷ 0 ∷ 0 ∷ 0 ∷ 0 ∷
-    47 ∷ 103 ∷ 95 ∷ 113 ∷ 117 ∷ 101 ∷ 114 ∷ 121 ∷ 84 ∷ 114 ∷ 101 ∷ 101 ∷
-    47 ∷ 115 ∷ 116 ∷ 97 ∷ 116 ∷ 117 ∷ 115 ∷ 0 ∷ 0 ∷ 0 ∷ 0 ∷ 0 ∷ []
-
--- an op past the last has no row
 past-row : (rows : List Row) (op : ℕ) → length rows < op → rowFrom rows op ≡ none
 unfolding rowFrom
 past-row [] op h = refl
@@ -107,65 +20,110 @@ past-row (r ∷ rows) zero h = refl
 past-row (r ∷ rows) (suc zero) h = absurd (not-suc-le-zero (le-of-suc-le-suc h))
 past-row (r ∷ rows) (suc (suc op)) h = past-row rows (suc op) (le-of-suc-le-suc h)
 
+slots-past : (op : ℕ) → 26 < op → [] ≡ slotsOf op
+unfolding slotsOf
+slots-past op h = sym (ap slotsIn (past-row table op h))
+
+address-past : (op : ℕ) → 26 < op → [] ≡ addressOf op
+unfolding addressOf
+address-past op h = sym (ap addressIn (past-row table op h))
+
+module _ (n op : ℕ) (h : op ≡ n) where
+  pub codes-is : packed (slotsOf n) ≡ packed (slotsOf op)
+  codes-is = ap (λ (k : ℕ). packed (slotsOf k)) (sym h)
+
+  pub length-is : length (addressOf n) ≡ length (addressOf op)
+  length-is = ap (λ (k : ℕ). length (addressOf k)) (sym h)
+
+  pub start-is : word (addressOf n) 0 ≡ word (addressOf op) 0
+  start-is = ap (λ (k : ℕ). word (addressOf k) 0) (sym h)
+
+  pub middle-is : word (addressOf n) 4 ≡ word (addressOf op) 4
+  middle-is = ap (λ (k : ℕ). word (addressOf k) 4) (sym h)
+
+  pub third-is : word (addressOf n) 8 ≡ word (addressOf op) 8
+  third-is = ap (λ (k : ℕ). word (addressOf k) 8) (sym h)
+
+  pub end-is : word (addressOf n) (length (addressOf n) - 4) ≡ word (addressOf op) (length (addressOf op) - 4)
+  end-is = ap (λ (k : ℕ). word (addressOf k) (length (addressOf k) - 4)) (sym h)
+
+module _ (op : ℕ) (h : 26 < op) where
+  pub codes-past : 0 ≡ packed (slotsOf op)
+  unfolding packed
+  codes-past = ap packed (slots-past op h)
+
+  pub length-past : 0 ≡ length (addressOf op)
+  length-past = ap (λ (l : List ℕ). length l) (address-past op h)
+
+  pub start-past : 0 ≡ word (addressOf op) 0
+  start-past = ap (λ (l : List ℕ). word l 0) (address-past op h)
+
+  pub middle-past : 0 ≡ word (addressOf op) 4
+  middle-past = ap (λ (l : List ℕ). word l 4) (address-past op h)
+
+  pub third-past : 0 ≡ word (addressOf op) 8
+  third-past = ap (λ (l : List ℕ). word l 8) (address-past op h)
+
+  pub end-past : 0 ≡ word (addressOf op) (length (addressOf op) - 4)
+  end-past = ap (λ (l : List ℕ). word l (length l - 4)) (address-past op h)
+
+-- the lowest digit is the first slot's code, and the digits above it are those of the slots behind it
+code-small : (slot : Slot) → codeOf slot < 16
+code-small at-a = omega arith
+code-small at-b = omega arith
+code-small at-c = omega arith
+code-small value = omega arith
+code-small name = omega arith
+code-small file = omega arith
+
+pub packed-code : (slots : List Slot) (k : ℕ) → packed (drop k slots) % 16 ≡ codeAt slots k
+unfolding packed codeAt
+packed-code [] zero = refl
+packed-code [] (suc k) = refl
+packed-code (slot ∷ slots) zero = let s = code-small slot in omega arith
+packed-code (slot ∷ slots) (suc k) = packed-code slots k
+
+packed-behind : (slots : List Slot) (k : ℕ) → packed (drop k slots) / 16 ≡ packed (drop (suc k) slots)
+unfolding packed
+packed-behind [] zero = refl
+packed-behind [] (suc k) = refl
+packed-behind (slot ∷ slots) zero = let s = code-small slot in omega arith
+packed-behind (slot ∷ slots) (suc k) = packed-behind slots k
+
+pub packed-next : (slots : List Slot) (k : ℕ) → packed (drop k slots) / 16 ≡ packed (drop (k + 1) slots)
+packed-next slots k = rw add-one (packed-behind slots k)
+
 code-past : (slots : List Slot) (k : ℕ) → length slots ≤ k → codeAt slots k ≡ 0
 unfolding codeAt
 code-past [] k h = refl
 code-past (slot ∷ slots) zero h = absurd (not-suc-le-zero h)
 code-past (slot ∷ slots) (suc k) h = code-past slots k (le-of-suc-le-suc h)
 
-pub slots-past : (op k : ℕ) → 26 < op → codeAt (slotsOf op) k ≡ 0
-unfolding slotsOf codeAt
-slots-past op k h = ap (λ r. codeAt (slotsIn r) k) (past-row table op h)
+pub slot-none : (op k : ℕ) → 3 < k → 0 ≡ codeAt (slotsOf op) k
+slot-none op k h = let few = few-slots op in sym (code-past (slotsOf op) k (omega arith))
 
-pub address-past : (op : ℕ) → 26 < op → addressOf op ≡ []
-unfolding addressOf
-address-past op h = ap addressIn (past-row table op h)
+-- a digit is its slot's code
+module _ (slots : List Slot) (k : ℕ) where
+  at-place : (n : ℕ) → k ≡ n → codeAt slots n ≡ codeAt slots k
+  at-place n h = ap (λ (j : ℕ). codeAt slots j) (sym h)
 
--- of each op: the length of its address, which is at most 12; at most four slots
-lengthRight : ℕ → ℕ → Bool
-lengthRight op x = both (eqb x (length (addressOf op))) (both (leb (length (addressOf op)) 12) (leb (length (slotsOf op)) 4))
+  second : packed slots / 16 ≡ packed (drop 1 slots)
+  second = packed-next slots 0
 
-slotRight : ℕ → ℕ → Bool
-slotRight i x = eqb x (codeAt (slotsOf (i / 4)) (i % 4))
+  third : packed slots / 256 ≡ packed (drop 2 slots)
+  third = let a = second in let b : packed (drop 1 slots) / 16 ≡ packed (drop 2 slots) = packed-next slots 1 in omega arith
 
-byteRight : ℕ → ℕ → Bool
-byteRight i x = eqb x (getD (addressOf (i / 12)) (i % 12) 0)
+  fourth : packed slots / 4096 ≡ packed (drop 3 slots)
+  fourth = let a = third in let b : packed (drop 2 slots) / 16 ≡ packed (drop 3 slots) = packed-next slots 2 in omega arith
 
-module _ (op : ℕ) (h : op ≤ 26) where
-  op-right : T (lengthRight op (getD lengthEntries op 0))
-  unfolding lengthRight addressOf slotsOf rowFrom
-  op-right = at lengthRight lengthEntries tt op (omega arith)
+  pub digit-0 : k ≡ 0 → packed slots % 16 ≡ codeAt slots k
+  digit-0 h = packed-code slots 0 ∙ at-place 0 h
 
-  pub length-entry : getD lengthEntries op 0 ≡ length (addressOf op)
-  unfolding lengthRight
-  length-entry = eqb→eq (getD lengthEntries op 0) (length (addressOf op)) (both-left (eqb (getD lengthEntries op 0) (length (addressOf op))) _ op-right)
+  pub digit-1 : k ≡ 1 → packed slots / 16 % 16 ≡ codeAt slots k
+  digit-1 h = ap (λ (n : ℕ). n % 16) second ∙ packed-code slots 1 ∙ at-place 1 h
 
-  sizes : T (both (leb (length (addressOf op)) 12) (leb (length (slotsOf op)) 4))
-  unfolding lengthRight
-  sizes = both-right (eqb (getD lengthEntries op 0) (length (addressOf op))) _ op-right
+  pub digit-2 : k ≡ 2 → packed slots / 256 % 16 ≡ codeAt slots k
+  digit-2 h = ap (λ (n : ℕ). n % 16) third ∙ packed-code slots 2 ∙ at-place 2 h
 
-  pub address-size : length (addressOf op) ≤ 12
-  address-size = leb→le (length (addressOf op)) 12 (both-left (leb (length (addressOf op)) 12) (leb (length (slotsOf op)) 4) sizes)
-
-  pub slots-size : length (slotsOf op) ≤ 4
-  slots-size = leb→le (length (slotsOf op)) 4 (both-right (leb (length (addressOf op)) 12) (leb (length (slotsOf op)) 4) sizes)
-
-  pub slot-entry : (k : ℕ) → k ≤ 3 → getD slotEntries (4 * op + k) 0 ≡ codeAt (slotsOf op) k
-  unfolding slotRight slotsOf codeAt rowFrom
-  slot-entry k l =
-      let row : (4 * op + k) / 4 ≡ op = omega arith in
-      let place : (4 * op + k) % 4 ≡ k = omega arith in
-      eqb→eq (getD slotEntries (4 * op + k) 0) _ (at slotRight slotEntries tt (4 * op + k) (omega arith)) ∙ ap₂ (λ r j. codeAt (slotsOf r) j) row place
-
-  pub byte-entry : (k : ℕ) → k ≤ 11 → getD addressEntries (12 * op + k) 0 ≡ getD (addressOf op) k 0
-  unfolding byteRight addressOf rowFrom
-  byte-entry k l =
-      let row : (12 * op + k) / 12 ≡ op = omega arith in
-      let place : (12 * op + k) % 12 ≡ k = omega arith in
-      eqb→eq (getD addressEntries (12 * op + k) 0) _ (at byteRight addressEntries tt (12 * op + k) (omega arith)) ∙ ap₂ (λ r j. getD (addressOf r) j 0) row place
-
-  pub slot-none : (k : ℕ) → 3 < k → codeAt (slotsOf op) k ≡ 0
-  slot-none k l = let s = slots-size in code-past (slotsOf op) k (omega arith)
-
-  pub byte-none : (k : ℕ) → 11 < k → getD (addressOf op) k 0 ≡ 0
-  byte-none k l = let s = address-size in List·getD-eq-default (addressOf op) 0 {n = k} (omega arith)
+  pub digit-3 : k ≡ 3 → packed slots / 4096 % 16 ≡ codeAt slots k
+  digit-3 h = ap (λ (n : ℕ). n % 16) fourth ∙ packed-code slots 3 ∙ at-place 3 h

@@ -3,6 +3,7 @@ pub mod Table
 pub mod Receive
 pub mod Write
 pub mod Rows
+pub mod TableRows
 pub mod Entries
 pub mod Sent
 pub mod Worked

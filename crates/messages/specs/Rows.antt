@@ -1,5 +1,5 @@
 -- The table's rows by op, as code has them.
-use Prim.Native.Nat.{ℕ, zero, suc}
+use Prim.Native.Nat.{ℕ, zero, suc, _+_, _*_}
 use mathlib.Core.List.{List, [], _∷_}
 use mathlib.Core.Option.{Option, none, some}
 use Rattle.messages.specs.Table.{Slot, at-a, at-b, at-c, value, name, file, Row}
@@ -19,6 +19,11 @@ unfoldable pub codeAt : List Slot → ℕ → ℕ
 codeAt [] k = 0
 codeAt (slot ∷ slots) zero = codeOf slot
 codeAt (slot ∷ slots) (suc k) = codeAt slots k
+
+-- the codes of slots as digits of sixteen, the first one's lowest
+unfoldable pub packed : List Slot → ℕ
+packed [] = 0
+packed (slot ∷ slots) = codeOf slot + 16 * packed slots
 
 abbrev pub slotsIn : Option Row → List Slot
 slotsIn none = []

@@ -3,9 +3,13 @@ use model::Command;
 
 mod table;
 
-pub use table::address_byte;
+pub use table::address_end;
 pub use table::address_length;
+pub use table::address_middle;
+pub use table::address_start;
+pub use table::address_third;
 pub use table::slot_code;
+pub use table::slot_codes;
 
 // A command by its op and its five numbers, as calls have them.
 pub struct Numbers {

@@ -21,7 +21,7 @@ use Rattle.messages.specs.Table.{Row, Given, giveAll}
 use Rattle.messages.specs.Write.{rowOf, anyUnfit, messageFrom, messageOf, writeChecks, writeAnswer, Writes}
 use Rattle.messages.specs.Rows.{slotsIn, addressIn, slotsOf, addressOf}
 use Rattle.messagewrite.specs.Slots.{given-count, sizes, arguments-size}
-use Rattle.messagewrite.specs.TableRows.{no-row}
+use Rattle.messages.specs.TableRows.{no-row}
 
 -- the size of the message of an op, beside a name or a file of so many bytes
 abbrev pub wholeSize : ℕ → ℕ → ℕ

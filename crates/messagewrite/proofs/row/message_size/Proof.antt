@@ -6,7 +6,7 @@ use Rattle.osc.specs.Lengths.{frontSize}
 use Rattle.messages.specs.Rows.{codeAt, slotsOf, addressOf}
 use Rattle.messagewrite.specs.Codes.{sizeBy, size-some, fits, exceeds, fitting-none, fitting-some}
 use Rattle.messagewrite.specs.Slots.{sizes, sizes-past, sizes-turn}
-use Rattle.messagewrite.specs.TableRows.{few-slots, short-address}
+use Rattle.messages.specs.TableRows.{few-slots, short-address}
 use Rattle.messagewrite.specs.Whole.{wholeSize}
 use Rattle.messagewrite.proofs.row.message_size.Statement.{statement}
 use Rattle.messagewrite.proofs.row.message_size.Tie as tie

@@ -4,7 +4,7 @@ use native.Mathlib.Omega.{arith}
 use lib.ListN.{length}
 use Rattle.messages.specs.Rows.{slotsOf}
 use Rattle.messagewrite.specs.Slots.{code-none, code-more}
-use Rattle.messagewrite.specs.TableRows.{few-slots}
+use Rattle.messages.specs.TableRows.{few-slots}
 use Rattle.messagewrite.proofs.row.slot_count.Statement.{statement}
 use Rattle.messagewrite.proofs.row.slot_count.Tie as tie
 
