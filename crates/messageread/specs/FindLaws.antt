@@ -1,19 +1,27 @@
 -- Laws of an address's candidate: no op but it and the one behind it can have the address.
-use Prim.Native.Nat.{ℕ, zero, suc, _+_}
+use Prim.Native.Nat.{ℕ, zero, suc, _+_, _<_}
 use mathlib.Core.Bool.{Bool, true, false}
 use mathlib.Core.Path.{_≡_, refl, sym, ap, _∙_}
 use mathlib.Core.List.{List, [], _∷_}
 use mathlib.Core.Option.{some}
 use native.Mathlib.Omega.{arith}
 use lib.Dec.{eqb}
+use lib.ListN.{getD, List·getD-eq-default}
 use borrow.Author.Tests.{ne-eqb, eqb-true, eqb-false}
 use Rattle.words.specs.Choice.{both, either, both-true}
 use Rattle.format.specs.Reader.{sameName}
 use Rattle.order.specs.Same.{same-true}
 use Rattle.messages.specs.Table.{Row, table}
 use Rattle.messages.specs.Write.{rowFrom, rowOf}
-use Rattle.messageread.specs.Lookup.{meets, opFrom, candidateOf}
+use Rattle.messageread.specs.Lookup.{meets, opFrom, candidates, candidateOf}
 use Rattle.messageread.specs.LookupLaws.{miss, hit}
+
+-- the op at a key
+pub op-at : (n key : ℕ) → key ≡ n → getD candidates n 0 ≡ getD candidates key 0
+op-at n key h = ap (λ (k : ℕ). getD candidates k 0) (sym h)
+
+pub op-past : (key : ℕ) → 28 < key → 0 ≡ getD candidates key 0
+op-past key h = sym (List·getD-eq-default candidates 0 {n = key} (omega arith))
 
 -- each address leads to its op, or to the one before it
 leads : ℕ → Row → Bool

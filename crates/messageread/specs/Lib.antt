@@ -9,6 +9,7 @@ pub mod TakeLaws
 pub mod StepLaws
 pub mod WalkLaws
 pub mod Lookup
+pub mod AddressLaws
 pub mod LookupLaws
 pub mod FindLaws
 pub mod Finish

@@ -29,7 +29,7 @@ takesBy code tag =
 
 -- the first op of an address by three of its bytes: the only one that can have it, with the op behind it
 abbrev pub candidates : List ℕ
-candidates = 0 ∷ 11 ∷ 9 ∷ 21 ∷ 26 ∷ 6 ∷ 4 ∷ 24 ∷ 0 ∷ 0 ∷ 3 ∷ 19 ∷ 13 ∷ 8 ∷ 0 ∷ 0 ∷ 0 ∷ 10 ∷ 1 ∷ 23 ∷ 17 ∷ 5 ∷ 25 ∷ 2 ∷ 12 ∷ 20 ∷ 15 ∷ 0 ∷ 7 ∷ 0 ∷ 0 ∷ 0 ∷ []
+candidates = 0 ∷ 11 ∷ 9 ∷ 21 ∷ 26 ∷ 6 ∷ 4 ∷ 24 ∷ 0 ∷ 0 ∷ 3 ∷ 19 ∷ 13 ∷ 8 ∷ 0 ∷ 0 ∷ 0 ∷ 10 ∷ 1 ∷ 23 ∷ 17 ∷ 5 ∷ 25 ∷ 2 ∷ 12 ∷ 20 ∷ 15 ∷ 0 ∷ 7 ∷ []
 
 abbrev pub keyOf : List ℕ → ℕ
 keyOf address = (3 * getD address 1 0 + 2 * getD address 3 0 + 19 * getD address (length address - 1) 0) % 32

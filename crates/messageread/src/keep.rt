@@ -26,7 +26,7 @@ pub enum Step {
 }
 
 // An argument at a slot of a code: its number, or its part of the message.
-fn keep(kept: Kept, code: u8, kind: u32, n: u32, start: usize, end: usize) -> Kept
+fn keep(kept: Kept, code: u32, kind: u32, n: u32, start: usize, end: usize) -> Kept
     ensures { λ r. ⌜ Keeps code kind n start end kept r ⌝ }
 {
     let mut r = kept;
@@ -60,7 +60,7 @@ fn keep(kept: Kept, code: u8, kind: u32, n: u32, start: usize, end: usize) -> Ke
     r
 }
 
-pub(crate) fn keep_number(read: Number, code: u8, kind: u32, kept: Kept) -> Step
+pub(crate) fn keep_number(read: Number, code: u32, kind: u32, kept: Kept) -> Step
     ensures { λ r. ⌜ ((s : List ℕ) (op : ℕ) → Steps s op kept (andThen (numberOf read) (λ n next. parsed (taken code kind n [] (given s op kept)) next)) r) ⌝ }
 {
     match read {
@@ -69,7 +69,7 @@ pub(crate) fn keep_number(read: Number, code: u8, kind: u32, kept: Kept) -> Step
     }
 }
 
-pub(crate) fn keep_part(read: Text, code: u8, kept: Kept) -> Step
+pub(crate) fn keep_part(read: Text, code: u32, kept: Kept) -> Step
     ensures { λ r. ⌜ ((s : List ℕ) (op : ℕ) → Inside s read → Steps s op kept (andThen (textOf s read) (λ l next. parsed (taken code 1 0 l (given s op kept)) next)) r) ⌝ }
 {
     match read {

@@ -14,6 +14,7 @@ ghost use Rattle.messages.specs.Receive.{Reads, meaningOf};
 ghost use Rattle.messageread.specs.Keep.{stepOf, StepHolds};
 ghost use Rattle.messageread.specs.Finish.{Stands, endOf, afterAddress};
 
+mod address;
 mod cursor;
 mod keep;
 mod rows;

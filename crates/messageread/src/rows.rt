@@ -1,88 +1,15 @@
-// The op of an address and its tags. Three bytes of an address say which op can have it.
-use messages::address_byte;
-use messages::address_length;
-use messages::slot_code;
-ghost use Prim.Native.Nat.{_<_};
+// The op of an address and its tags.
+use crate::address::candidate;
+use crate::address::same_address;
+use messages::slot_codes;
 ghost use mathlib.Core.Path.{_≡_};
-ghost use Rattle.format.specs.Reader.{sameName};
 ghost use Rattle.messages.specs.Table.{table, fitAll};
-ghost use Rattle.messages.specs.Rows.{slotsOf, addressOf};
+ghost use Rattle.messages.specs.Rows.{slotsOf};
 ghost use Rattle.messages.specs.Write.{rowOf};
-ghost use Rattle.messageread.specs.Lookup.{meets, opFrom, takesBy, candidateOf};
-
-// The first op of an address, by the key of its bytes.
-const CANDIDATES: [u8; 32] = [
-    0,
-    11,
-    9,
-    21,
-    26,
-    6,
-    4,
-    24,
-    0,
-    0,
-    3,
-    19,
-    13,
-    8,
-    0,
-    0,
-    0,
-    10,
-    1,
-    23,
-    17,
-    5,
-    25,
-    2,
-    12,
-    20,
-    15,
-    0,
-    7,
-    0,
-    0,
-    0,
-];
-
-// A byte as an index.
-fn wide(byte: u8) -> usize
-    ensures { λ r. ⌜ (r ≡ byte) × (r < 256) ⌝ }
-{
-    byte as usize
-}
-
-fn candidate(address: &[u8]) -> u8
-    ensures { λ r. ⌜ r ≡ candidateOf (now (address .entry)) ⌝ }
-{
-    let size = address.len();
-    if size < 6 {
-        return 0;
-    }
-    let last = size - 1;
-    let key = (3 * wide(address[1]) + 2 * wide(address[3]) + 19 * wide(address[last])) % 32;
-    CANDIDATES[key]
-}
-
-fn same_address(address: &[u8], op: u32) -> bool
-    ensures { λ r. ⌜ r ≡ sameName (now (address .entry)) (addressOf op) ⌝ }
-{
-    if address.len() != address_length(op) {
-        return false;
-    }
-    let mut i = 0;
-    while i < address.len() {
-        if address[i] != address_byte(op, i) {
-            return false;
-        }
-        i += 1;
-    }
-    true
-}
+ghost use Rattle.messageread.specs.Lookup.{meets, opFrom, takesBy};
 
 // The slot of a code takes an argument of a tag.
-fn takes(code: u8, tag: u8) -> bool
+fn takes(code: u32, tag: u8) -> bool
     ensures { λ r. ⌜ r ≡ takesBy code tag ⌝ }
 {
     if code == 0 {
@@ -107,15 +34,17 @@ fn takes(code: u8, tag: u8) -> bool
 fn fits(tags: &[u8], op: u32) -> bool
     ensures { λ r. ⌜ r ≡ fitAll (slotsOf op) (now (tags .entry)) ⌝ }
 {
+    let mut codes = slot_codes(op);
     let mut k = 0;
     while k < tags.len() {
-        if takes(slot_code(op, k), tags[k]) {
+        if takes(codes % 16, tags[k]) {
+            codes = codes / 16;
             k += 1;
         } else {
             return false;
         }
     }
-    slot_code(op, k) == 0
+    codes % 16 == 0
 }
 
 // An op's row has the address, and the tags fit its slots.

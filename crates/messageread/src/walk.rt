@@ -4,16 +4,19 @@ use crate::keep::Kept;
 use crate::keep::Step;
 use crate::keep::keep_number;
 use crate::keep::keep_part;
-use messages::slot_code;
-ghost use Rattle.messages.specs.Rows.{slotsOf};
+use messages::slot_codes;
+ghost use Prim.Native.Nat.{ℕ};
+ghost use mathlib.Core.Path.{_≡_};
+ghost use mathlib.Core.List.{List};
+ghost use Rattle.messages.specs.Table.{Slot};
+ghost use Rattle.messages.specs.Rows.{slotsOf, codeAt};
 ghost use Rattle.messages.specs.Receive.{bare};
 ghost use Rattle.messageread.specs.Keep.{Steps, Walks, argumentTaken, given, takenAt};
 
-// The argument of a tag, at the slot k of an op's row.
-fn argument(message: &[u8], at: Cursor, tag: u8, op: u32, k: usize, kept: Kept) -> Step
-    ensures { λ r. ⌜ Steps (now (message .entry)) op kept (argumentTaken (slotsOf op) k tag (now (message .entry)) (at .at) (given (now (message .entry)) op kept)) r ⌝ }
+// The argument of a tag, at a slot of a code.
+fn argument(message: &[u8], at: Cursor, tag: u8, code: u32, kept: Kept) -> Step
+    ensures { λ r. ⌜ ((op : ℕ) (slots : List Slot) (k : ℕ) → code ≡ codeAt slots k → Steps (now (message .entry)) op kept (argumentTaken slots k tag (now (message .entry)) (at .at) (given (now (message .entry)) op kept)) r) ⌝ }
 {
-    let code = slot_code(op, k);
     if tag == 105 {
         return keep_number(at.number(message), code, 1, kept);
     }
@@ -43,9 +46,10 @@ pub(crate) fn walk(message: &[u8], tags: &[u8], from: usize, op: u32) -> Step
         end: 0,
     };
     let mut at = Cursor { at: from };
+    let mut codes = slot_codes(op);
     let mut k = 0;
     while k < tags.len() {
-        match argument(message, at, tags[k], op, k, kept) {
+        match argument(message, at, tags[k], codes % 16, kept) {
             Step::Next(more, next) => {
                 kept = more;
                 at = next;
@@ -54,6 +58,7 @@ pub(crate) fn walk(message: &[u8], tags: &[u8], from: usize, op: u32) -> Step
                 return Step::Faulty;
             }
         }
+        codes = codes / 16;
         k += 1;
     }
     Step::Next(kept, at)

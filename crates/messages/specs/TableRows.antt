@@ -1,4 +1,4 @@
--- The rows of the table: at most four slots, and an address of one to twelve bytes.
+-- The rows of the table: at most four slots, and an address of six to twelve bytes.
 use Prim.Native.Nat.{ℕ, zero, suc, _≤_, _<_}
 use mathlib.Core.Bool.{Bool, true}
 use mathlib.Core.Path.{_≡_, refl}
@@ -9,12 +9,20 @@ use borrow.Author.Tests.{ltb-true, leb-true}
 use lib.ListN.{length}
 use lib.Dec.{ltb, leb}
 use Rattle.words.specs.Choice.{both, both-true}
+use Rattle.words.specs.Bytes.{AreBytes}
 use Rattle.messages.specs.Table.{Row, table}
 use Rattle.messages.specs.Write.{rowFrom, rowOf}
 use Rattle.messages.specs.Rows.{slotsIn, addressIn, slotsOf, addressOf}
 
+unfoldable allBytes : List ℕ → Bool
+allBytes [] = true
+allBytes (b ∷ bs) = both (ltb b 256) (allBytes bs)
+
+abbrev addressSmall : Row → Bool
+addressSmall r = both (leb 6 (length (r .address))) (both (leb (length (r .address)) 12) (allBytes (r .address)))
+
 abbrev small : Row → Bool
-small r = both (leb (length (r .slots)) 4) (both (ltb 0 (length (r .address))) (leb (length (r .address)) 12))
+small r = both (leb (length (r .slots)) 4) (addressSmall r)
 
 unfoldable allSmall : List Row → Bool
 allSmall [] = true
@@ -25,7 +33,7 @@ smallIn none = true
 smallIn (some r) = small r
 
 table-small : allSmall table ≡ true
-unfolding allSmall
+unfolding allSmall allBytes
 table-small = refl
 
 small-from : (rows : List Row) (op : ℕ) → allSmall rows ≡ true → smallIn (rowFrom rows op) ≡ true
@@ -40,30 +48,60 @@ row-small op = small-from table op table-small
 
 slots-few : (o : Option Row) → smallIn o ≡ true → length (slotsIn o) ≤ 4
 slots-few none h = omega arith
-slots-few (some r) h = leb-true (length (r .slots)) 4 (both-true (leb (length (r .slots)) 4) (both (ltb 0 (length (r .address))) (leb (length (r .address)) 12)) h .0)
+slots-few (some r) h = leb-true (length (r .slots)) 4 (both-true (leb (length (r .slots)) 4) (addressSmall r) h .0)
 
 pub few-slots : (op : ℕ) → length (slotsOf op) ≤ 4
 unfolding slotsOf
 few-slots op = slots-few (rowOf op) (row-small op)
 
-addresses : (r : Row) → small r ≡ true → (ltb 0 (length (r .address)) ≡ true) × (leb (length (r .address)) 12 ≡ true)
-addresses r h =
-    both-true (ltb 0 (length (r .address))) (leb (length (r .address)) 12)
-    (both-true (leb (length (r .slots)) 4) (both (ltb 0 (length (r .address))) (leb (length (r .address)) 12)) h .1)
+module _ (r : Row) (h : small r ≡ true) where
+  address-small : addressSmall r ≡ true
+  address-small = both-true (leb (length (r .slots)) 4) (addressSmall r) h .1
+
+  row-long : 6 ≤ length (r .address)
+  row-long = leb-true 6 (length (r .address)) (both-true (leb 6 (length (r .address))) (both (leb (length (r .address)) 12) (allBytes (r .address))) address-small .0)
+
+  row-rest : (leb (length (r .address)) 12 ≡ true) × (allBytes (r .address) ≡ true)
+  row-rest = both-true (leb (length (r .address)) 12) (allBytes (r .address)) (both-true (leb 6 (length (r .address))) (both (leb (length (r .address)) 12) (allBytes (r .address))) address-small .1)
 
 address-short : (o : Option Row) → smallIn o ≡ true → length (addressIn o) ≤ 12
 address-short none h = omega arith
-address-short (some r) h = leb-true (length (r .address)) 12 (addresses r h .1)
+address-short (some r) h = leb-true (length (r .address)) 12 (row-rest r h .0)
 
 pub short-address : (op : ℕ) → length (addressOf op) ≤ 12
 unfolding addressOf
 short-address op = address-short (rowOf op) (row-small op)
 
+bytes-at : (bs : List ℕ) → allBytes bs ≡ true → AreBytes bs
+unfolding allBytes
+bytes-at [] h i = omega arith
+bytes-at (b ∷ bs) h zero = ltb-true b 256 (both-true (ltb b 256) (allBytes bs) h .0)
+bytes-at (b ∷ bs) h (suc i) = bytes-at bs (both-true (ltb b 256) (allBytes bs) h .1) i
+
+address-byte : (o : Option Row) → smallIn o ≡ true → AreBytes (addressIn o)
+address-byte none h i = omega arith
+address-byte (some r) h i = bytes-at (r .address) (row-rest r h .1) i
+
+pub address-bytes : (op : ℕ) → AreBytes (addressOf op)
+unfolding addressOf
+address-bytes op = address-byte (rowOf op) (row-small op)
+
 address-none : (o : Option Row) → smallIn o ≡ true → length (addressIn o) ≡ 0 → o ≡ none
 address-none none h e = refl
-address-none (some r) h e = let z : 0 < length (r .address) = ltb-true 0 (length (r .address)) (addresses r h .0) in absurd (omega arith)
+address-none (some r) h e = let z = row-long r h in absurd (omega arith)
 
 -- an op without an address has no row
 pub no-row : (op : ℕ) → length (addressOf op) ≡ 0 → rowOf op ≡ none
 unfolding addressOf
 no-row op e = address-none (rowOf op) (row-small op) e
+
+long-from : (rows : List Row) (i : ℕ) → allSmall rows ≡ true → i < length rows → 6 ≤ length (addressIn (rowFrom rows (suc i)))
+unfolding allSmall rowFrom
+long-from [] i h l = absurd (omega arith)
+long-from (r ∷ rows) zero h l = row-long r (both-true (small r) (allSmall rows) h .0)
+long-from (r ∷ rows) (suc i) h l = long-from rows i (both-true (small r) (allSmall rows) h .1) (omega arith)
+
+pub long-address : (op : ℕ) → 1 ≤ op → op ≤ 26 → 6 ≤ length (addressOf op)
+unfolding addressOf
+long-address zero l m = absurd (omega arith)
+long-address (suc i) l m = long-from table i table-small (omega arith)

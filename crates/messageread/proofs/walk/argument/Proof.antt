@@ -1,14 +1,11 @@
 use borrow.Author.Needs.{needs}
 use Rattle.messages.specs.Form.{andThen, parsed, argumentAt}
-use Rattle.messages.specs.Rows.{slotsOf, codeAt}
+use Rattle.messages.specs.Rows.{codeAt}
 use Rattle.messageread.specs.Answers.{numberOf, textOf}
 use Rattle.messageread.specs.Keep.{given, argumentTaken, takeBy}
 use Rattle.messageread.specs.StepLaws.{no-step, step-by, numberTaken, partTaken, int-taken, float-taken, text-taken, blob-taken, other-tag}
 use Rattle.messageread.proofs.walk.argument.Statement.{statement}
 use Rattle.messageread.proofs.walk.argument.Tie as tie
-
-slot-code-requires : tie.Need-slot-code-requires
-slot-code-requires c κs = search needs
 
 number-requires : tie.Need-number-requires
 number-requires c κs = search needs
@@ -17,13 +14,11 @@ keep-number-requires : tie.Need-keep-number-requires
 keep-number-requires c κs = search needs
 
 returns : tie.Need-returns
-returns c =
-    let a = c .before .before .before .before .before .args in
+returns c op slots k coded =
+    let a = c .before .before .before .before .args in
     let s = a .message .now in
-    let g = given s (a .op) (a .kept) in
-    let coded = c .before .before .before .slot-code .ensures in
-    let slots = slotsOf (a .op) in
-    step-by s (a .op) (a .kept) (andThen (numberOf (c .before .number .result)) (numberTaken (c .before .before .before .slot-code .result) 1 g)) (argumentTaken slots (a .k) (a .tag) s (a .at .at) g) (c .keep-number .result) (int-taken slots (a .k) (a .tag) s (a .at .at) g (c .before .before .before .slot-code .result) coded (numberOf (c .before .number .result)) (c .before .number .ensures) (c .before .before .if1 .taken)) (c .keep-number .ensures s (a .op))
+    let g = given s op (a .kept) in
+    step-by s op (a .kept) (andThen (numberOf (c .before .number .result)) (numberTaken (a .code) 1 g)) (argumentTaken slots k (a .tag) s (a .at .at) g) (c .keep-number .result) (int-taken slots k (a .tag) s (a .at .at) g (a .code) coded (numberOf (c .before .number .result)) (c .before .number .ensures) (c .before .before .if1 .taken)) (c .keep-number .ensures s op)
 
 number-requires-2 : tie.Need-number-requires-2
 number-requires-2 c κs = search needs
@@ -32,13 +27,11 @@ keep-number-requires-2 : tie.Need-keep-number-requires-2
 keep-number-requires-2 c κs = search needs
 
 returns-2 : tie.Need-returns-2
-returns-2 c =
-    let a = c .before .before .before .before .before .before .args in
+returns-2 c op slots k coded =
+    let a = c .before .before .before .before .before .args in
     let s = a .message .now in
-    let g = given s (a .op) (a .kept) in
-    let coded = c .before .before .before .before .slot-code .ensures in
-    let slots = slotsOf (a .op) in
-    step-by s (a .op) (a .kept) (andThen (numberOf (c .before .number2 .result)) (numberTaken (c .before .before .before .before .slot-code .result) 0 g)) (argumentTaken slots (a .k) (a .tag) s (a .at .at) g) (c .keep-number2 .result) (float-taken slots (a .k) (a .tag) s (a .at .at) g (c .before .before .before .before .slot-code .result) coded (numberOf (c .before .number2 .result)) (c .before .number2 .ensures) (c .before .before .before .if1 .left) (c .before .before .if2 .taken)) (c .keep-number2 .ensures s (a .op))
+    let g = given s op (a .kept) in
+    step-by s op (a .kept) (andThen (numberOf (c .before .number2 .result)) (numberTaken (a .code) 0 g)) (argumentTaken slots k (a .tag) s (a .at .at) g) (c .keep-number2 .result) (float-taken slots k (a .tag) s (a .at .at) g (a .code) coded (numberOf (c .before .number2 .result)) (c .before .number2 .ensures) (c .before .before .before .if1 .left) (c .before .before .if2 .taken)) (c .keep-number2 .ensures s op)
 
 text-requires : tie.Need-text-requires
 text-requires c κs = search needs
@@ -47,13 +40,11 @@ keep-part-requires : tie.Need-keep-part-requires
 keep-part-requires c κs = search needs
 
 returns-3 : tie.Need-returns-3
-returns-3 c =
-    let a = c .before .before .before .before .before .before .before .args in
+returns-3 c op slots k coded =
+    let a = c .before .before .before .before .before .before .args in
     let s = a .message .now in
-    let g = given s (a .op) (a .kept) in
-    let coded = c .before .before .before .before .before .slot-code .ensures in
-    let slots = slotsOf (a .op) in
-    step-by s (a .op) (a .kept) (andThen (textOf s (c .before .text .result)) (partTaken (c .before .before .before .before .before .slot-code .result) g)) (argumentTaken slots (a .k) (a .tag) s (a .at .at) g) (c .keep-part .result) (text-taken slots (a .k) (a .tag) s (a .at .at) g (c .before .before .before .before .before .slot-code .result) coded (textOf s (c .before .text .result)) (c .before .text .ensures .reads) (c .before .before .before .before .if1 .left) (c .before .before .before .if2 .left) (c .before .before .if3 .taken)) (c .keep-part .ensures s (a .op) (c .before .text .ensures .inside))
+    let g = given s op (a .kept) in
+    step-by s op (a .kept) (andThen (textOf s (c .before .text .result)) (partTaken (a .code) g)) (argumentTaken slots k (a .tag) s (a .at .at) g) (c .keep-part .result) (text-taken slots k (a .tag) s (a .at .at) g (a .code) coded (textOf s (c .before .text .result)) (c .before .text .ensures .reads) (c .before .before .before .before .if1 .left) (c .before .before .before .if2 .left) (c .before .before .if3 .taken)) (c .keep-part .ensures s op (c .before .text .ensures .inside))
 
 blob-requires : tie.Need-blob-requires
 blob-requires c κs = search needs
@@ -62,25 +53,22 @@ keep-part-requires-2 : tie.Need-keep-part-requires-2
 keep-part-requires-2 c κs = search needs
 
 returns-4 : tie.Need-returns-4
-returns-4 c =
-    let a = c .before .before .before .before .before .before .before .before .args in
+returns-4 c op slots k coded =
+    let a = c .before .before .before .before .before .before .before .args in
     let s = a .message .now in
-    let g = given s (a .op) (a .kept) in
-    let coded = c .before .before .before .before .before .before .slot-code .ensures in
-    let slots = slotsOf (a .op) in
-    step-by s (a .op) (a .kept) (andThen (textOf s (c .before .blob .result)) (partTaken (c .before .before .before .before .before .before .slot-code .result) g)) (argumentTaken slots (a .k) (a .tag) s (a .at .at) g) (c .keep-part2 .result) (blob-taken slots (a .k) (a .tag) s (a .at .at) g (c .before .before .before .before .before .before .slot-code .result) coded (textOf s (c .before .blob .result)) (c .before .blob .ensures .reads) (c .before .before .before .before .before .if1 .left) (c .before .before .before .before .if2 .left) (c .before .before .before .if3 .left) (c .before .before .if4 .taken)) (c .keep-part2 .ensures s (a .op) (c .before .blob .ensures .inside))
+    let g = given s op (a .kept) in
+    step-by s op (a .kept) (andThen (textOf s (c .before .blob .result)) (partTaken (a .code) g)) (argumentTaken slots k (a .tag) s (a .at .at) g) (c .keep-part2 .result) (blob-taken slots k (a .tag) s (a .at .at) g (a .code) coded (textOf s (c .before .blob .result)) (c .before .blob .ensures .reads) (c .before .before .before .before .before .if1 .left) (c .before .before .before .before .if2 .left) (c .before .before .before .if3 .left) (c .before .before .if4 .taken)) (c .keep-part2 .ensures s op (c .before .blob .ensures .inside))
 
 returns-5 : tie.Need-returns-5
-returns-5 c =
-    let a = c .before .before .before .before .before .before .args in
+returns-5 c op slots k coded =
+    let a = c .before .before .before .before .before .args in
     let s = a .message .now in
-    no-step s (a .op) (a .kept) (argumentAt (a .tag) s (a .at .at)) (λ x next. parsed (takeBy (codeAt (slotsOf (a .op)) (a .k)) x (given s (a .op) (a .kept))) next) (other-tag (a .tag) s (a .at .at) (c .before .before .before .if1 .left) (c .before .before .if2 .left) (c .before .if3 .left) (c .if4 .left))
+    no-step s op (a .kept) (argumentAt (a .tag) s (a .at .at)) (λ x next. parsed (takeBy (codeAt slots k) x (given s op (a .kept))) next) (other-tag (a .tag) s (a .at .at) (c .before .before .before .if1 .left) (c .before .before .if2 .left) (c .before .if3 .left) (c .if4 .left))
 
 pub argument-spec : {M : Type 1} → statement M
 argument-spec =
     tie.close
     (tie.spec
-    slot-code-requires
     number-requires
     keep-number-requires
     returns

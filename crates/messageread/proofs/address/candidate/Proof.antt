@@ -1,8 +1,9 @@
+use mathlib.Core.Path.{sym}
 use borrow.Author.Needs.{needs}
 use borrow.Author.Tests.{lt-ltb, le-ltb}
 use lib.ListN.{length}
-use Rattle.messageread.proofs.rows.candidate.Statement.{statement}
-use Rattle.messageread.proofs.rows.candidate.Tie as tie
+use Rattle.messageread.proofs.address.candidate.Statement.{statement}
+use Rattle.messageread.proofs.address.candidate.Tie as tie
 
 returns : tie.Need-returns
 returns c = rw (lt-ltb (length (c .before .before .args .address .now)) 6 (c .if1 .taken))
@@ -16,8 +17,8 @@ shared-slice-read-wide c = search needs
 wide-requires : tie.Need-wide-requires
 wide-requires c κs = search needs
 
-mul-key : tie.Need-mul-key
-mul-key c = search needs
+mul-first-op : tie.Need-mul-first-op
+mul-first-op c = search needs
 
 shared-slice-read-wide-2 : tie.Need-shared-slice-read-wide-2
 shared-slice-read-wide-2 c = search needs
@@ -25,11 +26,11 @@ shared-slice-read-wide-2 c = search needs
 wide-requires-2 : tie.Need-wide-requires-2
 wide-requires-2 c κs = search needs
 
-mul-key-2 : tie.Need-mul-key-2
-mul-key-2 c = search needs
+mul-first-op-2 : tie.Need-mul-first-op-2
+mul-first-op-2 c = search needs
 
-add-key : tie.Need-add-key
-add-key c = search needs
+add-first-op : tie.Need-add-first-op
+add-first-op c = search needs
 
 shared-slice-read-wide-3 : tie.Need-shared-slice-read-wide-3
 shared-slice-read-wide-3 c = search needs
@@ -37,19 +38,19 @@ shared-slice-read-wide-3 c = search needs
 wide-requires-3 : tie.Need-wide-requires-3
 wide-requires-3 c κs = search needs
 
-mul-key-3 : tie.Need-mul-key-3
-mul-key-3 c = search needs
+mul-first-op-3 : tie.Need-mul-first-op-3
+mul-first-op-3 c = search needs
 
-add-key-2 : tie.Need-add-key-2
-add-key-2 c = search needs
+add-first-op-2 : tie.Need-add-first-op-2
+add-first-op-2 c = search needs
 
-array-read-result : tie.Need-array-read-result
-array-read-result c = search needs
+first-op-requires : tie.Need-first-op-requires
+first-op-requires c κs = search needs
 
 returns-2 : tie.Need-returns-2
 returns-2 c =
-    let a = c .before .before .before .before .before .before .before .before .args in
-    rw (le-ltb (length (a .address .now)) 6 (c .before .before .before .before .before .before .if1 .left), c .before .before .before .before .wide .ensures .0, c .before .before .wide2 .ensures .0, c .wide3 .ensures .0)
+    let a = c .before .before .before .before .before .before .before .before .before .args in
+    rw (le-ltb (length (a .address .now)) 6 (c .before .before .before .before .before .before .before .if1 .left), sym (c .before .before .before .before .before .wide .ensures .0), sym (c .before .before .before .wide2 .ensures .0), sym (c .before .wide3 .ensures .0)) (c .first-op .ensures)
 
 pub candidate-spec : {M : Type 1} → statement M
 candidate-spec =
@@ -59,14 +60,14 @@ candidate-spec =
     sub-last
     shared-slice-read-wide
     wide-requires
-    mul-key
+    mul-first-op
     shared-slice-read-wide-2
     wide-requires-2
-    mul-key-2
-    add-key
+    mul-first-op-2
+    add-first-op
     shared-slice-read-wide-3
     wide-requires-3
-    mul-key-3
-    add-key-2
-    array-read-result
+    mul-first-op-3
+    add-first-op-2
+    first-op-requires
     returns-2)
