@@ -86,6 +86,15 @@ pub address-bytes : (op : ℕ) → AreBytes (addressOf op)
 unfolding addressOf
 address-bytes op = address-byte (rowOf op) (row-small op)
 
+address-some : (o : Option Row) → smallIn o ≡ true → 0 < length (addressIn o) → 6 ≤ length (addressIn o)
+address-some none h l = absurd (omega arith)
+address-some (some r) h l = row-long r h
+
+-- an address has at least six bytes
+pub some-address : (op : ℕ) → 0 < length (addressOf op) → 6 ≤ length (addressOf op)
+unfolding addressOf
+some-address op h = address-some (rowOf op) (row-small op) h
+
 address-none : (o : Option Row) → smallIn o ≡ true → length (addressIn o) ≡ 0 → o ≡ none
 address-none none h e = refl
 address-none (some r) h e = let z = row-long r h in absurd (omega arith)

@@ -1,5 +1,5 @@
 -- Room for the parts of a message, and the parts one behind the other.
-use Prim.Native.Nat.{ℕ, _+_, _-_, _%_, _≤_}
+use Prim.Native.Nat.{ℕ, _+_, _-_, _%_, _≤_, _<_}
 use mathlib.Core.Bool.{false}
 use mathlib.Core.Path.{_≡_, ap, _∙_}
 use mathlib.Core.List.{List, _++_, append-assoc}
@@ -23,6 +23,7 @@ pub record ArgumentRoom (code at : ℕ) (bytes out : List ℕ) : Type 0 where
 
 pub record AddressRoom (op size : ℕ) (out : List ℕ) : Type 0 where
   pub is : size ≡ length (addressOf op)
+  pub some : 0 < size
   pub room : size + (4 - size % 4) ≤ length out
 
 pub record TagsRoom (at op count : ℕ) (out : List ℕ) : Type 0 where
@@ -39,6 +40,7 @@ pub record ArgumentsRoom (start op count : ℕ) (bytes out : List ℕ) : Type 0 
   pub room : start + sizes (slotsOf op) (length bytes) ≤ length out
 
 pub record MessageRoom (op count : ℕ) (bytes out : List ℕ) : Type 0 where
+  pub some : 0 < length (addressOf op)
   pub is : count ≡ length (slotsOf op)
   pub fit : anyUnfit bytes (slotsOf op) ≡ false
   pub room : wholeSize op (length bytes) ≤ length out

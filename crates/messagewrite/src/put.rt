@@ -3,11 +3,14 @@ use crate::slot::argument_size;
 use crate::slot::argument_tag;
 use crate::slot::put_argument;
 use messages::Numbers;
-use messages::address_byte;
 use messages::address_length;
+use messages::address_middle;
+use messages::address_start;
+use messages::address_third;
 use messages::slot_code;
 use osc::padded_length;
 use osc::put_byte;
+use osc::put_int;
 use osc::put_zeros;
 ghost use Prim.Native.Nat.{ℕ};
 ghost use mathlib.Core.List.{List, _∷_};
@@ -19,23 +22,21 @@ ghost use Rattle.messages.specs.Table.{giveAll};
 ghost use Rattle.messagewrite.specs.Codes.{given};
 ghost use Rattle.messagewrite.specs.Pieces.{AddressRoom, TagsRoom, TagStringRoom, ArgumentsRoom, MessageRoom};
 
-fn put_address_bytes(out: &mut [u8], op: u32, size: usize)
-    requires { ⌜ AddressRoom op size (now out) ⌝ }
-    ensures { λ r. ⌜ now (out .exit) ≡ over 0 (addressOf op) (now (out .entry)) ⌝ }
-{
-    let mut k = 0;
-    while k < size {
-        put_byte(out, k, address_byte(op, k));
-        k += 1;
-    }
-}
-
+// The address and the zeros that end it: two words, a third where it has eight bytes, and zeros behind twelve.
 fn put_address(out: &mut [u8], op: u32, size: usize)
     requires { ⌜ AddressRoom op size (now out) ⌝ }
     ensures { λ r. ⌜ now (out .exit) ≡ over 0 (padded (addressOf op)) (now (out .entry)) ⌝ }
 {
-    put_address_bytes(out, op, size);
-    put_zeros(out, size, 4 - size % 4);
+    put_int(out, 0, address_start(op));
+    put_int(out, 4, address_middle(op));
+    if size < 8 {
+        return;
+    }
+    put_int(out, 8, address_third(op));
+    if size < 12 {
+        return;
+    }
+    put_int(out, 12, 0);
 }
 
 fn put_tags(out: &mut [u8], at: usize, numbers: Numbers, count: usize)

@@ -47,6 +47,7 @@ put-message-requires c κs =
     let a = c .before .before .before .before .before .before .before .before .before .before .args in
     let whole = wholeSize (a .numbers .op) (length (a .bytes .now)) in
     record {
+      some = omega (arith, c .before .before .before .before .before .before .before .address-length .ensures);
       is = c .before .before .before .before .before .slot-count .ensures;
       fit = sym (c .before .before .before .before .any-unfit .ensures) ∙ c .before .before .before .if2 .left;
       room = fitting-some whole (length (a .out .now)) (λ z. c .before .if3 .left (c .before .before .message-size .ensures ∙ z)) .1;

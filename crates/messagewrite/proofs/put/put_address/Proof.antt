@@ -1,36 +1,87 @@
-use Prim.Native.Nat.{ℕ, _-_, _%_}
-use mathlib.Core.Path.{ap, _∙_}
-use mathlib.Core.List.{_++_}
+-- `messagewrite::put_address` meets its contract: by how many words the address has.
+use Prim.Native.Nat.{ℕ, _+_, _-_, _%_, _≤_, _<_}
+use mathlib.Core.Path.{subst}
 use native.Mathlib.Omega.{arith}
 use borrow.Author.Needs.{needs}
-use lib.ListN.{replicate, length-replicate}
-use Rattle.osc.specs.Over.{over}
+use lib.ListN.{length}
 use Rattle.messages.specs.Rows.{addressOf}
-use Rattle.messagewrite.specs.Pieces.{two-parts}
+use Rattle.messages.specs.TableRows.{some-address}
+use Rattle.messagewrite.specs.Addresses.{two-words, three-words, four-words}
 use Rattle.messagewrite.proofs.put.put_address.Statement.{statement}
 use Rattle.messagewrite.proofs.put.put_address.Tie as tie
 
-put-address-bytes-requires : tie.Need-put-address-bytes-requires
-put-address-bytes-requires c κs = search needs
+address-start-requires : tie.Need-address-start-requires
+address-start-requires c κs = search needs
 
-sub-put-zeros : tie.Need-sub-put-zeros
-sub-put-zeros c = search needs
+put-int-requires : tie.Need-put-int-requires
+put-int-requires c κs = search needs
 
-put-zeros-requires : tie.Need-put-zeros-requires
-put-zeros-requires c κs = search needs
+address-middle-requires : tie.Need-address-middle-requires
+address-middle-requires c κs = search needs
+
+put-int-requires-2 : tie.Need-put-int-requires-2
+put-int-requires-2 c κs =
+    let a = c .before .before .before .before .before .before .before .before .args in
+    let p = c .before .before .before .before .before .before .before .before .pre in
+    let long = some-address (a .op) (omega arith) in
+    omega arith
 
 same-length : tie.Need-same-length
 same-length c = search needs
 
 returns : tie.Need-returns
 returns c =
-    let a = c .before .before .before .before .before .before .before .before .before .args in
-    let zeros = 4 - a .size % 4 in
-    two-parts 0 (addressOf (a .op)) (replicate zeros 0) (a .out .now) (c .before .before .before .before .before .before .put-address-bytes .last .0) (c .before .before .put-zeros .last .0) (a .size) (omega arith) (c .before .before .before .before .before .before .put-address-bytes .ensures) (c .before .before .put-zeros .ensures)
-    (omega (arith, length-replicate {A = ℕ} zeros 0))
-    ∙ ap (λ (k : ℕ). over 0 (addressOf (a .op) ++ replicate (4 - k % 4) 0) (a .out .now)) (c .before .before .before .before .before .before .before .before .before .pre .is)
+    let a = c .before .before .before .before .before .before .before .before .before .before .before .before .args in
+    let p = c .before .before .before .before .before .before .before .before .before .before .before .before .pre in
+    let some : 0 < length (addressOf (a .op)) = omega arith in
+    let room : length (addressOf (a .op)) + (4 - length (addressOf (a .op)) % 4) ≤ length (a .out .now) = subst (λ (k : ℕ). k + (4 - k % 4) ≤ length (a .out .now)) (p .is) (p .room) in
+    two-words (a .op) some (a .out .now) room (c .before .before .before .before .before .before .before .before .before .address-start .result) (c .before .before .before .before .address-middle .result) (c .before .before .before .before .before .before .before .before .before .address-start .ensures) (c .before .before .before .before .address-middle .ensures) (c .before .before .before .before .before .before .before .before .put-int .last .0) (c .before .before .before .put-int2 .last .0) (c .before .before .before .before .before .before .before .before .put-int .ensures) (c .before .before .before .put-int2 .ensures) (omega arith)
+
+address-third-requires : tie.Need-address-third-requires
+address-third-requires c κs = search needs
+
+put-int-requires-3 : tie.Need-put-int-requires-3
+put-int-requires-3 c κs = search needs
+
+same-length-2 : tie.Need-same-length-2
+same-length-2 c = search needs
+
+returns-2 : tie.Need-returns-2
+returns-2 c =
+    let a = c .before .before .before .before .before .before .before .before .before .before .before .before .before .before .before .before .before .before .args in
+    let p = c .before .before .before .before .before .before .before .before .before .before .before .before .before .before .before .before .before .before .pre in
+    let some : 0 < length (addressOf (a .op)) = omega arith in
+    let room : length (addressOf (a .op)) + (4 - length (addressOf (a .op)) % 4) ≤ length (a .out .now) = subst (λ (k : ℕ). k + (4 - k % 4) ≤ length (a .out .now)) (p .is) (p .room) in
+    three-words (a .op) some (a .out .now) room (c .before .before .before .before .before .before .before .before .before .before .before .before .before .before .before .address-start .result) (c .before .before .before .before .before .before .before .before .before .before .address-middle .result) (c .before .before .before .before .before .before .before .before .before .before .before .before .before .before .before .address-start .ensures) (c .before .before .before .before .before .before .before .before .before .before .address-middle .ensures) (c .before .before .before .before .before .before .before .before .before .before .before .before .before .before .put-int .last .0) (c .before .before .before .before .before .before .before .before .before .put-int2 .last .0) (c .before .before .before .before .before .before .before .before .before .before .before .before .before .before .put-int .ensures) (c .before .before .before .before .before .before .before .before .before .put-int2 .ensures) (c .before .before .before .before .address-third .result) (c .before .before .before .before .address-third .ensures) (c .before .before .before .put-int3 .last .0) (c .before .before .before .put-int3 .ensures) (omega arith) (omega arith)
+
+put-int-requires-4 : tie.Need-put-int-requires-4
+put-int-requires-4 c κs = search needs
+
+same-length-3 : tie.Need-same-length-3
+same-length-3 c = search needs
+
+returns-3 : tie.Need-returns-3
+returns-3 c =
+    let a = c .before .before .before .before .before .before .before .before .before .before .before .before .before .before .before .before .before .before .before .before .before .before .args in
+    let p = c .before .before .before .before .before .before .before .before .before .before .before .before .before .before .before .before .before .before .before .before .before .before .pre in
+    let some : 0 < length (addressOf (a .op)) = omega arith in
+    let room : length (addressOf (a .op)) + (4 - length (addressOf (a .op)) % 4) ≤ length (a .out .now) = subst (λ (k : ℕ). k + (4 - k % 4) ≤ length (a .out .now)) (p .is) (p .room) in
+    four-words (a .op) some (a .out .now) room (c .before .before .before .before .before .before .before .before .before .before .before .before .before .before .before .before .before .before .before .address-start .result) (c .before .before .before .before .before .before .before .before .before .before .before .before .before .before .address-middle .result) (c .before .before .before .before .before .before .before .before .before .before .before .before .before .before .before .before .before .before .before .address-start .ensures) (c .before .before .before .before .before .before .before .before .before .before .before .before .before .before .address-middle .ensures) (c .before .before .before .before .before .before .before .before .before .before .before .before .before .before .before .before .before .before .put-int .last .0) (c .before .before .before .before .before .before .before .before .before .before .before .before .before .put-int2 .last .0) (c .before .before .before .before .before .before .before .before .before .before .before .before .before .before .before .before .before .before .put-int .ensures) (c .before .before .before .before .before .before .before .before .before .before .before .before .before .put-int2 .ensures) (c .before .before .before .before .before .before .before .before .address-third .result) (c .before .before .before .before .before .before .before .before .address-third .ensures) (c .before .before .before .before .before .before .before .put-int3 .last .0) (c .before .before .before .before .before .before .before .put-int3 .ensures) (omega arith) (omega arith) (c .before .before .put-int4 .last .0) (c .before .before .put-int4 .ensures)
 
 pub put-address-spec : {M : Type 1} → statement M
 put-address-spec =
     tie.close
-    (tie.spec put-address-bytes-requires sub-put-zeros put-zeros-requires same-length returns)
+    (tie.spec
+    address-start-requires
+    put-int-requires
+    address-middle-requires
+    put-int-requires-2
+    same-length
+    returns
+    address-third-requires
+    put-int-requires-3
+    same-length-2
+    returns-2
+    put-int-requires-4
+    same-length-3
+    returns-3)
