@@ -1,9 +1,9 @@
 -- A padded address in words of four bytes, as it is written.
 use Prim.{Unit, tt}
 use Prim.Native.Nat.{ℕ, zero, suc, _+_, _-_, _%_, _≤_, _<_}
-use mathlib.Core.Path.{_≡_, refl, sym, ap, ap₂, _∙_}
+use mathlib.Core.Path.{_≡_, refl, sym, ap, _∙_}
 use mathlib.Core.List.{List, [], _∷_, _++_}
-use mathlib.Core.Option.{Option, none, some}
+use mathlib.Core.Option.{some}
 use native.Mathlib.Omega.{arith}
 use borrow.Author.Tests.{lt-ltb, le-ltb}
 use lib.ListN.{length}
@@ -14,7 +14,7 @@ use Rattle.format.specs.Fields.{word}
 use Rattle.osc.specs.Message.{padded}
 use Rattle.osc.specs.Over.{over, over-over}
 use Rattle.messages.specs.Table.{Row, table}
-use Rattle.messages.specs.Write.{rowFrom, rowOf}
+use Rattle.messages.specs.Write.{rowFrom}
 use Rattle.messages.specs.Rows.{addressIn, addressOf}
 use Rattle.messages.specs.TableRows.{some-address}
 use Rattle.messagewrite.specs.Pieces.{two-parts, three-parts}
