@@ -73,9 +73,22 @@ count s at = countTo highest32 s at
 abbrev pub shortCountTo : ℕ → List ℕ → ℕ → Read ℕ
 shortCountTo most s at = checked BadCount (λ n. leb n most) at (int16 s at)
 
--- "rates 0, 1 or 2"
+-- the calculation rates: scalar, control and audio as document 001 numbers them, and demand. Paper 02, 2/14: "the server also has demand rate, numbered 3, and units and
+-- outputs carry it. Allow 0 to 3 in both places; 7 is for the rest."
+abbrev pub scalarRate : ℕ
+scalarRate = 0
+
+abbrev pub controlRate : ℕ
+controlRate = 1
+
+abbrev pub audioRate : ℕ
+audioRate = 2
+
+abbrev pub demandRate : ℕ
+demandRate = 3
+
 abbrev pub highestRate : ℕ
-highestRate = 2
+highestRate = demandRate
 
 abbrev pub rate : List ℕ → ℕ → Read ℕ
 rate s at = checked BadRate (λ r. leb r highestRate) at (int8 s at)

@@ -19,8 +19,8 @@ pub const HIGHEST: u32 = 0x7FFF_FFFF;
 
 pub const HIGHEST_SHORT: u32 = 0x7FFF;
 
-// The highest rate.
-pub const HIGHEST_RATE: u32 = 2;
+// The highest rate: 0 is scalar, 1 control, 2 audio, 3 demand.
+pub const HIGHEST_RATE: u32 = 3;
 
 // An input's unit where it names a constant.
 pub const MINUS_ONE: u32 = 0xFFFF_FFFF;

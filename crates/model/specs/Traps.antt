@@ -69,6 +69,10 @@ noName = 122 ∷ 122 ∷ []
 abbrev long : List ℕ
 long = take 10 ping ++ (3 ∷ 98 ∷ 105 ∷ 103 ∷ 0 ∷ 0 ∷ 1 ∷ 254 ∷ []) ++ replicate 2040 0 ++ replicate 12 0 ++ (0 ∷ 0 ∷ [])
 
+-- one unit, `U`, of a rate, with no inputs and one output of a rate
+abbrev rated : ℕ → ℕ → List ℕ
+rated rate output = fileOf 0 (int 0) (int 1 ++ (1 ∷ 85 ∷ rate ∷ []) ++ int 0 ++ int 1 ++ (0 ∷ 0 ∷ output ∷ []))
+
 -- patterns of -2, of -8 and of the lowest number
 abbrev minusTwo : ℕ
 minusTwo = 4294967294
@@ -149,6 +153,11 @@ filesAndReplies e =
     ∷ example (verdict (readFile (take (length long - 1) long))) (2 ∷ 2070 ∷ [])
     -- "bytes after the end (place: the first of them)"
     ∷ example (verdict (readFile (ping ++ (0 ∷ [])))) (11 ∷ 46 ∷ [])
+    -- "Allow 0 to 3 in both places; 7 is for the rest": at a unit and at its output
+    ∷ example (verdict (readFile (rated 3 0))) (0 ∷ 1 ∷ [])
+    ∷ example (verdict (readFile (rated 4 0))) (7 ∷ 30 ∷ [])
+    ∷ example (verdict (readFile (rated 0 3))) (0 ∷ 1 ∷ [])
+    ∷ example (verdict (readFile (rated 0 4))) (7 ∷ 41 ∷ [])
     -- version 1 is not read yet
     ∷ example (verdict (readFile (take 4 ping ++ (0 ∷ 0 ∷ 0 ∷ 1 ∷ []) ++ drop 8 ping))) (4 ∷ 4 ∷ [])
     -- "not "SCgf""

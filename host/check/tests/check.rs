@@ -187,7 +187,7 @@ fn every_refusal_has_its_line() {
         ("4", version, "refused 4 at 4: the version is not 2"),
         ("5", count, "refused 5 at 12: this count is out of bounds"),
         ("6", file(&[b"a", b""]), "refused 6 at 30: this is no name: a definition's is empty, or a byte is not from 1 to 127"),
-        ("7", unit(b"\x01\x01U\x03"), "refused 7 at 30: this rate is not 0, 1 or 2"),
+        ("7", unit(b"\x01\x01U\x04"), "refused 7 at 30: this rate is not 0, 1, 2 or 3"),
         ("8", unit(b"\x01\0\0\0\0\0\x01\0\0\0\0\0\0\0\0\0\0"), "refused 8 at 40: this index names nothing that stands before it"),
         ("9", long, "refused 9 at 10: this definition is longer than 2,048 bytes"),
         ("10", file(&[b"a", b"b", b"a"]), "refused 10 at 50: an earlier definition has this name too"),

@@ -27,6 +27,8 @@ pub use write::{write, Field, Rule, Written};
 pub const MOST_DEFINITIONS: usize = 32;
 pub const MOST_PARAMETERS: usize = 32;
 pub const MOST_BYTES: usize = 2048;
+/// Rates are 0 scalar, 1 control, 2 audio and 3 demand.
+pub const HIGHEST_RATE: i8 = 3;
 
 /// A refusal: its number, and the first byte of the field at fault.
 #[derive(Clone, Copy, Debug, PartialEq, Eq)]

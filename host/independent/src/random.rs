@@ -1,7 +1,7 @@
 //! Random numbers, and random valid definitions of many shapes.
 
 use crate::{Definition, Input, Unit, Variant};
-use crate::{MOST_BYTES, MOST_DEFINITIONS, MOST_PARAMETERS};
+use crate::{HIGHEST_RATE, MOST_BYTES, MOST_DEFINITIONS, MOST_PARAMETERS};
 
 /// The generator splitmix64.
 #[derive(Clone, Debug)]
@@ -187,10 +187,10 @@ impl Random {
         let outputs = self.up_to(shape.outputs);
         Unit {
             class: self.name(class),
-            rate: self.below(3) as i8,
+            rate: self.below(HIGHEST_RATE as usize + 1) as i8,
             special: self.bits() as i16,
             inputs: (0..inputs).filter_map(|_| self.input(definition)).collect(),
-            outputs: (0..outputs).map(|_| self.below(3) as i8).collect(),
+            outputs: (0..outputs).map(|_| self.below(HIGHEST_RATE as usize + 1) as i8).collect(),
         }
     }
 

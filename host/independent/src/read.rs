@@ -1,7 +1,7 @@
 //! The reader. Fields are checked from the front and the first fault decides.
 
 use crate::{Definition, Fault, Input, Unit, Variant};
-use crate::{MOST_BYTES, MOST_DEFINITIONS, MOST_PARAMETERS};
+use crate::{HIGHEST_RATE, MOST_BYTES, MOST_DEFINITIONS, MOST_PARAMETERS};
 
 /// Whether the file is accepted, and if not, why. Builds nothing.
 pub fn check(file: &[u8]) -> Result<(), Fault> {
@@ -155,7 +155,7 @@ impl<'a> Reader<'a> {
     fn rate(&mut self) -> Result<i8, Fault> {
         let place = self.place();
         match self.field().map(i8::from_be_bytes)? {
-            rate @ 0..=2 => Ok(rate),
+            rate @ 0..=HIGHEST_RATE => Ok(rate),
             _ => Err(Fault::new(7, place)),
         }
     }
@@ -188,7 +188,7 @@ impl<'a> Reader<'a> {
     fn outputs(&mut self, count: usize) -> Result<&'a [u8], Fault> {
         let place = self.place();
         let (rates, rest) = self.rest.split_at(count.min(self.rest.len()));
-        if let Some(bad) = rates.iter().position(|&rate| rate > 2) {
+        if let Some(bad) = rates.iter().position(|&rate| !(0..=HIGHEST_RATE).contains(&(rate as i8))) {
             return Err(Fault::new(7, place + bad));
         }
         if rates.len() < count {

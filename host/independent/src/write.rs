@@ -2,7 +2,7 @@
 //! rule that each is under, so that a test knows what a damaged field should answer.
 
 use crate::{Definition, Fault, Unit};
-use crate::{MOST_BYTES, MOST_DEFINITIONS, MOST_PARAMETERS};
+use crate::{HIGHEST_RATE, MOST_BYTES, MOST_DEFINITIONS, MOST_PARAMETERS};
 
 /// What the paper asks of one field.
 #[derive(Clone, Copy, Debug, PartialEq, Eq)]
@@ -53,7 +53,7 @@ impl Field {
                 6,
                 (empty || bytes.len() > 1) && bytes[1..].iter().all(|b| (1..128).contains(b)),
             ),
-            Rule::Rate => (7, (0..=2).contains(&number)),
+            Rule::Rate => (7, (0..=i64::from(HIGHEST_RATE)).contains(&number)),
             Rule::Index(first, below) => {
                 (8, (i64::from(first)..i64::from(below)).contains(&number))
             }

@@ -9,7 +9,7 @@ pub fn reason(number: u32) -> &'static str {
         4 => "the version is not 2",
         5 => "this count is out of bounds",
         6 => "this is no name: a definition's is empty, or a byte is not from 1 to 127",
-        7 => "this rate is not 0, 1 or 2",
+        7 => "this rate is not 0, 1, 2 or 3",
         8 => "this index names nothing that stands before it",
         9 => "this definition is longer than 2,048 bytes",
         10 => "an earlier definition has this name too",

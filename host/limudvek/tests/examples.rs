@@ -244,12 +244,12 @@ fn rates() {
         .concat();
         one(&[NONE, NONE, NONE, &int(1), &unit, NO_VARIANTS])
     };
-    for rate in 0..=2 {
-        for output in 0..=2 {
+    for rate in 0..=3 {
+        for output in 0..=3 {
             accepted(&file(rate, output));
         }
     }
-    for bad in [3, 127, 128, 255] {
+    for bad in 4..=255 {
         refused(&file(bad, bad), 7, 30);
         refused(&file(0, bad), 7, 41);
     }

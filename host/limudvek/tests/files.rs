@@ -292,7 +292,7 @@ fn values(section: &mut Section, field: &Field, file: &Written) -> Vec<Vec<u8>> 
         ],
         Rule::Version => near(2).into_iter().chain(EXTREMES).collect(),
         Rule::Count(most) => near(most).into_iter().chain(EXTREMES).collect(),
-        Rule::Rate => vec![-128, -1, 0, 1, 2, 3, 4, 127],
+        Rule::Rate => (-128..=127).collect(),
         Rule::Index(first, below) => {
             let ends = near(first).into_iter().chain(near(below));
             ends.chain([random.one_of(&EXTREMES)]).collect()
@@ -441,10 +441,10 @@ fn break_one(random: &mut Random, definitions: &mut [Definition]) {
                 .collect();
             let unit = &mut definition.units[place];
             match random.below(4) {
-                0 => unit.rate = random.one_of(&[-128, -1, 0, 1, 2, 3, 127]),
+                0 => unit.rate = random.one_of(&[-128, -1, 0, 1, 2, 3, 4, 127]),
                 1 => unit
                     .outputs
-                    .push(random.one_of(&[-128, -1, 0, 1, 2, 3, 127])),
+                    .push(random.one_of(&[-128, -1, 0, 1, 2, 3, 4, 127])),
                 2 => unit.inputs.push(Input {
                     unit: -1,
                     index: random.one_of(&[-1, 0, constants - 1, constants, i32::MAX]),
