@@ -1,0 +1,7 @@
+pub mod Index
+pub mod Rising
+pub mod Afresh
+pub mod Nodes
+pub mod Lookup
+pub mod Words
+pub mod Checks
