@@ -12,11 +12,11 @@ use Rattle.index.specs.Index.{numberAt, putIn, byNumber}
 use Rattle.index.specs.Rising.{Rising, done, next, rising-from, rising-below, entry, higher}
 
 -- the entries without the first that is m
-unfoldable without : ℕ → List ℕ → List ℕ
+unfoldable pub without : ℕ → List ℕ → List ℕ
 without m [] = []
 without m (p ∷ ix) = pick (eqb p m) ix (p ∷ without m ix)
 
-without-length : (m : ℕ) (ix : List ℕ) → (length ix ≤ suc (length (without m ix))) × (length (without m ix) ≤ length ix)
+pub without-length : (m : ℕ) (ix : List ℕ) → (length ix ≤ suc (length (without m ix))) × (length (without m ix) ≤ length ix)
 unfolding without
 without-length m [] = (omega arith, omega arith)
 without-length m (p ∷ ix) = go (without-length m ix) (eqb p m)
@@ -51,7 +51,7 @@ module _ (ks : List ℕ) where
       go ih false e = let other = eqb-false p n e in next {p = p} (omega arith) b ih
 
   -- there are no more entries than places
-  many : (n : ℕ) {least : ℕ} {ix : List ℕ} → Rising ks n least ix → length ix ≤ n
+  pub many : (n : ℕ) {least : ℕ} {ix : List ℕ} → Rising ks n least ix → length ix ≤ n
   many zero done = omega arith
   many zero (next a b r) = absurd (omega arith)
   many (suc n) {ix = ix} r =
@@ -152,7 +152,7 @@ pub record Stands (ix : List ℕ) (p : ℕ) : Type 0 where
   pub is : getD ix at 0 ≡ p
 
 module _ (ks : List ℕ) where
-  put-new : (m : ℕ) (ix : List ℕ) → Stands (putIn ks m ix) m
+  pub put-new : (m : ℕ) (ix : List ℕ) → Stands (putIn ks m ix) m
   unfolding putIn
   put-new m [] = record { at = 0; inside = omega arith; is = refl }
   put-new m (q ∷ ix) = go (put-new m ix) (ltb (numberAt ks m) (numberAt ks q))
@@ -161,7 +161,7 @@ module _ (ks : List ℕ) where
       go ih true = record { at = 0; inside = omega arith; is = refl }
       go ih false = record { at = suc (ih .at); inside = omega arith; is = ih .is }
 
-  put-kept : (m : ℕ) (ix : List ℕ) (i : ℕ) → i < length ix → Stands (putIn ks m ix) (getD ix i 0)
+  pub put-kept : (m : ℕ) (ix : List ℕ) (i : ℕ) → i < length ix → Stands (putIn ks m ix) (getD ix i 0)
   unfolding putIn
   put-kept m [] i h = absurd (omega arith)
   put-kept m (q ∷ ix) zero h = go (ltb (numberAt ks m) (numberAt ks q))

@@ -30,9 +30,16 @@ abbrev pub answer : ℕ → Known → ℕ
 answer count (between low high) = count
 answer count (found p) = p
 
--- the entry that a step looks at: the one in the middle
+-- the entry in the middle, and the one behind it
+abbrev pub halfway : ℕ → ℕ → ℕ
+halfway low high = low + (high - low) / 2
+
+abbrev pub behind : ℕ → ℕ → ℕ
+behind low high = halfway low high + 1
+
+-- the entry that a step looks at
 abbrev pub middle : Known → ℕ
-middle (between low high) = low + (high - low) / 2
+middle (between low high) = halfway low high
 middle (found p) = 0
 
 -- one step: what is known after it, of the number asked for, the place at that entry and ONE stored node number, that of the node there
@@ -40,7 +47,7 @@ unfoldable pub step : ℕ → ℕ → ℕ → Known → Known
 step n p stored (found q) = found q
 step n p stored (between low high) =
     pick (leb high low) (between low high)
-    (pick (eqb stored n) (found p) (pick (ltb stored n) (between (low + (high - low) / 2 + 1) high) (between low (low + (high - low) / 2))))
+    (pick (eqb stored n) (found p) (pick (ltb stored n) (between (behind low high) high) (between low (halfway low high))))
 
 -- so many steps over the entries ix, where the stored node numbers are ks
 unfoldable pub afterSteps : ℕ → ℕ → List ℕ → List ℕ → Known → Known
@@ -82,7 +89,7 @@ module _ (n : ℕ) (ix ks : List ℕ) where
   settles (suc m) low high h = go (leb high low) refl (eqb s n) (ltb s n) (settles m)
     where
       mid : ℕ
-      mid = low + (high - low) / 2
+      mid = halfway low high
 
       p : ℕ
       p = getD ix mid 0
@@ -91,10 +98,10 @@ module _ (n : ℕ) (ix ks : List ℕ) where
       s = numberAt ks p
 
       go : (a : Bool) → leb high low ≡ a → (b d : Bool) → ((l u : ℕ) → u < l + twos m → settled (afterSteps m n ix ks (between l u)) ≡ true)
-          → settled (afterSteps m n ix ks (pick a (between low high) (pick b (found p) (pick d (between (mid + 1) high) (between low mid))))) ≡ true
+          → settled (afterSteps m n ix ks (pick a (between low high) (pick b (found p) (pick d (between (behind low high) high) (between low mid))))) ≡ true
       go true e b d ih = ap settled (none-stays m low high (leb-true high low e)) ∙ e
       go false e true d ih = ap settled (found-stays m p)
-      go false e false true ih = ih (mid + 1) high (omega arith)
+      go false e false true ih = ih (behind low high) high (omega arith)
       go false e false false ih = let some = leb-false high low e in ih low mid (omega arith)
 
   -- what is known is true, of places below c
@@ -111,7 +118,7 @@ module _ (n : ℕ) (ix ks : List ℕ) where
   step-sound c r (between low high) h = go (leb high low) refl (eqb s n) refl (ltb s n) refl
     where
       mid : ℕ
-      mid = low + (high - low) / 2
+      mid = halfway low high
 
       p : ℕ
       p = getD ix mid 0
@@ -125,7 +132,7 @@ module _ (n : ℕ) (ix ks : List ℕ) where
       same : (i : ℕ) → i ≡ mid → numberAt ks (getD ix i 0) ≡ s
       same i e = ap (λ (j : ℕ). numberAt ks (getD ix j 0)) e
 
-      up : s < n → mid < length ix → (i : ℕ) → i < mid + 1 → i < length ix → numberAt ks (getD ix i 0) < n
+      up : s < n → mid < length ix → (i : ℕ) → i < behind low high → i < length ix → numberAt ks (getD ix i 0) < n
       up less inside i a b = split (ltb i mid) refl
         where
           split : (t : Bool) → ltb i mid ≡ t → numberAt ks (getD ix i 0) < n
@@ -146,7 +153,7 @@ module _ (n : ℕ) (ix ks : List ℕ) where
               omega arith
 
       go : (a : Bool) → leb high low ≡ a → (b : Bool) → eqb s n ≡ b → (d : Bool) → ltb s n ≡ d
-          → Sound c (pick a (between low high) (pick b (found p) (pick d (between (mid + 1) high) (between low mid))))
+          → Sound c (pick a (between low high) (pick b (found p) (pick d (between (behind low high) high) (between low mid))))
       go true x b y d z = h
       go false x true y d z =
           let q = near (leb-false high low x) in

@@ -1,5 +1,5 @@
 -- The index in words, beside the words of the table: what the functions ask of them, and the steps of a lookup.
-use Prim.Native.Nat.{ℕ, zero, suc, _+_, _*_, _-_, _/_, _≤_, _<_}
+use Prim.Native.Nat.{ℕ, zero, suc, _+_, _*_, _-_, _≤_, _<_}
 use mathlib.Core.Bool.{true}
 use mathlib.Core.Path.{_≡_, refl, sym, ap, _∙_}
 use mathlib.Core.List.{List}
@@ -12,7 +12,7 @@ use Rattle.nodes.specs.Place.{place}
 use Rattle.index.specs.Index.{numbers, numberAt, indexed}
 use Rattle.index.specs.Rising.{entry}
 use Rattle.index.specs.Nodes.{indexed-parts}
-use Rattle.index.specs.Lookup.{Known, between, found, step, afterSteps, answer, mostSteps, no-steps, found-stays, none-stays, ten-settle}
+use Rattle.index.specs.Lookup.{Known, halfway, behind, between, found, step, afterSteps, answer, mostSteps, no-steps, found-stays, none-stays, ten-settle}
 
 -- words that hold so many records, and words that hold as many entries
 pub record IndexFits (us ws : List ℕ) (count : ℕ) : Type 0 where
@@ -41,9 +41,6 @@ module _ (us ws : List ℕ) (count n : ℕ) (keeps : Keeps us ws count) where
   abbrev pub afterLeft : ℕ → Known → Known
   afterLeft m k = afterSteps m n (take count ws) (numbers (rows count us)) k
 
-  abbrev midOf : ℕ → ℕ → ℕ
-  midOf low high = low + (high - low) / 2
-
   -- the place at an entry, and the number there
   pub entry-word : (i : ℕ) → i < count → getD (take count ws) i 0 ≡ getD ws i 0
   entry-word i h = getD-take count ws i 0 h
@@ -56,14 +53,14 @@ module _ (us ws : List ℕ) (count n : ℕ) (keeps : Keeps us ws count) where
       omega arith
 
   turn : (m low high : ℕ) → low < high → high ≤ count
-      → afterLeft (suc m) (between low high) ≡ afterLeft m (step n (getD ws (midOf low high) 0) (getD us (width * getD ws (midOf low high) 0) 0) (between low high))
+      → afterLeft (suc m) (between low high) ≡ afterLeft m (step n (getD ws (halfway low high) 0) (getD us (width * getD ws (halfway low high) 0) 0) (between low high))
   unfolding afterSteps
   turn m low high h k =
-      let near : midOf low high < count = omega arith in
-      rw (entry-word (midOf low high) near, number-word count us (getD ws (midOf low high) 0) (entry-below (midOf low high) near))
+      let near : halfway low high < count = omega arith in
+      rw (entry-word (halfway low high) near, number-word count us (getD ws (halfway low high) 0) (entry-below (halfway low high) near))
 
   -- one step with so many left, at the place p of the middle entry
-  module _ (left low high p : ℕ) (whole : Known) (more : 0 < left) (some : low < high) (near : high ≤ count) (is : p ≡ getD ws (midOf low high) 0) (s : afterLeft left (between low high) ≡ whole)
+  module _ (left low high p : ℕ) (whole : Known) (more : 0 < left) (some : low < high) (near : high ≤ count) (is : p ≡ getD ws (halfway low high) 0) (s : afterLeft left (between low high) ≡ whole)
     where
       abbrev stored : ℕ
       stored = getD us (width * p) 0
@@ -80,11 +77,11 @@ module _ (us ws : List ℕ) (count n : ℕ) (keeps : Keeps us ws count) where
       unfolding step
       turn-found e = sym (found-stays n (take count ws) (numbers (rows count us)) (left - 1) p) ∙ (rw (lt-leb high low some, eq-eqb stored n e) at given)
 
-      pub turn-up : (stored ≡ n → ⊥) → stored < n → afterLeft (left - 1) (between (midOf low high + 1) high) ≡ whole
+      pub turn-up : (stored ≡ n → ⊥) → stored < n → afterLeft (left - 1) (between (behind low high) high) ≡ whole
       unfolding step
       turn-up other e = rw (lt-leb high low some, ne-eqb stored n other, lt-ltb stored n e) at given
 
-      pub turn-down : (stored ≡ n → ⊥) → n ≤ stored → afterLeft (left - 1) (between low (midOf low high)) ≡ whole
+      pub turn-down : (stored ≡ n → ⊥) → n ≤ stored → afterLeft (left - 1) (between low (halfway low high)) ≡ whole
       unfolding step
       turn-down other e = rw (lt-leb high low some, ne-eqb stored n other, le-ltb stored n e) at given
 

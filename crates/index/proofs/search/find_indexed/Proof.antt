@@ -1,4 +1,4 @@
--- `index::find_indexed` meets its contract. The invariant: the steps that are left lead from the present bounds to what ten steps lead to from the first.
+-- `index::search::find_indexed` meets its contract. The invariant: the steps that are left lead from the present bounds to what ten steps lead to from the first.
 use Prim.Native.Nat.{_+_, _-_, _/_, _≤_}
 use mathlib.Core.Path.{_≡_, refl}
 use native.Mathlib.Omega.{arith}
@@ -7,8 +7,8 @@ use Rattle.nodes.specs.Table.{rows}
 use Rattle.index.specs.Index.{numbers}
 use Rattle.index.specs.Lookup.{between, afterSteps, mostSteps}
 use Rattle.index.specs.Words.{Keeps, entry-below, turn-found, turn-up, turn-down, ends-found, ends-none, ends-last}
-use Rattle.index.proofs.find_indexed.Statement.{statement}
-use Rattle.index.proofs.find_indexed.Tie as tie
+use Rattle.index.proofs.search.find_indexed.Statement.{statement}
+use Rattle.index.proofs.search.find_indexed.Tie as tie
 
 abbrev Inv-loop : tie.InvT-loop
 Inv-loop nodes index count number low₀ high₀ left₀ low high left =

@@ -1,4 +1,4 @@
--- `index::index_formed` meets its contract. The invariant: the rest of the entries keep the rule from here on if all do from the first.
+-- `index::search::index_formed` meets its contract. The invariant: the rest of the entries keep the rule from here on if all do from the first.
 use Prim.Native.Nat.{_*_, _-_, _≤_, _<_}
 use mathlib.Core.Path.{_≡_}
 use native.Mathlib.Omega.{arith}
@@ -7,8 +7,8 @@ use Rattle.nodes.specs.Table.{rows}
 use Rattle.index.specs.Index.{numbers, rises, indexed}
 use Rattle.index.specs.Words.{IndexFits}
 use Rattle.index.specs.Checks.{rises-first, rises-past, rises-low, rises-on, rises-end}
-use Rattle.index.proofs.index_formed.Statement.{statement}
-use Rattle.index.proofs.index_formed.Tie as tie
+use Rattle.index.proofs.search.index_formed.Statement.{statement}
+use Rattle.index.proofs.search.index_formed.Tie as tie
 
 abbrev Inv-loop : tie.InvT-loop
 Inv-loop nodes index count least₀ i₀ least i =
