@@ -13,3 +13,6 @@ pub mod NewPlaces
 pub mod Edits
 pub mod Moves
 pub mod Told
+pub mod Kept
+pub mod Placing
+pub mod Worked

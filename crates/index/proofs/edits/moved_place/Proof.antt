@@ -1,5 +1,4 @@
 -- `index::edits::moved_place` meets its contract.
-
 use mathlib.Core.Path.{sym, _∙_}
 use native.Mathlib.Omega.{arith}
 use borrow.Author.Needs.{needs}

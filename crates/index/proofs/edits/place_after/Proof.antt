@@ -1,5 +1,4 @@
 -- `index::edits::place_after` meets its contract: each case is the definition's.
-
 use mathlib.Core.Path.{_≡_, subst}
 use native.Mathlib.Omega.{arith}
 use borrow.Author.Needs.{needs}
