@@ -1,11 +1,11 @@
 -- The numbers of parts of a table, and of records at other depths.
 use Prim.Native.Nat.{ℕ, zero, suc}
-use mathlib.Core.Path.{_≡_, refl, ap}
+use mathlib.Core.Path.{_≡_, refl, sym, ap, _∙_}
 use mathlib.Core.List.{List, [], _∷_, _++_}
 use lib.ListN.{length, take, drop}
 use Rattle.nodes.specs.declared.Node.{Node}
 use Rattle.nodes.specs.Edit.{lift, sink}
-use Rattle.index.specs.Index.{numbers}
+use Rattle.index.specs.Index.{numbers, indexed}
 
 pub numbers-length : (t : List Node) → length (numbers t) ≡ length t
 unfolding numbers
@@ -38,3 +38,9 @@ pub numbers-sink : (k : ℕ) (t : List Node) → numbers (sink k t) ≡ numbers 
 unfolding numbers sink
 numbers-sink k [] = refl
 numbers-sink k (r ∷ t) = ap (λ (l : List ℕ). r .number ∷ l) (numbers-sink k t)
+
+-- the index is that of the numbers: an edit that leaves them alone leaves it alone
+pub same-numbers : (ix : List ℕ) (t s : List Node) → numbers s ≡ numbers t → indexed ix s ≡ indexed ix t
+same-numbers ix t s e =
+    let size : length s ≡ length t = sym (numbers-length s) ∙ ap (λ (l : List ℕ). length l) e ∙ numbers-length t in
+    rw (size, e)

@@ -12,7 +12,7 @@ ghost use Rattle.index.specs.FollowWords.{Followed};
 ghost use Rattle.index.specs.Spot.{spot, Reads, Fits};
 
 // From this place on, a new place says that the node is gone.
-const GONE: u32 = 256;
+pub const GONE: u32 = 256;
 
 // The new place of the node that was at this place.
 fn new_place(places: &[u32], place: usize) -> u32

@@ -1,4 +1,5 @@
 // The places of nodes after a deep free.
+use crate::after::GONE;
 use layout::GROUP;
 use layout::RECORD;
 use layout::SLOT;
@@ -7,9 +8,6 @@ ghost use Rattle.nodes.specs.Table.{rows};
 ghost use Rattle.nodes.specs.Sizes.{TableFits};
 ghost use Rattle.index.specs.Kept.{keptPlaces};
 ghost use Rattle.index.specs.Placing.{staysAt};
-
-// A place that says that the node is gone.
-const GONE: u32 = 256;
 
 // A record with this slot stays at this place: outside of the run from `from` up to `to`, or a group.
 fn stays(from: usize, to: usize, place: usize, slot: u32) -> bool
