@@ -14,7 +14,8 @@ use Rattle.nodes.specs.Place.{isGroup}
 use Rattle.nodes.specs.Order.{order}
 use Rattle.nodes.specs.Formed.{mostNodes}
 use Rattle.nodes.specs.Formed as nodes
-use Rattle.model.specs.Layout.{rowWords, busCount, wordsLength, arenaLength, countIn, nextIn, latestIn, orderLengthIn, orderWords, lengthsIn, flagsIn, nodesIn, orderIn, controlsIn}
+use Rattle.index.specs.Index.{indexed}
+use Rattle.model.specs.Layout.{rowWords, busCount, wordsLength, arenaLength, countIn, nextIn, latestIn, orderLengthIn, orderWords, lengthsIn, flagsIn, nodesIn, orderIn, controlsIn, indexIn}
 use Rattle.model.specs.Engine.{Slot, decode, slotTaken, nameIn, definitionOf}
 
 -- a slot's flag is 0 or 1
@@ -70,7 +71,8 @@ formed ws arena =
     (both (eqb (length arena) arenaLength)
     (both (leb (countIn ws) mostNodes)
     (both (nodes.nodesFormed (nextIn ws) (latestIn ws) (nodesIn ws))
+    (both (indexed (indexIn ws) (nodesIn ws))
     (both (orderFormed ws (nodesIn ws))
     (both (flagsFormed (flagsIn ws))
     (both (slotsFormed 0 (lengthsIn ws) (decode ws arena .slots) (nodesIn ws))
-    (both (namesApart (decode ws arena .slots)) (controlsFormed (decode ws arena .slots) (controlsIn ws) (nodesIn ws)))))))))
+    (both (namesApart (decode ws arena .slots)) (controlsFormed (decode ws arena .slots) (controlsIn ws) (nodesIn ws))))))))))

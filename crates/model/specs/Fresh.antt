@@ -39,11 +39,11 @@ take-zeros (suc n) (suc m) h = ap (λ (l : List ℕ). 0 ∷ l) (take-zeros n m (
 
 fresh-controls : controlsIn freshState ≡ replicate controlsWords 0
 unfolding encode
-fresh-controls = ap (λ (l : List ℕ). take controlsWords l) (sym (drop-drop 1530 73 freshState) ∙ drop-zeros 1530 22010) ∙ take-zeros controlsWords 20480 (omega arith)
+fresh-controls = ap (λ (l : List ℕ). take controlsWords l) (sym (drop-drop 1530 73 freshState) ∙ drop-zeros 1530 22266) ∙ take-zeros controlsWords 20736 (omega arith)
 
 pub fresh-buses : busesIn freshState ≡ replicate busCount 0
 unfolding encode
-fresh-buses = ap (λ (l : List ℕ). take busCount l) (sym (drop-drop 17914 73 freshState) ∙ drop-zeros 17914 22010) ∙ take-zeros busCount 4096 (omega arith)
+fresh-buses = ap (λ (l : List ℕ). take busCount l) (sym (drop-drop 17914 73 freshState) ∙ drop-zeros 17914 22266) ∙ take-zeros busCount 4352 (omega arith)
 
 pub fresh-parts : freshEngine ≡ freshParts
 unfolding decode rows encode slotsFrom
