@@ -14,7 +14,6 @@ use Rattle.model.specs.Layout.{slotRoom, arenaLength, lengthsIn, putNode
 use Rattle.model.specs.Engine.{Slot, Engine, decode}
 use Rattle.model.specs.Effects.{effect}
 
-
 -- the tree's parts: the first words, the nodes, the whole order region, the index of the nodes, the controls
 abbrev pub putTree : Engine → List ℕ → List ℕ
 putTree e ws =

@@ -1,9 +1,11 @@
 // The node that an argument names.
+use index::find_indexed;
 use layout::COUNT;
+use layout::INDEX;
+use layout::INDEX_END;
 use layout::LATEST;
 use layout::NODES;
 use layout::NODES_END;
-use tree::find;
 use values::NodeArgument;
 use values::Target;
 use values::target_of;
@@ -23,9 +25,19 @@ pub fn node_place(words: &[u32], argument: NodeArgument) -> usize
             if latest == 0 {
                 return count;
             }
-            find(&words[NODES..NODES_END], count, latest)
+            find_indexed(
+                &words[NODES..NODES_END],
+                &words[INDEX..INDEX_END],
+                count,
+                latest,
+            )
         }
-        Target::Number(number) => find(&words[NODES..NODES_END], count, number),
+        Target::Number(number) => find_indexed(
+            &words[NODES..NODES_END],
+            &words[INDEX..INDEX_END],
+            count,
+            number,
+        ),
         Target::Reserved => count,
     }
 }
