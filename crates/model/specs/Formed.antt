@@ -65,6 +65,7 @@ sameNumbers a b = sameName a b
 abbrev pub orderFormed : List ℕ → List Node → Bool
 orderFormed ws t = both (leb (orderLengthIn ws) orderWords) (sameNumbers (orderIn ws) (order t))
 
+-- "If the new way needs a rule on the state, that rule joins the well formed state, and 1 tests it" (3/14): the index of the nodes, behind their own rules
 unfoldable pub formed : List ℕ → List ℕ → Bool
 formed ws arena =
     both (eqb (length ws) wordsLength)
