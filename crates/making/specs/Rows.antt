@@ -25,11 +25,6 @@ pub record Standing (us : List ℕ) (count at : ℕ) : Type 0 where
   pub few : count ≤ 256
   pub live : at < count
 
--- a run copied whole
-pub paste-whole : (d s : List ℕ) (i : ℕ) → i ≡ length s → length d ≡ length s → paste d 0 s i ≡ s
-paste-whole d s i all same =
-    ap (λ (l : List ℕ). take 0 d ++ take i s ++ l) (drop-of-length-le d {i = 0 + i} (omega arith) ∙ sym (drop-of-length-le s {i = i} (omega arith))) ∙ take-append-drop i s
-
 -- the nodes that stay when one is put in at a place by an add action: one that replaces frees the subtree there first
 abbrev pub stayingAt : Action → ℕ → List Node → List Node
 stayingAt (Put p) at t = t

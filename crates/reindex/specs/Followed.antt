@@ -20,15 +20,14 @@ use Rattle.index.specs.Words.{number-word}
 use Rattle.index.specs.Follow.{newPlace, followed, Carries, Came, follow-below, follow-indexed, insert-indexed}
 use Rattle.index.specs.FollowWords.{Followed, followed-entries}
 use Rattle.index.specs.Spot.{Fits}
-use Rattle.reindex.specs.Trace.{numberIn, Edit, From, Fresh, Traced}
+use Rattle.reindex.specs.Trace.{numberIn, Held, Edit, From, Fresh, Traced}
 
 -- the entries in ws are the index of the table `old`, whose numbers `was` has; the words us hold the table after, in which at most one number is new
 pub record Edited (ws : List ℕ) (before : ℕ) (was us : List ℕ) (count : ℕ) : Type 0 where
   pub old : List Node
   pub size : length old ≡ before
   pub few : before ≤ 256
-  pub long : before ≤ length was
-  pub were : (p : ℕ) → p < before → getD was p 0 ≡ numberAt (numbers old) p
+  pub held : Held was old
   pub rule : indexed (take before ws) old ≡ true
   pub entries : length ws ≡ 256
   pub room : width * count ≤ length us
@@ -61,7 +60,7 @@ module _ (ws : List ℕ) (before : ℕ) (was us : List ℕ) (count : ℕ) (e : E
 
   pub edit-traces : Edit was before us count
   edit-traces = record {
-    long = e .long;
+    long = omega (arith, e .few, e .held .long);
     few = e .few;
     room = e .room;
     fewAfter = e .fewAfter;
@@ -75,7 +74,7 @@ module _ (ws : List ℕ) (before : ℕ) (was us : List ℕ) (count : ℕ) (e : E
       live = λ p h k. let l = t .live p (omega (arith, e .size)) k in omega (arith, size);
       same = λ p h k.
       let low : p < before = omega (arith, e .size) in
-      word (newPlace to p) (t .live p low k) ∙ t .same p low k ∙ e .were p low;
+      word (newPlace to p) (t .live p low k) ∙ t .same p low k ∙ e .held .each p h;
     }
 
     came : (q : ℕ) → From to before q → Came to (e .old) q
@@ -83,7 +82,7 @@ module _ (ws : List ℕ) (before : ℕ) (was us : List ℕ) (count : ℕ) (e : E
 
     fresh-dead : (i : ℕ) → i < count → Fresh was before us i → lives (numberAt (numbers s) i) (e .old) ≡ false
     fresh-dead i h f =
-        lives-none (numberAt (numbers s) i) (e .old) (λ p k x. let low : p < before = omega (arith, e .size) in f p low (e .were p low ∙ x ∙ word i h)) .0
+        lives-none (numberAt (numbers s) i) (e .old) (λ p k x. f p (omega (arith, e .size)) (e .held .each p k ∙ x ∙ word i h)) .0
 
     abbrev kept : List ℕ
     kept = followed to (take before ws)

@@ -1,5 +1,5 @@
 -- Where the nodes of a table went in an edit, found by their numbers: `was` holds the numbers before, us the words of the table after.
-use Prim.Native.Nat.{ℕ, suc, _+_, _*_, _≤_, _<_}
+use Prim.Native.Nat.{ℕ, _+_, _*_, _≤_, _<_}
 use mathlib.Core.Bool.{Bool, true, false}
 use mathlib.Core.Logic.{_⊎_, inl, inr, ⊎-elim}
 use mathlib.Core.Path.{_≡_, refl, sym, ap, _∙_, subst}
@@ -9,12 +9,19 @@ use borrow.Author.Tests.{eqb-true, eqb-false, ltb-true, ltb-false}
 use lib.ListN.{length, getD, set, replicate, length-set, length-replicate, getD-replicate, List·getD-eq-default}
 use lib.Seq.{getD-set-same, getD-set-other}
 use lib.Dec.{ltb, eqb}
+use Rattle.nodes.specs.declared.Node.{Node}
 use Rattle.nodes.specs.Table.{width}
+use Rattle.index.specs.Index.{numbers, numberAt}
 use Rattle.index.specs.Follow.{gone, newPlace}
 
 -- the number of the node at a place of the table after
 abbrev pub numberIn : List ℕ → ℕ → ℕ
 numberIn us i = getD us (width * i) 0
+
+-- the numbers of a table's nodes, by place
+pub record Held (was : List ℕ) (t : List Node) : Type 0 where
+  pub long : length was ≡ 256
+  pub each : (p : ℕ) → p < length t → getD was p 0 ≡ numberAt (numbers t) p
 
 -- a search from a place on, and one of all places
 pub record Sought (was : List ℕ) (from to number r : ℕ) : Type 0 where

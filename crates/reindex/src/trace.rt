@@ -1,18 +1,16 @@
 // Where the nodes of a table went in an edit: the numbers as they were, looked for in the table as it is.
 use layout::MOST_NODES;
 use layout::RECORD;
-ghost use Prim.Native.Nat.{ℕ, _≤_, _<_};
-ghost use mathlib.Core.Path.{_≡_};
-ghost use lib.ListN.{length, getD};
+ghost use Prim.Native.Nat.{_≤_};
+ghost use lib.ListN.{length};
 ghost use Rattle.nodes.specs.Table.{rows};
 ghost use Rattle.nodes.specs.Sizes.{TableFits};
-ghost use Rattle.index.specs.Index.{numbers, numberAt};
-ghost use Rattle.reindex.specs.Trace.{Sought, Matched, Edit, Traced};
+ghost use Rattle.reindex.specs.Trace.{Held, Sought, Matched, Edit, Traced};
 
 // The numbers of a table's nodes, by place.
 pub fn numbers_of(nodes: &[u32], count: usize) -> [u32; MOST_NODES]
     requires { ⌜ TableFits (now nodes) count ⌝ }
-    ensures { λ r. ⌜ ((p : ℕ) → p < count → getD r p 0 ≡ numberAt (numbers (rows count (now (nodes .entry)))) p) ⌝ }
+    ensures { λ r. ⌜ Held r (rows count (now (nodes .entry))) ⌝ }
 {
     let mut was = [0u32; MOST_NODES];
     let mut i = 0;

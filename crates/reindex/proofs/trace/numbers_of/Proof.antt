@@ -2,7 +2,8 @@
 use Prim.Native.Nat.{ℕ, _-_, _≤_, _<_}
 use mathlib.Core.Path.{_≡_, refl, sym, _∙_}
 use native.Mathlib.Omega.{arith}
-use lib.ListN.{length, getD, length-set, length-replicate}
+use lib.ListN.{length, getD, length-set}
+use Rattle.nodes.specs.Table.{rows-length}
 use Rattle.index.specs.Words.{number-word}
 use Rattle.reindex.specs.Trace.{numberIn, kept-more}
 use Rattle.reindex.proofs.trace.numbers_of.Statement.{statement}
@@ -46,10 +47,10 @@ loop-again c =
 
 returns : tie.Need-returns Inv-loop μ-loop
 returns c =
-    λ p h.
     let a = c .before .before .args in
     let l = c .before .loop in
-    l .inv .2 p (omega arith) ∙ sym (number-word (a .count) (a .nodes .now) p h)
+    let many = rows-length (a .count) (a .nodes .now) in
+    record { long = l .inv .1; each = λ p h. l .inv .2 p (omega arith) ∙ sym (number-word (a .count) (a .nodes .now) p (omega arith)) }
 
 pub numbers-of-spec : {M : Type 1} → statement M
 numbers-of-spec =
