@@ -1,10 +1,9 @@
 -- The row for a new synth: the lowest that is free among the nodes that stay.
-use Prim.Native.Nat.{ℕ, _+_, _*_, _≤_, _<_}
-use mathlib.Core.Path.{_≡_, refl, sym, ap, ap₂, _∙_}
-use mathlib.Core.List.{List, _++_}
+use Prim.Native.Nat.{ℕ, _*_, _≤_, _<_}
+use mathlib.Core.Path.{_≡_, refl, ap, ap₂, _∙_}
+use mathlib.Core.List.{List}
 use native.Mathlib.Omega.{arith}
-use lib.ListN.{length, take, drop-of-length-le, take-append-drop, length-append, length-take, length-drop}
-use lib.Seq.{paste}
+use lib.ListN.{length, length-append, length-take, length-drop}
 use Rattle.nodes.specs.declared.Node.{Node}
 use Rattle.nodes.specs.Table.{width, rows, rows-length, fill-length, rows-fill}
 use Rattle.nodes.specs.Place.{place}

@@ -73,8 +73,8 @@ module _ (ws : List ℕ) (before : ℕ) (was us : List ℕ) (count : ℕ) (e : E
       few = omega (arith, size, e .fewAfter);
       live = λ p h k. let l = t .live p (omega (arith, e .size)) k in omega (arith, size);
       same = λ p h k.
-      let low : p < before = omega (arith, e .size) in
-      word (newPlace to p) (t .live p low k) ∙ t .same p low k ∙ e .held .each p h;
+          let low : p < before = omega (arith, e .size) in
+          word (newPlace to p) (t .live p low k) ∙ t .same p low k ∙ e .held .each p h;
     }
 
     came : (q : ℕ) → From to before q → Came to (e .old) q
@@ -133,9 +133,9 @@ module _ (ws : List ℕ) (before : ℕ) (was us : List ℕ) (count : ℕ) (e : E
             few = omega (arith, e .fewAfter, many);
             entries = omega (arith, e .entries, e .fewAfter, many);
             below = λ i h.
-            let low = follow-below to (e .old) s carries (take before ws) (e .rule) i (omega (arith, f .size)) in
-            let here : getD out i 0 ≡ getD kept i 0 = ap (λ (l : List ℕ). getD l i 0) (f .words) ∙ List·getD-append kept (drop left ws) 0 i (omega (arith, f .size)) in
-            omega (arith, size, many);
+                let low = follow-below to (e .old) s carries (take before ws) (e .rule) i (omega (arith, f .size)) in
+                let here : getD out i 0 ≡ getD kept i 0 = ap (λ (l : List ℕ). getD l i 0) (f .words) ∙ List·getD-append kept (drop left ws) 0 i (omega (arith, f .size)) in
+                omega (arith, size, many);
           };
           near = omega (arith, many);
         }

@@ -4,13 +4,11 @@ use mathlib.Core.Bool.{true, false, not}
 use mathlib.Core.Path.{_≡_}
 use mathlib.Core.List.{List, [], _∷_}
 use native.Mathlib.Omega.{arith}
-use lib.ListN.{length}
 use Rattle.words.specs.Parts.{put}
 use Rattle.refusals.specs.declared.Refusal.the-variants.{NoNode, WrongKind}
 use Rattle.nodes.specs.Table.{rows}
 use Rattle.nodes.specs.Place.{isGroup}
 use Rattle.nodes.specs.Edit.{editAt, freeAllHere, deepFreeHere, cutBelow, deepFree}
-use Rattle.nodes.specs.Formed.{mostNodes}
 use Rattle.treerefinement.specs.Tally.{cutBelow-within, deepFree-within}
 use Rattle.reindex.specs.Trace.{Held}
 use Rattle.values.specs.declared.NodeArgument.{NodeArgument}
@@ -18,7 +16,7 @@ use Rattle.model.specs.declared.TreeCommand.the-variants as tree
 use Rattle.model.specs.declared.Command.the-variants as command
 use Rattle.model.specs.declared.Answer.{Answer}
 use Rattle.model.specs.declared.Answer.the-variants.{Done, Refused}
-use Rattle.model.specs.Layout.{wordsLength, nodesPlace, nodesWords, countIn, nodesIn}
+use Rattle.model.specs.Layout.{nodesPlace, nodesWords, countIn, nodesIn}
 use Rattle.model.specs.Engine.{decode}
 use Rattle.model.specs.Meaning.{known}
 use Rattle.model.specs.Checks.{check, firstOf, notGroup}

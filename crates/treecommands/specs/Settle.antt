@@ -94,7 +94,7 @@ sorted-keeps count ws s = record {
 
 -- the order put in: the other parts are as they were
 module _ (o ws : List ℕ) (size : length ws ≡ wordsLength) where
-  order-size : length (putOrder o ws) ≡ wordsLength
+  pub order-size : length (putOrder o ws) ≡ wordsLength
   order-size = put-size orderPlace orderWords (orderRegion o) ws (omega arith) (order-region-length o) ∙ size
 
   order-nodes : nodeWords (putOrder o ws) ≡ nodeWords ws
@@ -131,7 +131,7 @@ module _ (t : List Node) (few : length t ≤ mostNodes) (ws : List ℕ) (size : 
   entered : length entries ≡ indexWords
   entered = index-region-length (indexOf t) ws size (omega (arith, index-many t))
 
-  index-size : length (putIndex (indexOf t) ws) ≡ wordsLength
+  pub index-size : length (putIndex (indexOf t) ws) ≡ wordsLength
   index-size = put-size indexPlace indexWords entries ws (omega arith) entered ∙ size
 
   index-before : (b m : ℕ) → b + m ≤ indexPlace → region b m (putIndex (indexOf t) ws) ≡ region b m ws

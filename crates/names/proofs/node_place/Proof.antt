@@ -1,8 +1,5 @@
 use mathlib.Core.Path.{sym, _∙_}
 use borrow.Author.Needs.{needs}
-
-
-
 use Rattle.names.specs.Named.{named-number, named-latest, named-none, named-reserved}
 use Rattle.names.proofs.node_place.Statement.{statement}
 use Rattle.names.proofs.node_place.Tie as tie
