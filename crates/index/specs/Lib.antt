@@ -8,11 +8,4 @@ pub mod Checks
 pub mod Follow
 pub mod FollowWords
 pub mod Spot
-pub mod Numbers
-pub mod NewPlaces
-pub mod Edits
-pub mod Moves
-pub mod Told
-pub mod Kept
-pub mod Placing
 pub mod Worked

@@ -7,12 +7,11 @@ use native.Mathlib.Omega.{arith}
 use native.Mathlib.Numerals.{add-one}
 use borrow.Author.Tests.{lt-ltb, le-ltb}
 use lib.ListN.{length, take, drop, getD, set, length-drop, drop-of-length-le}
-use lib.Seq.{getD-take, drop-cons, length-take-le, take-take, take-add, take-at, drop-at, set-split, length-paste, paste}
+use lib.Seq.{getD-take, drop-cons, length-take-le, take-take, take-add, drop-at, set-split, length-paste, paste}
 use lib.Dec.{ltb}
 use Rattle.words.specs.Choice.{pick}
 use Rattle.nodes.specs.Table.{width, rows, gap-over}
 use Rattle.index.specs.Index.{numbers, numberAt, putIn}
-use Rattle.index.specs.Afresh.{put-length}
 use Rattle.index.specs.Words.{number-word}
 
 -- how many entries stand before the first whose number is higher than k
@@ -120,10 +119,3 @@ put-in-words us ws count at i fits e =
     put-words ws count i at (omega arith) (omega arith)
     ∙ ap (λ (j : ℕ). (take j (take count ws) ++ at ∷ drop j (take count ws)) ++ drop (count + 1) ws) here
     ∙ ap (λ (l : List ℕ). l ++ drop (count + 1) ws) (sym (put-spot ks at (take count ws)))
-
--- the entries with it
-pub put-entries : (ks ws : List ℕ) (count at : ℕ) → count ≤ length ws → take (count + 1) (putIn ks at (take count ws) ++ drop (count + 1) ws) ≡ putIn ks at (take count ws)
-put-entries ks ws count at h =
-    let size = length-take-le count ws h in
-    let more = put-length ks at (take count ws) in
-    take-at (putIn ks at (take count ws)) (drop (count + 1) ws) (count + 1) (omega arith)

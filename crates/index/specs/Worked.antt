@@ -5,8 +5,6 @@ use mathlib.Core.List.{List, [], _∷_}
 use Rattle.nodes.specs.declared.Node.{Node}
 use Rattle.index.specs.Index.{numbers, rises, indexed, putIn, byNumber, indexOf}
 use Rattle.index.specs.Lookup.{found, between, step, afterSteps, lookup}
-use Rattle.index.specs.Follow.{followed}
-use Rattle.index.specs.NewPlaces.{overPlace, movedPlace}
 
 three : List Node
 three =
@@ -30,12 +28,3 @@ broken = (refl, (refl, refl))
 looked : (lookup 1 1000 (0 ∷ (2 ∷ (1 ∷ []))) three ≡ found 2) × (lookup 2 1 (0 ∷ (2 ∷ (1 ∷ []))) three ≡ between 1 1)
 unfolding three numbers step afterSteps
 looked = (refl, refl)
-
--- the synth cut; group 1000 moved before it
-cut : followed (overPlace 1 2 0) (0 ∷ (2 ∷ (1 ∷ []))) ≡ 0 ∷ (1 ∷ [])
-unfolding followed
-cut = refl
-
-moved : followed (movedPlace 2 3 1) (0 ∷ (2 ∷ (1 ∷ []))) ≡ 0 ∷ (1 ∷ (2 ∷ []))
-unfolding followed
-moved = refl

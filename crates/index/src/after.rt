@@ -12,7 +12,7 @@ ghost use Rattle.index.specs.FollowWords.{Followed};
 ghost use Rattle.index.specs.Spot.{spot, Reads, Fits};
 
 // From this place on, a new place says that the node is gone.
-pub const GONE: u32 = 256;
+const GONE: u32 = 256;
 
 // The new place of the node that was at this place.
 fn new_place(places: &[u32], place: usize) -> u32
@@ -27,7 +27,7 @@ fn new_place(places: &[u32], place: usize) -> u32
 // The entries at their new places, in their order, without those of nodes that are gone; and how many are left.
 pub fn follow(index: &mut [u32], count: usize, places: &[u32]) -> usize
     requires { ⌜ count ≤ length (now index) ⌝ }
-    ensures { λ r. ⌜ Followed (newPlace (now (places .entry))) (now (index .entry)) count (now (index .exit)) r ⌝ }
+    ensures { λ r. ⌜ Followed (now (places .entry)) (now (index .entry)) count (now (index .exit)) r ⌝ }
 {
     let mut i = 0;
     let mut left = 0;

@@ -14,8 +14,8 @@ abbrev Inv-loop : tie.InvT-loop
 Inv-loop index₀ count places i₀ left₀ index i left =
     (i ≤ count)
     × (left ≤ i)
-    × (left ≡ length (followed (newPlace places) (take i index₀)))
-    × (index ≡ followed (newPlace places) (take i index₀) ++ drop left index₀)
+    × (left ≡ length (followed places (take i index₀)))
+    × (index ≡ followed places (take i index₀) ++ drop left index₀)
     × (length index ≡ length index₀)
 
 abbrev μ-loop : tie.MeasureT-loop
@@ -59,9 +59,9 @@ loop-again c =
     let w = a .index .now in
     let to = a .places .now in
     let v = c .before .new-place .result in
-    let read = follow-read (newPlace to) w (l .index) (l .i) (l .left) (omega arith) (l .inv .1) (l .inv .2) (l .inv .3) in
+    let read = follow-read to w (l .index) (l .i) (l .left) (omega arith) (l .inv .1) (l .inv .2) (l .inv .3) in
     let is : v ≡ newPlace to (getD w (l .i) 0) = c .before .new-place .ensures ∙ ap (λ (p : ℕ). newPlace to p) (c .before .before .wide .ensures ∙ read) in
-    (omega arith, omega arith, follow-size (newPlace to) w (l .index) (l .i) (l .left) (omega arith) (l .inv .1) (l .inv .2) (l .inv .3) v is (omega arith), follow-kept (newPlace to) w (l .index) (l .i) (l .left) (omega arith) (l .inv .1) (l .inv .2) (l .inv .3) v is (omega arith), simp length-set (l .inv .4))
+    (omega arith, omega arith, follow-size to w (l .index) (l .i) (l .left) (omega arith) (l .inv .1) (l .inv .2) (l .inv .3) v is (omega arith), follow-kept to w (l .index) (l .i) (l .left) (omega arith) (l .inv .1) (l .inv .2) (l .inv .3) v is (omega arith), simp length-set (l .inv .4))
 
 loop-less-2 : tie.Need-loop-less-2 Inv-loop μ-loop
 loop-less-2 c = omega arith
@@ -73,9 +73,9 @@ loop-again-2 c =
     let w = a .index .now in
     let to = a .places .now in
     let v = c .before .new-place .result in
-    let read = follow-read (newPlace to) w (l .index) (l .i) (l .left) (omega arith) (l .inv .1) (l .inv .2) (l .inv .3) in
+    let read = follow-read to w (l .index) (l .i) (l .left) (omega arith) (l .inv .1) (l .inv .2) (l .inv .3) in
     let is : v ≡ newPlace to (getD w (l .i) 0) = c .before .new-place .ensures ∙ ap (λ (p : ℕ). newPlace to p) (c .before .before .wide .ensures ∙ read) in
-    let less = follow-gone (newPlace to) w (l .index) (l .i) (l .left) (omega arith) (l .inv .1) (l .inv .2) (l .inv .3) v is (omega arith) in
+    let less = follow-gone to w (l .index) (l .i) (l .left) (omega arith) (l .inv .1) (l .inv .2) (l .inv .3) v is (omega arith) in
     (omega arith, omega arith, l .inv .2 ∙ ap (λ (x : List ℕ). length x) (sym less), l .inv .3 ∙ ap (λ (x : List ℕ). x ++ drop (l .left) w) (sym less), l .inv .4)
 
 same-length : tie.Need-same-length Inv-loop μ-loop
@@ -88,8 +88,8 @@ returns c =
     let w = a .index .now in
     let to = a .places .now in
     let all : l .i ≡ a .count = omega arith in record {
-      words = l .inv .3 ∙ ap (λ (i : ℕ). followed (newPlace to) (take i w) ++ drop (l .left) w) all;
-      size = l .inv .2 ∙ ap (λ (i : ℕ). length (followed (newPlace to) (take i w))) all;
+      words = l .inv .3 ∙ ap (λ (i : ℕ). followed to (take i w) ++ drop (l .left) w) all;
+      size = l .inv .2 ∙ ap (λ (i : ℕ). length (followed to (take i w))) all;
     }
 
 pub follow-spec : {M : Type 1} → statement M

@@ -1,4 +1,5 @@
 -- `index::after::new_place` meets its contract.
+
 use native.Mathlib.Omega.{arith}
 use borrow.Author.Needs.{needs}
 use borrow.Author.Needs.{needs}
