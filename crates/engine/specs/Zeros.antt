@@ -35,4 +35,4 @@ fresh-front rest = refl
 
 pub fresh-words : (ws : List ℕ) → ws ≡ replicate wordsLength 0 → set (set (set (set ws 0 1) 2 firstGiven) 70 1) 71 32 ≡ freshState
 fresh-words ws h =
-    ap (λ (l : List ℕ). set (set (set (set l 0 1) 2 firstGiven) 70 1) 71 32) (h ∙ sym (replicate-append-replicate 73 22010 0)) ∙ fresh-front (replicate 22010 0)
+    ap (λ (l : List ℕ). set (set (set (set l 0 1) 2 firstGiven) 70 1) 71 32) (h ∙ sym (replicate-append-replicate 73 22266 0)) ∙ fresh-front (replicate 22266 0)

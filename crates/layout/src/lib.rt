@@ -69,8 +69,13 @@ pub const BUSES_END: usize = 22083;
 
 pub const MOST_BUSES: usize = 4096;
 
+// The index of the nodes: their places by rising number.
+pub const INDEX: usize = 22083;
+
+pub const INDEX_END: usize = 22339;
+
 // The lengths of the words and of the arena, and a slot's room in the arena.
-pub const WORDS: usize = 22083;
+pub const WORDS: usize = 22339;
 
 pub const ARENA: usize = 65536;
 

@@ -1,7 +1,7 @@
 -- /s_new: its checks, one after the other.
 use Prim.Native.Nat.{ℕ, _≤_, _<_}
 use mathlib.Core.Bool.{Bool, true, false, not}
-use mathlib.Core.Path.{_≡_, sym, ap, ap₂, _∙_}
+use mathlib.Core.Path.{_≡_, sym, ap₂, _∙_}
 use mathlib.Core.List.{List}
 use native.Mathlib.Omega.{arith}
 use lib.Dec.{ltb, leb, eqb}
@@ -9,7 +9,7 @@ use borrow.Author.Tests.{le-ltb, le-leb, lt-leb}
 use Rattle.words.specs.Choice.{both}
 use Rattle.refusals.specs.declared.Refusal.{Refusal}
 use Rattle.refusals.specs.declared.Refusal.the-variants.{BadNumber, NumberLive, NoDefinition, NoNode, WrongKind, NodesFull, NoNumber}
-use Rattle.nodes.specs.Table.{rows, rows-length}
+use Rattle.nodes.specs.Table.{rows-length}
 use Rattle.nodes.specs.Place.{lives, place, lives-place}
 use Rattle.nodes.specs.Formed.{noneLeft}
 use Rattle.values.specs.declared.NodeArgument.{NodeArgument}
@@ -41,9 +41,9 @@ abbrev pub spent : ℕ → ℕ → Bool
 spent number next = both (eqb number minusOne) (eqb next noneLeft)
 
 -- a number is live where a search finds it
-pub lives-found : (n : ℕ) (ws : List ℕ) (count : ℕ) → count ≡ countIn ws → (r : ℕ) → r ≡ place n (rows count (nodeWords ws)) → ltb r count ≡ lives n (nodesIn ws)
+pub lives-found : (n : ℕ) (ws : List ℕ) (count : ℕ) → count ≡ countIn ws → (r : ℕ) → r ≡ place n (nodesIn ws) → ltb r count ≡ lives n (nodesIn ws)
 lives-found n ws count same r h =
-    ap₂ ltb (h ∙ ap (λ (c : ℕ). place n (rows c (nodeWords ws))) same) (same ∙ sym (rows-length (countIn ws) (nodeWords ws))) ∙ sym (lives-place n (nodesIn ws))
+    ap₂ ltb h (same ∙ sym (rows-length (countIn ws) (nodeWords ws))) ∙ sym (lives-place n (nodesIn ws))
 
 -- the slot is that of the resident of the name in the bytes
 abbrev pub Meant : ℕ → List ℕ → List ℕ → List ℕ → Type 0

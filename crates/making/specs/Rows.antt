@@ -1,10 +1,9 @@
 -- The row for a new synth: the lowest that is free among the nodes that stay.
-use Prim.Native.Nat.{ℕ, _+_, _*_, _≤_, _<_}
-use mathlib.Core.Path.{_≡_, refl, sym, ap, ap₂, _∙_}
-use mathlib.Core.List.{List, _++_}
+use Prim.Native.Nat.{ℕ, _*_, _≤_, _<_}
+use mathlib.Core.Path.{_≡_, refl, ap, ap₂, _∙_}
+use mathlib.Core.List.{List}
 use native.Mathlib.Omega.{arith}
-use lib.ListN.{length, take, drop-of-length-le, take-append-drop, length-append, length-take, length-drop}
-use lib.Seq.{paste}
+use lib.ListN.{length, length-append, length-take, length-drop}
 use Rattle.nodes.specs.declared.Node.{Node}
 use Rattle.nodes.specs.Table.{width, rows, rows-length, fill-length, rows-fill}
 use Rattle.nodes.specs.Place.{place}
@@ -24,11 +23,6 @@ pub record Standing (us : List ℕ) (count at : ℕ) : Type 0 where
   pub size : length us ≡ 1280
   pub few : count ≤ 256
   pub live : at < count
-
--- a run copied whole
-pub paste-whole : (d s : List ℕ) (i : ℕ) → i ≡ length s → length d ≡ length s → paste d 0 s i ≡ s
-paste-whole d s i all same =
-    ap (λ (l : List ℕ). take 0 d ++ take i s ++ l) (drop-of-length-le d {i = 0 + i} (omega arith) ∙ sym (drop-of-length-le s {i = i} (omega arith))) ∙ take-append-drop i s
 
 -- the nodes that stay when one is put in at a place by an add action: one that replaces frees the subtree there first
 abbrev pub stayingAt : Action → ℕ → List Node → List Node

@@ -1,6 +1,6 @@
 -- /s_new: the words after it.
 use Prim.Native.Nat.{ℕ, _+_, _*_, _≤_, _<_}
-use mathlib.Core.Bool.{true}
+use mathlib.Core.Bool.{true, false}
 use mathlib.Core.Path.{_≡_, sym, ap, ap₂, _∙_, subst}
 use mathlib.Core.List.{List, [], _∷_}
 use native.Mathlib.Omega.{arith}
@@ -15,15 +15,18 @@ use Rattle.format.specs.Read.{Read}
 use Rattle.format.specs.Definition.{Front, Definition}
 use Rattle.readable.specs.Readable.{Readable, whole-readable}
 use Rattle.nodes.specs.declared.Node.{Node}
-use Rattle.nodes.specs.Table.{rows, over}
+use Rattle.nodes.specs.Table.{rows, rows-length, over}
+use Rattle.nodes.specs.Place.{lives}
 use Rattle.nodes.specs.Edit.{editAt, addBy}
 use Rattle.nodes.specs.Order.{order}
 use Rattle.nodes.specs.Formed.{mostNodes, mostRows, noneLeft, firstGiven, freeRow}
+use Rattle.index.specs.Index.{indexOf}
+use Rattle.reindex.specs.Trace.{Held}
 use Rattle.values.specs.declared.NodeArgument.{NodeArgument}
 use Rattle.model.specs.declared.TreeCommand.the-variants as tree
 use Rattle.model.specs.declared.Command.the-variants as command
 use Rattle.model.specs.declared.Answer.the-variants.{Done, Refused}
-use Rattle.model.specs.Layout.{slotCount, slotRoom, rowWords, wordsLength, lengthsPlace, nodesPlace, nodesWords, controlsPlace, controlsWords, countIn, nextIn, lengthsIn, nodesIn, controlsIn, putHeader, putControls, putOrder, putNodes, orderPlace, orderWords, orderRegion}
+use Rattle.model.specs.Layout.{slotCount, slotRoom, rowWords, wordsLength, lengthsPlace, nodesPlace, nodesWords, controlsPlace, controlsWords, countIn, nextIn, lengthsIn, nodesIn, controlsIn, putHeader, putControls, putIndex, putOrder, putNodes}
 use Rattle.model.specs.Engine.{Engine, decode, definitionIn, noDefinition, valueOr, definitionOf, residentOf, slotAt}
 use Rattle.model.specs.Meaning.{meant, known}
 use Rattle.model.specs.Checks.{firstOf, treeChecks}
@@ -33,8 +36,9 @@ use Rattle.model.specs.Apply.{answerIn, isAccepted}
 use Rattle.state.specs.Known.{Known}
 use Rattle.state.specs.Accepted.{accepted}
 use Rattle.state.specs.Does.{WordsStep, step-refused, step-done}
-use Rattle.state.specs.Decoded.{tree-size, tree-controls, order-region-length}
+use Rattle.state.specs.Decoded.{tree-size, tree-controls}
 use Rattle.state.specs.Regions.{put-size}
+use Rattle.preservation.specs.Nodes.{Added}
 use Rattle.preservation.specs.TreeSteps.{NewSynthComes, synth-comes}
 use Rattle.preservation.specs.TreeKept.{known-sound}
 use Rattle.tree.specs.declared.action.Action.{Action}
@@ -45,9 +49,10 @@ use Rattle.definitions.specs.Slots.{Whole, Formed}
 use Rattle.definitions.specs.Retiring.{slot-is}
 use Rattle.definitions.specs.Lent.{tableIn, formed-lent}
 use Rattle.controls.specs.Encoded.{frontIn, front-read}
-use Rattle.treecommands.specs.Ready.{nodeWords, words-long}
+use Rattle.treecommands.specs.Ready.{ready, nodeWords, words-long}
+use Rattle.treecommands.specs.Comes.{grown-comes}
 use Rattle.treecommands.specs.Finding.{meantIn}
-use Rattle.treecommands.specs.Settle.{settled, settled-tree, nodes-size, ready-left}
+use Rattle.treecommands.specs.Settle.{Changed, settled, settled-tree, order-size, index-size, nodes-size, changed-left}
 use Rattle.treecommands.specs.Adding.{after-few}
 use Rattle.making.specs.Checks.{Meant, Clear, Answers}
 use Rattle.making.specs.Rows.{Standing, stayingAt, staying-first}
@@ -156,8 +161,18 @@ module _ (number : ℕ) (action : Action) (target : NodeArgument) (at slot : ℕ
     left =
         rw (← add-number action made n (nodesIn ws), ← new) (leaves-first (addHere action (newSynth given slot taken ∷ [])) (nodeWords ws) (nodesIn ws) us many at (rw same at does) n (g .clear .spot .here))
 
-    pub synth-ready : (length (put nodesPlace nodesWords us ws) ≡ wordsLength) × (many ≤ mostNodes)
-    synth-ready = ready-left ws (k .size) after few us many left
+    grows : Added made after (stayingNodes (numberOf action) n (nodesIn ws)) (nodesIn ws)
+    unfolding decode
+    grows = rw (g .meant) (comes .added)
+
+    new-number : lives (made .number) (nodesIn ws) ≡ false
+    unfolding decode
+    new-number = comes .given .new
+
+    pub synth-ready : (was : List ℕ) → Held was (rows count (nodeWords ws)) → Changed was many (put nodesPlace nodesWords us ws)
+    synth-ready was held =
+        changed-left ws (ready ws bs k) after
+        (grown-comes (omega (arith, k .few, rows-length (countIn ws) (nodeWords ws))) (k .tree .distinct) made (stayingNodes (numberOf action) n (nodesIn ws)) (grows .grown) (grows .within) new-number few) was (rw same at held) us many left
 
     -- the engine before the controls are written
     abbrev half : Engine
@@ -194,18 +209,18 @@ module _ (number : ℕ) (action : Action) (target : NodeArgument) (at slot : ℕ
       -- the controls put in
       put-made : (cs : List ℕ) → putControls cs (putTree half ws) ≡ putTree (record { slots = []; nodes = after; order = order after; controls = cs; buses = []; next = half .next; latest = half .latest }) ws
       put-made cs =
-          header-put (length after) (length (order after)) (half .next) (half .latest) 1599 controlsWords cs (putControls (controlsIn ws) (putOrder (order after) (putNodes after ws))) (omega (arith, third))
+          header-put (length after) (length (order after)) (half .next) (half .latest) 1599 controlsWords cs (putControls (controlsIn ws) indexed) (omega (arith, third))
           ∙ ap (λ (l : List ℕ). putHeader (length after) (length (order after)) (half .next) (half .latest) l)
-          (put-again controlsPlace controlsWords cs (controlsIn ws) (putOrder (order after) (putNodes after ws)) (omega (arith, second)) many-controls)
+          (put-again controlsPlace controlsWords cs (controlsIn ws) indexed (omega (arith, second)) many-controls)
         where
-          first : length (putNodes after ws) ≡ wordsLength
-          first = nodes-size ws (k .size) after few
+          indexed : List ℕ
+          indexed = putIndex (indexOf after) (putOrder (order after) (putNodes after ws))
 
-          second : length (putOrder (order after) (putNodes after ws)) ≡ wordsLength
-          second = put-size orderPlace orderWords (orderRegion (order after)) (putNodes after ws) (omega (arith, first)) (order-region-length (order after)) ∙ first
+          second : length indexed ≡ wordsLength
+          second = index-size after few (putOrder (order after) (putNodes after ws)) (order-size (order after) (putNodes after ws) (nodes-size ws (k .size) after few))
 
-          third : length (putControls (controlsIn ws) (putOrder (order after) (putNodes after ws))) ≡ wordsLength
-          third = put-size controlsPlace controlsWords (controlsIn ws) (putOrder (order after) (putNodes after ws)) (omega (arith, second)) many-controls ∙ second
+          third : length (putControls (controlsIn ws) indexed) ≡ wordsLength
+          third = put-size controlsPlace controlsWords (controlsIn ws) indexed (omega (arith, second)) many-controls ∙ second
 
       -- the controls written last
       module _ (size : ℕ) (sized : size ≡ getD ws (lengthsPlace + slot) 0) (out : List ℕ)

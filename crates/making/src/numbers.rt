@@ -1,7 +1,6 @@
 // The number of a new synth: as told, or for -1 the next one, which falls.
 use layout::COUNT;
-use layout::NODES;
-use layout::NODES_END;
+use names::place_of;
 use words::wide;
 ghost use Prim.Native.Nat.{_≤_};
 ghost use mathlib.Core.Path.{_≡_};
@@ -28,7 +27,7 @@ pub fn is_live(number: u32, words: &[u32]) -> bool
         return false;
     }
     let count = wide(words[COUNT]);
-    tree::find(&words[NODES..NODES_END], count, number) < count
+    place_of(words, number) < count
 }
 
 // For -1, that no number is left.

@@ -7,18 +7,18 @@ use Rattle.nodes.specs.declared.Node.{Node}
 use Rattle.nodes.specs.Table.{encode}
 use Rattle.nodes.specs.Formed.{firstGiven}
 use Rattle.nodes.specs.Place.{groupSlot}
+use Rattle.index.specs.Index.{indexOf}
 use Rattle.model.specs.declared.Command.{Command}
 use Rattle.model.specs.declared.Command.the-variants as command
-use Rattle.model.specs.Layout.{slotRoom, arenaLength, lengthsIn, putNodes, putOrder, putControls, putBuses, putLengths, putResident, putHeader}
+use Rattle.model.specs.Layout.{slotRoom, arenaLength, lengthsIn, putNodes, putOrder, putIndex, putControls, putBuses, putLengths, putResident, putHeader}
 use Rattle.model.specs.Engine.{Slot, Engine, decode}
 use Rattle.model.specs.Effects.{effect}
 
-
--- the tree's parts: the first words, the nodes, the whole order region, the controls
+-- the tree's parts: the first words, the nodes, the whole order region, the index of the nodes, the controls
 abbrev pub putTree : Engine → List ℕ → List ℕ
 putTree e ws =
     putHeader (length (e .nodes)) (length (e .order)) (e .next) (e .latest)
-    (putControls (e .controls) (putOrder (e .order) (putNodes (e .nodes) ws)))
+    (putControls (e .controls) (putIndex (indexOf (e .nodes)) (putOrder (e .order) (putNodes (e .nodes) ws))))
 
 -- the flags of slots
 unfoldable pub flagsOf : List Slot → List ℕ
@@ -56,10 +56,10 @@ arenaAfter (command.Query q) bytes ws arena = arena
 abbrev pub root : Node
 root = record { number = 0; depth = 0; run = 1; slot = groupSlot; row = 0 }
 
--- a fresh engine's words: the root alone, -8 next, no latest, and zeros: `fresh` writes every word and byte
+-- a fresh engine's words: the root alone, -8 next, no latest, and zeros, so that the one entry of the index is place 0: `fresh` writes every word and byte
 abbrev pub freshState : List ℕ
 freshState =
-    1 ∷ (0 ∷ (firstGiven ∷ (0 ∷ (replicate 64 0 ++ (encode (root ∷ []) ++ replicate 22010 0)))))
+    1 ∷ (0 ∷ (firstGiven ∷ (0 ∷ (replicate 64 0 ++ (encode (root ∷ []) ++ replicate 22266 0)))))
 
 abbrev pub freshArena : List ℕ
 freshArena = replicate arenaLength 0

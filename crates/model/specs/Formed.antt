@@ -14,7 +14,8 @@ use Rattle.nodes.specs.Place.{isGroup}
 use Rattle.nodes.specs.Order.{order}
 use Rattle.nodes.specs.Formed.{mostNodes}
 use Rattle.nodes.specs.Formed as nodes
-use Rattle.model.specs.Layout.{rowWords, busCount, wordsLength, arenaLength, countIn, nextIn, latestIn, orderLengthIn, orderWords, lengthsIn, flagsIn, nodesIn, orderIn, controlsIn}
+use Rattle.index.specs.Index.{indexed}
+use Rattle.model.specs.Layout.{rowWords, busCount, wordsLength, arenaLength, countIn, nextIn, latestIn, orderLengthIn, orderWords, lengthsIn, flagsIn, nodesIn, orderIn, controlsIn, indexIn}
 use Rattle.model.specs.Engine.{Slot, decode, slotTaken, nameIn, definitionOf}
 
 -- a slot's flag is 0 or 1
@@ -64,13 +65,15 @@ sameNumbers a b = sameName a b
 abbrev pub orderFormed : List ℕ → List Node → Bool
 orderFormed ws t = both (leb (orderLengthIn ws) orderWords) (sameNumbers (orderIn ws) (order t))
 
+-- "If the new way needs a rule on the state, that rule joins the well formed state, and 1 tests it" (3/14): the index of the nodes, behind their own rules
 unfoldable pub formed : List ℕ → List ℕ → Bool
 formed ws arena =
     both (eqb (length ws) wordsLength)
     (both (eqb (length arena) arenaLength)
     (both (leb (countIn ws) mostNodes)
     (both (nodes.nodesFormed (nextIn ws) (latestIn ws) (nodesIn ws))
+    (both (indexed (indexIn ws) (nodesIn ws))
     (both (orderFormed ws (nodesIn ws))
     (both (flagsFormed (flagsIn ws))
     (both (slotsFormed 0 (lengthsIn ws) (decode ws arena .slots) (nodesIn ws))
-    (both (namesApart (decode ws arena .slots)) (controlsFormed (decode ws arena .slots) (controlsIn ws) (nodesIn ws)))))))))
+    (both (namesApart (decode ws arena .slots)) (controlsFormed (decode ws arena .slots) (controlsIn ws) (nodesIn ws))))))))))

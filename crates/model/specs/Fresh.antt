@@ -8,7 +8,7 @@ use lib.ListN.{take, drop, replicate}
 use lib.Seq.{drop-drop}
 use Rattle.nodes.specs.Table.{rows, encode}
 use Rattle.nodes.specs.Formed.{firstGiven}
-use Rattle.model.specs.Layout.{slotCount, controlsWords, busCount, controlsIn, busesIn}
+use Rattle.model.specs.Layout.{slotCount, controlsWords, busCount, indexWords, controlsIn, busesIn, indexIn}
 use Rattle.model.specs.Engine.{Engine, slotsFrom, decode}
 use Rattle.model.specs.After.{root, freshState, freshArena}
 
@@ -39,11 +39,16 @@ take-zeros (suc n) (suc m) h = ap (λ (l : List ℕ). 0 ∷ l) (take-zeros n m (
 
 fresh-controls : controlsIn freshState ≡ replicate controlsWords 0
 unfolding encode
-fresh-controls = ap (λ (l : List ℕ). take controlsWords l) (sym (drop-drop 1530 73 freshState) ∙ drop-zeros 1530 22010) ∙ take-zeros controlsWords 20480 (omega arith)
+fresh-controls = ap (λ (l : List ℕ). take controlsWords l) (sym (drop-drop 1530 73 freshState) ∙ drop-zeros 1530 22266) ∙ take-zeros controlsWords 20736 (omega arith)
 
 pub fresh-buses : busesIn freshState ≡ replicate busCount 0
 unfolding encode
-fresh-buses = ap (λ (l : List ℕ). take busCount l) (sym (drop-drop 17914 73 freshState) ∙ drop-zeros 17914 22010) ∙ take-zeros busCount 4096 (omega arith)
+fresh-buses = ap (λ (l : List ℕ). take busCount l) (sym (drop-drop 17914 73 freshState) ∙ drop-zeros 17914 22266) ∙ take-zeros busCount 4352 (omega arith)
+
+-- the index of the root alone
+pub fresh-index : indexIn freshState ≡ 0 ∷ []
+unfolding encode
+fresh-index = ap (λ (l : List ℕ). take 1 (take indexWords l)) (sym (drop-drop 22010 73 freshState) ∙ drop-zeros 22010 22266)
 
 pub fresh-parts : freshEngine ≡ freshParts
 unfolding decode rows encode slotsFrom

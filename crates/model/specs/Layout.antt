@@ -1,7 +1,7 @@
 -- Where each part of the engine lies in the lent words and in the lent arena. docs/LAYOUT.md says the same in words.
 use Prim.Native.Nat.{ℕ, _*_}
 use mathlib.Core.List.{List, _∷_, _++_}
-use lib.ListN.{take, drop, getD, replicate}
+use lib.ListN.{length, take, drop, getD, replicate}
 use Rattle.words.specs.Parts.{region, put}
 use Rattle.nodes.specs.declared.Node.{Node}
 use Rattle.nodes.specs.Table.{rows, fill}
@@ -49,8 +49,14 @@ controlsWords = 16384
 abbrev pub busesPlace : ℕ
 busesPlace = 17987
 
+abbrev pub indexPlace : ℕ
+indexPlace = 22083
+
+abbrev pub indexWords : ℕ
+indexWords = 256
+
 abbrev pub wordsLength : ℕ
-wordsLength = 22083
+wordsLength = 22339
 
 abbrev pub arenaLength : ℕ
 arenaLength = 65536
@@ -86,6 +92,10 @@ controlsIn ws = region controlsPlace controlsWords ws
 abbrev pub busesIn : List ℕ → List ℕ
 busesIn ws = region busesPlace busCount ws
 
+-- the index has one entry for each node
+abbrev pub indexIn : List ℕ → List ℕ
+indexIn ws = take (countIn ws) (region indexPlace indexWords ws)
+
 -- the bytes of the slot k in the arena
 abbrev pub slotIn : List ℕ → ℕ → ℕ → List ℕ
 slotIn arena k size = region (slotRoom * k) size arena
@@ -100,6 +110,10 @@ orderRegion order = take orderWords (order ++ replicate orderWords 0)
 
 abbrev pub putOrder : List ℕ → List ℕ → List ℕ
 putOrder order ws = put orderPlace orderWords (orderRegion order) ws
+
+-- the index from its first word on; the words past it stay
+abbrev pub putIndex : List ℕ → List ℕ → List ℕ
+putIndex ix ws = put indexPlace indexWords (ix ++ drop (length ix) (region indexPlace indexWords ws)) ws
 
 abbrev pub putControls : List ℕ → List ℕ → List ℕ
 putControls cs ws = put controlsPlace controlsWords cs ws

@@ -1,30 +1,45 @@
 -- The place of the node that an argument names.
 use Prim.Native.Nat.{ℕ, _≤_, _<_}
 use mathlib.Core.Bool.{true, false}
-use mathlib.Core.Path.{_≡_, sym, ap, _∙_}
+use mathlib.Core.Path.{_≡_, sym, ap, subst, _∙_}
 use mathlib.Core.List.{List}
 use native.Mathlib.Omega.{arith}
 use borrow.Author.Tests.{lt-ltb, le-ltb, eq-eqb, ne-eqb}
 use lib.ListN.{length}
 use lib.Dec.{ltb}
-use Rattle.words.specs.Parts.{region}
+use Rattle.words.specs.Parts.{region, region-length}
 use Rattle.nodes.specs.Table.{rows-length}
 use Rattle.nodes.specs.Place.{place, lives, lives-place, place-most}
+use Rattle.index.specs.Index.{indexed}
+use Rattle.index.specs.Words.{Keeps}
 use Rattle.values.specs.declared.NodeArgument.{NodeArgument}
 use Rattle.values.specs.declared.Target.the-variants.{Latest, Number, Reserved}
 use Rattle.values.specs.Targets.{targetOf}
-use Rattle.model.specs.Layout.{wordsLength, countIn, latestIn, nodesIn, nodesPlace, nodesWords}
+use Rattle.model.specs.Layout.{wordsLength, countIn, latestIn, nodesIn, indexIn, nodesPlace, nodesWords, indexPlace, indexWords}
 use Rattle.model.specs.Engine.{decode}
 use Rattle.model.specs.Meaning.{meantBy, knownBy, meant, known}
 use Rattle.state.specs.Known.{Known}
 
--- the sizes that finding a node asks
+-- what finding a node asks: the sizes, and the index's rule
 pub record Findable (ws : List ℕ) : Type 0 where
   pub size : length ws ≡ wordsLength
   pub few : countIn ws ≤ 256
+  pub index : indexed (indexIn ws) (nodesIn ws) ≡ true
 
 pub findable : (ws bs : List ℕ) → Known ws bs → Findable ws
-findable ws bs k = record { size = k .size; few = k .few }
+findable ws bs k = record { size = k .size; few = k .few; index = k .index }
+
+-- the two regions keep the rule
+pub keeps : (ws : List ℕ) → Findable ws → (count : ℕ) → count ≡ countIn ws → Keeps (region nodesPlace nodesWords ws) (region indexPlace indexWords ws) count
+keeps ws f count e =
+    let nodes : length (region nodesPlace nodesWords ws) ≡ nodesWords = region-length nodesPlace nodesWords ws (omega (arith, f .size)) in
+    let entries : length (region indexPlace indexWords ws) ≡ indexWords = region-length indexPlace indexWords ws (omega (arith, f .size)) in
+    subst (λ (n : ℕ). Keeps (region nodesPlace nodesWords ws) (region indexPlace indexWords ws) n) (sym e) (record {
+      room = omega (arith, nodes, f .few);
+      few = f .few;
+      entries = omega (arith, entries, f .few);
+      rule = f .index;
+    })
 
 -- a place in the table: below the count exactly where the argument names a node, and then that node's; else the count
 pub record Named (argument : NodeArgument) (ws : List ℕ) (at : ℕ) : Type 0 where

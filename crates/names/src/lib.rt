@@ -1,14 +1,33 @@
 // The node that an argument names.
+use index::find_indexed;
 use layout::COUNT;
+use layout::INDEX;
+use layout::INDEX_END;
 use layout::LATEST;
 use layout::NODES;
 use layout::NODES_END;
-use tree::find;
 use values::NodeArgument;
 use values::Target;
 use values::target_of;
 use words::wide;
+ghost use mathlib.Core.Path.{_≡_};
+ghost use Rattle.nodes.specs.Place.{place};
+ghost use Rattle.model.specs.Layout.{nodesIn};
 ghost use Rattle.names.specs.Named.{Findable, Named};
+
+// The place of the node with a number, or the count.
+pub fn place_of(words: &[u32], number: u32) -> usize
+    requires { ⌜ Findable (now words) ⌝ }
+    ensures { λ r. ⌜ r ≡ place number (nodesIn (now (words .entry))) ⌝ }
+{
+    let count = wide(words[COUNT]);
+    find_indexed(
+        &words[NODES..NODES_END],
+        &words[INDEX..INDEX_END],
+        count,
+        number,
+    )
+}
 
 // The place of the node that an argument names, or the count where it names none.
 pub fn node_place(words: &[u32], argument: NodeArgument) -> usize
@@ -23,9 +42,9 @@ pub fn node_place(words: &[u32], argument: NodeArgument) -> usize
             if latest == 0 {
                 return count;
             }
-            find(&words[NODES..NODES_END], count, latest)
+            place_of(words, latest)
         }
-        Target::Number(number) => find(&words[NODES..NODES_END], count, number),
+        Target::Number(number) => place_of(words, number),
         Target::Reserved => count,
     }
 }

@@ -7,17 +7,18 @@ use native.Mathlib.Omega.{arith}
 use lib.ListN.{length, drop}
 use Rattle.words.specs.Parts.{region-length}
 use Rattle.nodes.specs.Order.{order}
+use Rattle.index.specs.Nodes.{afresh-indexed}
 use Rattle.model.specs.declared.TreeCommand.{TreeCommand}
 use Rattle.model.specs.declared.TreeCommand.the-variants as tree
 use Rattle.model.specs.declared.Command.the-variants as command
-use Rattle.model.specs.Layout.{slotCount, slotRoom, controlsPlace, controlsWords, orderWords, lengthsIn, flagsIn, busesIn}
+use Rattle.model.specs.Layout.{slotCount, slotRoom, controlsPlace, controlsWords, orderWords, lengthsIn, flagsIn, busesIn, indexIn}
 use Rattle.model.specs.Engine.{Engine, slotsFrom, decode}
 use Rattle.model.specs.Effects.{treeEffect, effect}
 use Rattle.model.specs.After.{putTree, wordsAfter}
 use Rattle.model.specs.Formed.{formed, flagsFormed, slotsFormed, namesApart}
 use Rattle.state.specs.Known.{Known, known}
 use Rattle.state.specs.Accepted.{TreeAccepted}
-use Rattle.state.specs.Decoded.{tree-size, tree-lengths, tree-flags, tree-decoded}
+use Rattle.state.specs.Decoded.{tree-size, tree-lengths, tree-flags, tree-index, tree-decoded}
 use Rattle.preservation.specs.Assemble.{Whole, tree-formed, whole-formed}
 use Rattle.preservation.specs.Rows.{order-short}
 use Rattle.preservation.specs.TreeSteps.{Sound, sound-step}
@@ -67,6 +68,7 @@ module _ (ws bs : List ℕ) (k : Known ws bs) (e : Engine) (s : Sound (lengthsIn
     decoded = put-decoded;
     few = s .tree .few;
     tree = tree-formed (e .next) (e .latest) (e .nodes) (s .tree);
+    index = afresh-indexed (indexIn (putTree e ws)) (e .nodes) (s .tree .distinct) (tree-index e ws (k .size) (s .tree .few) (s .words));
     orderShort = short;
     ordered = ordered;
     flags = ap flagsFormed (tree-flags e ws (k .size) (s .tree .few) (s .words)) ∙ k .flags;

@@ -1,12 +1,14 @@
 -- A state whose nodes, running order, next number and latest synth are those of a well-formed one.
 use Prim.Native.Nat.{ℕ}
 use mathlib.Core.Bool.{true}
-use mathlib.Core.Path.{_≡_}
+use mathlib.Core.Path.{_≡_, ap₂, _∙_}
 use mathlib.Core.List.{List}
 use native.Mathlib.Omega.{arith}
-use lib.ListN.{length}
+use lib.ListN.{length, take}
+use Rattle.words.specs.Parts.{region}
 use Rattle.nodes.specs.Order.{order}
-use Rattle.model.specs.Layout.{wordsLength, arenaLength, countIn, orderLengthIn, nextIn, latestIn, lengthsIn, flagsIn, nodesIn, orderIn}
+use Rattle.index.specs.Index.{indexed}
+use Rattle.model.specs.Layout.{wordsLength, arenaLength, countIn, orderLengthIn, nextIn, latestIn, lengthsIn, flagsIn, nodesIn, orderIn, indexPlace, indexWords}
 use Rattle.model.specs.Engine.{Slot, Engine, decode}
 use Rattle.model.specs.Formed.{formed, flagsFormed, slotsFormed, namesApart, controlsFormed}
 use Rattle.state.specs.Known.{Known}
@@ -31,6 +33,7 @@ pub record Beside (ws ws′ bs′ : List ℕ) (slots : List Slot) (controls buse
   pub arenaSize : length bs′ ≡ arenaLength
   pub decoded : decode ws′ bs′ ≡ engineWith ws slots controls buses
   pub count : countIn ws′ ≡ countIn ws
+  pub index : region indexPlace indexWords ws′ ≡ region indexPlace indexWords ws
   pub orderLength : orderLengthIn ws′ ≡ orderLengthIn ws
   pub flags : flagsFormed (flagsIn ws′) ≡ true
   pub slotsRight : slotsFormed 0 (lengthsIn ws′) slots (nodesIn ws) ≡ true
@@ -45,6 +48,7 @@ beside-formed ws bs ws′ bs′ slots controls buses k b =
       decoded = b .decoded;
       few = omega (arith, b .count, k .few);
       tree = k .treeFormed;
+      index = ap₂ (λ (n : ℕ) (l : List ℕ). indexed (take n l) (nodesIn ws)) (b .count) (b .index) ∙ k .index;
       orderShort = omega (arith, b .orderLength, k .orderShort);
       ordered = same-equal (orderIn ws) (order (nodesIn ws)) (k .orderSame);
       flags = b .flags;

@@ -18,7 +18,7 @@ use Rattle.model.specs.Formed.{formed, flagsFormed, slotsFormed}
 use Rattle.state.specs.Accepted.{BusAccepted}
 use Rattle.state.specs.Known.{known}
 use Rattle.state.specs.Regions.{region-before, word-before}
-use Rattle.state.specs.Decoded.{buses-size, buses-decoded}
+use Rattle.state.specs.Decoded.{buses-size, buses-index, buses-decoded}
 use Rattle.refinement.specs.Beside.{beside-formed}
 
 -- as many buses as before
@@ -53,6 +53,7 @@ module _ (c : BusCommand) (bytes ws bs : List ℕ) (h : formed ws bs ≡ true) (
         arenaSize = k .arenaSize;
         decoded = decoded;
         count = word 0 (omega arith);
+        index = buses-index (busEffect c (busesIn ws)) ws bs (k .size) many;
         orderLength = word 1 (omega arith);
         flags = ap flagsFormed (before residentPlace slotCount (omega arith)) ∙ k .flags;
         slotsRight = ap (λ (l : List ℕ). slotsFormed 0 l (decode ws bs .slots) (nodesIn ws)) (before lengthsPlace slotCount (omega arith)) ∙ k .slots;

@@ -30,7 +30,7 @@ use Rattle.state.specs.Known.{Known}
 use Rattle.state.specs.Accepted.{ChangeAccepted, ControlAccepted}
 use Rattle.state.specs.Known as state
 use Rattle.state.specs.Regions.{region-before, word-before}
-use Rattle.state.specs.Decoded.{controls-size, controls-decoded}
+use Rattle.state.specs.Decoded.{controls-size, controls-index, controls-decoded}
 use Rattle.preservation.specs.Every.{Fewer, every-fewer}
 use Rattle.refinement.specs.Beside.{beside-formed}
 use Rattle.refinement.specs.Mappings.{Mild, all-changed, controls-mild}
@@ -104,6 +104,7 @@ module _ (c : ControlCommand) (bytes ws bs : List ℕ) (h : formed ws bs ≡ tru
         arenaSize = k .arenaSize;
         decoded = decoded;
         count = word 0 (omega arith);
+        index = controls-index cs ws bs (k .size) (right .0);
         orderLength = word 1 (omega arith);
         flags = ap flagsFormed (before residentPlace slotCount (omega arith)) ∙ k .flags;
         slotsRight = ap (λ (l : List ℕ). slotsFormed 0 l (decode ws bs .slots) (nodesIn ws)) (before lengthsPlace slotCount (omega arith)) ∙ k .slots;

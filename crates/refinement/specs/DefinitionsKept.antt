@@ -16,7 +16,7 @@ use Rattle.model.specs.After.{putSlots, lengthsOf, arenaOf, wordsAfter, arenaAf
 use Rattle.model.specs.Formed.{formed, flagsFormed, slotsFormed}
 use Rattle.state.specs.Accepted.{DefinitionAccepted}
 use Rattle.state.specs.Known.{Known, known}
-use Rattle.state.specs.Decoded.{Backed, slots-size, slots-word, slots-lengths, slots-flags, slots-decoded}
+use Rattle.state.specs.Decoded.{Backed, slots-size, slots-index, slots-word, slots-lengths, slots-flags, slots-decoded}
 use Rattle.preservation.specs.TreeKept.{slots-many}
 use Rattle.refinement.specs.Beside.{beside-formed}
 use Rattle.refinement.specs.Follow.{follow-length, follow-backed, follow-formed, flags-right, arena-length, controls-held}
@@ -68,6 +68,7 @@ module _ (c : DefinitionCommand) (bytes ws bs : List ℕ) (b : AreBytes bytes) (
         arenaSize = arena-length slots (decode ws bs .slots) bs (omega (arith, many, k .arenaSize)) backed ∙ k .arenaSize;
         decoded = decoded;
         count = slots-word slots ws bs (k .size) (k .arenaSize) many backed 0 (omega arith);
+        index = slots-index slots ws bs (k .size) (k .arenaSize) many backed;
         orderLength = slots-word slots ws bs (k .size) (k .arenaSize) many backed 1 (omega arith);
         flags = ap flagsFormed (slots-flags slots ws bs (k .size) (k .arenaSize) many backed) ∙ flags-right slots;
         slotsRight = ap (λ (l : List ℕ). slotsFormed 0 l slots (nodesIn ws)) (slots-lengths slots ws bs (k .size) (k .arenaSize) many backed) ∙ slotsRight;

@@ -2,8 +2,8 @@
 use Prim.{tt}
 use Prim.Native.Nat.{ℕ}
 use mathlib.Core.Bool.{Bool, true, false}
-use mathlib.Core.Path.{_≡_, refl, ap₂, _∙_}
-use mathlib.Core.List.{List, []}
+use mathlib.Core.Path.{_≡_, refl, ap, ap₂, _∙_}
+use mathlib.Core.List.{List, [], _∷_}
 use mathlib.Core.Option.{Option, none, some}
 use native.Mathlib.Omega.{arith}
 use borrow.Author.Tests.{eq-eqb}
@@ -18,8 +18,9 @@ use Rattle.nodes.specs.Forest.{single, flatten, mapForest}
 use Rattle.nodes.specs.Order.{orderFrom}
 use Rattle.nodes.specs.Formed.{steps, rooted, apart, allFormed, rowTaken, rowsApart, synthLives}
 use Rattle.nodes.specs.Formed as nodes
+use Rattle.index.specs.Index.{numbers, rises, indexed}
 use Rattle.treerefinement.specs.Leaves.{leaves-single}
-use Rattle.model.specs.Layout.{wordsLength, arenaLength}
+use Rattle.model.specs.Layout.{wordsLength, arenaLength, indexIn}
 use Rattle.model.specs.Engine.{slotsFrom, decode, held, residents}
 use Rattle.model.specs.Formed.{formed, flagsFormed, slotsFormed, namesApart, nameResident, controlsFormed}
 use Rattle.model.specs.After.{root, freshState, freshArena}
@@ -27,7 +28,7 @@ use Rattle.refusals.specs.declared.Refusal.the-variants.{BadState}
 use Rattle.model.specs.declared.Answer.the-variants.{Done, Refused}
 use Rattle.model.specs.Apply.{sized, freshAnswer, freshWords, freshArenas}
 use Rattle.model.specs.Chain.{State, Fresh}
-use Rattle.model.specs.Fresh.{fresh-buses}
+use Rattle.model.specs.Fresh.{fresh-buses, fresh-index}
 use Rattle.model.specs.Plain.{atFirst, meaning}
 use Rattle.model.specs.View.{viewRows, view}
 use Rattle.model.specs.Demands.{definitionOfSynth}
@@ -35,12 +36,17 @@ use Rattle.refinement.specs.Names.{Once, means, meaning-means}
 use Rattle.refinement.specs.Kept.{Kept}
 use Rattle.state.specs.Fresh.{fresh-length, arena-length}
 
-all3 : (a b c : Bool) → a ≡ true → b ≡ true → c ≡ true → both a (both b c) ≡ true
-all3 a b c p q r = rw (p, q) r
+fresh-indexed : indexed (indexIn freshState) (root ∷ []) ≡ true
+unfolding numbers rises
+fresh-indexed = ap (λ (ix : List ℕ). indexed ix (root ∷ [])) fresh-index
+
+all : (a b c d e f : Bool) → a ≡ true → b ≡ true → c ≡ true → d ≡ true → e ≡ true → f ≡ true → both a (both b (both c (both d (both e f)))) ≡ true
+all a b c d e f p0 p1 p2 p3 p4 p5 = rw (p0, p1, p2, p3, p4) p5
 
 pub fresh-formed : formed freshState freshArena ≡ true
 unfolding formed decode rows encode lives orderFrom steps rooted apart allFormed rowTaken rowsApart synthLives nodes.nodesFormed flagsFormed slotsFrom slotsFormed held namesApart nameResident controlsFormed sameName
-fresh-formed = all3 _ _ _ (eq-eqb (length freshState) wordsLength fresh-length) (eq-eqb (length freshArena) arenaLength arena-length) refl
+fresh-formed =
+    all _ _ _ _ (indexed (indexIn freshState) (root ∷ [])) _ (eq-eqb (length freshState) wordsLength fresh-length) (eq-eqb (length freshArena) arenaLength arena-length) refl refl fresh-indexed refl
 
 fresh-means : (name : List ℕ) → means name (decode freshState freshArena .slots) ≡ meaning name []
 unfolding decode encode slotsFrom means meaning

@@ -10,8 +10,11 @@ use lib.Dec.{eqb}
 use lib.Seq.{take-at, drop-at, take-take, length-take-le}
 use Rattle.words.specs.Choice.{pick}
 use Rattle.words.specs.Parts.{region, region-length, region-put}
+use Rattle.nodes.specs.declared.Node.{Node}
 use Rattle.nodes.specs.Table.{rows, fill, fill-length, rows-fill}
-use Rattle.model.specs.Layout.{wordsLength, nodesPlace, nodesWords, orderPlace, orderWords, controlsPlace, controlsWords, busesPlace, busCount, lengthsPlace, residentPlace, slotCount, slotRoom, arenaLength, putResident, putNodes, orderRegion, putOrder, putControls, putBuses, lengthsIn, flagsIn, nodesIn, orderIn, controlsIn, busesIn}
+use Rattle.index.specs.Index.{numbers, indexOf}
+use Rattle.index.specs.Afresh.{afresh-length}
+use Rattle.model.specs.Layout.{wordsLength, nodesPlace, nodesWords, orderPlace, orderWords, controlsPlace, controlsWords, busesPlace, busCount, indexPlace, indexWords, lengthsPlace, residentPlace, slotCount, slotRoom, arenaLength, putResident, putNodes, orderRegion, putOrder, putIndex, putControls, putBuses, lengthsIn, flagsIn, nodesIn, orderIn, controlsIn, busesIn, indexIn}
 use Rattle.model.specs.Engine.{Slot, Engine, slotsFrom, decode}
 use Rattle.model.specs.Effects.{withControls, withBuses, withSlots}
 use Rattle.model.specs.After.{putTree, flagsOf, lengthsOf, putSlots, arenaOf}
@@ -25,6 +28,30 @@ order-region-length o =
 
 pub order-region-back : (o : List ℕ) → length o ≤ orderWords → take (length o) (orderRegion o) ≡ o
 order-region-back o h = take-take (length o) orderWords (o ++ replicate orderWords 0) h ∙ take-at o (replicate orderWords 0) (length o) refl
+
+-- the index worked out afresh has an entry for each node
+pub index-many : (t : List Node) → length (indexOf t) ≡ length t
+index-many t = afresh-length (numbers t) (length t)
+
+-- an index and the words past it are as many as its region
+pub index-region-length : (ix ws : List ℕ) → length ws ≡ wordsLength → length ix ≤ indexWords → length (ix ++ drop (length ix) (region indexPlace indexWords ws)) ≡ indexWords
+index-region-length ix ws size h =
+    let r : length (region indexPlace indexWords ws) ≡ indexWords = region-length indexPlace indexWords ws (omega arith) in
+    let d : length (drop (length ix) (region indexPlace indexWords ws)) ≡ length (region indexPlace indexWords ws) - length ix = length-drop (length ix) (region indexPlace indexWords ws) in
+    length-append ix (drop (length ix) (region indexPlace indexWords ws)) ∙ omega arith
+
+-- engines of the same parts
+same-parts : {s s′ : List Slot} {t t′ : List Node} {o o′ cs cs′ bs bs′ : List ℕ} (next latest : ℕ) → s ≡ s′ → t ≡ t′ → o ≡ o′ → cs ≡ cs′ → bs ≡ bs′
+    → _≡_ {A = Engine} (record { slots = s; nodes = t; order = o; controls = cs; buses = bs; next = next; latest = latest }) (record {
+      slots = s′;
+      nodes = t′;
+      order = o′;
+      controls = cs′;
+      buses = bs′;
+      next = next;
+      latest = latest;
+    })
+same-parts next latest p0 p1 p2 p3 p4 = cc
 
 -- the parts of the words after the tree's parts were put in
 module _ (e : Engine) (ws : List ℕ) (size : length ws ≡ wordsLength) (few : length (e .nodes) ≤ 256) (many : length (e .controls) ≡ controlsWords) where
@@ -45,23 +72,41 @@ module _ (e : Engine) (ws : List ℕ) (size : length ws ≡ wordsLength) (few : 
   size2 : length w2 ≡ wordsLength
   size2 = put-size orderPlace orderWords (orderRegion (e .order)) w1 (omega (arith, size1)) (order-region-length (e .order)) ∙ size1
 
+  abbrev entries : List ℕ
+  entries = indexOf (e .nodes) ++ drop (length (indexOf (e .nodes))) (region indexPlace indexWords w2)
+
+  entered : length entries ≡ indexWords
+  entered = index-region-length (indexOf (e .nodes)) w2 size2 (omega (arith, index-many (e .nodes)))
+
   abbrev w3 : List ℕ
-  w3 = putControls (e .controls) w2
+  w3 = putIndex (indexOf (e .nodes)) w2
 
   size3 : length w3 ≡ wordsLength
-  size3 = put-size controlsPlace controlsWords (e .controls) w2 (omega (arith, size2)) many ∙ size2
+  size3 = put-size indexPlace indexWords entries w2 (omega (arith, size2)) entered ∙ size2
+
+  abbrev w4 : List ℕ
+  w4 = putControls (e .controls) w3
+
+  size4 : length w4 ≡ wordsLength
+  size4 = put-size controlsPlace controlsWords (e .controls) w3 (omega (arith, size3)) many ∙ size3
 
   pub tree-size : length (putTree e ws) ≡ wordsLength
-  tree-size = header-length (length (e .nodes)) (length (e .order)) (e .next) (e .latest) w3 (omega (arith, size3)) ∙ size3
+  tree-size = header-length (length (e .nodes)) (length (e .order)) (e .next) (e .latest) w4 (omega (arith, size4)) ∙ size4
 
-  top : (b m : ℕ) → 4 ≤ b → region b m (putTree e ws) ≡ region b m w3
-  top b m h = header-region (length (e .nodes)) (length (e .order)) (e .next) (e .latest) w3 (omega (arith, size3)) b m h
+  top : (b m : ℕ) → 4 ≤ b → region b m (putTree e ws) ≡ region b m w4
+  top b m h = header-region (length (e .nodes)) (length (e .order)) (e .next) (e .latest) w4 (omega (arith, size4)) b m h
+
+  -- a region below the controls
+  under : (b m : ℕ) → 4 ≤ b → b + m ≤ controlsPlace → region b m (putTree e ws) ≡ region b m w2
+  under b m h l =
+      top b m h
+      ∙ region-before controlsPlace controlsWords (e .controls) w3 (omega (arith, size3)) many b m l
+      ∙ region-before indexPlace indexWords entries w2 (omega (arith, size2)) entered b m (omega arith)
 
   -- a region below the nodes
   low : (b m : ℕ) → 4 ≤ b → b + m ≤ nodesPlace → region b m (putTree e ws) ≡ region b m ws
   low b m h l =
-      top b m h
-      ∙ region-before controlsPlace controlsWords (e .controls) w2 (omega (arith, size2)) many b m (omega arith)
+      under b m h (omega arith)
       ∙ region-before orderPlace orderWords (orderRegion (e .order)) w1 (omega (arith, size1)) (order-region-length (e .order)) b m (omega arith)
       ∙ region-before nodesPlace nodesWords (fill (region nodesPlace nodesWords ws) (e .nodes)) ws (omega arith) filled b m l
 
@@ -74,8 +119,7 @@ module _ (e : Engine) (ws : List ℕ) (size : length ws ≡ wordsLength) (few : 
   pub tree-nodes : nodesIn (putTree e ws) ≡ e .nodes
   tree-nodes =
       ap (λ (us : List ℕ). rows (length (e .nodes)) us)
-      (top nodesPlace nodesWords (omega arith)
-      ∙ region-before controlsPlace controlsWords (e .controls) w2 (omega (arith, size2)) many nodesPlace nodesWords (omega arith)
+      (under nodesPlace nodesWords (omega arith) (omega arith)
       ∙ region-before orderPlace orderWords (orderRegion (e .order)) w1 (omega (arith, size1)) (order-region-length (e .order)) nodesPlace nodesWords (omega arith)
       ∙ region-put nodesPlace nodesWords (fill (region nodesPlace nodesWords ws) (e .nodes)) ws (omega arith) filled)
       ∙ rows-fill (region nodesPlace nodesWords ws) (e .nodes)
@@ -83,36 +127,35 @@ module _ (e : Engine) (ws : List ℕ) (size : length ws ≡ wordsLength) (few : 
   pub tree-order : length (e .order) ≤ orderWords → orderIn (putTree e ws) ≡ e .order
   tree-order short =
       ap (λ (us : List ℕ). take (length (e .order)) us)
-      (top orderPlace orderWords (omega arith)
-      ∙ region-before controlsPlace controlsWords (e .controls) w2 (omega (arith, size2)) many orderPlace orderWords (omega arith)
+      (under orderPlace orderWords (omega arith) (omega arith)
       ∙ region-put orderPlace orderWords (orderRegion (e .order)) w1 (omega (arith, size1)) (order-region-length (e .order)))
       ∙ order-region-back (e .order) short
 
   pub tree-controls : controlsIn (putTree e ws) ≡ e .controls
   tree-controls =
-      top controlsPlace controlsWords (omega arith) ∙ region-put controlsPlace controlsWords (e .controls) w2 (omega (arith, size2)) many
+      top controlsPlace controlsWords (omega arith) ∙ region-put controlsPlace controlsWords (e .controls) w3 (omega (arith, size3)) many
 
   pub tree-buses : busesIn (putTree e ws) ≡ busesIn ws
   tree-buses =
       top busesPlace busCount (omega arith)
-      ∙ region-past controlsPlace controlsWords (e .controls) w2 (omega (arith, size2)) many busesPlace busCount (omega arith)
+      ∙ region-past controlsPlace controlsWords (e .controls) w3 (omega (arith, size3)) many busesPlace busCount (omega arith)
+      ∙ region-before indexPlace indexWords entries w2 (omega (arith, size2)) entered busesPlace busCount (omega arith)
       ∙ region-past orderPlace orderWords (orderRegion (e .order)) w1 (omega (arith, size1)) (order-region-length (e .order)) busesPlace busCount (omega arith)
       ∙ region-past nodesPlace nodesWords (fill (region nodesPlace nodesWords ws) (e .nodes)) ws (omega arith) filled busesPlace busCount (omega arith)
+
+  pub tree-index : indexIn (putTree e ws) ≡ indexOf (e .nodes)
+  tree-index =
+      ap (λ (us : List ℕ). take (length (e .nodes)) us)
+      (top indexPlace indexWords (omega arith)
+      ∙ region-past controlsPlace controlsWords (e .controls) w3 (omega (arith, size3)) many indexPlace indexWords (omega arith)
+      ∙ region-put indexPlace indexWords entries w2 (omega (arith, size2)) entered)
+      ∙ take-at (indexOf (e .nodes)) (drop (length (indexOf (e .nodes))) (region indexPlace indexWords w2)) (length (e .nodes)) (index-many (e .nodes))
 
   -- the engine in the words is the one whose parts were put in
   pub tree-decoded : (bs : List ℕ) → length (e .order) ≤ orderWords → e .slots ≡ decode ws bs .slots → e .buses ≡ busesIn ws → decode (putTree e ws) bs ≡ e
   unfolding decode
   tree-decoded bs short same kept =
-      simp (
-        tree-lengths,
-        tree-flags,
-        tree-nodes,
-        tree-order short,
-        tree-controls,
-        tree-buses,
-        sym same,
-        sym kept,
-      )
+      same-parts (e .next) (e .latest) (ap₂ (λ (ls fs : List ℕ). slotsFrom slotCount ls fs bs) tree-lengths tree-flags ∙ sym same) tree-nodes (tree-order short) tree-controls (tree-buses ∙ sym kept)
 
 -- the engine of the parts of the words
 abbrev engineOf : (count orderLength next latest : ℕ) (lengths flags nodes order controls buses arena : List ℕ) → Engine
@@ -142,6 +185,9 @@ module _ (cs ws bs : List ℕ) (size : length ws ≡ wordsLength) (many : length
   part : (b m : ℕ) → b + m ≤ controlsPlace → region b m (putControls cs ws) ≡ region b m ws
   part b m h = region-before controlsPlace controlsWords cs ws (omega arith) many b m h
 
+  pub controls-index : region indexPlace indexWords (putControls cs ws) ≡ region indexPlace indexWords ws
+  controls-index = region-past controlsPlace controlsWords cs ws (omega arith) many indexPlace indexWords (omega arith)
+
   pub controls-decoded : decode (putControls cs ws) bs ≡ withControls cs (decode ws bs)
   unfolding decode
   controls-decoded =
@@ -160,6 +206,9 @@ module _ (cs ws bs : List ℕ) (size : length ws ≡ wordsLength) (many : length
 
   part′ : (b m : ℕ) → b + m ≤ busesPlace → region b m (putBuses cs ws) ≡ region b m ws
   part′ b m h = region-before busesPlace busCount cs ws (omega arith) many b m h
+
+  pub buses-index : region indexPlace indexWords (putBuses cs ws) ≡ region indexPlace indexWords ws
+  buses-index = region-past busesPlace busCount cs ws (omega arith) many indexPlace indexWords (omega arith)
 
   pub buses-decoded : decode (putBuses cs ws) bs ≡ withBuses cs (decode ws bs)
   unfolding decode
@@ -252,6 +301,9 @@ module _ (slots : List Slot) (ws bs : List ℕ) (size : length ws ≡ wordsLengt
   high b m h =
       region-past lengthsPlace slotCount (lengthsOf slots (lengthsIn ws)) flagged (omega (arith, flaggedSize)) lengthsMany b m (omega arith)
       ∙ region-past residentPlace slotCount (flagsOf slots) ws (omega arith) flagsMany b m (omega arith)
+
+  pub slots-index : region indexPlace indexWords (putSlots slots ws) ≡ region indexPlace indexWords ws
+  slots-index = high indexPlace indexWords (omega arith)
 
   pub slots-word : (i : ℕ) → i < lengthsPlace → getD (putSlots slots ws) i 0 ≡ getD ws i 0
   slots-word i h =

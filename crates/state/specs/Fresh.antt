@@ -12,7 +12,7 @@ use Rattle.model.specs.After.{root, freshState, freshArena}
 pub fresh-length : length freshState ≡ wordsLength
 unfolding encode
 fresh-length =
-    let a : length (replicate {A = ℕ} 22010 0) ≡ 22010 = length-replicate {A = ℕ} 22010 0 in
+    let a : length (replicate {A = ℕ} 22266 0) ≡ 22266 = length-replicate {A = ℕ} 22266 0 in
     omega (arith, a)
 
 pub arena-length : length freshArena ≡ arenaLength

@@ -12,7 +12,8 @@ use Rattle.nodes.specs.Table.{rows-length}
 use Rattle.nodes.specs.Order.{order}
 use Rattle.nodes.specs.Formed.{mostNodes, countFormed, rooted, apart, allFormed, rowsApart, nextFormed, latestFormed}
 use Rattle.nodes.specs.Formed as nodes
-use Rattle.model.specs.Layout.{wordsLength, arenaLength, countIn, nextIn, latestIn, orderLengthIn, orderWords, lengthsIn, flagsIn, nodesIn, orderIn, controlsIn}
+use Rattle.index.specs.Index.{indexed}
+use Rattle.model.specs.Layout.{wordsLength, arenaLength, countIn, nextIn, latestIn, orderLengthIn, orderWords, lengthsIn, flagsIn, nodesIn, orderIn, controlsIn, indexIn}
 use Rattle.model.specs.Engine.{decode}
 use Rattle.model.specs.Formed.{formed, orderFormed, sameNumbers, flagsFormed, slotsFormed, namesApart, controlsFormed}
 
@@ -56,6 +57,7 @@ pub record Known (ws bs : List ℕ) : Type 0 where
   pub few : countIn ws ≤ mostNodes
   pub tree : Tree (nextIn ws) (latestIn ws) (nodesIn ws)
   pub treeFormed : nodes.nodesFormed (nextIn ws) (latestIn ws) (nodesIn ws) ≡ true
+  pub index : indexed (indexIn ws) (nodesIn ws) ≡ true
   pub orderShort : orderLengthIn ws ≤ orderWords
   pub orderSame : sameNumbers (orderIn ws) (order (nodesIn ws)) ≡ true
   pub flags : flagsFormed (flagsIn ws) ≡ true
@@ -70,7 +72,8 @@ known ws bs h =
     let b = both-true (eqb (length bs) arenaLength) _ (a .1) in
     let d = both-true (leb (countIn ws) mostNodes) _ (b .1) in
     let f = both-true (nodes.nodesFormed (nextIn ws) (latestIn ws) (nodesIn ws)) _ (d .1) in
-    let g = both-true (orderFormed ws (nodesIn ws)) _ (f .1) in
+    let i = both-true (indexed (indexIn ws) (nodesIn ws)) _ (f .1) in
+    let g = both-true (orderFormed ws (nodesIn ws)) _ (i .1) in
     let o = both-true (leb (orderLengthIn ws) orderWords) _ (g .0) in
     let k = both-true (flagsFormed (flagsIn ws)) _ (g .1) in
     let l = both-true (slotsFormed 0 (lengthsIn ws) (decode ws bs .slots) (nodesIn ws)) _ (k .1) in
@@ -84,6 +87,7 @@ known ws bs h =
       few = leb-true (countIn ws) mostNodes (d .0);
       tree = t;
       treeFormed = f .0;
+      index = i .0;
       orderShort = leb-true (orderLengthIn ws) orderWords (o .0);
       orderSame = o .1;
       flags = k .0;

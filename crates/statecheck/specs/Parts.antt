@@ -3,38 +3,51 @@ use Prim.Native.Nat.{ℕ, _≤_, _<_}
 use mathlib.Core.Bool.{Bool, true, false}
 use mathlib.Core.Path.{_≡_, refl, sym, ap, ap₂, subst, _∙_}
 use mathlib.Core.List.{List}
-use lib.ListN.{length}
+use native.Mathlib.Omega.{arith}
+use lib.ListN.{length, take}
 use lib.Dec.{leb}
 use borrow.Author.Tests.{leb-true, eq-eqb, ne-eqb, le-leb, lt-leb}
 use Rattle.words.specs.Choice.{both, both-true}
-use Rattle.words.specs.Parts.{region}
+use Rattle.words.specs.Parts.{region, region-length}
 use Rattle.nodes.specs.declared.Node.{Node}
 use Rattle.nodes.specs.Table.{rows}
 use Rattle.nodes.specs.Formed.{mostNodes}
 use Rattle.nodes.specs.Formed as nodes
-use Rattle.model.specs.Layout.{wordsLength, arenaLength, nodesPlace, nodesWords, orderPlace, orderWords, countIn, nextIn, latestIn, orderLengthIn, lengthsIn, flagsIn, nodesIn, controlsIn}
+use Rattle.index.specs.Index.{indexed}
+use Rattle.index.specs.Words.{IndexFits}
+use Rattle.model.specs.Layout.{wordsLength, arenaLength, nodesPlace, nodesWords, orderPlace, orderWords, indexPlace, indexWords, countIn, nextIn, latestIn, orderLengthIn, lengthsIn, flagsIn, nodesIn, controlsIn}
 use Rattle.model.specs.Engine.{decode}
 use Rattle.model.specs.Formed.{formed, orderFormed, flagsFormed, slotsFormed, namesApart, controlsFormed}
 use Rattle.state.specs.Known.{tree-known}
 use Rattle.order.specs.Same.{sameOrder}
 use Rattle.controls.specs.Ready.{Ready}
 
--- the records of the node region, and the region of the kept order
+-- the records of the node region, the region of the index, and that of the kept order
 abbrev pub nodesOf : ℕ → List ℕ → List Node
 nodesOf count ws = rows count (region nodesPlace nodesWords ws)
+
+abbrev pub entriesIn : List ℕ → List ℕ
+entriesIn ws = region indexPlace indexWords ws
 
 abbrev pub keptIn : List ℕ → List ℕ
 keptIn ws = region orderPlace orderWords ws
 
--- the rules on nodes with a count, and on the kept order with its length
+-- the rules on nodes with a count, on the index, and on the kept order with its length
 abbrev pub nodesPart : ℕ → List ℕ → Bool
 nodesPart count ws = nodes.nodesFormed (nextIn ws) (latestIn ws) (nodesOf count ws)
+
+abbrev pub indexPart : ℕ → List ℕ → Bool
+indexPart count ws = indexed (take count (entriesIn ws)) (nodesOf count ws)
 
 abbrev pub orderPart : ℕ → ℕ → List ℕ → Bool
 orderPart many count ws = sameOrder (keptIn ws) many (nodesOf count ws)
 
+-- the last three, with the count
+abbrev pub listsPart : ℕ → List ℕ → Bool
+listsPart count ws = both (nodesPart count ws) (both (indexPart count ws) (orderPart (orderLengthIn ws) count ws))
+
 abbrev pub treePart : List ℕ → Bool
-treePart ws = both (leb (countIn ws) mostNodes) (both (nodesPart (countIn ws) ws) (orderPart (orderLengthIn ws) (countIn ws) ws))
+treePart ws = both (leb (countIn ws) mostNodes) (listsPart (countIn ws) ws)
 
 -- the rules on slots, and on controls
 abbrev pub slotsPart : List ℕ → List ℕ → Bool
@@ -46,28 +59,39 @@ controlsPart ws bs = controlsFormed (decode ws bs .slots) (controlsIn ws) (nodes
 -- the tree's part, one test at a time
 module _ (ws : List ℕ) (count : ℕ) (counted : count ≡ countIn ws) where
   pub tree-many : mostNodes < count → treePart ws ≡ false
-  tree-many h = ap (λ (b : Bool). both b (both (nodesPart (countIn ws) ws) (orderPart (orderLengthIn ws) (countIn ws) ws))) (lt-leb (countIn ws) mostNodes (subst (λ (n : ℕ). mostNodes < n) counted h))
+  tree-many h = ap (λ (b : Bool). both b (listsPart (countIn ws) ws)) (lt-leb (countIn ws) mostNodes (subst (λ (n : ℕ). mostNodes < n) counted h))
 
-  pub tree-few : count ≤ mostNodes → treePart ws ≡ both (nodesPart count ws) (orderPart (orderLengthIn ws) count ws)
+  pub tree-few : count ≤ mostNodes → treePart ws ≡ listsPart count ws
   tree-few h =
-      ap (λ (n : ℕ). both (leb n mostNodes) (both (nodesPart n ws) (orderPart (orderLengthIn ws) n ws))) (sym counted)
-      ∙ ap (λ (b : Bool). both b (both (nodesPart count ws) (orderPart (orderLengthIn ws) count ws))) (le-leb count mostNodes h)
+      ap (λ (n : ℕ). both (leb n mostNodes) (listsPart n ws)) (sym counted) ∙ ap (λ (b : Bool). both b (listsPart count ws)) (le-leb count mostNodes h)
 
   pub tree-nodes : count ≤ mostNodes → nodesPart count ws ≡ false → treePart ws ≡ false
-  tree-nodes h e = tree-few h ∙ ap (λ (b : Bool). both b (orderPart (orderLengthIn ws) count ws)) e
+  tree-nodes h e = tree-few h ∙ ap (λ (b : Bool). both b (both (indexPart count ws) (orderPart (orderLengthIn ws) count ws))) e
 
-  pub tree-order : (many : ℕ) → many ≡ orderLengthIn ws → count ≤ mostNodes → nodesPart count ws ≡ true → treePart ws ≡ orderPart many count ws
-  tree-order many m h e =
-      tree-few h ∙ ap (λ (b : Bool). both b (orderPart (orderLengthIn ws) count ws)) e ∙ ap (λ (n : ℕ). orderPart n count ws) (sym m)
+  -- the regions that the index's test is lent
+  pub index-fits : length ws ≡ wordsLength → count ≤ mostNodes → IndexFits (region nodesPlace nodesWords ws) (entriesIn ws) count
+  index-fits size h =
+      let nodes : length (region nodesPlace nodesWords ws) ≡ nodesWords = region-length nodesPlace nodesWords ws (omega arith) in
+      let entries : length (entriesIn ws) ≡ indexWords = region-length indexPlace indexWords ws (omega arith) in
+      record { room = omega arith; few = h; entries = omega arith }
 
--- five tests of which the last four are three and one
-regrouped : (a b c d e f g : Bool) → both a (both b (both c (both d (both e (both f g))))) ≡ both (both a (both b c)) (both (both d (both e f)) g)
-regrouped true true true true true f g = refl
-regrouped true true true true false f g = refl
-regrouped true true true false e f g = refl
-regrouped true true false d e f g = refl
-regrouped true false c d e f g = refl
-regrouped false b c d e f g = refl
+  module _ (h : count ≤ mostNodes) (e : nodesPart count ws ≡ true) where
+    pub tree-index : indexPart count ws ≡ false → treePart ws ≡ false
+    tree-index i = tree-few h ∙ ap₂ (λ (b d : Bool). both b (both d (orderPart (orderLengthIn ws) count ws))) e i
+
+    pub tree-order : (many : ℕ) → many ≡ orderLengthIn ws → indexPart count ws ≡ true → treePart ws ≡ orderPart many count ws
+    tree-order many m i =
+        tree-few h ∙ ap₂ (λ (b d : Bool). both b (both d (orderPart (orderLengthIn ws) count ws))) e i ∙ ap (λ (n : ℕ). orderPart n count ws) (sym m)
+
+-- the tests one after the other, in three groups
+regrouped : (a b c d e f g h : Bool) → both a (both b (both c (both d (both e (both f (both g h)))))) ≡ both (both a (both b (both c d))) (both (both e (both f g)) h)
+regrouped true true true true true true g h = refl
+regrouped true true true true true false g h = refl
+regrouped true true true true false f g h = refl
+regrouped true true true false e f g h = refl
+regrouped true true false d e f g h = refl
+regrouped true false c d e f g h = refl
+regrouped false b c d e f g h = refl
 
 -- the sizes, and then the parts, each tested where those before it passed
 module _ (ws bs : List ℕ) where
@@ -84,7 +108,7 @@ module _ (ws bs : List ℕ) (size : length ws ≡ wordsLength) (room : length bs
   unfolding formed
   parts =
       rw (eq-eqb (length ws) wordsLength size, eq-eqb (length bs) arenaLength room)
-      (regrouped (leb (countIn ws) mostNodes) (nodesPart (countIn ws) ws) (orderFormed ws (nodesIn ws)) (flagsFormed (flagsIn ws))
+      (regrouped (leb (countIn ws) mostNodes) (nodesPart (countIn ws) ws) (indexPart (countIn ws) ws) (orderFormed ws (nodesIn ws)) (flagsFormed (flagsIn ws))
       (slotsFormed 0 (lengthsIn ws) (decode ws bs .slots) (nodesIn ws)) (namesApart (decode ws bs .slots)) (controlsPart ws bs))
 
   pub bad-tree : treePart ws ≡ false → formed ws bs ≡ false

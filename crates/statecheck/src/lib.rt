@@ -2,8 +2,11 @@
 use controls::controls_formed;
 use definitions::held_slots;
 use definitions::slots_formed;
+use index::index_formed;
 use layout::ARENA;
 use layout::COUNT;
+use layout::INDEX;
+use layout::INDEX_END;
 use layout::LATEST;
 use layout::LENGTHS;
 use layout::MOST_NODES;
@@ -26,7 +29,7 @@ ghost use Rattle.model.specs.Layout.{wordsLength, arenaLength, countIn};
 ghost use Rattle.model.specs.Formed.{formed};
 ghost use Rattle.statecheck.specs.Parts.{treePart, slotsPart};
 
-// The rules on nodes, and that the kept running order is the one worked out afresh.
+// The rules on nodes and on their index, and that the kept running order is the one worked out afresh.
 fn tree_formed(words: &[u32]) -> bool
     requires { ⌜ length (now words) ≡ wordsLength ⌝ }
     ensures { λ r. ⌜ r ≡ treePart (now (words .entry)) ⌝ }
@@ -40,8 +43,16 @@ fn tree_formed(words: &[u32]) -> bool
     if !nodes_formed(&words[NODES..NODES_END], count, next, latest) {
         return false;
     }
+    if !index_formed(&words[NODES..NODES_END], &words[INDEX..INDEX_END], count) {
+        return false;
+    }
     let many = wide(words[ORDER_LENGTH]);
-    same_order(&words[ORDER..ORDER_END], many, &words[NODES..NODES_END], count)
+    same_order(
+        &words[ORDER..ORDER_END],
+        many,
+        &words[NODES..NODES_END],
+        count,
+    )
 }
 
 // The rules on slots.

@@ -1,14 +1,18 @@
 -- /n_run and /n_free.
 use Prim.Native.Nat.{ℕ, _≤_, _<_}
-use mathlib.Core.Path.{_≡_}
-use mathlib.Core.List.{List}
+use mathlib.Core.Bool.{Bool, true, false}
+use mathlib.Core.Path.{_≡_, refl, ap}
+use mathlib.Core.List.{List, [], _∷_}
 use native.Mathlib.Omega.{arith}
 use lib.ListN.{length}
+use lib.Dec.{eqb}
 use borrow.Author.Tests.{lt-ltb, le-ltb}
+use Rattle.words.specs.Choice.{pick}
 use Rattle.words.specs.Parts.{put}
 use Rattle.refusals.specs.declared.Refusal.the-variants.{BadFlag, NoNode, WrongKind}
+use Rattle.nodes.specs.declared.Node.{Node}
 use Rattle.nodes.specs.Table.{rows, rows-length, fill}
-use Rattle.nodes.specs.Edit.{editAt, freeHere, setRunHere, cut, setRun}
+use Rattle.nodes.specs.Edit.{withRun, editRows, editAt, freeHere, setRunHere, cut, setRun}
 use Rattle.nodes.specs.Formed.{mostNodes}
 use Rattle.treerefinement.specs.Tally.{cut-within}
 use Rattle.treerefinement.specs.Keep.{setRun-length}
@@ -16,7 +20,9 @@ use Rattle.values.specs.declared.NodeArgument.{NodeArgument}
 use Rattle.model.specs.declared.TreeCommand.the-variants as tree
 use Rattle.model.specs.declared.Command.the-variants as command
 use Rattle.model.specs.declared.Answer.the-variants.{Done, Refused}
-use Rattle.model.specs.Layout.{wordsLength, nodesPlace, nodesWords, countIn, nodesIn}
+use Rattle.index.specs.Index.{numbers}
+use Rattle.reindex.specs.Trace.{Held}
+use Rattle.model.specs.Layout.{nodesPlace, nodesWords, countIn, nodesIn}
 use Rattle.model.specs.Engine.{decode}
 use Rattle.model.specs.Meaning.{known}
 use Rattle.model.specs.Checks.{firstOf}
@@ -29,8 +35,19 @@ use Rattle.tree.specs.Words.{run-leaves}
 use Rattle.names.specs.Named.{Named}
 use Rattle.treecommands.specs.Ready.{Ready, nodeWords}
 use Rattle.treecommands.specs.Finding.{meantIn, NodeFound, found, missing, is-root, not-root}
-use Rattle.treecommands.specs.Settle.{renewed}
-use Rattle.treecommands.specs.Steps.{Steps, left-few, edited-ready, edited-left}
+use Rattle.treecommands.specs.Comes.{Comes}
+use Rattle.treecommands.specs.Settle.{Sorted, Changed, renewed}
+use Rattle.treecommands.specs.Steps.{Steps, left-comes, edited-ready, edited-sorted, edited-left}
+
+-- a run flag changes no number
+setRun-numbers : (n flag : ℕ) (t : List Node) → numbers (setRun n flag t) ≡ numbers t
+unfolding numbers editRows
+setRun-numbers n flag [] = refl
+setRun-numbers n flag (r ∷ l) = go (setRun-numbers n flag l) (eqb (r .number) n)
+  where
+    go : numbers (setRun n flag l) ≡ numbers l → (b : Bool) → numbers (pick b (withRun flag r ∷ l) (r ∷ setRun n flag l)) ≡ r .number ∷ numbers l
+    go ih true = refl
+    go ih false = ap (λ (ks : List ℕ). r .number ∷ ks) ih
 
 -- /n_run
 module _ (n : NodeArgument) (flag : ℕ) (ws : List ℕ) where
@@ -50,10 +67,15 @@ module _ (n : NodeArgument) (flag : ℕ) (ws : List ℕ) where
       run-few : length (setRun (meantIn n ws) flag (nodesIn ws)) ≤ mostNodes
       run-few = omega (arith, setRun-length (meantIn n ws) flag (nodesIn ws), rows-length (countIn ws) (nodeWords ws), k .few)
 
+      -- every node is where it was
+      pub run-sorted : Sorted count (put nodesPlace nodesWords us ws)
+      run-sorted =
+          edited-sorted n ws k count same at run-at (setRunHere flag) us count (run-leaves (nodeWords ws) count at flag live us does) (setRun-length (meantIn n ws) flag (nodesIn ws)) (setRun-numbers (meantIn n ws) flag (nodesIn ws))
+
       pub run-done : (out : List ℕ) → out ≡ renewed count (put nodesPlace nodesWords us ws) → Steps (tree.Run n flag) ws Done out
       unfolding answerIn firstOf decode wordsAfter effect
       run-done out o bytes bs =
-          step-done (command.Tree (tree.Run n flag)) bytes ws bs out (rw (le-ltb 1 flag low, run-at .known)) (edited-left n ws k count same at run-at (setRunHere flag) run-few us count (run-leaves (nodeWords ws) count at flag live us does) out o bs)
+          step-done (command.Tree (tree.Run n flag)) bytes ws bs out (rw (le-ltb 1 flag low, run-at .known)) (edited-left n ws k count same at run-at (setRunHere flag) us count (run-leaves (nodeWords ws) count at flag live us does) run-few out o bs)
 
 -- /n_free
 module _ (n : NodeArgument) (ws : List ℕ) (k : Ready ws) (count : ℕ) (same : count ≡ countIn ws) (at : ℕ) (fact : Named n ws at) where
@@ -70,13 +92,13 @@ module _ (n : NodeArgument) (ws : List ℕ) (k : Ready ws) (count : ℕ) (same :
     free-root z bytes bs = step-refused (command.Tree (tree.Free n)) bytes ws bs WrongKind (rw (free-at .known, is-root n ws at free-at k z))
 
     module _ (us : List ℕ) (many : ℕ) (does : Leaves (nodeWords ws) (editAt at freeHere (rows count (nodeWords ws))) us many) where
-      free-few : length (cut (meantIn n ws) (nodesIn ws)) ≤ mostNodes
-      free-few = left-few ws (cut (meantIn n ws) (nodesIn ws)) k (cut-within (meantIn n ws) (nodesIn ws))
+      free-comes : Comes (cut (meantIn n ws) (nodesIn ws)) (nodesIn ws)
+      free-comes = left-comes ws (cut (meantIn n ws) (nodesIn ws)) k (cut-within (meantIn n ws) (nodesIn ws))
 
-      pub free-ready : (length (put nodesPlace nodesWords us ws) ≡ wordsLength) × (many ≤ mostNodes)
-      free-ready = edited-ready n ws k count same at free-at freeHere free-few us many does
+      pub free-ready : (was : List ℕ) → Held was (rows count (nodeWords ws)) → Changed was many (put nodesPlace nodesWords us ws)
+      free-ready = edited-ready n ws k count same at free-at freeHere us many does free-comes
 
       pub free-done : (out : List ℕ) → (at ≡ 0 → ⊥) → out ≡ renewed many (put nodesPlace nodesWords us ws) → Steps (tree.Free n) ws Done out
       unfolding answerIn firstOf decode wordsAfter effect
       free-done out z o bytes bs =
-          step-done (command.Tree (tree.Free n)) bytes ws bs out (rw (free-at .known, not-root n ws at free-at k z)) (edited-left n ws k count same at free-at freeHere free-few us many does out o bs)
+          step-done (command.Tree (tree.Free n)) bytes ws bs out (rw (free-at .known, not-root n ws at free-at k z)) (edited-left n ws k count same at free-at freeHere us many does (free-comes .few) out o bs)

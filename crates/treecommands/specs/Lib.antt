@@ -1,5 +1,6 @@
 pub mod Ready
 pub mod Finding
+pub mod Comes
 pub mod Settle
 pub mod Steps
 pub mod Freeing

@@ -2,17 +2,18 @@
 use Prim.{Unit, tt}
 use Prim.Native.Nat.{ℕ, _≤_}
 use mathlib.Core.Bool.{true}
-use mathlib.Core.Path.{_≡_, refl, sym, ap, subst, subst₂, _∙_}
+use mathlib.Core.Path.{_≡_, refl, sym, ap, ap₂, subst, subst₂, _∙_}
 use mathlib.Core.List.{List}
 use native.Mathlib.Omega.{arith}
 use lib.ListN.{length}
 use Rattle.words.specs.Parts.{put}
 use Rattle.nodes.specs.declared.Node.{Node}
-use Rattle.nodes.specs.Table.{rows-length, fill}
+use Rattle.nodes.specs.Table.{rows, rows-length, fill}
 use Rattle.nodes.specs.Place.{lives, found}
 use Rattle.nodes.specs.Edit.{runOf, editRows, cut}
 use Rattle.nodes.specs.Formed.{mostNodes}
-use Rattle.treerefinement.specs.Tally.{Same, tally-length, moveHead-same, moveTail-same, moveBefore-same, moveAfter-same}
+use Rattle.treerefinement.specs.Tally.{Same, same-within, tally-length, moveHead-same, moveTail-same, moveBefore-same, moveAfter-same}
+use Rattle.reindex.specs.Trace.{Held}
 use Rattle.values.specs.declared.NodeArgument.{NodeArgument}
 use Rattle.model.specs.declared.TreeCommand.{TreeCommand}
 use Rattle.model.specs.declared.TreeCommand.the-variants as tree
@@ -39,8 +40,8 @@ use Rattle.treecommands.specs.declared.moves.Pair.{Pair}
 use Rattle.treecommands.specs.declared.moves.Pair.the-variants as pair
 use Rattle.treecommands.specs.Ready.{Ready, nodeWords}
 use Rattle.treecommands.specs.Finding.{meantIn}
-use Rattle.treecommands.specs.Settle.{renewed, renewed-left}
-use Rattle.treecommands.specs.Steps.{Steps}
+use Rattle.treecommands.specs.Settle.{Changed, renewed, changed-left, renewed-left}
+use Rattle.treecommands.specs.Steps.{Steps, left-comes}
 use Rattle.treecommands.specs.Sighting.{besideChecks, intoChecks, Clear, PairFound}
 
 same-length : {after before : List Node} → Same after before → length after ≡ length before
@@ -77,29 +78,47 @@ module _ (checks : Engine → List Check) (moved to : NodeArgument) (ws : List �
       size = same ∙ sym size;
     }
 
+    moved-ready : (was : List ℕ) → Held was (nodesIn ws) → Changed was count (put nodesPlace nodesWords us ws)
+    moved-ready was held = changed-left ws k t (left-comes ws t k (same-within all)) was held us count left
+
     moved-left : (out : List ℕ) → out ≡ renewed count (put nodesPlace nodesWords us ws) → (bs : List ℕ) → out ≡ putTree (withNodes t (decode ws bs)) ws
     moved-left out o bs = o ∙ renewed-left ws (k .size) t few bs us count left
 
+-- the words after a move, before what is derived is written
+abbrev movedWords : Position → List ℕ → ℕ → ℕ → List ℕ
+movedWords p ws a b = put nodesPlace nodesWords (fill (nodeWords ws) (movedTo (countIn ws) (nodeWords ws) a (placeBy p (countIn ws) (nodeWords ws) b))) ws
+
 -- what a move asks of the places that its checks found, and what it answers and leaves
-abbrev pub Movable : Pair → List ℕ → Type 0
-Movable (pair.At a b) ws = Moving (nodeWords ws) (countIn ws) a b
-Movable (pair.Refused r) ws = Unit {0}
+abbrev pub Movable : Pair → Position → List ℕ → Type 0
+Movable (pair.At a b) p ws = Moving (nodeWords ws) (countIn ws) a b × ((was : List ℕ) → Held was (nodesIn ws) → Changed was (countIn ws) (movedWords p ws a b))
+Movable (pair.Refused r) p ws = Unit {0}
 
 abbrev pub Goes : Pair → Position → List ℕ → Answer → List ℕ → Type 0
 Goes (pair.At a b) p ws r out =
-    (r ≡ Done) × (out ≡ renewed (countIn ws) (put nodesPlace nodesWords (fill (nodeWords ws) (movedTo (countIn ws) (nodeWords ws) a (placeBy p (countIn ws) (nodeWords ws) b))) ws))
+    (r ≡ Done) × (out ≡ renewed (countIn ws) (movedWords p ws a b))
 Goes (pair.Refused why) p ws r out = (r ≡ Refused why) × (out ≡ ws)
 
 -- a node moved, and what is derived written afresh
 pub gone : (a b : ℕ) (p : Position) (ws : List ℕ) (count : ℕ) → count ≡ countIn ws → (us : List ℕ) → us ≡ fill (nodeWords ws) (movedTo count (nodeWords ws) a (placeBy p count (nodeWords ws) b))
     → (out : List ℕ) → out ≡ renewed count (put nodesPlace nodesWords us ws) → Goes (pair.At a b) p ws Done out
-gone a b p ws count same us moves out o = (refl, rw (moves, same) at o)
+gone a b p ws count same us moves out o =
+    (refl, o ∙ ap₂ (λ (n : ℕ) (l : List ℕ). renewed n (put nodesPlace nodesWords l ws)) same (moves ∙ ap (λ (n : ℕ). fill (nodeWords ws) (movedTo n (nodeWords ws) a (placeBy p n (nodeWords ws) b))) same))
+
+-- what that asks
+pub gone-ready : (a b : ℕ) (p : Position) (ws : List ℕ) (count : ℕ) → count ≡ countIn ws → (us : List ℕ) → us ≡ fill (nodeWords ws) (movedTo count (nodeWords ws) a (placeBy p count (nodeWords ws) b))
+    → Movable (pair.At a b) p ws → (was : List ℕ) → Held was (rows count (nodeWords ws)) → Changed was count (put nodesPlace nodesWords us ws)
+gone-ready a b p ws count same us moves m was held =
+    subst₂ (λ (n : ℕ) (l : List ℕ). Changed was n (put nodesPlace nodesWords l ws)) (sym same)
+    (sym (moves ∙ ap (λ (n : ℕ). fill (nodeWords ws) (movedTo n (nodeWords ws) a (placeBy p n (nodeWords ws) b))) same))
+    (m .1 was (subst (λ (n : ℕ). Held was (rows n (nodeWords ws))) same held))
 
 -- one law for every move: a command that has these checks, and leaves the node at this position
 module _ (checks : Engine → List Check) (moved to : NodeArgument) (ws : List ℕ) where
-  pub movable : (x : Pair) → PairFound checks moved to ws x → Movable x ws
-  movable (pair.At a b) c = c .moving
-  movable (pair.Refused r) c = tt
+  module _ (k : Ready ws) (p : Position)
+      (all : lives (meantIn to ws) (cut (meantIn moved ws) (nodesIn ws)) ≡ true → Same (movedBy p (meantIn moved ws) (meantIn to ws) (nodesIn ws)) (nodesIn ws)) where
+    movable : (x : Pair) → PairFound checks moved to ws x → Movable x p ws
+    movable (pair.At i j) c = (c .moving, moved-ready checks moved to ws k (countIn ws) refl i j c p (all (place-lives checks moved to ws k (countIn ws) refl i j c)) _ refl)
+    movable (pair.Refused r) c = tt
 
   module _ (k : Ready ws) (p : Position) (c : TreeCommand) (asks : (bytes bs : List ℕ) → answerIn (command.Tree c) bytes (decode ws bs) 0 ≡ firstOf (checks (decode ws bs)) Done)
       (leaves : (bytes bs : List ℕ) → wordsAfter (command.Tree c) bytes ws bs ≡ putTree (withNodes (movedBy p (meantIn moved ws) (meantIn to ws) (nodesIn ws)) (decode ws bs)) ws)
@@ -117,6 +136,21 @@ module _ (checks : Engine → List Check) (moved to : NodeArgument) (ws : List �
 module _ (a b : NodeArgument) (ws : List ℕ) (k : Ready ws) where
   abbrev Does : Position → TreeCommand → (Engine → List Check) → Type 0
   Does p c checks = (x : Pair) → PairFound checks a b ws x → (r : Answer) (out : List ℕ) → Goes x p ws r out → Steps c ws r out
+
+  abbrev Moves : Position → (Engine → List Check) → Type 0
+  Moves p checks = (x : Pair) → PairFound checks a b ws x → Movable x p ws
+
+  pub before-moves : Moves Before (besideChecks a b)
+  before-moves = movable (besideChecks a b) a b ws k Before (moveBefore-same (meantIn a ws) (meantIn b ws) (nodesIn ws))
+
+  pub after-moves : Moves After (besideChecks a b)
+  after-moves = movable (besideChecks a b) a b ws k After (moveAfter-same (meantIn a ws) (meantIn b ws) (nodesIn ws))
+
+  pub head-moves : Moves Head (intoChecks b a)
+  head-moves = movable (intoChecks b a) a b ws k Head (moveHead-same (meantIn a ws) (meantIn b ws) (nodesIn ws))
+
+  pub tail-moves : Moves Tail (intoChecks b a)
+  tail-moves = movable (intoChecks b a) a b ws k Tail (moveTail-same (meantIn a ws) (meantIn b ws) (nodesIn ws))
 
   pub before-goes : Does Before (tree.Before a b) (besideChecks a b)
   unfolding answerIn decode wordsAfter effect

@@ -1,6 +1,6 @@
 -- What the commands here ask of the words: that they passed the state check, with some arena.
 use Prim.Native.Nat.{ℕ, _+_, _*_, _≤_, _<_}
-use mathlib.Core.Bool.{not}
+use mathlib.Core.Bool.{true, not}
 use mathlib.Core.Path.{_≡_, sym, ap, _∙_}
 use mathlib.Core.List.{List}
 use native.Mathlib.Omega.{arith}
@@ -12,7 +12,8 @@ use Rattle.nodes.specs.declared.Node.{Node}
 use Rattle.nodes.specs.Table.{width, nodeFrom}
 use Rattle.nodes.specs.Place.{isGroup}
 use Rattle.nodes.specs.Formed.{mostNodes}
-use Rattle.model.specs.Layout.{wordsLength, nodesPlace, nodesWords, countIn, nextIn, latestIn, nodesIn}
+use Rattle.index.specs.Index.{indexed}
+use Rattle.model.specs.Layout.{wordsLength, nodesPlace, nodesWords, countIn, nextIn, latestIn, nodesIn, indexIn}
 use Rattle.state.specs.Known.{Tree, Known}
 
 pub record Ready (ws : List ℕ) : Type 0 where
@@ -20,11 +21,12 @@ pub record Ready (ws : List ℕ) : Type 0 where
   pub some : 1 ≤ countIn ws
   pub few : countIn ws ≤ mostNodes
   pub tree : Tree (nextIn ws) (latestIn ws) (nodesIn ws)
+  pub index : indexed (indexIn ws) (nodesIn ws) ≡ true
   pub arena : List ℕ
   pub known : Known ws arena
 
 pub ready : (ws bs : List ℕ) → Known ws bs → Ready ws
-ready ws bs k = record { size = k .size; some = k .some; few = k .few; tree = k .tree; arena = bs; known = k }
+ready ws bs k = record { size = k .size; some = k .some; few = k .few; tree = k .tree; index = k .index; arena = bs; known = k }
 
 -- the node region, and the record at a place of it
 abbrev pub nodeWords : List ℕ → List ℕ

@@ -1,31 +1,58 @@
--- What is derived from the tree is written afresh after each command: the running order and the first words.
-use Prim.Native.Nat.{ℕ, _≤_, _<_}
-use mathlib.Core.Path.{_≡_, refl, sym, ap, ap₂, _∙_}
+-- What is derived from the tree is written afresh after each command: the running order, the index and the first words.
+use Prim.Native.Nat.{ℕ, _+_, _≤_, _<_}
+use mathlib.Core.Bool.{true}
+use mathlib.Core.Path.{_≡_, refl, sym, ap, ap₂, _∙_, subst}
 use mathlib.Core.List.{List, [], _∷_, _++_}
 use native.Mathlib.Omega.{arith}
-use lib.ListN.{length, take, drop, getD, set, take-append-drop}
-use Rattle.words.specs.Parts.{region, put, region-put}
+use lib.ListN.{length, take, drop, getD, set, take-append-drop, drop-of-length-le}
+use lib.Seq.{take-at, length-take-le, paste}
+use lib.Dec.{eqb}
+use Rattle.words.specs.Choice.{both}
+use Rattle.words.specs.Parts.{region, put, region-length, region-put}
 use Rattle.nodes.specs.declared.Node.{Node}
 use Rattle.nodes.specs.Table.{rows, fill, rows-length, fill-length, rows-fill}
+use Rattle.nodes.specs.Place.{lives}
 use Rattle.nodes.specs.Order.{order}
 use Rattle.nodes.specs.Formed.{mostNodes}
-use Rattle.model.specs.Layout.{wordsLength, nodesPlace, nodesWords, orderPlace, orderWords, controlsPlace, controlsWords, nextIn, latestIn, controlsIn, putNodes, putOrder, orderRegion, putControls, putHeader}
+use Rattle.index.specs.Index.{numbers, numberAt, rises, indexed, indexOf}
+use Rattle.index.specs.Words.{Keeps}
+use Rattle.index.specs.Nodes.{lives-at, indexed-afresh, afresh-indexed}
+use Rattle.reindex.specs.Trace.{Held}
+use Rattle.reindex.specs.Followed.{Edited}
+use Rattle.model.specs.Layout.{wordsLength, nodesPlace, nodesWords, orderPlace, orderWords, controlsPlace, controlsWords, indexPlace, indexWords, countIn, nextIn, latestIn, nodesIn, controlsIn, indexIn, putNodes, putOrder, orderRegion, putIndex, putControls, putHeader}
 use Rattle.model.specs.Engine.{decode}
 use Rattle.model.specs.Effects.{latestAmong, withNodes}
 use Rattle.model.specs.After.{putTree}
-use Rattle.state.specs.Regions.{region-past, word-before, put-size}
-use Rattle.state.specs.Decoded.{order-region-length}
+use Rattle.state.specs.Regions.{region-before, region-past, word-before, put-size}
+use Rattle.state.specs.Decoded.{order-region-length, index-many, index-region-length}
 use Rattle.order.specs.declared.Order.{Order}
 use Rattle.order.specs.Kept.{Kept}
 use Rattle.order.specs.Pad.{pad-is}
 use Rattle.order.specs.Few.{order-most}
 use Rattle.tree.specs.Sizes.{Leaves}
-use Rattle.treecommands.specs.Ready.{nodeWords, words-long}
+use Rattle.treecommands.specs.Ready.{Ready, nodeWords, words-long}
+use Rattle.treecommands.specs.Comes.{Comes}
 
--- the whole order region and the four first words, for the table of so many nodes in the words
+-- the index region, for the table of so many nodes in the words
+abbrev pub indexRegion : List ℕ → List ℕ
+indexRegion ws = region indexPlace indexWords ws
+
+-- the index is right for the table of so many nodes
+pub record Sorted (count : ℕ) (ws : List ℕ) : Type 0 where
+  pub size : length ws ≡ wordsLength
+  pub few : count ≤ mostNodes
+  pub rule : indexed (take count (indexRegion ws)) (rows count (nodeWords ws)) ≡ true
+
+-- it was right for the table before, whose numbers `was` has: the first words still tell its count
+pub record Changed (was : List ℕ) (count : ℕ) (ws : List ℕ) : Type 0 where
+  pub size : length ws ≡ wordsLength
+  pub edited : Edited (indexRegion ws) (countIn ws) was (nodeWords ws) count
+
+-- the whole order region, the index and the four first words, for the table of so many nodes in the words
 abbrev pub settled : ℕ → ℕ → ℕ → List ℕ → List ℕ
 settled count next latest ws =
-    putHeader count (length (order (rows count (nodeWords ws)))) next latest (putOrder (order (rows count (nodeWords ws))) ws)
+    putHeader count (length (order (rows count (nodeWords ws)))) next latest
+    (putIndex (indexOf (rows count (nodeWords ws))) (putOrder (order (rows count (nodeWords ws))) ws))
 
 -- the same, where the next number stays, and the latest synth too while it lives
 abbrev pub renewed : ℕ → List ℕ → List ℕ
@@ -33,10 +60,8 @@ renewed count ws = settled count (nextIn ws) (latestAmong (rows count (nodeWords
 
 -- the running order as it was worked out, and written
 module _ (count : ℕ) (ws : List ℕ) (r : Order) (k : Kept (rows count (nodeWords ws)) r) where
-  pub settled-by : (next latest : ℕ) → putHeader count (r .length) next latest (put orderPlace orderWords (r .numbers) ws) ≡ settled count next latest ws
-  settled-by next latest =
-      ap₂ (λ (n : ℕ) (l : List ℕ). putHeader count n next latest (put orderPlace orderWords l ws)) (k .many)
-      (k .numbers ∙ pad-is orderWords (order (rows count (nodeWords ws))))
+  pub order-by : put orderPlace orderWords (r .numbers) ws ≡ putOrder (order (rows count (nodeWords ws))) ws
+  order-by = ap (λ (l : List ℕ). put orderPlace orderWords l ws) (k .numbers ∙ pad-is orderWords (order (rows count (nodeWords ws))))
 
   pub many-few : r .length ≤ count
   many-few = omega (arith, k .many, order-most 0 (rows count (nodeWords ws)), rows-length count (nodeWords ws))
@@ -52,6 +77,147 @@ header-sets a b c d (w ∷ (x ∷ (y ∷ (z ∷ ws)))) h = refl
 -- a part put where it is
 put-own : (a k : ℕ) (ws : List ℕ) → put a k (region a k ws) ws ≡ ws
 put-own a k ws = ap (λ (l : List ℕ). take a ws ++ l) (take-append-drop k (drop a ws)) ∙ take-append-drop a ws
+
+-- a run copied whole
+pub paste-whole : (d s : List ℕ) (i : ℕ) → i ≡ length s → length d ≡ length s → paste d 0 s i ≡ s
+paste-whole d s i all same =
+    ap (λ (l : List ℕ). take 0 d ++ take i s ++ l) (drop-of-length-le d {i = 0 + i} (omega arith) ∙ sym (drop-of-length-le s {i = i} (omega arith))) ∙ take-append-drop i s
+
+-- what a lookup asks
+pub sorted-keeps : (count : ℕ) (ws : List ℕ) → Sorted count ws → Keeps (nodeWords ws) (indexRegion ws) count
+sorted-keeps count ws s = record {
+  room = omega (arith, words-long ws (s .size), s .few);
+  few = s .few;
+  entries = omega (arith, region-length indexPlace indexWords ws (omega (arith, s .size)), s .few);
+  rule = s .rule;
+}
+
+-- the order put in: the other parts are as they were
+module _ (o ws : List ℕ) (size : length ws ≡ wordsLength) where
+  pub order-size : length (putOrder o ws) ≡ wordsLength
+  order-size = put-size orderPlace orderWords (orderRegion o) ws (omega arith) (order-region-length o) ∙ size
+
+  order-nodes : nodeWords (putOrder o ws) ≡ nodeWords ws
+  order-nodes = region-before orderPlace orderWords (orderRegion o) ws (omega arith) (order-region-length o) nodesPlace nodesWords (omega arith)
+
+  order-index : indexRegion (putOrder o ws) ≡ indexRegion ws
+  order-index = region-past orderPlace orderWords (orderRegion o) ws (omega arith) (order-region-length o) indexPlace indexWords (omega arith)
+
+  order-word : (i : ℕ) → i < orderPlace → getD (putOrder o ws) i 0 ≡ getD ws i 0
+  order-word i h = word-before orderPlace orderWords (orderRegion o) ws (omega arith) (order-region-length o) i h
+
+pub order-sorted : (count : ℕ) (ws : List ℕ) → Sorted count ws → (w1 : List ℕ) → w1 ≡ putOrder (order (rows count (nodeWords ws))) ws → Sorted count w1
+order-sorted count ws s w1 e =
+    let o = order (rows count (nodeWords ws)) in
+    subst (λ (l : List ℕ). Sorted count l) (sym e) (record {
+      size = order-size o ws (s .size);
+      few = s .few;
+      rule = rw (order-index o ws (s .size), order-nodes o ws (s .size)) (s .rule);
+    })
+
+pub order-changed : (was : List ℕ) (count : ℕ) (ws : List ℕ) → Changed was count ws → (w1 : List ℕ) → w1 ≡ putOrder (order (rows count (nodeWords ws))) ws → Changed was count w1
+order-changed was count ws c w1 e =
+    let o = order (rows count (nodeWords ws)) in
+    subst (λ (l : List ℕ). Changed was count l) (sym e) (record {
+      size = order-size o ws (c .size);
+      edited = rw (order-index o ws (c .size), order-nodes o ws (c .size), order-word o ws (c .size) 0 (omega arith)) (c .edited);
+    })
+
+-- the index put in
+module _ (t : List Node) (few : length t ≤ mostNodes) (ws : List ℕ) (size : length ws ≡ wordsLength) where
+  abbrev entries : List ℕ
+  entries = indexOf t ++ drop (length (indexOf t)) (indexRegion ws)
+
+  entered : length entries ≡ indexWords
+  entered = index-region-length (indexOf t) ws size (omega (arith, index-many t))
+
+  pub index-size : length (putIndex (indexOf t) ws) ≡ wordsLength
+  index-size = put-size indexPlace indexWords entries ws (omega arith) entered ∙ size
+
+  index-before : (b m : ℕ) → b + m ≤ indexPlace → region b m (putIndex (indexOf t) ws) ≡ region b m ws
+  index-before b m h = region-before indexPlace indexWords entries ws (omega arith) entered b m h
+
+  index-word : (i : ℕ) → i < indexPlace → getD (putIndex (indexOf t) ws) i 0 ≡ getD ws i 0
+  index-word i h = word-before indexPlace indexWords entries ws (omega arith) entered i h
+
+  index-back : take (length t) (indexRegion (putIndex (indexOf t) ws)) ≡ indexOf t
+  index-back =
+      ap (λ (l : List ℕ). take (length t) l) (region-put indexPlace indexWords entries ws (omega arith) entered)
+      ∙ take-at (indexOf t) (drop (length (indexOf t)) (indexRegion ws)) (length t) (index-many t)
+
+-- the index as it was followed, and written
+module _ (was : List ℕ) (count : ℕ) (ws : List ℕ) (c : Changed was count ws) where
+  abbrev t : List Node
+  t = rows count (nodeWords ws)
+
+  few : length t ≤ mostNodes
+  few = omega (arith, rows-length count (nodeWords ws), c .edited .fewAfter)
+
+  pub index-by : (ix : List ℕ) → ix ≡ indexOf t ++ drop count (indexRegion ws) → put indexPlace indexWords ix ws ≡ putIndex (indexOf t) ws
+  index-by ix e =
+      ap (λ (l : List ℕ). put indexPlace indexWords l ws)
+      (e ∙ ap (λ (n : ℕ). indexOf t ++ drop n (indexRegion ws)) (sym (index-many t ∙ rows-length count (nodeWords ws))))
+
+  pub index-sorted : (w2 : List ℕ) → w2 ≡ putIndex (indexOf t) ws → Sorted count w2
+  index-sorted w2 e = subst (λ (l : List ℕ). Sorted count l) (sym e) (record {
+    size = index-size t few ws (c .size);
+    few = c .edited .fewAfter;
+    rule =
+        let same : nodeWords (putIndex (indexOf t) ws) ≡ nodeWords ws = index-before t few ws (c .size) nodesPlace nodesWords (omega arith) in
+        rw same
+        (afresh-indexed (take count (indexRegion (putIndex (indexOf t) ws))) t (c .edited .differ)
+        (ap (λ (n : ℕ). take n (indexRegion (putIndex (indexOf t) ws))) (sym (rows-length count (nodeWords ws))) ∙ index-back t few ws (c .size)));
+  })
+
+-- the index as it was, where it is right
+pub index-own : (count : ℕ) (ws : List ℕ) → Sorted count ws → putIndex (indexOf (rows count (nodeWords ws))) ws ≡ ws
+index-own count ws s =
+    let t = rows count (nodeWords ws) in
+    let own : indexOf t ≡ take count (indexRegion ws) = sym (indexed-afresh (take count (indexRegion ws)) t (s .rule)) in
+    let many : length (take count (indexRegion ws)) ≡ count = length-take-le count (indexRegion ws) (omega (arith, s .few, region-length indexPlace indexWords ws (omega (arith, s .size)))) in
+    ap (λ (ix : List ℕ). putIndex ix ws) own
+    ∙ ap (λ (n : ℕ). put indexPlace indexWords (take count (indexRegion ws) ++ drop n (indexRegion ws)) ws) many
+    ∙ ap (λ (l : List ℕ). put indexPlace indexWords l ws) (take-append-drop count (indexRegion ws))
+    ∙ put-own indexPlace indexWords ws
+
+-- the parts written one after the other
+module _ (count : ℕ) (few : count ≤ mostNodes) (ws : List ℕ) (size : length ws ≡ wordsLength) (w1 : List ℕ) (many : ℕ)
+    (first : (w1 ≡ putOrder (order (rows count (nodeWords ws))) ws) × (many ≡ length (order (rows count (nodeWords ws))))) where
+  abbrev table : List Node
+  table = rows count (nodeWords ws)
+
+  short : length table ≤ mostNodes
+  short = omega (arith, rows-length count (nodeWords ws))
+
+  abbrev ordered : List ℕ
+  ordered = putOrder (order table) ws
+
+  second : (w2 : List ℕ) → w2 ≡ putIndex (indexOf (rows count (nodeWords w1))) w1 → w2 ≡ putIndex (indexOf table) ordered
+  second w2 e = e ∙ ap₂ (λ (us l : List ℕ). putIndex (indexOf (rows count us)) l) (ap nodeWords (first .0) ∙ order-nodes (order table) ws size) (first .0)
+
+  pub settled-by : (w2 : List ℕ) → w2 ≡ putIndex (indexOf (rows count (nodeWords w1))) w1 → (next latest : ℕ) (out : List ℕ) → out ≡ putHeader count many next latest w2 → out ≡ settled count next latest ws
+  settled-by w2 e next latest out o = o ∙ ap₂ (λ (m : ℕ) (l : List ℕ). putHeader count m next latest l) (first .1) (second w2 e)
+
+  abbrev headed : ℕ → List ℕ → List ℕ
+  headed m l = putHeader count m (nextIn l) (latestAmong (rows count (nodeWords l)) (latestIn l)) l
+
+  -- where the next number and the latest are read in the words as they are then
+  read-there : headed (length (order table)) (putIndex (indexOf table) ordered) ≡ renewed count ws
+  read-there =
+      let last = putIndex (indexOf table) ordered in
+      let there = order-size (order table) ws size in
+      let us : nodeWords last ≡ nodeWords ws = index-before table short ordered there nodesPlace nodesWords (omega arith) ∙ order-nodes (order table) ws size in
+      let word : (i : ℕ) → i < 68 → getD last i 0 ≡ getD ws i 0 = λ i h. index-word table short ordered there i (omega arith) ∙ order-word (order table) ws size i (omega arith) in
+      ap (λ (l : List ℕ). putHeader count (length (order table)) (nextIn last) (latestAmong (rows count l) (latestIn last)) last) us
+      ∙ ap₂ (λ (n m : ℕ). putHeader count (length (order table)) n (latestAmong table m) last) (word 2 (omega arith)) (word 3 (omega arith))
+
+  pub renewed-by : (w2 : List ℕ) → w2 ≡ putIndex (indexOf (rows count (nodeWords w1))) w1 → (out : List ℕ) → out ≡ headed many w2 → out ≡ renewed count ws
+  renewed-by w2 e out o = o ∙ ap₂ (λ (m : ℕ) (l : List ℕ). headed m l) (first .1) (second w2 e) ∙ read-there
+
+  -- and where the index was right
+  pub renewed-there : Sorted count ws → (out : List ℕ) → out ≡ headed many w1 → out ≡ renewed count ws
+  renewed-there s out o =
+      renewed-by w1 (sym (index-own count w1 (order-sorted count ws s w1 (first .0)))) out o
 
 module _ (ws : List ℕ) (size : length ws ≡ wordsLength) (t : List Node) (few : length t ≤ mostNodes) where
   filled : length (fill (nodeWords ws) t) ≡ nodesWords
@@ -69,19 +235,20 @@ module _ (ws : List ℕ) (size : length ws ≡ wordsLength) (t : List Node) (few
   first-word i h = word-before nodesPlace nodesWords (fill (nodeWords ws) t) ws (omega arith) filled i h
 
   -- the controls are as they were
-  controls-kept : (o : List ℕ) → putControls (controlsIn ws) (putOrder o (putNodes t ws)) ≡ putOrder o (putNodes t ws)
+  controls-kept : (o : List ℕ) → putControls (controlsIn ws) (putIndex (indexOf t) (putOrder o (putNodes t ws))) ≡ putIndex (indexOf t) (putOrder o (putNodes t ws))
   controls-kept o =
-      ap (λ (cs : List ℕ). putControls cs (putOrder o (putNodes t ws)))
+      ap (λ (cs : List ℕ). putControls cs (putIndex (indexOf t) (putOrder o (putNodes t ws))))
       (sym
-      (region-past orderPlace orderWords (orderRegion o) (putNodes t ws) (omega (arith, nodes-size)) (order-region-length o) controlsPlace controlsWords (omega arith)
+      (index-before t few (putOrder o (putNodes t ws)) (order-size o (putNodes t ws) nodes-size) controlsPlace controlsWords (omega arith)
+      ∙ region-past orderPlace orderWords (orderRegion o) (putNodes t ws) (omega (arith, nodes-size)) (order-region-length o) controlsPlace controlsWords (omega arith)
       ∙ region-past nodesPlace nodesWords (fill (nodeWords ws) t) ws (omega arith) filled controlsPlace controlsWords (omega arith)))
-      ∙ put-own controlsPlace controlsWords (putOrder o (putNodes t ws))
+      ∙ put-own controlsPlace controlsWords (putIndex (indexOf t) (putOrder o (putNodes t ws)))
 
   -- the table settled: what the tree's parts, put in, leave
   pub settled-tree : (next latest : ℕ)
-      → settled (length t) next latest (putNodes t ws) ≡ putHeader (length t) (length (order t)) next latest (putControls (controlsIn ws) (putOrder (order t) (putNodes t ws)))
+      → settled (length t) next latest (putNodes t ws) ≡ putHeader (length t) (length (order t)) next latest (putControls (controlsIn ws) (putIndex (indexOf t) (putOrder (order t) (putNodes t ws))))
   settled-tree next latest =
-      ap (λ (l : List Node). putHeader (length t) (length (order l)) next latest (putOrder (order l) (putNodes t ws))) nodes-back
+      ap (λ (l : List Node). putHeader (length t) (length (order l)) next latest (putIndex (indexOf l) (putOrder (order l) (putNodes t ws)))) nodes-back
       ∙ ap (λ (us : List ℕ). putHeader (length t) (length (order t)) next latest us) (sym (controls-kept (order t)))
 
   pub renewed-tree : (bs : List ℕ) → renewed (length t) (putNodes t ws) ≡ putTree (withNodes t (decode ws bs)) ws
@@ -96,6 +263,54 @@ module _ (ws : List ℕ) (size : length ws ≡ wordsLength) (t : List Node) (few
   renewed-left bs us k h =
       ap₂ (λ (j : ℕ) (l : List ℕ). renewed j (put nodesPlace nodesWords l ws)) (h .size) (h .words) ∙ renewed-tree bs
 
-  -- and what that asks
-  pub ready-left : (us : List ℕ) (k : ℕ) → Leaves (nodeWords ws) t us k → (length (put nodesPlace nodesWords us ws) ≡ wordsLength) × (k ≤ mostNodes)
-  ready-left us k h = (ap (λ (l : List ℕ). length (put nodesPlace nodesWords l ws)) (h .words) ∙ nodes-size, omega (arith, h .size))
+-- and what that asks: of the table as it is, in the place of the one that the words held
+module _ (ws : List ℕ) (k : Ready ws) (t : List Node) (c : Comes t (nodesIn ws)) (was : List ℕ) (held : Held was (nodesIn ws)) where
+  number-lives : (i : ℕ) → i < length t → lives (numberAt (numbers t) i) t ≡ true
+  number-lives i h = lives-at (numberAt (numbers t) i) t i h refl
+
+  edited : Edited (indexRegion ws) (countIn ws) was (fill (nodeWords ws) t) (length t)
+  edited = record {
+    old = nodesIn ws;
+    size = rows-length (countIn ws) (nodeWords ws);
+    few = k .few;
+    held = held;
+    rule = k .index;
+    entries = region-length indexPlace indexWords ws (omega (arith, k .size));
+    room = omega (arith, filled ws (k .size) t (c .few), c .few);
+    fewAfter = c .few;
+    differ = rw rows-fill (c .differ);
+    new = c .new;
+    only = λ i h d. let back = rows-fill (nodeWords ws) t in rw back (c .only (numberAt (numbers t) i) (number-lives i h) (rw back at d));
+  }
+
+  pub changed-left : (us : List ℕ) (n : ℕ) → Leaves (nodeWords ws) t us n → Changed was n (put nodesPlace nodesWords us ws)
+  changed-left us n h = rw (h .size, h .words) (record {
+    size = nodes-size ws (k .size) t (c .few);
+    edited =
+        let long = filled ws (k .size) t (c .few) in
+        rw (
+          region-past nodesPlace nodesWords (fill (nodeWords ws) t) ws (omega (arith, k .size)) long indexPlace indexWords (omega arith),
+          region-put nodesPlace nodesWords (fill (nodeWords ws) t) ws (omega (arith, k .size)) long,
+          first-word ws (k .size) t (c .few) 0 (omega arith),
+        ) edited;
+  })
+
+-- where the numbers are where they were, the index is right as it is
+pub sorted-left : (ws : List ℕ) → Ready ws → (t : List Node) → length t ≡ length (nodesIn ws) → numbers t ≡ numbers (nodesIn ws)
+    → (us : List ℕ) (n : ℕ) → Leaves (nodeWords ws) t us n → Sorted n (put nodesPlace nodesWords us ws)
+sorted-left ws k t many same us n h =
+    let few : length t ≤ mostNodes = omega (arith, many, k .few, rows-length (countIn ws) (nodeWords ws)) in
+    let long = filled ws (k .size) t few in
+    let count : length t ≡ countIn ws = many ∙ rows-length (countIn ws) (nodeWords ws) in
+    let rule : indexed (take (length t) (indexRegion ws)) t ≡ true =
+    ap (λ (j : ℕ). indexed (take j (indexRegion ws)) t) count
+    ∙ ap₂ (λ (ks : List ℕ) (j : ℕ). both (eqb (length (indexIn ws)) j) (rises ks j 0 (indexIn ws))) same many
+    ∙ k .index in
+    rw (h .size, h .words) (record {
+      size = nodes-size ws (k .size) t few;
+      few = few;
+      rule = rw (
+        region-past nodesPlace nodesWords (fill (nodeWords ws) t) ws (omega (arith, k .size)) long indexPlace indexWords (omega arith),
+        nodes-back ws (k .size) t few,
+      ) rule;
+    })

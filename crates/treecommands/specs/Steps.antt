@@ -10,12 +10,13 @@ use Rattle.nodes.specs.Table.{rows, rows-length}
 use Rattle.nodes.specs.Edit.{editRows, editAt}
 use Rattle.nodes.specs.Formed.{mostNodes}
 use Rattle.treerefinement.specs.Tally.{Within}
-use Rattle.treerefinement.specs.Keep.{within-length}
 use Rattle.values.specs.declared.NodeArgument.{NodeArgument}
 use Rattle.model.specs.declared.TreeCommand.{TreeCommand}
 use Rattle.model.specs.declared.Command.the-variants as command
 use Rattle.model.specs.declared.Answer.{Answer}
-use Rattle.model.specs.Layout.{wordsLength, nodesPlace, nodesWords, countIn, nodesIn}
+use Rattle.index.specs.Index.{numbers}
+use Rattle.reindex.specs.Trace.{Held}
+use Rattle.model.specs.Layout.{nodesPlace, nodesWords, countIn, nodesIn}
 use Rattle.model.specs.Engine.{decode}
 use Rattle.model.specs.Effects.{withNodes}
 use Rattle.model.specs.After.{putTree}
@@ -23,24 +24,29 @@ use Rattle.state.specs.Does.{WordsStep}
 use Rattle.tree.specs.Sizes.{Leaves, leaves-first}
 use Rattle.treecommands.specs.Ready.{Ready, nodeWords}
 use Rattle.treecommands.specs.Finding.{meantIn, NodeFound}
-use Rattle.treecommands.specs.Settle.{renewed, ready-left, renewed-left}
+use Rattle.treecommands.specs.Comes.{Comes, within-comes}
+use Rattle.treecommands.specs.Settle.{Sorted, Changed, renewed, changed-left, sorted-left, renewed-left}
 
 abbrev pub Steps : TreeCommand → List ℕ → Answer → List ℕ → Type 0
 Steps c ws a ws′ = (bytes bs : List ℕ) → WordsStep (command.Tree c) bytes ws bs a ws′
 
--- an edit that leaves no more nodes than there were
-pub left-few : (ws : List ℕ) (t : List Node) → Ready ws → Within t (nodesIn ws) → length t ≤ mostNodes
-left-few ws t k w = omega (arith, within-length w, k .few, rows-length (countIn ws) (nodeWords ws))
+-- an edit that leaves no node but those that there were
+pub left-comes : (ws : List ℕ) (t : List Node) → Ready ws → Within t (nodesIn ws) → Comes t (nodesIn ws)
+left-comes ws t k w = within-comes (omega (arith, k .few, rows-length (countIn ws) (nodeWords ws))) (k .tree .distinct) w
 
 -- the node that an argument names, found at a place, and the node region edited there: what the rest asks, and what it leaves
 module _ (a : NodeArgument) (ws : List ℕ) (k : Ready ws) (count : ℕ) (same : count ≡ countIn ws) (at : ℕ) (f : NodeFound a ws at)
-    (H : Node → List Node → List Node) (few : length (editRows (meantIn a ws) H (nodesIn ws)) ≤ mostNodes) (us : List ℕ) (many : ℕ)
+    (H : Node → List Node → List Node) (us : List ℕ) (many : ℕ)
     (does : Leaves (nodeWords ws) (editAt at H (rows count (nodeWords ws))) us many) where
   left : Leaves (nodeWords ws) (editRows (meantIn a ws) H (nodesIn ws)) us many
   left = leaves-first H (nodeWords ws) (nodesIn ws) us many at (rw same at does) (meantIn a ws) (f .here)
 
-  pub edited-ready : (length (put nodesPlace nodesWords us ws) ≡ wordsLength) × (many ≤ mostNodes)
-  edited-ready = ready-left ws (k .size) (editRows (meantIn a ws) H (nodesIn ws)) few us many left
+  pub edited-ready : Comes (editRows (meantIn a ws) H (nodesIn ws)) (nodesIn ws) → (was : List ℕ) → Held was (rows count (nodeWords ws)) → Changed was many (put nodesPlace nodesWords us ws)
+  edited-ready c was held = changed-left ws k (editRows (meantIn a ws) H (nodesIn ws)) c was (rw same at held) us many left
 
-  pub edited-left : (out : List ℕ) → out ≡ renewed many (put nodesPlace nodesWords us ws) → (bs : List ℕ) → out ≡ putTree (withNodes (editRows (meantIn a ws) H (nodesIn ws)) (decode ws bs)) ws
-  edited-left out o bs = o ∙ renewed-left ws (k .size) (editRows (meantIn a ws) H (nodesIn ws)) few bs us many left
+  pub edited-sorted : length (editRows (meantIn a ws) H (nodesIn ws)) ≡ length (nodesIn ws) → numbers (editRows (meantIn a ws) H (nodesIn ws)) ≡ numbers (nodesIn ws)
+      → Sorted many (put nodesPlace nodesWords us ws)
+  edited-sorted size numbered = sorted-left ws k (editRows (meantIn a ws) H (nodesIn ws)) size numbered us many left
+
+  pub edited-left : length (editRows (meantIn a ws) H (nodesIn ws)) ≤ mostNodes → (out : List ℕ) → out ≡ renewed many (put nodesPlace nodesWords us ws) → (bs : List ℕ) → out ≡ putTree (withNodes (editRows (meantIn a ws) H (nodesIn ws)) (decode ws bs)) ws
+  edited-left few out o bs = o ∙ renewed-left ws (k .size) (editRows (meantIn a ws) H (nodesIn ws)) few bs us many left

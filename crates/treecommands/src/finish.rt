@@ -1,18 +1,30 @@
 // What is derived from the tree, written afresh after its nodes changed.
+use index::find_indexed;
 use layout::COUNT;
+use layout::INDEX;
+use layout::INDEX_END;
 use layout::LATEST;
+use layout::MOST_NODES;
 use layout::NEXT;
 use layout::NODES;
 use layout::NODES_END;
 use layout::ORDER;
 use layout::ORDER_END;
 use layout::ORDER_LENGTH;
+use reindex::follow_edit;
+use tree::copy_words;
+use words::wide;
 ghost use mathlib.Core.Path.{_≡_};
 ghost use Prim.Native.Nat.{_≤_};
 ghost use lib.ListN.{length};
-ghost use Rattle.model.specs.Layout.{wordsLength, putHeader};
+ghost use Rattle.nodes.specs.Table.{rows};
+ghost use Rattle.nodes.specs.Order.{order};
 ghost use Rattle.nodes.specs.Formed.{mostNodes};
-ghost use Rattle.treecommands.specs.Settle.{settled, renewed};
+ghost use Rattle.index.specs.Index.{indexOf};
+ghost use Rattle.model.specs.Layout.{wordsLength, nextIn, latestIn, putHeader, putOrder, putIndex};
+ghost use Rattle.model.specs.Effects.{latestAmong};
+ghost use Rattle.treecommands.specs.Ready.{nodeWords};
+ghost use Rattle.treecommands.specs.Settle.{Sorted, Changed, settled, renewed};
 
 // The first words, one after the other.
 fn write_header(words: &mut [u32], count: u32, many: u32, next: u32, latest: u32)
@@ -25,27 +37,74 @@ fn write_header(words: &mut [u32], count: u32, many: u32, next: u32, latest: u32
     words[LATEST] = latest;
 }
 
-// The whole order region and the first words, for the table of so many nodes.
-pub fn settle(words: &mut [u32], count: usize, next: u32, latest: u32)
+// The whole order region, for the table of so many nodes, and how long the order is.
+fn renew_order(words: &mut [u32], count: usize) -> u32
     requires { ⌜ (length (now words) ≡ wordsLength) × (count ≤ mostNodes) ⌝ }
-    ensures { λ r. ⌜ now (words .exit) ≡ settled count next latest (now (words .entry)) ⌝ }
+    ensures { λ r. ⌜ (now (words .exit) ≡ putOrder (order (rows count (nodeWords (now (words .entry))))) (now (words .entry))) × (r ≡ length (order (rows count (nodeWords (now (words .entry)))))) ⌝ }
 {
     let order = order::running_order(&words[NODES..NODES_END], count);
     let many = order.length;
     order::write_order(&mut words[ORDER..ORDER_END], order);
-    write_header(words, count as u32, many as u32, next, latest);
+    many as u32
 }
 
-// The same, where the next number stays, and the latest synth too while it lives.
-pub fn renew(words: &mut [u32], count: usize)
-    requires { ⌜ (length (now words) ≡ wordsLength) × (count ≤ mostNodes) ⌝ }
-    ensures { λ r. ⌜ now (words .exit) ≡ renewed count (now (words .entry)) ⌝ }
+// The index, for the table of so many nodes: it was right for the table before, whose numbers were these.
+fn renew_index(words: &mut [u32], was: &[u32], count: usize)
+    requires { ⌜ Changed (now was) count (now words) ⌝ }
+    ensures { λ r. ⌜ now (words .exit) ≡ putIndex (indexOf (rows count (nodeWords (now (words .entry))))) (now (words .entry)) ⌝ }
+{
+    let before = wide(words[COUNT]);
+    let mut entries = [0u32; MOST_NODES];
+    copy_words(&mut entries, 0, &words[INDEX..INDEX_END], MOST_NODES);
+    follow_edit(&mut entries, before, was, &words[NODES..NODES_END], count);
+    copy_words(&mut words[INDEX..INDEX_END], 0, &entries, MOST_NODES);
+}
+
+// The order, the index and the first words, for the table of so many nodes, where the numbers were these.
+pub fn settle(words: &mut [u32], was: &[u32], count: usize, next: u32, latest: u32)
+    requires { ⌜ Changed (now was) count (now words) ⌝ }
+    ensures { λ r. ⌜ now (words .exit) ≡ settled count next latest (now (words .entry)) ⌝ }
+{
+    let many = renew_order(words, count);
+    renew_index(words, was, count);
+    write_header(words, count as u32, many, next, latest);
+}
+
+// The first words, where the next number stays, and the latest synth too while it lives.
+fn renew_header(words: &mut [u32], count: usize, many: u32)
+    requires { ⌜ Sorted count (now words) ⌝ }
+    ensures { λ r. ⌜ now (words .exit) ≡ putHeader count many (nextIn (now (words .entry))) (latestAmong (rows count (nodeWords (now (words .entry)))) (latestIn (now (words .entry)))) (now (words .entry)) ⌝ }
 {
     let next = words[NEXT];
     let latest = words[LATEST];
-    if tree::find(&words[NODES..NODES_END], count, latest) < count {
-        settle(words, count, next, latest);
+    let at = find_indexed(
+        &words[NODES..NODES_END],
+        &words[INDEX..INDEX_END],
+        count,
+        latest,
+    );
+    if at < count {
+        write_header(words, count as u32, many, next, latest);
     } else {
-        settle(words, count, next, 0);
+        write_header(words, count as u32, many, next, 0);
     }
+}
+
+// What `settle` writes, where the next number stays, and the latest synth too while it lives.
+pub fn renew(words: &mut [u32], was: &[u32], count: usize)
+    requires { ⌜ Changed (now was) count (now words) ⌝ }
+    ensures { λ r. ⌜ now (words .exit) ≡ renewed count (now (words .entry)) ⌝ }
+{
+    let many = renew_order(words, count);
+    renew_index(words, was, count);
+    renew_header(words, count, many);
+}
+
+// The same, where the nodes are where they were, so that the index is right.
+pub fn renew_in_place(words: &mut [u32], count: usize)
+    requires { ⌜ Sorted count (now words) ⌝ }
+    ensures { λ r. ⌜ now (words .exit) ≡ renewed count (now (words .entry)) ⌝ }
+{
+    let many = renew_order(words, count);
+    renew_header(words, count, many);
 }

@@ -1,5 +1,6 @@
 // Commands that free nodes, and the run flag.
 use crate::finish::renew;
+use crate::finish::renew_in_place;
 use crate::place::is_synth;
 use layout::COUNT;
 use layout::NODES;
@@ -7,6 +8,7 @@ use layout::NODES_END;
 use model::Answer;
 use names::node_place;
 use refusals::Refusal;
+use reindex::numbers_of;
 use values::NodeArgument;
 use words::wide;
 ghost use Rattle.model.specs.declared.TreeCommand.{TreeCommand};
@@ -27,7 +29,7 @@ pub fn run_node(node: NodeArgument, flag: u32, words: &mut [u32]) -> Answer
         return Answer::Refused(Refusal::NoNode);
     }
     tree::set_run(&mut words[NODES..NODES_END], count, at, flag);
-    renew(words, count);
+    renew_in_place(words, count);
     Answer::Done
 }
 
@@ -44,8 +46,9 @@ pub fn free_node(node: NodeArgument, words: &mut [u32]) -> Answer
     if at == 0 {
         return Answer::Refused(Refusal::WrongKind);
     }
+    let was = numbers_of(&words[NODES..NODES_END], count);
     let left = tree::cut(&mut words[NODES..NODES_END], count, at);
-    renew(words, left);
+    renew(words, &was, left);
     Answer::Done
 }
 
@@ -62,8 +65,9 @@ pub fn free_all(group: NodeArgument, words: &mut [u32]) -> Answer
     if is_synth(words, at) {
         return Answer::Refused(Refusal::WrongKind);
     }
+    let was = numbers_of(&words[NODES..NODES_END], count);
     let left = tree::cut_below(&mut words[NODES..NODES_END], count, at);
-    renew(words, left);
+    renew(words, &was, left);
     Answer::Done
 }
 
@@ -80,7 +84,8 @@ pub fn deep_free(group: NodeArgument, words: &mut [u32]) -> Answer
     if is_synth(words, at) {
         return Answer::Refused(Refusal::WrongKind);
     }
+    let was = numbers_of(&words[NODES..NODES_END], count);
     let left = tree::deep_free(&mut words[NODES..NODES_END], count, at);
-    renew(words, left);
+    renew(words, &was, left);
     Answer::Done
 }

@@ -8,8 +8,10 @@ use layout::NODES;
 use layout::NODES_END;
 use model::Answer;
 use names::node_place;
+use names::place_of;
 use nodes::Node;
 use refusals::Refusal;
+use reindex::numbers_of;
 use tree::Action;
 use tree::Asked;
 use values::NodeArgument;
@@ -35,7 +37,7 @@ fn group_spot(number: u32, action: Action, target: NodeArgument, words: &[u32]) 
         return Spot::Refused(Refusal::BadNumber);
     }
     let count = wide(words[COUNT]);
-    if tree::find(&words[NODES..NODES_END], count, number) < count {
+    if place_of(words, number) < count {
         return Spot::Refused(Refusal::NumberLive);
     }
     let at = node_place(words, target);
@@ -67,8 +69,9 @@ fn add_group(number: u32, action: Action, target: NodeArgument, words: &mut [u32
                 slot: GROUP,
                 row: 0,
             };
+            let was = numbers_of(&words[NODES..NODES_END], count);
             let after = tree::add_node(&mut words[NODES..NODES_END], count, action, at, group);
-            renew(words, after);
+            renew(words, &was, after);
             Answer::Done
         }
         Spot::Refused(why) => Answer::Refused(why),

@@ -8,7 +8,6 @@ mod place;
 
 pub use adding::bad_target;
 pub use adding::is_full;
-pub use finish::renew;
 pub use finish::settle;
 pub use free::deep_free;
 pub use free::free_all;

@@ -7,6 +7,7 @@ use layout::NODES_END;
 use model::Answer;
 use names::node_place;
 use refusals::Refusal;
+use reindex::numbers_of;
 use tree::Position;
 use values::NodeArgument;
 use words::wide;
@@ -76,14 +77,15 @@ fn into(group: NodeArgument, node: NodeArgument, words: &[u32]) -> Pair
 
 // What every move does once its checks have answered.
 fn move_pair(pair: Pair, position: Position, words: &mut [u32]) -> Answer
-    requires { ⌜ Ready (now words) × Movable pair (now words) ⌝ }
+    requires { ⌜ Ready (now words) × Movable pair position (now words) ⌝ }
     ensures { λ r. ⌜ Goes pair position (now (words .entry)) r (now (words .exit)) ⌝ }
 {
     match pair {
         Pair::At(a, b) => {
             let count = wide(words[COUNT]);
+            let was = numbers_of(&words[NODES..NODES_END], count);
             tree::move_node(&mut words[NODES..NODES_END], count, a, position, b);
-            renew(words, count);
+            renew(words, &was, count);
             Answer::Done
         }
         Pair::Refused(why) => Answer::Refused(why),

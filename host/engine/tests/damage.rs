@@ -4,12 +4,13 @@
 mod common;
 
 use common::pair::Pair;
+use common::tally::{self, Tally};
 use common::{say, seed, spread};
 use independent::engine::{Commands, Theme, BUSES, MOST_NODES, SLOTS};
-use independent::layout::{self, record, row_words, Record};
-use independent::layout::{ARENA, RECORD, RESIDENT, ROW, WORDS};
+use independent::layout::{self, record, row_words, write_index, Record};
+use independent::layout::{ARENA, INDEX, RECORD, RESIDENT, ROW, WORDS};
 use independent::layout::{BUS, CONTROL, COUNT, LATEST, LENGTH, NEXT, NODE, ORDER, ORDER_LENGTH};
-use independent::{running, well_formed, Engine, Random, MOST_BYTES, MOST_PARAMETERS};
+use independent::{running, well_formed, Call, Engine, Random, MOST_BYTES, MOST_PARAMETERS};
 
 const STATES: usize = 420;
 const DAMAGES: usize = 500;
@@ -95,28 +96,36 @@ fn damages(seed: u64, place: usize) -> [usize; 2] {
         if random.below(4) == 0 {
             mend_order(&mut pair.words);
         }
-        pair.expected_words.copy_from_slice(&pair.words);
-        pair.expected_arena.copy_from_slice(&pair.arena);
+        if random.below(2) == 0 && pair.words[COUNT] <= MOST_NODES as u32 {
+            write_index(&mut pair.words);
+        }
         let call = match random.below(3) {
             0 => commands.next(&model),
             1 => commands.kind(25, &model),
             _ => commands.kind(26, &model),
         };
-        let outcome = if well_formed(&pair.words, &pair.arena) {
-            counts[1] += 1;
-            pair.model = Engine::of(&layout::view(&pair.words, &pair.arena));
-            pair.send(&call, &mut random).map(drop)
-        } else {
-            counts[0] += 1;
-            pair.refuse(&call)
-        };
-        if let Err(what) = outcome {
-            panic!("LIMUDVEK_SEED={seed}, state {place}, damage {at}: {what}: {call:?}");
+        match send(&mut pair, &call, &mut random) {
+            Ok(formed) => counts[usize::from(formed)] += 1,
+            Err(what) => {
+                panic!("LIMUDVEK_SEED={seed}, state {place}, damage {at}: {what}: {call:?}")
+            }
         }
         pair.words.copy_from_slice(&words);
         pair.arena.copy_from_slice(&arena);
     }
     counts
+}
+
+/// Sends a command to a damaged state. Answers whether the state is still well formed.
+fn send(pair: &mut Pair, call: &Call, random: &mut Random) -> Result<bool, String> {
+    pair.expected_words.copy_from_slice(&pair.words);
+    pair.expected_arena.copy_from_slice(&pair.arena);
+    if well_formed(&pair.words, &pair.arena) {
+        pair.model = Engine::of(&layout::view(&pair.words, &pair.arena));
+        pair.send(call, random).map(|_| true)
+    } else {
+        pair.refuse(call).map(|_| false)
+    }
 }
 
 /// Changes a word or a byte, mostly one that is looked at.
@@ -126,7 +135,7 @@ fn damage(random: &mut Random, words: &mut [u32], arena: &mut [u8]) {
     let other = record(words, random.below(count));
     let Record { slot, row, .. } = record(words, node);
     let slot = (slot as usize).min(SLOTS - 1);
-    let (word, neighbour) = match random.below(40) {
+    let (word, neighbour) = match random.below(43) {
         0 => (COUNT, 0),
         1 => (ORDER_LENGTH, 0),
         2 => (NEXT, other.number),
@@ -162,6 +171,12 @@ fn damage(random: &mut Random, words: &mut [u32], arena: &mut [u8]) {
         30 => (CONTROL + random.below(ROW * MOST_NODES), 0),
         31 => (BUS + random.below(BUSES), 0),
         32 => (random.below(WORDS), 0),
+        40..=41 => (INDEX + random.below(count), random.below(count) as u32),
+        // Just past the index.
+        42 => (
+            (INDEX + count).min(WORDS - 1),
+            words[INDEX + random.below(count)],
+        ),
         // Bytes.
         33..=37 => {
             let length = (words[LENGTH + slot] as usize).clamp(1, MOST_BYTES);
@@ -213,6 +228,88 @@ fn mend_order(words: &mut [u32]) {
     for (word, number) in words[ORDER..CONTROL].iter_mut().zip(order) {
         *word = number;
     }
+}
+
+/// A way to change the words of the index, of which so many are entries, two at least.
+type Way = fn(&mut Random, &mut [u32], usize);
+
+/// Ways that break its rule, and one that does not.
+const WAYS: [(&str, Way); 6] = [
+    ("two entries swapped", |random, index, count| {
+        let (one, other) = two(random, count);
+        index.swap(one, other);
+    }),
+    (
+        "an entry that is no node's place",
+        |random, index, count| {
+            let past = (count + random.below(2 * MOST_NODES)) as u32;
+            let no_place = [count as u32, past, 1 << 16, 1 << 31 | past, u32::MAX];
+            index[random.below(count)] = random.one_of(&no_place);
+        },
+    ),
+    ("an entry at another position", |random, index, count| {
+        let (one, other) = two(random, count);
+        if one < other {
+            index[one..=other].rotate_left(1);
+        } else {
+            index[other..=one].rotate_right(1);
+        }
+    }),
+    ("an entry missing", |random, index, count| {
+        let gone = random.below(count - 1);
+        index.copy_within(gone + 1..count, gone);
+        if random.below(2) == 0 {
+            index[count - 1] = index[count % MOST_NODES];
+        }
+    }),
+    ("an entry twice", |random, index, count| {
+        let (one, other) = two(random, count);
+        index[one] = index[other];
+    }),
+    (PAST, |random, index, count| {
+        for word in &mut index[count..] {
+            *word = match random.below(2) {
+                0 => random.below(count) as u32,
+                _ => random.bits() as u32,
+            };
+        }
+    }),
+];
+const PAST: &str = "words past the entries";
+
+/// Two places below a count.
+fn two(random: &mut Random, count: usize) -> (usize, usize) {
+    let one = random.below(count);
+    (one, (one + 1 + random.below(count - 1)) % count)
+}
+
+/// Each way to damage the index is refused, and what is past it is not looked at.
+#[test]
+fn the_index_in_every_way() {
+    let seed = seed();
+    let tallies = spread(STATES / 4, |place| {
+        let mut random = Random::new(seed.wrapping_add((place as u64) << 32));
+        let (mut pair, mut commands) = reach(&mut random, place);
+        let words = pair.words.clone();
+        let arena = pair.arena.clone();
+        let model = pair.model.clone();
+        let count = words[COUNT] as usize;
+        let mut tally = Tally::default();
+        for (what, way) in WAYS.into_iter().filter(|_| count > 1) {
+            for _ in 0..20 {
+                way(&mut random, &mut pair.words[INDEX..], count);
+                tally.count(what, pair.words != words);
+                let call = commands.next(&model);
+                let formed = send(&mut pair, &call, &mut random);
+                assert_eq!(formed, Ok(what == PAST), "{what}, state {place}: {call:?}");
+                pair.words.copy_from_slice(&words);
+                pair.arena.copy_from_slice(&arena);
+            }
+        }
+        tally
+    });
+    let wanted = WAYS.map(|(what, _)| (what, 600));
+    tally::check(&tallies, &wanted);
 }
 
 /// Runs of other lengths are refused whatever they hold, by every command.

@@ -12,7 +12,7 @@ use common::tally::{check, Tally};
 use common::{seed, sequences, spread};
 use engine::{Engine, Refused, UNKNOWN};
 use independent::engine::{packed, Commands, Theme};
-use independent::layout::{COUNT, ORDER_LENGTH, RESIDENT};
+use independent::layout::{COUNT, INDEX, ORDER_LENGTH, RESIDENT};
 use independent::{write, write_message, Call, Random};
 
 /// The message of a call by the independent writer.
@@ -178,6 +178,7 @@ fn a_broken_state_is_refused_before_any_message() {
     broken(&|pair| pair.words[COUNT] = 0);
     broken(&|pair| pair.words[ORDER_LENGTH] += 1);
     broken(&|pair| pair.words[RESIDENT] = 2);
+    broken(&|pair| pair.words[INDEX] = 1);
     broken(&|pair| pair.arena[0] = 0);
     broken(&|pair| _ = pair.words.pop());
     broken(&|pair| _ = pair.arena.pop());

@@ -1,9 +1,9 @@
 //! What an accepted command leaves in the two lent runs, by docs/LAYOUT.md, word for word.
 
 use crate::engine::{MOST_NODES, SLOTS};
-use crate::layout::{record, row_words};
-use crate::layout::{BUS, CONTROL, COUNT, GROUP, LATEST, LENGTH, NEXT, NODE, NONE_LEFT, ORDER};
-use crate::layout::{ORDER_LENGTH, RECORD, RESIDENT};
+use crate::layout::{record, records, row_words, write_index};
+use crate::layout::{BUS, CONTROL, COUNT, GROUP, INDEX, LATEST, LENGTH, NEXT, NODE, NONE_LEFT};
+use crate::layout::{ORDER, ORDER_LENGTH, RECORD, RESIDENT};
 use crate::{View, MOST_BYTES};
 use std::collections::HashMap;
 
@@ -14,7 +14,7 @@ pub fn leave(op: u32, after: &View, words: &mut [u32], arena: &mut [u8]) {
         1 | 2 => slots(after, words, arena),
         3..=12 => tree(op, after, words),
         13..=18 => controls(after, words, |_| true),
-        19 | 20 => words[BUS..].copy_from_slice(&after.buses),
+        19 | 20 => words[BUS..INDEX].copy_from_slice(&after.buses),
         _ => {}
     }
 }
@@ -32,10 +32,11 @@ fn slots(after: &View, words: &mut [u32], arena: &mut [u8]) {
     }
 }
 
-/// The first words, the records, the whole order, and a new synth's controls.
+/// The first words, the records, the whole order, the index up to the count, and a new synth's
+/// controls.
 fn tree(op: u32, after: &View, words: &mut [u32]) {
-    let before: HashMap<u32, u32> = (0..words[COUNT] as usize)
-        .map(|place| record(words, place))
+    let before: HashMap<u32, u32> = records(words)
+        .iter()
         .map(|record| (record.number, record.row))
         .collect();
     let mut rows_taken = [false; MOST_NODES];
@@ -69,6 +70,7 @@ fn tree(op: u32, after: &View, words: &mut [u32]) {
     for (word, &number) in words[ORDER..].iter_mut().zip(&after.order) {
         *word = number as u32;
     }
+    write_index(words);
     if op == 3 {
         controls(after, words, |number| !before.contains_key(&number));
     }

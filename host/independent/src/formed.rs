@@ -1,8 +1,8 @@
-//! When a state is well formed: the ten rules of docs/LAYOUT.md, one function for a rule or two.
+//! When a state is well formed: the eleven rules of docs/LAYOUT.md, one function for a rule or two.
 
 use crate::engine::{BUSES, FIRST_GENERATED, MOST_NODES, SLOTS};
-use crate::layout::{record, row_words, slot_bytes, Record};
-use crate::layout::{ARENA, MOST_ORDER, WORDS};
+use crate::layout::{records, row_words, slot_bytes, Record};
+use crate::layout::{ARENA, INDEX, MOST_ORDER, WORDS};
 use crate::layout::{COUNT, GROUP, LATEST, LENGTH, NEXT, NONE_LEFT, ORDER, ORDER_LENGTH, RESIDENT};
 use crate::{read_definition, Definition, MOST_BYTES};
 use std::collections::HashSet;
@@ -17,7 +17,7 @@ pub fn well_formed(words: &[u32], arena: &[u8]) -> bool {
     if !(1..=MOST_NODES).contains(&count) {
         return false;
     }
-    let records: Vec<Record> = (0..count).map(|place| record(words, place)).collect();
+    let records = records(words);
     if !nodes_formed(&records, words[NEXT], words[LATEST]) {
         return false;
     }
@@ -26,7 +26,7 @@ pub fn well_formed(words: &[u32], arena: &[u8]) -> bool {
     let Some(order) = words[ORDER..ORDER + MOST_ORDER].get(..words[ORDER_LENGTH] as usize) else {
         return false;
     };
-    if order != running(&records) {
+    if order != running(&records) || !index_formed(&records, &words[INDEX..][..count]) {
         return false;
     }
     let Some(definitions) = definitions(&records, words, arena) else {
@@ -117,6 +117,16 @@ pub fn running(records: &[Record]) -> Vec<u32> {
         }
     }
     order
+}
+
+/// Rule 11: each entry is a node's place, and the numbers of these nodes rise.
+fn index_formed(records: &[Record], index: &[u32]) -> bool {
+    let numbers = index.iter().map(|&place| {
+        let record = records.get(place as usize)?;
+        Some(record.number)
+    });
+    let numbers: Option<Vec<u32>> = numbers.collect();
+    numbers.is_some_and(|numbers| numbers.is_sorted_by(|one, next| one < next))
 }
 
 /// Rule 9: the definitions of the taken slots.

@@ -6,7 +6,7 @@ use crate::{read_definition, MOST_BYTES, MOST_PARAMETERS};
 use std::ops::Range;
 
 /// The lengths of the two runs.
-pub const WORDS: usize = BUS + BUSES;
+pub const WORDS: usize = INDEX + MOST_NODES;
 pub const ARENA: usize = SLOTS * MOST_BYTES;
 
 pub const COUNT: usize = 0;
@@ -19,6 +19,7 @@ pub const NODE: usize = RESIDENT + SLOTS;
 pub const ORDER: usize = NODE + RECORD * MOST_NODES;
 pub const CONTROL: usize = ORDER + MOST_ORDER;
 pub const BUS: usize = CONTROL + ROW * MOST_NODES;
+pub const INDEX: usize = BUS + BUSES;
 
 /// The words of a node's record, and of a row of controls.
 pub const RECORD: usize = 5;
@@ -58,6 +59,19 @@ pub fn record(words: &[u32], place: usize) -> Record {
     }
 }
 
+/// The records up to the count, which is at most 256.
+pub fn records(words: &[u32]) -> Vec<Record> {
+    let places = 0..words[COUNT] as usize;
+    places.map(|place| record(words, place)).collect()
+}
+
+/// Writes the index afresh: the places of the records by rising number. Words past them stay.
+pub fn write_index(words: &mut [u32]) {
+    let mut places: Vec<u32> = (0..words[COUNT]).collect();
+    places.sort_by_key(|&place| record(words, place as usize).number);
+    words[INDEX..][..places.len()].copy_from_slice(&places);
+}
+
 /// The bytes of a slot's definition. Its length is at most the limit.
 pub fn slot_bytes<'a>(words: &[u32], arena: &'a [u8], slot: usize) -> &'a [u8] {
     let start = MOST_BYTES * slot;
@@ -72,9 +86,7 @@ pub fn row_words(row: usize, controls: usize) -> Range<usize> {
 
 /// What a well-formed state holds.
 pub fn view(words: &[u32], arena: &[u8]) -> View {
-    let records: Vec<Record> = (0..words[COUNT] as usize)
-        .map(|place| record(words, place))
-        .collect();
+    let records = records(words);
     let mut slots = vec![None; SLOTS];
     let mut parameters = [0; SLOTS];
     for slot in 0..SLOTS {
@@ -110,7 +122,7 @@ pub fn view(words: &[u32], arena: &[u8]) -> View {
         next: (words[NEXT] != NONE_LEFT).then_some(words[NEXT] as i32),
         latest: (words[LATEST] != 0).then_some(words[LATEST] as i32),
         slots,
-        buses: words[BUS..].to_vec(),
+        buses: words[BUS..INDEX].to_vec(),
     }
 }
 
@@ -153,6 +165,7 @@ pub fn state(view: &View) -> (Vec<u32>, Vec<u8>) {
     for (word, &number) in words[ORDER..].iter_mut().zip(&view.order) {
         *word = number as u32;
     }
-    words[BUS..].copy_from_slice(&view.buses);
+    words[BUS..INDEX].copy_from_slice(&view.buses);
+    write_index(&mut words);
     (words, arena)
 }

@@ -1,8 +1,8 @@
 //! The lent state: views written and read back, and each rule of a well-formed state once.
 
 use independent::engine::{Commands, Theme};
-use independent::layout::{self, record, row_words};
-use independent::layout::{ARENA, ORDER, ORDER_LENGTH, RECORD, RESIDENT, ROW, WORDS};
+use independent::layout::{self, record, row_words, write_index};
+use independent::layout::{ARENA, INDEX, ORDER, ORDER_LENGTH, RECORD, RESIDENT, ROW, WORDS};
 use independent::layout::{BUS, CONTROL, COUNT, GROUP, LATEST, LENGTH, NEXT, NODE, NONE_LEFT};
 use independent::{leave, well_formed, write, Call, Definition, Engine, Random, MOST_BYTES};
 
@@ -43,9 +43,9 @@ fn states_are_well_formed_and_read_back() {
 
 #[test]
 fn the_parts_lie_where_the_page_says() {
-    assert_eq!((WORDS, ARENA), (22_083, 65_536));
+    assert_eq!((WORDS, ARENA), (22_339, 65_536));
     assert_eq!([LENGTH, RESIDENT, NODE], [4, 36, 68]);
-    assert_eq!([ORDER, CONTROL, BUS], [1348, 1603, 17_987]);
+    assert_eq!([ORDER, CONTROL, BUS, INDEX], [1348, 1603, 17_987, 22_083]);
     assert_eq!(row_words(2, 3), 1603 + 128..1603 + 134);
     let (words, arena) = layout::state(&Engine::new().view());
     assert_eq!(words[..4], [1, 0, 4_294_967_288, 0]);
@@ -91,12 +91,27 @@ fn word(place: usize, field: usize) -> usize {
     NODE + RECORD * place + field
 }
 
-/// Whether the example is well formed with some of its words changed.
-fn holds(changes: &[(usize, u32)]) -> bool {
+/// The example with some of its words changed.
+fn changed(changes: &[(usize, u32)]) -> (Vec<u32>, Vec<u8>) {
     let (mut words, arena) = example();
     for &(place, new) in changes {
         assert_ne!(words[place], new, "word {place} stays");
         words[place] = new;
+    }
+    (words, arena)
+}
+
+/// Whether the example is well formed then.
+fn holds(changes: &[(usize, u32)]) -> bool {
+    let (words, arena) = changed(changes);
+    well_formed(&words, &arena)
+}
+
+/// The same with the index that the changed records ask for.
+fn holds_indexed(changes: &[(usize, u32)]) -> bool {
+    let (mut words, arena) = changed(changes);
+    if words[COUNT] <= 256 {
+        write_index(&mut words);
     }
     well_formed(&words, &arena)
 }
@@ -179,7 +194,7 @@ fn nodes() {
         &[(word(0, 2), 0)],
     ];
     for changes in bad {
-        assert!(!holds(changes), "{changes:?}");
+        assert!(!holds_indexed(changes), "{changes:?}");
     }
     let good: &[&[(usize, u32)]] = &[
         &[(word(1, 0), i32::MAX as u32)],
@@ -204,8 +219,76 @@ fn nodes() {
         &[(ORDER + 254, 10)],
     ];
     for changes in good {
-        assert!(holds(changes), "{changes:?}");
+        assert!(holds_indexed(changes), "{changes:?}");
     }
+}
+
+#[test]
+fn index() {
+    let (words, _) = example();
+    assert_eq!(words[INDEX..INDEX + 7], [0, 1, 3, 2, 4, 5, 0]);
+    let entries = |changes: &[(usize, u32)]| -> bool {
+        let changes = changes.iter().map(|&(entry, new)| (INDEX + entry, new));
+        holds(&changes.collect::<Vec<_>>())
+    };
+    let bad: &[&[(usize, u32)]] = &[
+        // Two are swapped.
+        &[(1, 3), (2, 1)],
+        &[(0, 5), (5, 0)],
+        // No node has the place.
+        &[(0, 6)],
+        &[(5, 6)],
+        &[(3, 256)],
+        &[(5, u32::MAX)],
+        // One is twice there, and another missing.
+        &[(1, 0)],
+        &[(2, 1)],
+        &[(4, 5)],
+        &[(5, 4)],
+        // One has another position: the last is the first, as if numbers had signs, or the first the last.
+        &[(0, 5), (1, 0), (2, 1), (3, 3), (4, 2), (5, 4)],
+        &[(0, 1), (1, 3), (2, 2), (3, 4), (4, 5), (5, 0)],
+        // One is missing, and those behind it have moved up.
+        &[(1, 3), (2, 2), (3, 4), (4, 5), (5, 0)],
+        &[(5, 0)],
+        // By place, not by number.
+        &[(2, 2), (3, 3)],
+    ];
+    for changes in bad {
+        assert!(!entries(changes), "{changes:?}");
+    }
+    let good: &[&[(usize, u32)]] = &[&[(6, 6)], &[(6, u32::MAX), (7, 1)], &[(255, u32::MAX)]];
+    for changes in good {
+        assert!(entries(changes), "{changes:?}");
+    }
+    // A number that changes with the index as it was: behind its neighbours' numbers, and among them.
+    assert!(!holds(&[(word(1, 0), 3)]));
+    assert!(!holds(&[(word(2, 0), 12)]));
+    assert!(holds(&[(word(2, 0), 9)]));
+}
+
+/// A command of the tree leaves the index past the new count as it was, and any other all of it.
+#[test]
+fn the_index_after_commands() {
+    let (mut words, mut arena) = example();
+    let past = [-7i32 as u32, 1, 2, 3];
+    words[INDEX + 6..][..past.len()].copy_from_slice(&past);
+    let mut engine = Engine::of(&layout::view(&words, &arena));
+    let mut send = |op: u32, numbers: [i32; 5], expected: [u32; 10]| {
+        let call = Call::new(op, numbers, b"");
+        let command = call.command().expect("it is a command");
+        assert_eq!(engine.apply(&command, &mut []), Ok(0));
+        leave(op, &engine.view(), &mut words, &mut arena);
+        assert_eq!(words[INDEX..][..10], expected, "{call:?}");
+        assert!(well_formed(&words, &arena));
+    };
+    // 0 [5 1 [10 2 [11]] -8], then 1 before 5, then 2 freed with 11, then all.
+    send(4, [5, 0, 0, 0, 0], [0, 2, 4, 1, 3, 5, 6, 1, 2, 3]);
+    send(19, [0, 0, 0, 0, 7], [0, 2, 4, 1, 3, 5, 6, 1, 2, 3]);
+    send(8, [1, 5, 0, 0, 0], [0, 1, 3, 5, 2, 4, 6, 1, 2, 3]);
+    send(12, [2, 0, 0, 0, 0], [0, 1, 3, 5, 2, 4, 6, 1, 2, 3]);
+    send(5, [2, 0, 0, 0, 0], [0, 1, 3, 2, 4, 4, 6, 1, 2, 3]);
+    send(6, [0, 0, 0, 0, 0], [0, 1, 3, 2, 4, 4, 6, 1, 2, 3]);
 }
 
 #[test]

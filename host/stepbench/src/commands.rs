@@ -151,14 +151,22 @@ pub fn commands(nodes: usize) -> Vec<(&'static str, Vec<Call>)> {
             "/n_free of no node, refused",
             vec![Call::new(5, [9999, 0, 0, 0, 0], b"")],
         ),
+        (
+            "/n_free of the root, refused",
+            vec![Call::new(5, [0; 5], b"")],
+        ),
+        (
+            "/n_free, /s_new",
+            vec![
+                Call::new(5, [last, 0, 0, 0, 0], b""),
+                Call::new(3, [last, 1, 1 + (last - 10) % 4, 0, 0], name),
+            ],
+        ),
     ];
     if nodes < 256 {
-        let synth = Call::new(3, [5000, 1, 3, 0, 0], name);
         let group = Call::new(4, [5001, 1, 3, 0, 0], b"");
         let in_group = Call::new(3, [5000, 1, 5001, 0, 0], name);
-        let free = Call::new(5, [5000, 0, 0, 0, 0], b"");
         let free_group = Call::new(5, [5001, 0, 0, 0, 0], b"");
-        list.push(("/s_new, /n_free", vec![synth.clone(), free]));
         list.push(("/g_new, /n_free", vec![group.clone(), free_group.clone()]));
         if nodes < 255 {
             let (free_all, deep) = (

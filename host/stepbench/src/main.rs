@@ -1,17 +1,19 @@
 //! The proved engine's time as a multiple of the independent Rust engine's, for the same commands in
 //! one run: whole (`apply`), and with the time of its state check taken off (`step`); and messages
-//! against commands as they are, their reading and writing against plain Rust.
+//! against commands as they are, their reading and writing against plain Rust; and the lookup of a node.
 //!
 //! Run it from `host/`, after `./archives engine`, by `cargo run --release -p stepbench`.
 
 mod clock;
 mod commands;
+mod lookups;
 mod messages;
 
 use clock::{least, SAMPLES};
 use commands::{commands, definition, definitions, engine_of};
 use independent::engine::packed;
 use independent::{layout, well_formed, Call, Definition, Engine, Random, Unit, MOST_BYTES};
+use std::cell::RefCell;
 use std::hint::black_box;
 
 const REPLY: usize = 1 << 20;
@@ -67,6 +69,7 @@ fn main() {
             measure(name, nodes, &calls);
         }
     }
+    lookups::measure();
     messages::measure();
     checks();
 }
@@ -83,7 +86,7 @@ fn measure(name: &str, nodes: usize, calls: &[Call]) {
     for call in calls {
         assert_eq!(state.apply(call), plain(call), "{call:?}");
     }
-    let mut checked = state.clone();
+    let state = RefCell::new(state);
     let times = least(vec![
         Box::new(|| {
             for call in calls {
@@ -92,10 +95,10 @@ fn measure(name: &str, nodes: usize, calls: &[Call]) {
         }),
         Box::new(|| {
             for call in calls {
-                black_box(state.apply(call));
+                black_box(state.borrow_mut().apply(call));
             }
         }),
-        Box::new(|| checked.check()),
+        Box::new(|| state.borrow_mut().check()),
     ]);
     let each = |time: f64| time / calls.len() as f64;
     let (rust, apply) = (each(times[0]), each(times[1]));

@@ -1,10 +1,5 @@
-use Prim.Native.Nat.{ℕ}
-use mathlib.Core.Path.{sym, ap, _∙_}
+use mathlib.Core.Path.{sym, _∙_}
 use borrow.Author.Needs.{needs}
-use Rattle.words.specs.Parts.{region}
-use Rattle.nodes.specs.Table.{rows}
-use Rattle.nodes.specs.Place.{place}
-use Rattle.model.specs.Layout.{latestIn, nodesPlace, nodesWords}
 use Rattle.names.specs.Named.{named-number, named-latest, named-none, named-reserved}
 use Rattle.names.proofs.node_place.Statement.{statement}
 use Rattle.names.proofs.node_place.Tie as tie
@@ -30,48 +25,28 @@ returns c =
     rw (c .before .before .before .before .before .wide .ensures)
     (named-none (a .argument) (a .words .now) (sym (c .before .before .before .before .target-of .ensures) ∙ c .before .before .enum-told .given .1) (c .if1 .taken))
 
-sub-find : tie.Need-sub-find
-sub-find c = search needs
-
-part-find-start : tie.Need-part-find-start
-part-find-start c = search needs
-
-part-find-end : tie.Need-part-find-end
-part-find-end c = search needs
-
-find-requires : tie.Need-find-requires
-find-requires c κs = search needs
+place-of-requires : tie.Need-place-of-requires
+place-of-requires c κs = search needs
 
 enum-known-target : tie.Need-enum-known-target
 enum-known-target c = search needs
 
-sub-find-2 : tie.Need-sub-find-2
-sub-find-2 c = search needs
-
-part-find-start-2 : tie.Need-part-find-start-2
-part-find-start-2 c = search needs
-
-part-find-end-2 : tie.Need-part-find-end-2
-part-find-end-2 c = search needs
-
-find-requires-2 : tie.Need-find-requires-2
-find-requires-2 c κs = search needs
+place-of-requires-2 : tie.Need-place-of-requires-2
+place-of-requires-2 c κs = search needs
 
 enum-told-2 : tie.Need-enum-told-2
 enum-told-2 c = search needs
 
 returns-2 : tie.Need-returns-2
 returns-2 c =
-    let a = c .before .before .before .before .before .before .before .before .before .before .args in
-    named-latest (a .argument) (a .words .now) (c .find .result) (sym (c .before .before .before .before .before .before .target-of .ensures) ∙ c .before .before .before .before .enum-told .given .1) (c .before .before .if1 .left)
-    (c .find .ensures ∙ ap (λ (k : ℕ). place (latestIn (a .words .now)) (rows k (region nodesPlace nodesWords (a .words .now)))) (c .before .before .before .before .before .before .before .wide .ensures))
+    let a = c .before .before .before .before .before .before .before .before .before .args in
+    named-latest (a .argument) (a .words .now) (c .place-of .result) (sym (c .before .before .before .before .before .target-of .ensures) ∙ c .before .before .before .enum-told .given .1) (c .before .if1 .left) (c .place-of .ensures)
 
 returns-3 : tie.Need-returns-3
 returns-3 c =
-    let a = c .before .before .before .before .before .before .before .before .before .args in
-    let m = c .before .before .before .target .given .0 .0 in
-    named-number (a .argument) (a .words .now) m (c .find2 .result) (sym (c .before .before .before .before .before .target-of .ensures) ∙ c .before .before .before .target .given .1)
-    (c .find2 .ensures ∙ ap (λ (k : ℕ). place m (rows k (region nodesPlace nodesWords (a .words .now)))) (c .before .before .before .before .before .before .wide .ensures))
+    let a = c .before .before .before .before .before .before .before .before .args in
+    let told = c .before .before .target .given in
+    named-number (a .argument) (a .words .now) (told .0 .0) (c .place-of2 .result) (sym (c .before .before .before .before .target-of .ensures) ∙ told .1) (c .place-of2 .ensures)
 
 returns-4 : tie.Need-returns-4
 returns-4 c =
@@ -88,15 +63,9 @@ node-place-spec =
     enum-told
     shared-slice-read-latest
     returns
-    sub-find
-    part-find-start
-    part-find-end
-    find-requires
+    place-of-requires
     enum-known-target
-    sub-find-2
-    part-find-start-2
-    part-find-end-2
-    find-requires-2
+    place-of-requires-2
     enum-told-2
     returns-2
     returns-3

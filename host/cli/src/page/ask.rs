@@ -19,6 +19,7 @@ const LENGTH: usize = 4;
 const HEADER: usize = 10;
 
 const SLOTS: usize = 32;
+const BUSES: usize = 4096;
 const NO_SUCH_NODE: u32 = 17;
 
 #[derive(Clone, Debug, Default, PartialEq, Eq)]
@@ -104,7 +105,7 @@ impl Answers {
             order,
             latest,
             definitions,
-            buses: words[BUS..].to_vec(),
+            buses: words[BUS..][..BUSES].to_vec(),
             status: status.arguments.iter().map(int).collect::<Option<_>>()?,
             nodes,
         })

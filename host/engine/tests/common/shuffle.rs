@@ -1,16 +1,14 @@
 //! What a well-formed state leaves open.
 
-use independent::layout::{record, row_words, slot_bytes};
+use independent::layout::{records, row_words, slot_bytes};
 use independent::layout::{
-    BUS, CONTROL, COUNT, LENGTH, NODE, ORDER, ORDER_LENGTH, RECORD, RESIDENT,
+    BUS, CONTROL, INDEX, LENGTH, NODE, ORDER, ORDER_LENGTH, RECORD, RESIDENT,
 };
 use independent::Random;
 
 /// Puts anything into what a well-formed state leaves open, and gives the synths other rows.
 pub fn shuffle(words: &mut [u32], arena: &mut [u8], random: &mut Random) {
-    let records: Vec<_> = (0..words[COUNT] as usize)
-        .map(|place| record(words, place))
-        .collect();
+    let records = records(words);
     let old = words[CONTROL..BUS].to_vec();
     words[CONTROL..BUS].fill_with(|| random.bits() as u32);
     let mut rows: Vec<usize> = (0..256).collect();
@@ -32,6 +30,7 @@ pub fn shuffle(words: &mut [u32], arena: &mut [u8], random: &mut Random) {
     words[NODE + RECORD * records.len()..ORDER].fill_with(|| random.bits() as u32);
     let past_order = ORDER + words[ORDER_LENGTH] as usize;
     words[past_order..CONTROL].fill_with(|| random.bits() as u32);
+    words[INDEX + records.len()..].fill_with(|| random.bits() as u32);
     for slot in 0..independent::engine::SLOTS {
         let resident = words[RESIDENT + slot] == 1;
         let taken = resident || records.iter().any(|record| record.slot == slot as u32);

@@ -1,4 +1,4 @@
--- `making::numbers::is_live` meets its contract: a search along the table.
+-- `making::numbers::is_live` meets its contract: a lookup by the index.
 use borrow.Author.Needs.{needs}
 use borrow.Author.Tests.{eq-eqb, ne-eqb}
 use Rattle.making.specs.Checks.{lives-found}
@@ -14,22 +14,14 @@ shared-slice-read-wide c = search needs
 wide-requires : tie.Need-wide-requires
 wide-requires c κs = search needs
 
-sub-find : tie.Need-sub-find
-sub-find c = search needs
-
-part-find-start : tie.Need-part-find-start
-part-find-start c = search needs
-
-part-find-end : tie.Need-part-find-end
-part-find-end c = search needs
-
-find-requires : tie.Need-find-requires
-find-requires c κs = search needs
+place-of-requires : tie.Need-place-of-requires
+place-of-requires c κs = search needs
 
 returns-2 : tie.Need-returns-2
 returns-2 c =
-    rw (ne-eqb (c .before .before .before .before .before .before .args .number) 4294967295 (c .before .before .before .before .if1 .left))
-    (lives-found (c .before .before .before .before .before .before .args .number) (c .before .before .before .before .before .before .args .words .now) (c .before .before .wide .result) (c .before .before .wide .ensures) (c .find .result) (c .find .ensures))
+    let a = c .before .before .before .before .before .args in
+    let count = c .before .wide in
+    rw (ne-eqb (a .number) 4294967295 (c .before .before .before .if1 .left)) (lives-found (a .number) (a .words .now) (count .result) (count .ensures) (c .place-of .result) (c .place-of .ensures))
 
 pub is-live-spec : {M : Type 1} → statement M
 is-live-spec =
@@ -38,8 +30,5 @@ is-live-spec =
     returns
     shared-slice-read-wide
     wide-requires
-    sub-find
-    part-find-start
-    part-find-end
-    find-requires
+    place-of-requires
     returns-2)

@@ -1,68 +1,42 @@
--- `treecommands::finish::renew` meets its contract: the latest stays where its number was found.
-use native.Mathlib.Omega.{arith}
+-- `treecommands::finish::renew` meets its contract: the parts one after the other.
 use borrow.Author.Needs.{needs}
-use mathlib.Core.Path.{_∙_}
-use Rattle.nodes.specs.Place.{found, not-found}
-use Rattle.model.specs.Layout.{latestIn}
-use Rattle.treecommands.specs.Ready.{nodeWords}
+use native.Mathlib.Omega.{arith}
+use Rattle.treecommands.specs.Settle.{order-changed, index-sorted, renewed-by}
 use Rattle.treecommands.proofs.finish.renew.Statement.{statement}
 use Rattle.treecommands.proofs.finish.renew.Tie as tie
 
-slice-read-next : tie.Need-slice-read-next
-slice-read-next c = search needs
+renew-order-requires : tie.Need-renew-order-requires
+renew-order-requires c κs = search needs
 
-slice-read-latest : tie.Need-slice-read-latest
-slice-read-latest c = search needs
+renew-index-requires : tie.Need-renew-index-requires
+renew-index-requires c κs =
+    let first = c .before .before .before .before .before .before .before in
+    let a = first .args in
+    let order = c .before .before .before .renew-order in
+    order-changed (a .was .now) (a .count) (a .words .now) (first .pre) (order .last .0) (order .ensures .0)
 
-sub-find : tie.Need-sub-find
-sub-find c = search needs
-
-part-find-start : tie.Need-part-find-start
-part-find-start c = search needs
-
-part-find-end : tie.Need-part-find-end
-part-find-end c = search needs
-
-find-requires : tie.Need-find-requires
-find-requires c κs = search needs
-
-settle-requires : tie.Need-settle-requires
-settle-requires c κs = search needs
-
-settle-requires-2 : tie.Need-settle-requires-2
-settle-requires-2 c κs = search needs
+renew-header-requires : tie.Need-renew-header-requires
+renew-header-requires c κs =
+    let first = c .before .before .before .before .before .before .before .before .before .before .before in
+    let a = first .args in
+    let order = c .before .before .before .before .before .before .before .renew-order in
+    let index = c .before .before .before .renew-index in
+    let there = order-changed (a .was .now) (a .count) (a .words .now) (first .pre) (order .last .0) (order .ensures .0) in
+    index-sorted (a .was .now) (a .count) (order .last .0) there (index .last .0) (index .ensures)
 
 same-length : tie.Need-same-length
 same-length c = search needs
 
 returns : tie.Need-returns
 returns c =
-    let a = c .before .before .before .before .before .before .before .before .before .before .before .args in
-    let ws = a .words .now in
-    c .before .before .settle .ensures ∙ rw (found (a .count) (nodeWords ws) (latestIn ws) (omega arith))
-
-same-length-2 : tie.Need-same-length-2
-same-length-2 c = search needs
-
-returns-2 : tie.Need-returns-2
-returns-2 c =
-    let a = c .before .before .before .before .before .before .before .before .before .before .before .args in
-    let ws = a .words .now in
-    c .before .before .settle2 .ensures ∙ rw (not-found (a .count) (nodeWords ws) (latestIn ws) (omega arith))
+    let first = c .before .before .before .before .before .before .before .before .before .before .before .before .before .before in
+    let a = first .args in
+    let order = c .before .before .before .before .before .before .before .before .before .before .renew-order in
+    let index = c .before .before .before .before .before .before .renew-index in
+    let head = c .before .before .renew-header in
+    renewed-by (a .count) (omega arith) (a .words .now) (first .pre .size) (order .last .0) (order .result) (order .ensures) (index .last .0) (index .ensures) (head .last .0) (head .ensures)
 
 pub renew-spec : {M : Type 1} → statement M
 renew-spec =
     tie.close
-    (tie.spec
-    slice-read-next
-    slice-read-latest
-    sub-find
-    part-find-start
-    part-find-end
-    find-requires
-    settle-requires
-    settle-requires-2
-    same-length
-    returns
-    same-length-2
-    returns-2)
+    (tie.spec renew-order-requires renew-index-requires renew-header-requires same-length returns)

@@ -1,46 +1,22 @@
--- `treecommands::finish::settle` meets its contract: the order region holds the order as it was worked out.
-use native.Mathlib.Omega.{arith}
+-- `treecommands::finish::settle` meets its contract: the parts one after the other.
 use borrow.Author.Needs.{needs}
-use Prim.Native.Nat.{ℕ}
-use mathlib.Core.Path.{ap, _∙_}
-use mathlib.Core.List.{List}
-use Rattle.words.specs.Parts.{put}
-use Rattle.model.specs.Layout.{orderPlace, orderWords, putHeader}
-use Rattle.treecommands.specs.Settle.{settled-by, many-few}
+use native.Mathlib.Omega.{arith}
+use Rattle.treecommands.specs.Settle.{order-changed, settled-by}
 use Rattle.treecommands.proofs.finish.settle.Statement.{statement}
 use Rattle.treecommands.proofs.finish.settle.Tie as tie
 
-sub-running-order : tie.Need-sub-running-order
-sub-running-order c = search needs
+renew-order-requires : tie.Need-renew-order-requires
+renew-order-requires c κs = search needs
 
-part-running-order-start : tie.Need-part-running-order-start
-part-running-order-start c = search needs
-
-part-running-order-end : tie.Need-part-running-order-end
-part-running-order-end c = search needs
-
-running-order-requires : tie.Need-running-order-requires
-running-order-requires c κs = search needs
-
-sub-write-order : tie.Need-sub-write-order
-sub-write-order c = search needs
-
-part-write-order-start : tie.Need-part-write-order-start
-part-write-order-start c = search needs
-
-part-write-order-end : tie.Need-part-write-order-end
-part-write-order-end c = search needs
-
-write-order-requires : tie.Need-write-order-requires
-write-order-requires c κs = search needs
+renew-index-requires : tie.Need-renew-index-requires
+renew-index-requires c κs =
+    let first = c .before .before .before .before .before .before .before in
+    let a = first .args in
+    let order = c .before .before .before .renew-order in
+    order-changed (a .was .now) (a .count) (a .words .now) (first .pre) (order .last .0) (order .ensures .0)
 
 cast-write-header : tie.Need-cast-write-header
 cast-write-header c = search needs
-
-cast-write-header-2 : tie.Need-cast-write-header-2
-cast-write-header-2 c =
-    let a = c .before .before .before .before .before .before .before .before .before .args in
-    omega (arith, many-few (a .count) (a .words .now) (c .before .before .before .before .before .running-order .result) (c .before .before .before .before .before .running-order .ensures))
 
 write-header-requires : tie.Need-write-header-requires
 write-header-requires c κs = search needs
@@ -50,27 +26,20 @@ same-length c = search needs
 
 returns : tie.Need-returns
 returns c =
-    let a = c .before .before .before .before .before .before .before .before .before .before .before .before .args in
-    let ws = a .words .now in
-    let o = c .before .before .before .before .before .before .before .before .running-order .result in
-    c .before .before .write-header .ensures
-    ∙ ap (λ (l : List ℕ). putHeader (a .count) (o .length) (a .next) (a .latest) (put orderPlace orderWords l ws)) (c .before .before .before .before .before .before .write-order .ensures)
-    ∙ settled-by (a .count) ws o (c .before .before .before .before .before .before .before .before .running-order .ensures) (a .next) (a .latest)
+    let first = c .before .before .before .before .before .before .before .before .before .before .before .before .before .before in
+    let a = first .args in
+    let order = c .before .before .before .before .before .before .before .before .before .before .renew-order in
+    let index = c .before .before .before .before .before .before .renew-index in
+    let head = c .before .before .write-header in
+    settled-by (a .count) (omega arith) (a .words .now) (first .pre .size) (order .last .0) (order .result) (order .ensures) (index .last .0) (index .ensures) (a .next) (a .latest) (head .last .0) (head .ensures)
 
 pub settle-spec : {M : Type 1} → statement M
 settle-spec =
     tie.close
     (tie.spec
-    sub-running-order
-    part-running-order-start
-    part-running-order-end
-    running-order-requires
-    sub-write-order
-    part-write-order-start
-    part-write-order-end
-    write-order-requires
+    renew-order-requires
+    renew-index-requires
     cast-write-header
-    cast-write-header-2
     write-header-requires
     same-length
     returns)

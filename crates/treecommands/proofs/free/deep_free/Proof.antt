@@ -36,6 +36,18 @@ returns-2 c =
     let a = s .args in
     deep-wrong (a .group) (a .words .now) (s .pre) (c .before .before .before .before .before .before .wide .result) (c .before .before .before .before .before .before .wide .ensures) (c .before .before .before .before .node-place .result) (c .before .before .before .before .node-place .ensures) (omega arith) (sym (c .before .is-synth .ensures) ∙ c .if2 .taken)
 
+sub-numbers-of : tie.Need-sub-numbers-of
+sub-numbers-of c = search needs
+
+part-numbers-of-start : tie.Need-part-numbers-of-start
+part-numbers-of-start c = search needs
+
+part-numbers-of-end : tie.Need-part-numbers-of-end
+part-numbers-of-end c = search needs
+
+numbers-of-requires : tie.Need-numbers-of-requires
+numbers-of-requires c κs = search needs
+
 sub-deep-free : tie.Need-sub-deep-free
 sub-deep-free c = search needs
 
@@ -48,21 +60,31 @@ part-deep-free-end c = search needs
 deep-free-requires : tie.Need-deep-free-requires
 deep-free-requires c κs = search needs
 
+slice-aggregate-renew : tie.Need-slice-aggregate-renew
+slice-aggregate-renew c = search needs
+
 renew-requires : tie.Need-renew-requires
 renew-requires c κs =
-    let s = c .before .before .before .before .before .before .before .before .before .before .before .before .before .before in
+    let s = c .before .before .before .before .before .before .before .before .before .before .before .before .before .before .before .before .before .before in
     let a = s .args in
-    deep-ready (a .group) (a .words .now) (s .pre) (c .before .before .before .before .before .before .before .before .before .before .before .wide .result) (c .before .before .before .before .before .before .before .before .before .before .before .wide .ensures) (c .before .before .before .before .before .before .before .before .before .node-place .result) (c .before .before .before .before .before .before .before .before .before .node-place .ensures) (omega arith) (c .before .before .before .deep-free .last .0) (c .before .before .before .deep-free .result) (c .before .before .before .deep-free .ensures)
+    let count = c .before .before .before .before .before .before .before .before .before .before .before .before .before .before .before .wide in
+    let at = c .before .before .before .before .before .before .before .before .before .before .before .before .before .node-place in
+    let was = c .before .before .before .before .before .before .numbers-of in
+    let cut = c .before .before .before .before .deep-free in
+    deep-ready (a .group) (a .words .now) (s .pre) (count .result) (count .ensures) (at .result) (at .ensures) (omega arith) (cut .last .0) (cut .result) (cut .ensures) (was .result) (was .ensures)
 
 same-length-3 : tie.Need-same-length-3
 same-length-3 c = search needs
 
 returns-3 : tie.Need-returns-3
 returns-3 c =
-    let s = c .before .before .before .before .before .before .before .before .before .before .before .before .before .before .before .before .before in
+    let s = c .before .before .before .before .before .before .before .before .before .before .before .before .before .before .before .before .before .before .before .before .before in
     let a = s .args in
-    deep-done (a .group) (a .words .now) (s .pre) (c .before .before .before .before .before .before .before .before .before .before .before .before .before .before .wide .result) (c .before .before .before .before .before .before .before .before .before .before .before .before .before .before .wide .ensures) (c .before .before .before .before .before .before .before .before .before .before .before .before .node-place .result) (c .before .before .before .before .before .before .before .before .before .before .before .before .node-place .ensures) (omega arith) (c .before .before .before .before .before .before .deep-free .last .0) (c .before .before .before .before .before .before .deep-free .result) (c .before .before .before .before .before .before .deep-free .ensures)
-    (c .before .before .renew .last .0) (sym (c .before .before .before .before .before .before .before .before .before .is-synth .ensures) ∙ c .before .before .before .before .before .before .before .before .if2 .left) (c .before .before .renew .ensures)
+    let count = c .before .before .before .before .before .before .before .before .before .before .before .before .before .before .before .before .before .before .wide in
+    let at = c .before .before .before .before .before .before .before .before .before .before .before .before .before .before .before .before .node-place in
+    let cut = c .before .before .before .before .before .before .before .deep-free in
+    let renew = c .before .before .renew in
+    deep-done (a .group) (a .words .now) (s .pre) (count .result) (count .ensures) (at .result) (at .ensures) (omega arith) (cut .last .0) (cut .result) (cut .ensures) (renew .last .0) (sym (c .before .before .before .before .before .before .before .before .before .before .before .before .before .is-synth .ensures) ∙ c .before .before .before .before .before .before .before .before .before .before .before .before .if2 .left) (renew .ensures)
 
 pub deep-free-spec : {M : Type 1} → statement M
 deep-free-spec =
@@ -76,10 +98,15 @@ deep-free-spec =
     is-synth-requires
     same-length-2
     returns-2
+    sub-numbers-of
+    part-numbers-of-start
+    part-numbers-of-end
+    numbers-of-requires
     sub-deep-free
     part-deep-free-start
     part-deep-free-end
     deep-free-requires
+    slice-aggregate-renew
     renew-requires
     same-length-3
     returns-3)

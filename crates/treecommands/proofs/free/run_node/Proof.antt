@@ -1,7 +1,7 @@
 -- `treecommands::free::run_node` meets its contract: each refusal by the check that fires, the rest by the law of the edit.
 use native.Mathlib.Omega.{arith}
 use borrow.Author.Needs.{needs}
-use Rattle.treecommands.specs.Freeing.{run-flag, run-unknown, run-done}
+use Rattle.treecommands.specs.Freeing.{run-flag, run-unknown, run-sorted, run-done}
 use Rattle.treecommands.proofs.free.run_node.Statement.{statement}
 use Rattle.treecommands.proofs.free.run_node.Tie as tie
 
@@ -40,8 +40,14 @@ part-set-run-end c = search needs
 set-run-requires : tie.Need-set-run-requires
 set-run-requires c κs = search needs
 
-renew-requires : tie.Need-renew-requires
-renew-requires c κs = search needs
+renew-in-place-requires : tie.Need-renew-in-place-requires
+renew-in-place-requires c κs =
+    let s = c .before .before .before .before .before .before .before .before .before .before .before .before in
+    let a = s .args in
+    let count = c .before .before .before .before .before .before .before .before .wide in
+    let at = c .before .before .before .before .before .before .node-place in
+    let run = c .before .before .before .set-run in
+    run-sorted (a .node) (a .flag) (a .words .now) (s .pre) (count .result) (count .ensures) (at .result) (at .ensures) (omega arith) (run .last .0) (omega arith) (run .ensures)
 
 same-length-2 : tie.Need-same-length-2
 same-length-2 c = search needs
@@ -51,7 +57,7 @@ returns-3 c =
     let s = c .before .before .before .before .before .before .before .before .before .before .before .before .before .before .before in
     let a = s .args in
     run-done (a .node) (a .flag) (a .words .now) (s .pre) (c .before .before .before .before .before .before .before .before .before .before .before .wide .result) (c .before .before .before .before .before .before .before .before .before .before .before .wide .ensures) (c .before .before .before .before .before .before .before .before .before .node-place .result) (c .before .before .before .before .before .before .before .before .before .node-place .ensures) (omega arith) (c .before .before .before .before .before .before .set-run .last .0) (omega arith) (c .before .before .before .before .before .before .set-run .ensures)
-    (c .before .before .renew .last .0) (c .before .before .renew .ensures)
+    (c .before .before .renew-in-place .last .0) (c .before .before .renew-in-place .ensures)
 
 pub run-node-spec : {M : Type 1} → statement M
 run-node-spec =
@@ -67,6 +73,6 @@ run-node-spec =
     part-set-run-start
     part-set-run-end
     set-run-requires
-    renew-requires
+    renew-in-place-requires
     same-length-2
     returns-3)

@@ -18,6 +18,18 @@ slice-read-wide c = search needs
 wide-requires : tie.Need-wide-requires
 wide-requires c κs = search needs
 
+sub-numbers-of : tie.Need-sub-numbers-of
+sub-numbers-of c = search needs
+
+part-numbers-of-start : tie.Need-part-numbers-of-start
+part-numbers-of-start c = search needs
+
+part-numbers-of-end : tie.Need-part-numbers-of-end
+part-numbers-of-end c = search needs
+
+numbers-of-requires : tie.Need-numbers-of-requires
+numbers-of-requires c κs = search needs
+
 sub-add-node : tie.Need-sub-add-node
 sub-add-node c = search needs
 
@@ -29,18 +41,29 @@ part-add-node-end c = search needs
 
 add-node-requires : tie.Need-add-node-requires
 add-node-requires c κs =
-    let a = c .before .before .before .before .before .before .before .before .before .args in
-    let fact : c .before .before .before .before .before .before .group-spot .result ≡ spot.At (c .before .before .before .before .spot .given .0 .0) = c .before .before .before .before .spot .given .1 in
-    let ground : GroupGround (a .number) (a .action) (a .target) (a .words .now) (c .before .before .before .before .spot .given .0 .0) = rw fact at (c .before .before .before .before .before .before .group-spot .ensures) in
-    rw (c .before .wide .ensures) (ground .room)
+    let s = c .before .before .before .before .before .before .before .before .before .before .before .before in
+    let a = s .args in
+    let at = c .before .before .before .before .before .before .before .spot .given in
+    let told = c .before .before .before .before .before .before .before .before .before .group-spot in
+    let fact : told .result ≡ spot.At (at .0 .0) = at .1 in
+    let ground : GroupGround (a .number) (a .action) (a .target) (a .words .now) (at .0 .0) = rw fact at (told .ensures) in
+    rw (c .before .before .before .before .wide .ensures) (ground .room)
+
+slice-aggregate-renew : tie.Need-slice-aggregate-renew
+slice-aggregate-renew c = search needs
 
 renew-requires : tie.Need-renew-requires
 renew-requires c κs =
-    let s = c .before .before .before .before .before .before .before .before .before .before .before .before .before in
+    let s = c .before .before .before .before .before .before .before .before .before .before .before .before .before .before .before .before .before in
     let a = s .args in
-    let fact : c .before .before .before .before .before .before .before .before .before .before .group-spot .result ≡ spot.At (c .before .before .before .before .before .before .before .before .spot .given .0 .0) = c .before .before .before .before .before .before .before .before .spot .given .1 in
-    let ground : GroupGround (a .number) (a .action) (a .target) (a .words .now) (c .before .before .before .before .before .before .before .before .spot .given .0 .0) = rw fact at (c .before .before .before .before .before .before .before .before .before .before .group-spot .ensures) in
-    group-ready (a .number) (a .action) (a .target) (a .words .now) (s .pre) (c .before .before .before .before .before .wide .result) (c .before .before .before .before .before .wide .ensures) (c .before .before .before .before .before .before .before .before .spot .given .0 .0) ground (c .before .before .before .add-node .last .0) (c .before .before .before .add-node .result) (c .before .before .before .add-node .ensures)
+    let at = c .before .before .before .before .before .before .before .before .before .before .before .before .spot .given in
+    let told = c .before .before .before .before .before .before .before .before .before .before .before .before .before .before .group-spot in
+    let fact : told .result ≡ spot.At (at .0 .0) = at .1 in
+    let ground : GroupGround (a .number) (a .action) (a .target) (a .words .now) (at .0 .0) = rw fact at (told .ensures) in
+    let count = c .before .before .before .before .before .before .before .before .before .wide in
+    let was = c .before .before .before .before .before .before .numbers-of in
+    let add = c .before .before .before .before .add-node in
+    group-ready (a .number) (a .action) (a .target) (a .words .now) (s .pre) (count .result) (count .ensures) (at .0 .0) ground (add .last .0) (add .result) (add .ensures) (was .result) (was .ensures)
 
 enum-known-spot-2 : tie.Need-enum-known-spot-2
 enum-known-spot-2 c = search needs
@@ -50,12 +73,16 @@ same-length c = search needs
 
 returns : tie.Need-returns
 returns c =
-    let s = c .before .before .before .before .before .before .before .before .before .before .before .before .before .before .before .before in
+    let s = c .before .before .before .before .before .before .before .before .before .before .before .before .before .before .before .before .before .before .before .before in
     let a = s .args in
-    let fact : c .before .before .before .before .before .before .before .before .before .before .before .before .before .group-spot .result ≡ spot.At (c .before .before .before .before .before .before .before .before .before .before .before .spot .given .0 .0) = c .before .before .before .before .before .before .before .before .before .before .before .spot .given .1 in
-    let ground : GroupGround (a .number) (a .action) (a .target) (a .words .now) (c .before .before .before .before .before .before .before .before .before .before .before .spot .given .0 .0) = rw fact at (c .before .before .before .before .before .before .before .before .before .before .before .before .before .group-spot .ensures) in
-    group-done (a .number) (a .action) (a .target) (a .words .now) (s .pre) (c .before .before .before .before .before .before .before .before .wide .result) (c .before .before .before .before .before .before .before .before .wide .ensures) (c .before .before .before .before .before .before .before .before .before .before .before .spot .given .0 .0) ground (c .before .before .before .before .before .before .add-node .last .0) (c .before .before .before .before .before .before .add-node .result) (c .before .before .before .before .before .before .add-node .ensures)
-    (c .before .before .renew .last .0) (c .before .before .renew .ensures)
+    let at = c .before .before .before .before .before .before .before .before .before .before .before .before .before .before .before .spot .given in
+    let told = c .before .before .before .before .before .before .before .before .before .before .before .before .before .before .before .before .before .group-spot in
+    let fact : told .result ≡ spot.At (at .0 .0) = at .1 in
+    let ground : GroupGround (a .number) (a .action) (a .target) (a .words .now) (at .0 .0) = rw fact at (told .ensures) in
+    let count = c .before .before .before .before .before .before .before .before .before .before .before .before .wide in
+    let add = c .before .before .before .before .before .before .before .add-node in
+    let renew = c .before .before .renew in
+    group-done (a .number) (a .action) (a .target) (a .words .now) (s .pre) (count .result) (count .ensures) (at .0 .0) ground (add .last .0) (add .result) (add .ensures) (renew .last .0) (renew .ensures)
 
 same-length-2 : tie.Need-same-length-2
 same-length-2 c = search needs
@@ -75,10 +102,15 @@ add-group-spec =
     enum-known-spot
     slice-read-wide
     wide-requires
+    sub-numbers-of
+    part-numbers-of-start
+    part-numbers-of-end
+    numbers-of-requires
     sub-add-node
     part-add-node-start
     part-add-node-end
     add-node-requires
+    slice-aggregate-renew
     renew-requires
     enum-known-spot-2
     same-length

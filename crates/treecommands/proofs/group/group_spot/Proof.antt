@@ -18,56 +18,61 @@ shared-slice-read-wide c = search needs
 wide-requires : tie.Need-wide-requires
 wide-requires c κs = search needs
 
-sub-find : tie.Need-sub-find
-sub-find c = search needs
-
-part-find-start : tie.Need-part-find-start
-part-find-start c = search needs
-
-part-find-end : tie.Need-part-find-end
-part-find-end c = search needs
-
-find-requires : tie.Need-find-requires
-find-requires c κs = search needs
+place-of-requires : tie.Need-place-of-requires
+place-of-requires c κs = search needs
 
 returns-2 : tie.Need-returns-2
 returns-2 c =
-    let s = c .before .before .before .before .before .before .before in
+    let s = c .before .before .before .before .before .before in
     let a = s .args in
-    group-live (a .number) (a .action) (a .target) (a .words .now) (s .pre) (c .before .before .before .wide .result) (c .before .before .before .wide .ensures) (omega arith) (c .before .find .result) (c .before .find .ensures) (c .if2 .taken)
+    let count = c .before .before .wide in
+    let seen = c .before .place-of in
+    group-live (a .number) (a .action) (a .target) (a .words .now) (s .pre) (count .result) (count .ensures) (omega arith) (seen .result) (seen .ensures) (c .if2 .taken)
 
 node-place-requires : tie.Need-node-place-requires
 node-place-requires c κs = search needs
 
 returns-3 : tie.Need-returns-3
 returns-3 c =
-    let s = c .before .before .before .before .before .before .before .before .before in
+    let s = c .before .before .before .before .before .before .before .before in
     let a = s .args in
-    group-unknown (a .number) (a .action) (a .target) (a .words .now) (s .pre) (c .before .before .before .before .before .wide .result) (c .before .before .before .before .before .wide .ensures) (omega arith) (c .before .before .before .find .result) (c .before .before .before .find .ensures) (omega arith) (c .before .node-place .result) (c .before .node-place .ensures) (c .if3 .taken)
+    let count = c .before .before .before .before .wide in
+    let seen = c .before .before .before .place-of in
+    let at = c .before .node-place in
+    group-unknown (a .number) (a .action) (a .target) (a .words .now) (s .pre) (count .result) (count .ensures) (omega arith) (seen .result) (seen .ensures) (omega arith) (at .result) (at .ensures) (c .if3 .taken)
 
 bad-target-requires : tie.Need-bad-target-requires
 bad-target-requires c κs = search needs
 
 returns-4 : tie.Need-returns-4
 returns-4 c =
-    let s = c .before .before .before .before .before .before .before .before .before .before .before in
+    let s = c .before .before .before .before .before .before .before .before .before .before in
     let a = s .args in
-    group-kind (a .number) (a .action) (a .target) (a .words .now) (s .pre) (c .before .before .before .before .before .before .before .wide .result) (c .before .before .before .before .before .before .before .wide .ensures) (omega arith) (c .before .before .before .before .before .find .result) (c .before .before .before .before .before .find .ensures) (omega arith) (c .before .before .before .node-place .result) (c .before .before .before .node-place .ensures) (omega arith) (sym (c .before .bad-target .ensures) ∙ c .if4 .taken)
+    let count = c .before .before .before .before .before .before .wide in
+    let seen = c .before .before .before .before .before .place-of in
+    let at = c .before .before .before .node-place in
+    group-kind (a .number) (a .action) (a .target) (a .words .now) (s .pre) (count .result) (count .ensures) (omega arith) (seen .result) (seen .ensures) (omega arith) (at .result) (at .ensures) (omega arith) (sym (c .before .bad-target .ensures) ∙ c .if4 .taken)
 
 is-full-requires : tie.Need-is-full-requires
 is-full-requires c κs = search needs
 
 returns-5 : tie.Need-returns-5
 returns-5 c =
-    let s = c .before .before .before .before .before .before .before .before .before .before .before .before .before in
+    let s = c .before .before .before .before .before .before .before .before .before .before .before .before in
     let a = s .args in
-    group-full (a .number) (a .action) (a .target) (a .words .now) (s .pre) (c .before .before .before .before .before .before .before .before .before .wide .result) (c .before .before .before .before .before .before .before .before .before .wide .ensures) (omega arith) (c .before .before .before .before .before .before .before .find .result) (c .before .before .before .before .before .before .before .find .ensures) (omega arith) (c .before .before .before .before .before .node-place .result) (c .before .before .before .before .before .node-place .ensures) (omega arith) (sym (c .before .before .before .bad-target .ensures) ∙ c .before .before .if4 .left) (sym (c .before .is-full .ensures) ∙ c .if5 .taken)
+    let count = c .before .before .before .before .before .before .before .before .wide in
+    let seen = c .before .before .before .before .before .before .before .place-of in
+    let at = c .before .before .before .before .before .node-place in
+    group-full (a .number) (a .action) (a .target) (a .words .now) (s .pre) (count .result) (count .ensures) (omega arith) (seen .result) (seen .ensures) (omega arith) (at .result) (at .ensures) (omega arith) (sym (c .before .before .before .bad-target .ensures) ∙ c .before .before .if4 .left) (sym (c .before .is-full .ensures) ∙ c .if5 .taken)
 
 returns-6 : tie.Need-returns-6
 returns-6 c =
-    let s = c .before .before .before .before .before .before .before .before .before .before .before .before .before in
+    let s = c .before .before .before .before .before .before .before .before .before .before .before .before in
     let a = s .args in
-    group-ground (a .number) (a .action) (a .target) (a .words .now) (s .pre) (c .before .before .before .before .before .before .before .before .before .wide .result) (c .before .before .before .before .before .before .before .before .before .wide .ensures) (omega arith) (c .before .before .before .before .before .before .before .find .result) (c .before .before .before .before .before .before .before .find .ensures) (omega arith) (c .before .before .before .before .before .node-place .result) (c .before .before .before .before .before .node-place .ensures) (omega arith) (sym (c .before .before .before .bad-target .ensures) ∙ c .before .before .if4 .left) (sym (c .before .is-full .ensures) ∙ c .if5 .left)
+    let count = c .before .before .before .before .before .before .before .before .wide in
+    let seen = c .before .before .before .before .before .before .before .place-of in
+    let at = c .before .before .before .before .before .node-place in
+    group-ground (a .number) (a .action) (a .target) (a .words .now) (s .pre) (count .result) (count .ensures) (omega arith) (seen .result) (seen .ensures) (omega arith) (at .result) (at .ensures) (omega arith) (sym (c .before .before .before .bad-target .ensures) ∙ c .before .before .if4 .left) (sym (c .before .is-full .ensures) ∙ c .if5 .left)
 
 pub group-spot-spec : {M : Type 1} → statement M
 group-spot-spec =
@@ -76,10 +81,7 @@ group-spot-spec =
     returns
     shared-slice-read-wide
     wide-requires
-    sub-find
-    part-find-start
-    part-find-end
-    find-requires
+    place-of-requires
     returns-2
     node-place-requires
     returns-3

@@ -4,7 +4,7 @@ use mathlib.Core.Path.{_≡_, refl, sym, subst}
 use Rattle.model.specs.declared.Answer.the-variants.{Done, Refused}
 use Rattle.treecommands.specs.declared.moves.Pair.{Pair}
 use Rattle.treecommands.specs.declared.moves.Pair.the-variants as pair
-use Rattle.treecommands.specs.Moving.{Movable, Goes, gone}
+use Rattle.treecommands.specs.Moving.{Movable, Goes, gone, gone-ready}
 use Rattle.treecommands.proofs.moves.move_pair.Statement.{statement}
 use Rattle.treecommands.proofs.moves.move_pair.Tie as tie
 
@@ -17,6 +17,18 @@ slice-read-wide c = search needs
 wide-requires : tie.Need-wide-requires
 wide-requires c κs = search needs
 
+sub-numbers-of : tie.Need-sub-numbers-of
+sub-numbers-of c = search needs
+
+part-numbers-of-start : tie.Need-part-numbers-of-start
+part-numbers-of-start c = search needs
+
+part-numbers-of-end : tie.Need-part-numbers-of-end
+part-numbers-of-end c = search needs
+
+numbers-of-requires : tie.Need-numbers-of-requires
+numbers-of-requires c κs = search needs
+
 sub-move-node : tie.Need-sub-move-node
 sub-move-node c = search needs
 
@@ -28,14 +40,25 @@ part-move-node-end c = search needs
 
 move-node-requires : tie.Need-move-node-requires
 move-node-requires c κs =
-    let s = c .before .before .before .before .before .before .before in
-    let found = c .before .before .before .before .pair .given in
+    let s = c .before .before .before .before .before .before .before .before .before .before in
+    let found = c .before .before .before .before .before .before .before .pair .given in
     let fact : s .args .pair ≡ pair.At (found .0 .0) (found .0 .1 .0) = found .1 in
-    let moving : Movable (pair.At (found .0 .0) (found .0 .1 .0)) (s .args .words .now) = subst (λ (x : Pair). Movable x (s .args .words .now)) fact (s .pre .1) in
-    rw (c .before .wide .ensures) moving
+    let moving : Movable (pair.At (found .0 .0) (found .0 .1 .0)) (s .args .position) (s .args .words .now) = subst (λ (x : Pair). Movable x (s .args .position) (s .args .words .now)) fact (s .pre .1) in
+    rw (c .before .before .before .before .wide .ensures) (moving .0)
+
+slice-aggregate-renew : tie.Need-slice-aggregate-renew
+slice-aggregate-renew c = search needs
 
 renew-requires : tie.Need-renew-requires
-renew-requires c κs = search needs
+renew-requires c κs =
+    let s = c .before .before .before .before .before .before .before .before .before .before .before .before .before .before .before in
+    let found = c .before .before .before .before .before .before .before .before .before .before .before .before .pair .given in
+    let fact : s .args .pair ≡ pair.At (found .0 .0) (found .0 .1 .0) = found .1 in
+    let moving : Movable (pair.At (found .0 .0) (found .0 .1 .0)) (s .args .position) (s .args .words .now) = subst (λ (x : Pair). Movable x (s .args .position) (s .args .words .now)) fact (s .pre .1) in
+    let wide = c .before .before .before .before .before .before .before .before .before .wide in
+    let was = c .before .before .before .before .before .before .numbers-of in
+    let moved = c .before .before .before .before .move-node in
+    gone-ready (found .0 .0) (found .0 .1 .0) (s .args .position) (s .args .words .now) (wide .result) (wide .ensures) (moved .last .0) (moved .ensures) moving (was .result) (was .ensures)
 
 enum-known-pair-2 : tie.Need-enum-known-pair-2
 enum-known-pair-2 c = search needs
@@ -45,11 +68,11 @@ same-length c = search needs
 
 returns : tie.Need-returns
 returns c =
-    let a = c .before .before .before .before .before .before .before .before .before .before .before .before .before .before .args in
-    let found = c .before .before .before .before .before .before .before .before .before .before .before .pair .given in
+    let a = c .before .before .before .before .before .before .before .before .before .before .before .before .before .before .before .before .before .before .args in
+    let found = c .before .before .before .before .before .before .before .before .before .before .before .before .before .before .before .pair .given in
     let fact : a .pair ≡ pair.At (found .0 .0) (found .0 .1 .0) = found .1 in
-    let wide = c .before .before .before .before .before .before .before .before .wide in
-    let moved = c .before .before .before .before .before .before .move-node in
+    let wide = c .before .before .before .before .before .before .before .before .before .before .before .before .wide in
+    let moved = c .before .before .before .before .before .before .before .move-node in
     let renew = c .before .before .renew in
     subst (λ (x : Pair). Goes x (a .position) (a .words .now) Done (renew .last .0)) (sym fact)
     (gone (found .0 .0) (found .0 .1 .0) (a .position) (a .words .now) (wide .result) (wide .ensures) (moved .last .0) (moved .ensures) (renew .last .0) (renew .ensures))
@@ -68,10 +91,15 @@ move-pair-spec =
     enum-known-pair
     slice-read-wide
     wide-requires
+    sub-numbers-of
+    part-numbers-of-start
+    part-numbers-of-end
+    numbers-of-requires
     sub-move-node
     part-move-node-start
     part-move-node-end
     move-node-requires
+    slice-aggregate-renew
     renew-requires
     enum-known-pair-2
     same-length

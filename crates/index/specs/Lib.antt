@@ -1,0 +1,11 @@
+pub mod Index
+pub mod Rising
+pub mod Afresh
+pub mod Nodes
+pub mod Lookup
+pub mod Words
+pub mod Checks
+pub mod Follow
+pub mod FollowWords
+pub mod Spot
+pub mod Worked
