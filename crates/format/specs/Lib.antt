@@ -5,9 +5,9 @@ pub mod Fields
 pub mod FieldLaws
 pub mod NameLaws
 pub mod Definition
+pub mod Writer
 pub mod Reader
 pub mod Names
-pub mod Writer
 pub mod Bounds
 pub mod Endings
 pub mod Sizes
