@@ -1,5 +1,5 @@
 -- A file as read: paper 01, "The file". "Fields are checked from the front; the first fault decides, its place being the first byte of the field."
-use Prim.Native.Nat.{ℕ, zero, suc, _-_}
+use Prim.Native.Nat.{ℕ, zero, suc}
 use mathlib.Core.Bool.{Bool, true, false}
 use mathlib.Core.List.{List, [], _∷_, _++_}
 use lib.ListN.{length, getD}

@@ -9,8 +9,8 @@ use Rattle.format.specs.Read.{got, bad, repeat}
 use Rattle.format.specs.Fields.{nameBytes}
 use Rattle.format.specs.Definition.{Definition}
 use Rattle.format.specs.declared.Width.the-variants.{Short}
-use Rattle.format.specs.Fields.{extended, integerBy, minusOne}
-use Rattle.format.specs.Reader.{frontBy, unitBy, unitsBy, definitionBy, readDefinitions, readFile, among}
+use Rattle.format.specs.Fields.{integerBy, minusOne}
+use Rattle.format.specs.Reader.{frontBy, unitsBy, definitionBy, readDefinitions, readFile, among}
 use Rattle.format.specs.Writer.{writeAll, writeDefinitionBy, writeFile, fileType, firstVersion}
 
 abbrev ping : Definition
