@@ -63,6 +63,11 @@ highest32 = 2147483647
 abbrev pub highest16 : ℕ
 highest16 = 32767
 
+-- the highest count that a field of a width holds
+abbrev pub highestOf : Width → ℕ
+highestOf Short = highest16
+highestOf Long = highest32
+
 -- -1 as a pattern
 abbrev pub minusOne : ℕ
 minusOne = 4294967295

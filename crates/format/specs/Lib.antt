@@ -7,6 +7,7 @@ pub mod NameLaws
 pub mod Definition
 pub mod Writer
 pub mod Reader
+pub mod HeaderLaws
 pub mod Names
 pub mod Bounds
 pub mod Endings

@@ -18,6 +18,11 @@ firstVersion = 1
 abbrev pub fileVersion : ℕ
 fileVersion = 2
 
+-- the version whose fields are so wide
+abbrev pub versionOf : Width → ℕ
+versionOf Short = firstVersion
+versionOf Long = fileVersion
+
 -- the field of a count or an index: the lowest two bytes of its pattern, or all four
 abbrev pub writeInteger : Width → ℕ → List ℕ
 writeInteger Short n = bytes16 n
@@ -31,10 +36,6 @@ module _ {A : Type 0} where
   unfoldable pub writeAll : (A → List ℕ) → List A → List ℕ
   writeAll write [] = []
   writeAll write (x ∷ xs) = write x ++ writeAll write xs
-
-  -- a count, and then as many
-  abbrev pub writeCounted : Width → (A → List ℕ) → List A → List ℕ
-  writeCounted w write xs = writeInteger w (length xs) ++ writeAll write xs
 
 abbrev pub writeParameterName : Width → ParameterName → List ℕ
 writeParameterName w p = writeName (p .name) ++ writeInteger w (p .index)
@@ -56,18 +57,29 @@ writeVariant v = writeName (v .name) ++ writeAll bytes32 (v .values)
 abbrev pub writeFront : Width → Front → List ℕ
 writeFront w f =
     writeName (f .name)
-    ++ (writeCounted w bytes32 (f .constants)
-    ++ (writeCounted w bytes32 (f .values) ++ writeCounted w (writeParameterName w) (f .names)))
+    ++ (writeInteger w (length (f .constants))
+    ++ (writeAll bytes32 (f .constants)
+    ++ (writeInteger w (length (f .values))
+    ++ (writeAll bytes32 (f .values)
+    ++ (writeInteger w (length (f .names)) ++ writeAll (writeParameterName w) (f .names))))))
 
 unfoldable pub writeDefinitionBy : Width → Definition → List ℕ
 writeDefinitionBy w d =
     writeFront w (d .front)
-    ++ (writeCounted w (writeUnit w) (d .units)
-    ++ (bytes16 (length (d .variants)) ++ writeAll writeVariant (d .variants)))
+    ++ (writeInteger w (length (d .units))
+    ++ (writeAll (writeUnit w) (d .units)
+    ++ (bytes16 (length (d .variants)) ++ writeAll writeVariant (d .variants))))
 
 -- "Demand 2's export always writes version 2": the encoding of a definition
 abbrev pub writeDefinition : Definition → List ℕ
 writeDefinition d = writeDefinitionBy Long d
+
+-- a file's head, and a file, by the width of its fields
+abbrev pub writeHeader : Width → ℕ → List ℕ
+writeHeader w n = bytes32 fileType ++ (bytes32 (versionOf w) ++ bytes16 n)
+
+abbrev pub writeFileBy : Width → List Definition → List ℕ
+writeFileBy w ds = writeHeader w (length ds) ++ writeAll (writeDefinitionBy w) ds
 
 unfoldable pub writeFile : List Definition → List ℕ
 writeFile ds = bytes32 fileType ++ (bytes32 fileVersion ++ (bytes16 (length ds) ++ writeAll writeDefinition ds))
