@@ -8,6 +8,7 @@ use native.Mathlib.Nat.{eq-or-lt-of-le, div-add-mod', add-zero}
 use lib.ListN.{length, getD, set, take, length-set}
 use lib.Seq.{getD-set-same, getD-set-other, getD-take, length-take-le}
 use Rattle.format.specs.declared.Width.{Width}
+use Rattle.format.specs.declared.Width.the-variants.{Short, Long}
 use Rattle.format.specs.Fields.{sizeOf, valueBy}
 
 -- behind a unit's class and rate: the counts of its inputs and outputs, the special index, the inputs and the rates
@@ -26,6 +27,10 @@ inputSize w = 2 * sizeOf w
 
 unfoldable pub unitEnd : Width → List ℕ → ℕ → ℕ
 unitEnd w s at = unitCounts s at + 2 * sizeOf w + 2 + inputSize w * unitInputs w s at + unitOutputs w s at
+
+pub size-most : (w : Width) → sizeOf w ≤ 4
+size-most Short = omega arith
+size-most Long = omega arith
 
 -- where the unit number n starts, where the first one starts at a place
 unfoldable pub unitPlace : Width → List ℕ → ℕ → ℕ → ℕ
