@@ -130,8 +130,8 @@ unfolding unitsBy
 skip-units w k s n outs at =
     ending-fact _ (unitBy w k outs s at) _ _ (λ u next. ending-keeps (unitsBy w k s n (outs ++ (length (u .outputs) ∷ [])) next) (λ us. u ∷ us))
 
--- The outputs of the last so many units are remembered while a definition is read. A unit takes at least 12 bytes, and a definition 20 besides: a name of one
--- byte, four counts of four bytes and one of two. So a definition within the size limit has fewer units than this (`units-remembered` of `files`).
+-- The outputs of the last so many units are remembered while a definition is read. In version 2 a unit takes at least 12 bytes, and a definition 20 besides: a name of
+-- one byte, four counts of four bytes and one of two. So a definition within the size limit has fewer units than this (`units-remembered` of `files`).
 abbrev pub remembered : ℕ
 remembered = 256
 
