@@ -8,9 +8,9 @@ use native.Mathlib.Omega.{arith}
 use native.Mathlib.Nat.{sub-zero}
 use native.Mathlib.Numerals.{add-one}
 use lib.Seq.{take-suc-set, length-take-le, drop-cons, getD-take}
-use lib.ListN.{length, getD, take, drop, set, length-set, drop-of-length-le}
+use lib.ListN.{length, getD, take, drop, set, length-set, drop-of-length-le, List·getD-eq-default}
 use lib.Dec.{ltb}
-use borrow.Author.Tests.{lt-ltb, le-ltb, leb-true}
+use borrow.Author.Tests.{lt-ltb, le-ltb, leb-true, ne-eqb}
 use Rattle.words.specs.Choice.{pick, either}
 use Rattle.faults.specs.declared.Fault.{Fault}
 use Rattle.faults.specs.declared.Fault.the-variants.{TooLong, NameTwice, BytesLeft}
@@ -18,9 +18,10 @@ use Rattle.format.specs.Read.{Read, got, bad, andThen, mapRead, ending}
 use Rattle.format.specs.Fields.{stringAt}
 use Rattle.format.specs.Definition.{Definition}
 use Rattle.format.specs.declared.Width.{Width}
-use Rattle.format.specs.Reader.{Header, sizeLimit, mostDefinitions, sameName, among, fits, definitionBy, readDefinitions, readHeader, readFile}
-use Rattle.format.specs.HeaderLaws.{fileWidth, header-got}
-use Rattle.format.specs.Writer.{writeDefinition}
+use Rattle.format.specs.declared.Width.the-variants.{Long}
+use Rattle.format.specs.Reader.{Header, widthOf, sizeLimit, mostDefinitions, sameName, among, fits, definitionBy, readDefinitions, readHeader, readFile}
+use Rattle.format.specs.HeaderLaws.{versionIn, fileWidth, header-got}
+use Rattle.format.specs.Writer.{firstVersion, writeDefinition}
 use Rattle.format.specs.Endings.{Mapped, mapped-got, then-got, then-bad, ending-keeps, ending-got}
 use Rattle.format.specs.RepeatLaws.{went-on}
 use Rattle.files.specs.Forward.{definition-whole}
@@ -196,6 +197,17 @@ module _ (s : List ℕ) where
     file-accepted d l =
         let t = ending-got (readDefinitions (fileWidth s) s n [] first) d in
         file-rest ∙ rw (t .read, le-ltb _ _ l) (ap Accepted (definitions-length (fileWidth s) s n [] first (t .read)))
+
+-- a head that is cut before its version ends says nothing: the last byte of the version counts as 0, so it is not version 1
+pub short-width : (s : List ℕ) → length s < 8 → fileWidth s ≡ Long
+short-width s h =
+    let none : getD s 7 0 ≡ 0 = List·getD-eq-default s 0 (omega arith) in
+    rw (ne-eqb (versionIn s) firstVersion (λ e. omega arith))
+
+-- how many definitions a head says there are: of the head only the count is kept
+pub head-count : (v : ℕ) (r : Read ℕ) → mapRead (λ (h : Header). h .count) (andThen r (λ n p. got (record { width = widthOf v; count = n }) p)) ≡ r
+head-count v (got n p) = refl
+head-count v (bad q at) = refl
 
 -- a definition ends behind its start
 pub end-forward : (w : Width) (s : List ℕ) (at : ℕ) {u : Unit {0}} {end : ℕ} → ending (definitionBy w s at) ≡ got u end → at < end

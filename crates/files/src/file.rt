@@ -1,5 +1,6 @@
 // A whole file: accepted, with the number of its definitions, or refused, with the reason and the place.
 use crate::definition::next_definition;
+use encoding::too_long;
 use faults::Fault;
 use fields::word_at;
 use fields::Cursor;
@@ -13,7 +14,6 @@ use format::FIRST_VERSION;
 use format::MOST_DEFINITIONS;
 use format::Width;
 use units::REMEMBERED;
-use widening::too_long;
 use words::wide;
 ghost use mathlib.Core.Path.{_≡_};
 ghost use Prim.Native.Nat.{_≤_};
