@@ -1,20 +1,20 @@
 -- The fields of a definition's units, counted along the file.
-use Prim.Native.Nat.{ℕ, zero, suc, _+_, _*_, _-_, _≤_, _<_}
-use mathlib.Core.Path.{_≡_, refl, sym, ap, _∙_}
-use mathlib.Core.List.{List, [], _∷_}
+use Prim.Native.Nat.{ℕ, zero, suc, _+_, _*_, _-_, _≤_}
+use mathlib.Core.Path.{_≡_, sym, ap, _∙_}
+use mathlib.Core.List.{List, []}
 use native.Mathlib.Omega.{arith}
 use lib.ListN.{length, getD, drop}
 use Rattle.format.specs.declared.Width.{Width}
 use Rattle.format.specs.declared.Width.the-variants.{Short, Long}
 use Rattle.format.specs.Read.{got, repeat, mapRead}
 use Rattle.format.specs.Fields.{int16, name, rate, countBy, valueBy, highest16, shortCountTo}
-use Rattle.format.specs.Definition.{UnitSpec, Front, Definition}
+use Rattle.format.specs.Definition.{UnitSpec, Definition}
 use Rattle.format.specs.Reader.{frontBy, inputBy, unitBy, unitsBy, variant, definitionBy}
 use Rattle.format.specs.RepeatLaws.{went-on, got-value, repeat-length}
 use Rattle.format.specs.Sizes.{rate-sized, count-got, name-got}
 use Rattle.units.specs.Marks.{unitCounts, unitInputs, unitEnd, unitPlace}
 use Rattle.units.specs.Units.{outsFrom}
-use Rattle.units.specs.Walk.{units-behind, unit-read, units-end}
+use Rattle.units.specs.Walk.{units-behind, unit-read}
 use Rattle.encoding.specs.Encoding.{total, unitFields}
 
 -- the fields of the first n units, the first of which starts at a place

@@ -3,7 +3,7 @@ use mathlib.Core.Path.{_≡_, refl}
 use mathlib.Core.List.{[], _∷_}
 use lib.ListN.{length}
 use Rattle.format.specs.declared.Width.the-variants.{Short}
-use Rattle.format.specs.Definition.{constant, output, Definition}
+use Rattle.format.specs.Definition.{constant, Definition}
 use Rattle.format.specs.Writer.{writeAll, writeDefinitionBy, writeDefinition}
 use Rattle.encoding.specs.Encoding.{total, fieldsIn}
 

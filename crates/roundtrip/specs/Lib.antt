@@ -11,3 +11,4 @@ pub mod Wider
 pub mod Forth
 pub mod Place
 pub mod Local
+pub mod Twin
