@@ -111,3 +111,23 @@ file-length w s b at {d} {end} h =
     let forward = t .forward in
     let inside = t .inside in
     ap length (t .bytes) ∙ simp (length-take, length-drop) (omega arith)
+
+-- what is known of a definition that was read from one place to another
+pub record Sized (w : Width) (s : List ℕ) (at end : ℕ) (d : Definition) : Type 0 where
+  pub forward : at ≤ end
+  pub inside : end ≤ length s
+  pub least : end - at ≤ length (writeDefinition d)
+  pub most : length (writeDefinition d) ≤ 2 * (end - at)
+  pub few : 2 * fieldsIn d ≤ end - at
+
+pub sized : (w : Width) (s : List ℕ) → AreBytes s → (at end : ℕ) (d : Definition) → definitionBy w s at ≡ got d end → Sized w s at end d
+sized w s b at end d h =
+    let t = definition-forth w s b at d end h in
+    let size = file-length w s b at h in
+    record {
+      forward = t .forward;
+      inside = t .inside;
+      least = omega (arith, at-least w d);
+      most = omega (arith, at-most-twice w d);
+      few = omega (arith, fields-few w d);
+    }

@@ -4,14 +4,21 @@ use mathlib.Core.Path.{_≡_, sym, ap, _∙_}
 use mathlib.Core.List.{List, []}
 use native.Mathlib.Omega.{arith}
 use lib.ListN.{length, getD, drop}
+use lib.Dec.{leb}
+use Rattle.faults.specs.declared.Fault.{Fault}
+use Rattle.faults.specs.declared.Fault.the-variants.{BadCount}
 use Rattle.format.specs.declared.Width.{Width}
 use Rattle.format.specs.declared.Width.the-variants.{Short, Long}
-use Rattle.format.specs.Read.{got, repeat, mapRead}
-use Rattle.format.specs.Fields.{int16, name, rate, countBy, valueBy, highest16, shortCountTo}
+use Rattle.format.specs.Read.{got, bad, repeat, mapRead}
+use Rattle.format.specs.Fields.{int16, name, rate, sizeOf, valueBy, integerBy, countBy, shortCountTo, highest16, highest32}
 use Rattle.format.specs.Definition.{UnitSpec, Definition}
 use Rattle.format.specs.Reader.{frontBy, inputBy, unitBy, unitsBy, variant, definitionBy}
-use Rattle.format.specs.RepeatLaws.{went-on, got-value, repeat-length}
+use Rattle.format.specs.Endings.{field-got}
+use Rattle.format.specs.FieldLaws.{checked-got}
+use Rattle.format.specs.RepeatLaws.{went-on, got-value, got-place, repeat-length}
 use Rattle.format.specs.Sizes.{rate-sized, count-got, name-got}
+use Rattle.front.specs.declared.Counts.{Counts}
+use Rattle.front.specs.Front.{countsOf}
 use Rattle.units.specs.Marks.{unitCounts, unitInputs, unitEnd, unitPlace}
 use Rattle.units.specs.Units.{outsFrom}
 use Rattle.units.specs.Walk.{units-behind, unit-read}
@@ -85,3 +92,43 @@ definition-parts w s at {d} {end} h =
     went-on (shortCountTo highest16 s p3) _ r3 (λ v p4 e4 r4.
     went-on (repeat (variant (length (f .values)) s) v p4) _ r4 (λ variants p5 e5 r5.
     rw (sym (got-value r5)) (record { past = p1; count = many; start = p2; last = p3; front = e1; counted = e2; units = e3 }))))))
+
+-- the units of a definition end in the file
+units-inside : (w : Width) (k : ℕ) (s : List ℕ) (n start : ℕ) {us : List UnitSpec} {end : ℕ} → start ≤ length s → unitsBy w k s n [] start ≡ got us end → unitPlace w s start n ≤ length s
+unfolding unitPlace
+units-inside w k s zero start l h = l
+units-inside w k s (suc n) start l h = unit-read w k s (suc n) start h n (omega arith) .within
+
+-- what the front's counts and U tell of a definition that was read
+pub record Told (w : Width) (s : List ℕ) (d : Definition) (names start count : ℕ) : Type 0 where
+  pub named : names ≡ length (d .front .names)
+  pub fields : walked w s start count ≡ total unitFields (d .units)
+  pub inside : unitPlace w s start count ≤ length s
+
+pub told : (w : Width) (s : List ℕ) (at : ℕ) {d : Definition} {end past start n : ℕ} {c : Counts} → definitionBy w s at ≡ got d end
+    → mapRead (countsOf w at) (frontBy w s at) ≡ got c past → countBy w s past ≡ got n start → Told w s d (c .names) start n
+told w s at {d} {end} {past} {start} {n} {c} h e1 e2 =
+    let t = definition-parts w s at h in
+    let front : got (countsOf w at (d .front)) (t .past) ≡ got c past = rw (t .front) at e1 in
+    let same : t .past ≡ past = got-place front in
+    let count : got (t .count) (t .start) ≡ got n start = sym (t .counted) ∙ ap (countBy w s) same ∙ e2 in
+    let units = rw (got-value count, got-place count) at (t .units) in
+    let room = field-got (sizeOf w) s past (valueBy w s past) (checked-got BadCount (λ i. leb i highest32) past (integerBy w s past) e2 .0) .2 in
+    record {
+      named = ap (λ (x : Counts). x .names) (sym (got-value front));
+      fields = walked-all w (length (d .front .constants)) s n start units;
+      inside = units-inside w (length (d .front .constants)) s n start room units;
+    }
+
+-- the front and U of a definition that was read are no faults
+pub no-front : (w : Width) (s : List ℕ) (at : ℕ) {d : Definition} {end place : ℕ} {q : Fault} → definitionBy w s at ≡ got d end
+    → mapRead (countsOf w at) (frontBy w s at) ≡ bad q place → _≡_ {A = ℕ} 0 1
+no-front w s at h e1 = let e = rw (definition-parts w s at h .front) at e1 in cc
+
+pub no-count : (w : Width) (s : List ℕ) (at : ℕ) {d : Definition} {end past place : ℕ} {c : Counts} {q : Fault} → definitionBy w s at ≡ got d end
+    → mapRead (countsOf w at) (frontBy w s at) ≡ got c past → countBy w s past ≡ bad q place → _≡_ {A = ℕ} 0 1
+no-count w s at h e1 e2 =
+    let t = definition-parts w s at h in
+    let same = got-place (rw (t .front) at e1) in
+    let e : got (t .count) (t .start) ≡ bad _ _ = sym (t .counted) ∙ ap (countBy w s) same ∙ e2 in
+    cc
