@@ -20,15 +20,11 @@ use Rattle.format.specs.Definition.{Definition}
 use Rattle.format.specs.RepeatLaws.{went-on, repeat-length}
 use Rattle.format.specs.Reader.{mostDefinitions, sizeLimit, among, Header, definitionBy, readDefinitions, readHeader, readFile}
 use Rattle.format.specs.HeaderLaws.{header-got}
-use Rattle.format.specs.Writer.{writeAll, writeDefinition, writeHeader, writeFile}
+use Rattle.format.specs.Writer.{writeAll, writeDefinition, writeHeader, writeFile, twin}
 use Rattle.roundtrip.specs.Stands.{Stands, stands-in, stands-left, stands-right}
 use Rattle.roundtrip.specs.RecordsBack.{definition-reads}
 use Rattle.roundtrip.specs.Back.{header-reads}
 use Rattle.roundtrip.specs.Forth.{definition-forth}
-
--- a file whose definitions were read up to a place, and its twin
-abbrev pub twin : List ℕ → List Definition → ℕ → List ℕ
-twin s ds end = writeFile ds ++ drop end s
 
 -- two readings agree: the same definitions, or refusals of the same number, the places aside
 abbrev pub Agree : Read (List Definition) → Read (List Definition) → Type 0
