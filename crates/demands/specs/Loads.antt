@@ -1,7 +1,7 @@
 -- Demand 2: loads and exports by calls.
 use Prim.Native.Nat.{ℕ}
 use mathlib.Core.Path.{_≡_, refl, sym, ap, ap₂, _∙_, subst}
-use mathlib.Core.Bool.{true}
+use mathlib.Core.Bool.{Bool, true, false}
 use mathlib.Core.List.{List}
 use lib.ListN.{length}
 use lib.Dec.{ltb}
@@ -19,13 +19,12 @@ use Rattle.model.specs.Replies.{exportFile, replyTo, reply}
 use Rattle.model.specs.After.{wordsAfter, arenaAfter, freshState, freshArena}
 use Rattle.model.specs.Apply.{queryAnswer, answerIn, answer, isAccepted, written, replyOf, Does}
 use Rattle.model.specs.Chain.{State, engineIn, Call, Applied, Chain, Fresh}
-use Rattle.model.specs.Demands.{meaningIn, refusalIn, receive, export, Exports, SameLoads, Written, Demand2}
+use Rattle.model.specs.Demands.{meaningIn, refusalIn, receive, export, Exports, SameLoads, Written, twin, Demand2}
 use Rattle.reload.specs.Theorem.{exported-file, exported-same, accepted, meant-same}
 use Rattle.reload.specs.Twins.{same-load}
 use Rattle.roundtrip.specs.Twin.{Agree, twin-agrees}
 use Rattle.format.specs.Definition.{Definition}
 use Rattle.format.specs.Reader.{readFile}
-use Rattle.format.specs.Writer.{twin}
 use Rattle.sequence.specs.Ends.{reply-left, demand1}
 use Rattle.sequence.specs.Fresh.{fresh-state, fresh-formed}
 

@@ -1,7 +1,7 @@
 -- The writing of a definition, by the width of its fields, and of a file, which is always of version 2.
 use Prim.Native.Nat.{ℕ}
 use mathlib.Core.List.{List, [], _∷_, _++_}
-use lib.ListN.{length, drop}
+use lib.ListN.{length}
 use Rattle.words.specs.Bytes.{bytes8, bytes16, bytes32}
 use Rattle.format.specs.declared.Width.{Width}
 use Rattle.format.specs.declared.Width.the-variants.{Short, Long}
@@ -83,7 +83,3 @@ writeFileBy w ds = writeHeader w (length ds) ++ writeAll (writeDefinitionBy w) d
 
 unfoldable pub writeFile : List Definition → List ℕ
 writeFile ds = bytes32 fileType ++ (bytes32 fileVersion ++ (bytes16 (length ds) ++ writeAll writeDefinition ds))
-
--- paper 02, 4/14: "a version 1 file must load as its widened twin does": the twin of a file whose definitions were read up to a place, with the bytes that are left over
-abbrev pub twin : List ℕ → List Definition → ℕ → List ℕ
-twin s ds end = writeFile ds ++ drop end s

@@ -15,7 +15,7 @@ use Rattle.format.specs.Read.{got, repeat}
 use Rattle.format.specs.Definition.{Definition}
 use Rattle.format.specs.Reader.{Header, definitionBy, readHeader, readFile}
 use Rattle.format.specs.HeaderLaws.{versionIn}
-use Rattle.format.specs.Writer.{fileVersion, writeFile, twin}
+use Rattle.format.specs.Writer.{fileVersion, writeFile}
 use Rattle.nodes.specs.declared.Node.{Node}
 use Rattle.nodes.specs.Place.{isGroup, lives}
 use Rattle.nodes.specs.Edit.{isBelow}
@@ -100,6 +100,10 @@ pub record Written (file : List ℕ) (ds : List Definition) (end : ℕ) : Type 0
   pub begins : readHeader file ≡ got head first
   pub read : repeat (definitionBy (head .width) file) (head .count) first ≡ got ds end
   pub inside : end ≤ length file
+
+-- its twin in version 2: the writing of its definitions, and the bytes that are left over
+abbrev pub twin : List ℕ → List Definition → ℕ → List ℕ
+twin file ds end = writeFile ds ++ drop end file
 
 -- Demand 2: what a fresh engine accepts is exported, in version 2, and "byte equality is asked of version 2 files only; a version 1 file must load as its widened twin
 -- does" (paper 02, 4/14); an export, from every well-formed state, loaded into a fresh engine gives the same definitions

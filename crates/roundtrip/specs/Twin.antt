@@ -20,7 +20,7 @@ use Rattle.format.specs.Definition.{Definition}
 use Rattle.format.specs.RepeatLaws.{went-on, repeat-length}
 use Rattle.format.specs.Reader.{mostDefinitions, sizeLimit, among, Header, definitionBy, readDefinitions, readHeader, readFile}
 use Rattle.format.specs.HeaderLaws.{header-got}
-use Rattle.format.specs.Writer.{writeAll, writeDefinition, writeHeader, writeFile, twin}
+use Rattle.format.specs.Writer.{writeAll, writeDefinition, writeHeader, writeFile}
 use Rattle.roundtrip.specs.Stands.{Stands, stands-in, stands-left, stands-right}
 use Rattle.roundtrip.specs.RecordsBack.{definition-reads}
 use Rattle.roundtrip.specs.Back.{header-reads}
@@ -104,8 +104,8 @@ module _ (s : List ℕ) (b : AreBytes s) {h : Header} {first : ℕ} (e : readHea
           by false q = let none = ltb-false end (length s) q in sym (le-ltb place size (omega arith))
 
   -- "must load as its widened twin does": a file whose definitions can be read is read as its twin is
-  pub twin-agrees : Agree (readFile s) (readFile (twin s ds end))
+  pub twin-agrees : Agree (readFile s) (readFile (writeFile ds ++ drop end s))
   unfolding writeFile
   twin-agrees =
-      let size : length (twin s ds end) ≡ length (writeFile ds) + (length s - end) = length-append (writeFile ds) (drop end s) ∙ ap (λ (k : ℕ). length (writeFile ds) + k) (length-drop end s) in
-      beside (twin s ds end) (stands-in [] (writeFile ds) (drop end s)) (omega arith)
+      let size : length (writeFile ds ++ drop end s) ≡ length (writeFile ds) + (length s - end) = length-append (writeFile ds) (drop end s) ∙ ap (λ (k : ℕ). length (writeFile ds) + k) (length-drop end s) in
+      beside (writeFile ds ++ drop end s) (stands-in [] (writeFile ds) (drop end s)) (omega arith)
