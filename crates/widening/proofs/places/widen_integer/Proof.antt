@@ -1,0 +1,46 @@
+use Rattle.osc.specs.Over.{over}
+use Rattle.words.specs.Bytes.{bytes32}
+use Prim.Native.Nat.{ℕ, zero, suc, _+_, _*_, _-_, _≤_, _<_}
+use mathlib.Core.Bool.{Bool, true, false, not}
+use mathlib.Core.Path.{_≡_, refl, sym, ap, _∙_}
+use mathlib.Core.List.{List, [], _∷_, _++_, append-assoc}
+use native.Mathlib.Omega.{arith}
+use native.Mathlib.Numerals.{add-one}
+use borrow.Author.Needs.{needs}
+use borrow.Author.Tests.{lt-ltb, le-ltb, le-leb, lt-leb, eq-eqb, ne-eqb}
+use lib.ListN.{length, take, drop, getD, set, length-set, length-drop}
+use borrow.Author.Needs.{needs}
+use Rattle.widening.proofs.places.widen_integer.Statement.{statement}
+use Rattle.widening.proofs.places.widen_integer.Tie as tie
+use Rattle.widening.proofs.places.widen_integer.Reads as reads
+use Rattle.widening.proofs.places.widen_integer.Lts as lts
+use Rattle.fields.proofs.value_at.Reads as value-at-reads
+use Rattle.osc.proofs.put_int.Reads as put-int-reads
+
+value-at-requires : tie.Need-value-at-requires
+value-at-requires c κs = search needs
+
+put-int-requires : tie.Need-put-int-requires
+put-int-requires c κs = search needs
+
+add-t9 : tie.Need-add-t9
+add-t9 c = search needs
+
+add-t10 : tie.Need-add-t10
+add-t10 c = search needs
+
+same-length : tie.Need-same-length
+same-length c = search needs
+
+returns : tie.Need-returns
+returns c =
+    let a = c .before .before .before .before .before .before .before .before .before .args in
+    record {
+      bytes = c .before .before .before .before .put-int .ensures ∙ ap (λ (n : ℕ). over (a .at .to) (bytes32 n) (a .out .now)) (c .before .before .before .before .before .value-at .ensures);
+      from = refl;
+      to = refl;
+    }
+
+pub widen-integer-spec : {M : Type 1} → statement M
+widen-integer-spec =
+    tie.close (tie.spec value-at-requires put-int-requires add-t9 add-t10 same-length returns)
