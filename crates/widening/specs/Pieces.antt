@@ -1,5 +1,5 @@
 -- The pieces of a definition of version 1: what each becomes in version 2, from its bytes alone, and where it ends.
-use Prim.Native.Nat.{ℕ, _+_, _*_}
+use Prim.Native.Nat.{ℕ, _+_, _*_, _-_}
 use mathlib.Core.List.{List, _++_}
 use native.Mathlib.Omega.{arith}
 use lib.ListN.{getD}
@@ -68,24 +68,36 @@ bodyWide s inputs outputs at =
     ++ (wideAll (inputWide s) inputPast inputs (at + 2) ++ region (pastAll inputPast inputs (at + 2)) outputs s)
 
 -- a unit: its class and rate; I, O; the rest
-abbrev pub unitCounts : List ℕ → ℕ → ℕ
-unitCounts s at = at + (2 + getD s at 0)
+abbrev pub countsAt : List ℕ → ℕ → ℕ
+countsAt s at = at + (2 + getD s at 0)
 
-abbrev pub unitInputs : List ℕ → ℕ → ℕ
-unitInputs s at = valueBy Short s (unitCounts s at)
+abbrev pub inputsAt : List ℕ → ℕ → ℕ
+inputsAt s at = valueBy Short s (countsAt s at)
 
-abbrev pub unitOutputs : List ℕ → ℕ → ℕ
-unitOutputs s at = valueBy Short s (unitCounts s at + 2)
+abbrev pub outputsAt : List ℕ → ℕ → ℕ
+outputsAt s at = valueBy Short s (countsAt s at + 2)
 
 unfoldable pub unitPast : List ℕ → ℕ → ℕ
-unitPast s at = bodyPast (unitInputs s at) (unitOutputs s at) (unitCounts s at + 2 + 2)
+unitPast s at = bodyPast (inputsAt s at) (outputsAt s at) (countsAt s at + 2 + 2)
 
 unfoldable pub unitWide : List ℕ → ℕ → List ℕ
 unitWide s at =
     region at (2 + getD s at 0) s
-    ++ (integerWide s (unitCounts s at)
-    ++ (integerWide s (unitCounts s at + 2)
-    ++ bodyWide s (unitInputs s at) (unitOutputs s at) (unitCounts s at + 2 + 2)))
+    ++ (integerWide s (countsAt s at)
+    ++ (integerWide s (countsAt s at + 2)
+    ++ bodyWide s (inputsAt s at) (outputsAt s at) (countsAt s at + 2 + 2)))
+
+-- a definition that ends at a place: its front; U, and as many units; its variants
+abbrev pub unitsPast : List ℕ → ℕ → ℕ
+unitsPast s at = pastAll (unitPast s) (valueBy Short s at) (at + 2)
+
+abbrev pub restWide : List ℕ → ℕ → ℕ → List ℕ
+restWide s end at =
+    integerWide s at
+    ++ (wideAll (unitWide s) (unitPast s) (valueBy Short s at) (at + 2) ++ region (unitsPast s at) (end - unitsPast s at) s)
+
+unfoldable pub definitionWide : List ℕ → ℕ → ℕ → List ℕ
+definitionWide s end at = frontWide s at ++ restWide s end (frontPast s at)
 
 -- the places of a walk never go back
 pub input-onward : Onward inputPast
@@ -97,7 +109,7 @@ body-onward inputs outputs at = omega (arith, past-up inputPast input-onward inp
 
 pub unit-onward : (s : List ℕ) → Onward (unitPast s)
 unfolding unitPast
-unit-onward s at = omega (arith, body-onward (unitInputs s at) (unitOutputs s at) (unitCounts s at + 2 + 2))
+unit-onward s at = omega (arith, body-onward (inputsAt s at) (outputsAt s at) (countsAt s at + 2 + 2))
 
 pub name-onward : (s : List ℕ) → Onward (namePast s)
 name-onward s at = omega arith

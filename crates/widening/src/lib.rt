@@ -1,6 +1,8 @@
-// A definition's version 2 encoding, from the bytes that it was read from: how long it is, and the encoding itself.
+// The version 2 encoding of a definition, from the bytes of either version that it was read from.
+mod definition;
 mod fronts;
 mod places;
 mod unit;
 
+pub use definition::widen;
 pub use places::Places;

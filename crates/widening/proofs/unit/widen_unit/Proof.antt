@@ -1,7 +1,7 @@
 use Rattle.format.specs.Fields.{valueBy}
 use Rattle.format.specs.declared.Width.the-variants.{Short}
 use Rattle.words.specs.Parts.{region}
-use Rattle.widening.specs.Pieces.{integerWide, bodyWide, bodyPast, body-onward, unitCounts, unitInputs, unitOutputs, unitWide, unitPast, unit-onward}
+use Rattle.widening.specs.Pieces.{integerWide, bodyWide, bodyPast, body-onward, countsAt, inputsAt, outputsAt, unitWide, unitPast, unit-onward}
 use Rattle.widening.specs.Moved.{room-first, room-last, moved-then}
 use Prim.Native.Nat.{ℕ, zero, suc, _+_, _*_, _-_, _≤_, _<_}
 use mathlib.Core.Bool.{Bool, true, false, not}
@@ -28,7 +28,7 @@ shared-slice-read-size c =
     let a = c .before .before .before .args in
     let s = a .s .now in
     let at = a .at .from in
-    omega (arith, body-onward (unitInputs s at) (unitOutputs s at) (unitCounts s at + 2 + 2), c .before .before .before .pre .inside)
+    omega (arith, body-onward (inputsAt s at) (outputsAt s at) (countsAt s at + 2 + 2), c .before .before .before .pre .inside)
 
 cast-size : tie.Need-cast-size
 cast-size c = omega (arith, c .shared-slice-known2 .given (c .before .before .before .args .at .from))
@@ -42,9 +42,9 @@ keep-requires c κs =
     let a = c .before .before .before .before .args in
     let s = a .s .now in
     let at = a .at .from in
-    let i = unitInputs s at in
-    let o = unitOutputs s at in
-    room-first (region at (2 + getD s at 0) s) (integerWide s (unitCounts s at) ++ (integerWide s (unitCounts s at + 2) ++ bodyWide s i o (unitCounts s at + 2 + 2))) (c .before .before .before .before .pre) (omega (arith, body-onward i o (unitCounts s at + 2 + 2)))
+    let i = inputsAt s at in
+    let o = outputsAt s at in
+    room-first (region at (2 + getD s at 0) s) (integerWide s (countsAt s at) ++ (integerWide s (countsAt s at + 2) ++ bodyWide s i o (countsAt s at + 2 + 2))) (c .before .before .before .before .pre) (omega (arith, body-onward i o (countsAt s at + 2 + 2)))
 
 value-at-requires : tie.Need-value-at-requires
 unfolding unitWide unitPast
@@ -52,8 +52,8 @@ value-at-requires c κs =
     let a = c .before .before .before .before .before .before .before .args in
     let s = a .s .now in
     let at = a .at .from in
-    let i = unitInputs s at in
-    let o = unitOutputs s at in
+    let i = inputsAt s at in
+    let o = outputsAt s at in
     let p1 = c .before .before .keep .result .from in
     let r1 = room-last (λ p. integerWide s p ++ (integerWide s (p + 2) ++ bodyWide s i o (p + 2 + 2))) (λ p. bodyPast i o (p + 2 + 2)) (c .before .before .before .before .before .before .before .pre) (c .before .before .keep .ensures) in
     omega (arith, body-onward i o (p1 + 2 + 2), r1 .inside)
@@ -64,8 +64,8 @@ widen-integer-requires c κs =
     let a = c .before .before .before .before .before .before .before .before .before .args in
     let s = a .s .now in
     let at = a .at .from in
-    let i = unitInputs s at in
-    let o = unitOutputs s at in
+    let i = inputsAt s at in
+    let o = outputsAt s at in
     let p1 = c .before .before .before .before .keep .result .from in
     let r1 = room-last (λ p. integerWide s p ++ (integerWide s (p + 2) ++ bodyWide s i o (p + 2 + 2))) (λ p. bodyPast i o (p + 2 + 2)) (c .before .before .before .before .before .before .before .before .before .pre) (c .before .before .before .before .keep .ensures) in
     room-first (integerWide s p1) (integerWide s (p1 + 2) ++ bodyWide s i o (p1 + 2 + 2)) r1 (omega (arith, body-onward i o (p1 + 2 + 2)))
@@ -76,8 +76,8 @@ value-at-requires-2 c κs =
     let a = c .before .before .before .before .before .before .before .before .before .before .before .before .args in
     let s = a .s .now in
     let at = a .at .from in
-    let i = unitInputs s at in
-    let o = unitOutputs s at in
+    let i = inputsAt s at in
+    let o = outputsAt s at in
     let p1 = c .before .before .before .before .before .before .before .keep .result .from in
     let r1 = room-last (λ p. integerWide s p ++ (integerWide s (p + 2) ++ bodyWide s i o (p + 2 + 2))) (λ p. bodyPast i o (p + 2 + 2)) (c .before .before .before .before .before .before .before .before .before .before .before .before .pre) (c .before .before .before .before .before .before .before .keep .ensures) in
     let p2 = c .before .before .widen-integer .result .from in
@@ -90,8 +90,8 @@ widen-integer-requires-2 c κs =
     let a = c .before .before .before .before .before .before .before .before .before .before .before .before .before .before .args in
     let s = a .s .now in
     let at = a .at .from in
-    let i = unitInputs s at in
-    let o = unitOutputs s at in
+    let i = inputsAt s at in
+    let o = outputsAt s at in
     let p1 = c .before .before .before .before .before .before .before .before .before .keep .result .from in
     let r1 = room-last (λ p. integerWide s p ++ (integerWide s (p + 2) ++ bodyWide s i o (p + 2 + 2))) (λ p. bodyPast i o (p + 2 + 2)) (c .before .before .before .before .before .before .before .before .before .before .before .before .before .before .pre) (c .before .before .before .before .before .before .before .before .before .keep .ensures) in
     let p2 = c .before .before .before .before .widen-integer .result .from in
@@ -104,14 +104,14 @@ widen-body-requires c κs =
     let a = c .before .before .before .before .before .before .before .before .before .before .before .before .before .before .before .before .before .before .args in
     let s = a .s .now in
     let at = a .at .from in
-    let i = unitInputs s at in
-    let o = unitOutputs s at in
+    let i = inputsAt s at in
+    let o = outputsAt s at in
     let p1 = c .before .before .before .before .before .before .before .before .before .before .before .before .before .keep .result .from in
     let r1 = room-last (λ p. integerWide s p ++ (integerWide s (p + 2) ++ bodyWide s i o (p + 2 + 2))) (λ p. bodyPast i o (p + 2 + 2)) (c .before .before .before .before .before .before .before .before .before .before .before .before .before .before .before .before .before .before .pre) (c .before .before .before .before .before .before .before .before .before .before .before .before .before .keep .ensures) in
     let p2 = c .before .before .before .before .before .before .before .before .widen-integer .result .from in
     let r2 = room-last (λ p. integerWide s p ++ bodyWide s i o (p + 2)) (λ p. bodyPast i o (p + 2)) r1 (c .before .before .before .before .before .before .before .before .widen-integer .ensures) in
-    let first : p1 ≡ unitCounts s at = c .before .before .before .before .before .before .before .before .before .before .before .before .before .keep .ensures .from in
-    let second : p2 ≡ unitCounts s at + 2 = c .before .before .before .before .before .before .before .before .widen-integer .ensures .from ∙ ap (λ (p : ℕ). p + 2) first in
+    let first : p1 ≡ countsAt s at = c .before .before .before .before .before .before .before .before .before .before .before .before .before .keep .ensures .from in
+    let second : p2 ≡ countsAt s at + 2 = c .before .before .before .before .before .before .before .before .widen-integer .ensures .from ∙ ap (λ (p : ℕ). p + 2) first in
     let many : c .before .before .before .before .before .before .before .before .before .before .value-at .result ≡ i = c .before .before .before .before .before .before .before .before .before .before .value-at .ensures ∙ ap (λ (p : ℕ). valueBy Short s p) first in
     let out : c .before .before .before .before .before .value-at2 .result ≡ o = c .before .before .before .before .before .value-at2 .ensures ∙ ap (λ (p : ℕ). valueBy Short s p) second in
     rw (many, out) (room-last (λ p. bodyWide s i o p) (λ p. bodyPast i o p) r2 (c .before .before .before .widen-integer2 .ensures))
@@ -125,14 +125,14 @@ returns c =
     let a = c .before .before .before .before .before .before .before .before .before .before .before .before .before .before .before .before .before .before .before .before .before .args in
     let s = a .s .now in
     let at = a .at .from in
-    let i = unitInputs s at in
-    let o = unitOutputs s at in
+    let i = inputsAt s at in
+    let o = outputsAt s at in
     let p1 = c .before .before .before .before .before .before .before .before .before .before .before .before .before .before .before .before .keep .result .from in
     let r1 = room-last (λ p. integerWide s p ++ (integerWide s (p + 2) ++ bodyWide s i o (p + 2 + 2))) (λ p. bodyPast i o (p + 2 + 2)) (c .before .before .before .before .before .before .before .before .before .before .before .before .before .before .before .before .before .before .before .before .before .pre) (c .before .before .before .before .before .before .before .before .before .before .before .before .before .before .before .before .keep .ensures) in
     let p2 = c .before .before .before .before .before .before .before .before .before .before .before .widen-integer .result .from in
     let r2 = room-last (λ p. integerWide s p ++ bodyWide s i o (p + 2)) (λ p. bodyPast i o (p + 2)) r1 (c .before .before .before .before .before .before .before .before .before .before .before .widen-integer .ensures) in
-    let first : p1 ≡ unitCounts s at = c .before .before .before .before .before .before .before .before .before .before .before .before .before .before .before .before .keep .ensures .from in
-    let second : p2 ≡ unitCounts s at + 2 = c .before .before .before .before .before .before .before .before .before .before .before .widen-integer .ensures .from ∙ ap (λ (p : ℕ). p + 2) first in
+    let first : p1 ≡ countsAt s at = c .before .before .before .before .before .before .before .before .before .before .before .before .before .before .before .before .keep .ensures .from in
+    let second : p2 ≡ countsAt s at + 2 = c .before .before .before .before .before .before .before .before .before .before .before .widen-integer .ensures .from ∙ ap (λ (p : ℕ). p + 2) first in
     let many : c .before .before .before .before .before .before .before .before .before .before .before .before .before .value-at .result ≡ i = c .before .before .before .before .before .before .before .before .before .before .before .before .before .value-at .ensures ∙ ap (λ (p : ℕ). valueBy Short s p) first in
     let out : c .before .before .before .before .before .before .before .before .value-at2 .result ≡ o = c .before .before .before .before .before .before .before .before .value-at2 .ensures ∙ ap (λ (p : ℕ). valueBy Short s p) second in
     let last = rw (many, out) at (c .before .before .widen-body .ensures) in
