@@ -1,5 +1,5 @@
 -- An accepted file's definitions put into slots, one after the other.
-use Prim.Native.Nat.{ℕ, _+_, _*_, _-_, _≤_, _<_}
+use Prim.Native.Nat.{ℕ, _+_, _*_, _≤_, _<_}
 use mathlib.Core.Bool.{Bool, true, false}
 use mathlib.Core.Path.{_≡_, refl, sym, ap, ap₂, _∙_}
 use mathlib.Core.List.{List, [], _++_}
@@ -10,7 +10,7 @@ use lib.Seq.{getD-set-same, getD-set-other, set-out}
 use lib.Dec.{ltb, eqb}
 use borrow.Author.Tests.{ltb-true, ltb-false, eqb-true, eqb-false}
 use Rattle.words.specs.Choice.{either-false}
-use Rattle.words.specs.Parts.{region, region-length, put, put-length}
+use Rattle.words.specs.Parts.{put, put-length}
 use Rattle.format.specs.Definition.{Definition}
 use Rattle.format.specs.Writer.{writeDefinition}
 use Rattle.nodes.specs.declared.Node.{Node}

@@ -12,6 +12,7 @@ use layout::SLOTS;
 use layout::SLOT_ROOM;
 use slots::bytes_on;
 use slots::resident_count;
+use widening::widen;
 use words::wide;
 ghost use Prim.Native.Nat.{ℕ, _+_, _*_, _≤_, _<_};
 ghost use mathlib.Core.Bool.{true, not};
@@ -40,7 +41,6 @@ ghost use Rattle.model.specs.Formed.{flagsFormed, isWhole, slotsFormed, nameRes
 ghost use Rattle.model.specs.Replies.{exportFile};
 ghost use Rattle.definitions.specs.Exporting.{headOf};
 ghost use Rattle.definitions.specs.Checking.{formedOn};
-ghost use Rattle.encoding.specs.Encoding.{Readable};
 ghost use Rattle.definitions.specs.Files.{Accepted, Placeable, definitionsOn};
 ghost use Rattle.definitions.specs.Loading.{Loaded, loadedOn};
 ghost use Rattle.definitions.specs.Naming.{NamedBy};
@@ -92,13 +92,6 @@ fn copy_in(to: &mut [u8], at: usize, from: &[u8])
         to[at + i] = from[i];
         i += 1;
     }
-}
-
-fn widen(to: &mut [u8], place: usize, s: &[u8], at: usize, end: usize, width: Width) -> usize
-    requires { ⌜ ((d : Definition) → definitionBy width (now s) at ≡ got d end → place + length (writeDefinition d) ≤ length (now to)) × Readable width (now s) at end ⌝ }
-    ensures { λ r. ⌜ ((d : Definition) → definitionBy width (now (s .entry)) at ≡ got d end → (now (to .exit) ≡ put place (length (writeDefinition d)) (writeDefinition d) (now (to .entry))) × (r ≡ place + length (writeDefinition d))) ⌝ }
-{
-    0
 }
 
 // The definition that was read from one place of a file to another, put into a slot in its version 2 encoding, resident.

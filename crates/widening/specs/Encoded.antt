@@ -1,26 +1,22 @@
 -- The version 2 encoding of a definition put at a place.
-use Prim.Native.Nat.{ℕ, _+_, _-_, _≤_}
-use mathlib.Core.Path.{_≡_, refl, sym, ap, _∙_}
+use Prim.Native.Nat.{ℕ, _+_, _≤_}
+use mathlib.Core.Path.{_≡_, sym, ap, _∙_}
 use mathlib.Core.List.{List, _++_, append-assoc}
-use native.Mathlib.Omega.{arith}
 use lib.ListN.{length, take, drop}
 use lib.Seq.{drop-drop}
-use Rattle.words.specs.Bytes.{AreBytes}
-use Rattle.words.specs.Parts.{region, put}
+use Rattle.words.specs.Parts.{put}
 use Rattle.format.specs.declared.Width.{Width}
-use Rattle.format.specs.declared.Width.the-variants.{Short, Long}
 use Rattle.format.specs.Read.{got}
 use Rattle.format.specs.Definition.{Definition}
 use Rattle.format.specs.Reader.{definitionBy}
 use Rattle.format.specs.RepeatLaws.{got-value}
 use Rattle.format.specs.Writer.{writeDefinition}
 use Rattle.osc.specs.Over.{over}
-use Rattle.roundtrip.specs.Forth.{definition-forth}
 use Rattle.encoding.specs.Encoding.{Readable}
-use Rattle.widening.specs.declared.places.Places.{Places}
-use Rattle.widening.specs.Moved.{Room, Moved}
-use Rattle.widening.specs.Pieces.{definitionWide}
-use Rattle.widening.specs.Widened.{definition-wide}
+
+
+
+
 
 -- a definition was read from one place to another, and its encoding has room at a place
 pub record Encodable (w : Width) (s : List ℕ) (at end : ℕ) (out : List ℕ) (place : ℕ) : Type 0 where

@@ -19,16 +19,16 @@ use Rattle.format.specs.Reader.{mostParameters, parameterNameBy, frontBy, input
 use Rattle.format.specs.Writer.{writeName, writeAll, writeParameterName, writeInput, writeUnit, writeVariant, writeFront, writeDefinitionBy, writeDefinition}
 use Rattle.format.specs.Bounds.{isFloat, isRate, isVariant}
 use Rattle.format.specs.NameLaws.{full}
-use Rattle.format.specs.FieldLaws.{checked-got, whole-got}
+use Rattle.format.specs.FieldLaws.{checked-got}
 use Rattle.format.specs.Endings.{field-got, repeat-got}
 use Rattle.format.specs.RepeatLaws.{went-on, got-value, got-place, repeat-length, floats-end}
-use Rattle.format.specs.Sizes.{string-got, name-got, rate-sized, count-got}
+use Rattle.format.specs.Sizes.{string-got, name-got, rate-sized}
 use Rattle.roundtrip.specs.Sound.{Part, part-of, join, repeat-sound}
 use Rattle.roundtrip.specs.FieldsForth.{int16-sound, float-sound, name-sound, definition-name-sound, rate-sound, short-count-sound}
 use Rattle.roundtrip.specs.RecordsForth.{units-sound, variant-sound}
 use Rattle.roundtrip.specs.Forth.{definition-forth}
 use Rattle.widening.specs.Walk.{wideAll, pastAll}
-use Rattle.widening.specs.Pieces.{integerWide, textPast, textWide, floatsPast, floatsWide, namePast, nameWide, namesPast, namesWide, frontPast, frontWide, inputPast, inputWide, bodyPast, bodyWide, countsAt, unitPast, unitWide, unitsPast, restWide, definitionWide}
+use Rattle.widening.specs.Pieces.{integerWide, floatsPast, floatsWide, namePast, nameWide, namesPast, namesWide, frontPast, frontWide, inputPast, inputWide, bodyPast, bodyWide, unitPast, unitWide, unitsPast, restWide, definitionWide}
 
 -- a writing of what was read up to a place is what a piece becomes, and the place is where the piece ends
 pub record Wide (s : List ℕ) (next : ℕ) (w wide : List ℕ) (past : ℕ) : Type 0 where

@@ -1,5 +1,5 @@
 use Prim.{tt}
-use mathlib.Core.Path.{_≡_, sym, ap, _∙_}
+use mathlib.Core.Path.{_≡_, ap, _∙_}
 use borrow.Author.Needs.{needs}
 use Rattle.fields.specs.Answers.{stepOf}
 use Rattle.format.specs.Definition.{Definition}

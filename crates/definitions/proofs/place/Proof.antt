@@ -1,12 +1,10 @@
 use Prim.Native.Nat.{_*_, _-_}
-use mathlib.Core.Path.{_≡_, sym, ap, _∙_}
+use mathlib.Core.Path.{_≡_}
 use native.Mathlib.Omega.{arith}
 use borrow.Author.Needs.{needs}
 use lib.ListN.{length, length-set}
-use Rattle.format.specs.Definition.{Definition}
 use Rattle.format.specs.Writer.{writeDefinition}
 use Rattle.model.specs.Layout.{slotRoom}
-use Rattle.format.specs.RepeatLaws.{got-value}
 use Rattle.definitions.proofs.place.Statement.{statement}
 use Rattle.definitions.proofs.place.Tie as tie
 
@@ -19,19 +17,19 @@ widen-requires c κs =
     let h = p .1 .1 in
     let size = p .0 .arenaSize in
     let small = h .small in
-    (λ d e. let same = ap (λ (x : Definition). length (writeDefinition x)) (got-value (sym (h .read) ∙ e)) in omega arith, record { definition = h .definition; read = h .read })
+    record { readable = record { definition = h .definition; read = h .read }; room = omega arith }
 
 sub-table : tie.Need-sub-table
 sub-table c =
     let h = c .before .before .before .before .before .before .before .pre .1 .1 in
     let w = c .before .before .widen .ensures (h .definition) (h .read) in
-    omega (arith, w .1)
+    omega (arith, w .end)
 
 cast-table : tie.Need-cast-table
 cast-table c =
     let h = c .before .before .before .before .before .before .before .pre .1 .1 in
     let w = c .before .before .widen .ensures (h .definition) (h .read) in
-    omega (arith, w .1, h .small)
+    omega (arith, w .end, h .small)
 
 mul-table : tie.Need-mul-table
 mul-table c = search needs
@@ -58,8 +56,8 @@ returns : tie.Need-returns
 returns c = λ d e.
     let w = c .before .before .widen .ensures d e in
     let a = c .before .before .before .before .before .before .before .args in
-    let size : c .before .before .widen .result - slotRoom * a .k ≡ length (writeDefinition d) = omega (arith, w .1) in
-    (rw size, w .0)
+    let size : c .before .before .widen .result - slotRoom * a .k ≡ length (writeDefinition d) = omega (arith, w .end) in
+    (rw size, w .bytes)
 
 pub place-spec : {M : Type 1} → statement M
 place-spec =

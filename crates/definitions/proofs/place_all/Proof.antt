@@ -1,13 +1,12 @@
-use Rattle.words.specs.Parts.{region-length}
 use Prim.{tt}
 use Rattle.definitions.specs.Naming.{run-next}
 use Rattle.definitions.specs.Loading.{Loading, loading-first, loading-next, loading-skip, loading-last}
 use Rattle.definitions.specs.Files.{accepted-run}
-use Prim.Native.Nat.{ℕ, _-_}
-use mathlib.Core.Path.{_≡_, sym, ap, _∙_}
+use Prim.Native.Nat.{_-_}
+use mathlib.Core.Path.{_≡_, sym, _∙_}
 use native.Mathlib.Omega.{arith}
 use borrow.Author.Needs.{needs}
-use lib.ListN.{length, take, drop}
+use lib.ListN.{length}
 use Rattle.definitions.proofs.place_all.Statement.{statement}
 use Rattle.definitions.proofs.place_all.Tie as tie
 

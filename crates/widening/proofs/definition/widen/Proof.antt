@@ -1,26 +1,16 @@
-use Rattle.format.specs.Writer.{writeDefinition}
-use Rattle.format.specs.declared.Width.the-variants.{Short, Long}
+use Rattle.format.specs.declared.Width.the-variants.{Long}
 use Rattle.words.specs.Parts.{region, region-length}
 use Rattle.words.specs.Bytes.{AreBytes}
 use Rattle.roundtrip.specs.Forth.{definition-forth}
-use Rattle.encoding.specs.Lengths.{Sized, sized}
 use Rattle.widening.specs.Encoded.{Encodable, encoded}
-use Prim.Native.Nat.{ℕ, zero, suc, _+_, _*_, _-_, _≤_, _<_}
-use mathlib.Core.Bool.{Bool, true, false, not}
-use mathlib.Core.Path.{_≡_, refl, sym, ap, _∙_}
-use mathlib.Core.List.{List, [], _∷_, _++_, append-assoc}
+use Prim.Native.Nat.{ℕ, _+_, _-_}
+use mathlib.Core.Path.{sym, ap}
 use native.Mathlib.Omega.{arith}
-use native.Mathlib.Numerals.{add-one}
 use borrow.Author.Needs.{needs}
-use borrow.Author.Tests.{lt-ltb, le-ltb, le-leb, lt-leb, eq-eqb, ne-eqb}
-use lib.ListN.{length, take, drop, getD, set, length-set, length-drop}
+use lib.ListN.{length}
 use borrow.Author.Needs.{needs}
 use Rattle.widening.proofs.definition.widen.Statement.{statement}
 use Rattle.widening.proofs.definition.widen.Tie as tie
-use Rattle.widening.proofs.definition.widen.Reads as reads
-use Rattle.widening.proofs.definition.widen.Lts as lts
-use Rattle.osc.proofs.put_bytes.Reads as put-bytes-reads
-use Rattle.widening.proofs.definition.widen_short.Reads as widen-short-reads
 
 enum-told : tie.Need-enum-told
 enum-told c = search needs

@@ -2,31 +2,20 @@ use Rattle.format.specs.Fields.{valueBy}
 use Rattle.format.specs.declared.Width.the-variants.{Short}
 use Rattle.words.specs.Parts.{region}
 use Rattle.words.specs.Bytes.{AreBytes}
-use Rattle.widening.specs.declared.places.Places.{Places}
-use Rattle.widening.specs.Encoded.{Encodable, encoded}
+use Rattle.widening.specs.Encoded.{encoded}
 use Rattle.widening.specs.Widened.{definition-wide}
 use Rattle.widening.specs.Pieces.{integerWide, frontWide, frontPast, unitWide, unitPast, unit-onward, unitsPast, restWide, definitionWide}
 use Rattle.widening.specs.Walk.{wideAll, pastAll, past-up}
 use Rattle.widening.specs.Moved.{Room, Moved, room-first, room-rest, moved-then}
-use Prim.Native.Nat.{ℕ, zero, suc, _+_, _*_, _-_, _≤_, _<_}
-use mathlib.Core.Bool.{Bool, true, false, not}
-use mathlib.Core.Path.{_≡_, refl, sym, ap, _∙_}
-use mathlib.Core.List.{List, [], _∷_, _++_, append-assoc}
+use Prim.Native.Nat.{ℕ, _+_, _-_, _≤_}
+use mathlib.Core.Path.{_≡_, ap}
+use mathlib.Core.List.{_++_}
 use native.Mathlib.Omega.{arith}
-use native.Mathlib.Numerals.{add-one}
 use borrow.Author.Needs.{needs}
-use borrow.Author.Tests.{lt-ltb, le-ltb, le-leb, lt-leb, eq-eqb, ne-eqb}
-use lib.ListN.{length, take, drop, getD, set, length-set, length-drop}
+
 use borrow.Author.Needs.{needs}
 use Rattle.widening.proofs.definition.widen_short.Statement.{statement}
 use Rattle.widening.proofs.definition.widen_short.Tie as tie
-use Rattle.widening.proofs.definition.widen_short.Reads as reads
-use Rattle.widening.proofs.definition.widen_short.Lts as lts
-use Rattle.fields.proofs.value_at.Reads as value-at-reads
-use Rattle.widening.proofs.fronts.widen_front.Reads as widen-front-reads
-use Rattle.widening.proofs.places.keep.Reads as keep-reads
-use Rattle.widening.proofs.places.widen_integer.Reads as widen-integer-reads
-use Rattle.widening.proofs.unit.widen_units.Reads as widen-units-reads
 
 widen-front-requires : tie.Need-widen-front-requires
 unfolding definitionWide

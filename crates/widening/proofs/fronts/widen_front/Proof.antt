@@ -3,25 +3,15 @@ use Rattle.format.specs.declared.Width.the-variants.{Short}
 use Rattle.widening.specs.Pieces.{integerWide, textWide, textPast, floatsWide, floatsPast, floats-onward, nameWide, namePast, name-onward, namesWide, namesPast, names-onward, frontWide, frontPast}
 use Rattle.widening.specs.Walk.{wideAll, pastAll, past-up}
 use Rattle.widening.specs.Moved.{room-first, room-last, moved-then}
-use Prim.Native.Nat.{ℕ, zero, suc, _+_, _*_, _-_, _≤_, _<_}
-use mathlib.Core.Bool.{Bool, true, false, not}
-use mathlib.Core.Path.{_≡_, refl, sym, ap, _∙_}
-use mathlib.Core.List.{List, [], _∷_, _++_, append-assoc}
+use Prim.Native.Nat.{_+_}
+
+use mathlib.Core.List.{_++_}
 use native.Mathlib.Omega.{arith}
-use native.Mathlib.Numerals.{add-one}
 use borrow.Author.Needs.{needs}
-use borrow.Author.Tests.{lt-ltb, le-ltb, le-leb, lt-leb, eq-eqb, ne-eqb}
-use lib.ListN.{length, take, drop, getD, set, length-set, length-drop}
+
 use borrow.Author.Needs.{needs}
 use Rattle.widening.proofs.fronts.widen_front.Statement.{statement}
 use Rattle.widening.proofs.fronts.widen_front.Tie as tie
-use Rattle.widening.proofs.fronts.widen_front.Reads as reads
-use Rattle.widening.proofs.fronts.widen_front.Lts as lts
-use Rattle.fields.proofs.value_at.Reads as value-at-reads
-use Rattle.widening.proofs.fronts.keep_text.Reads as keep-text-reads
-use Rattle.widening.proofs.fronts.widen_floats.Reads as widen-floats-reads
-use Rattle.widening.proofs.fronts.widen_names.Reads as widen-names-reads
-use Rattle.widening.proofs.places.widen_integer.Reads as widen-integer-reads
 
 keep-text-requires : tie.Need-keep-text-requires
 unfolding frontWide frontPast

@@ -1,20 +1,12 @@
-use Rattle.osc.specs.Over.{over}
-use Rattle.words.specs.Parts.{region, region-length}
-use Prim.Native.Nat.{ℕ, zero, suc, _+_, _*_, _-_, _≤_, _<_}
-use mathlib.Core.Bool.{Bool, true, false, not}
-use mathlib.Core.Path.{_≡_, refl, sym, ap, _∙_}
-use mathlib.Core.List.{List, [], _∷_, _++_, append-assoc}
+use Rattle.words.specs.Parts.{region-length}
+use Prim.Native.Nat.{_+_, _-_}
+use mathlib.Core.Path.{_≡_, refl}
 use native.Mathlib.Omega.{arith}
-use native.Mathlib.Numerals.{add-one}
 use borrow.Author.Needs.{needs}
-use borrow.Author.Tests.{lt-ltb, le-ltb, le-leb, lt-leb, eq-eqb, ne-eqb}
-use lib.ListN.{length, take, drop, getD, set, length-set, length-drop}
+
 use borrow.Author.Needs.{needs}
 use Rattle.widening.proofs.places.keep.Statement.{statement}
 use Rattle.widening.proofs.places.keep.Tie as tie
-use Rattle.widening.proofs.places.keep.Reads as reads
-use Rattle.widening.proofs.places.keep.Lts as lts
-use Rattle.osc.proofs.put_bytes.Reads as put-bytes-reads
 
 add-end : tie.Need-add-end
 add-end c = search needs

@@ -1,21 +1,14 @@
 use Rattle.osc.specs.Over.{over}
 use Rattle.words.specs.Bytes.{bytes32}
-use Prim.Native.Nat.{ℕ, zero, suc, _+_, _*_, _-_, _≤_, _<_}
-use mathlib.Core.Bool.{Bool, true, false, not}
-use mathlib.Core.Path.{_≡_, refl, sym, ap, _∙_}
-use mathlib.Core.List.{List, [], _∷_, _++_, append-assoc}
-use native.Mathlib.Omega.{arith}
-use native.Mathlib.Numerals.{add-one}
+use Prim.Native.Nat.{ℕ}
+use mathlib.Core.Path.{refl, ap, _∙_}
+
+
 use borrow.Author.Needs.{needs}
-use borrow.Author.Tests.{lt-ltb, le-ltb, le-leb, lt-leb, eq-eqb, ne-eqb}
-use lib.ListN.{length, take, drop, getD, set, length-set, length-drop}
+
 use borrow.Author.Needs.{needs}
 use Rattle.widening.proofs.places.widen_integer.Statement.{statement}
 use Rattle.widening.proofs.places.widen_integer.Tie as tie
-use Rattle.widening.proofs.places.widen_integer.Reads as reads
-use Rattle.widening.proofs.places.widen_integer.Lts as lts
-use Rattle.fields.proofs.value_at.Reads as value-at-reads
-use Rattle.osc.proofs.put_int.Reads as put-int-reads
 
 value-at-requires : tie.Need-value-at-requires
 value-at-requires c κs = search needs

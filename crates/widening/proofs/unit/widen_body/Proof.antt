@@ -1,24 +1,16 @@
 use Rattle.words.specs.Parts.{region}
 use Rattle.widening.specs.Pieces.{inputWide, inputPast, bodyWide, bodyPast, input-onward}
 use Rattle.widening.specs.Walk.{wideAll, pastAll, past-up}
-use Rattle.widening.specs.Moved.{room-first, room-rest, room-last, moved-then}
-use Prim.Native.Nat.{ℕ, zero, suc, _+_, _*_, _-_, _≤_, _<_}
-use mathlib.Core.Bool.{Bool, true, false, not}
-use mathlib.Core.Path.{_≡_, refl, sym, ap, _∙_}
-use mathlib.Core.List.{List, [], _∷_, _++_, append-assoc}
+use Rattle.widening.specs.Moved.{room-first, room-last, moved-then}
+use Prim.Native.Nat.{_+_}
+
+use mathlib.Core.List.{_++_}
 use native.Mathlib.Omega.{arith}
-use native.Mathlib.Numerals.{add-one}
 use borrow.Author.Needs.{needs}
-use borrow.Author.Tests.{lt-ltb, le-ltb, le-leb, lt-leb, eq-eqb, ne-eqb}
-use lib.ListN.{length, take, drop, getD, set, length-set, length-drop}
+
 use borrow.Author.Needs.{needs}
 use Rattle.widening.proofs.unit.widen_body.Statement.{statement}
 use Rattle.widening.proofs.unit.widen_body.Tie as tie
-use Rattle.widening.proofs.unit.widen_body.Reads as reads
-use Rattle.widening.proofs.unit.widen_body.Lts as lts
-use Rattle.widening.proofs.places.keep.Reads as keep-reads
-use Rattle.widening.proofs.unit.widen_inputs.Reads as widen-inputs-reads
-use Rattle.words.proofs.wide.Reads as wide-reads
 
 keep-requires : tie.Need-keep-requires
 unfolding bodyWide bodyPast

@@ -1,19 +1,14 @@
 use Rattle.widening.specs.Pieces.{unitWide, unitPast, unit-onward}
 use Rattle.widening.specs.Moved.{Walking, walking-first, walking-room, walking-next, walking-last}
-use Prim.Native.Nat.{ℕ, zero, suc, _+_, _*_, _-_, _≤_, _<_}
-use mathlib.Core.Bool.{Bool, true, false, not}
-use mathlib.Core.Path.{_≡_, refl, sym, ap, _∙_}
-use mathlib.Core.List.{List, [], _∷_, _++_, append-assoc}
+use Prim.Native.Nat.{_-_}
+
+
 use native.Mathlib.Omega.{arith}
-use native.Mathlib.Numerals.{add-one}
-use borrow.Author.Needs.{needs}
-use borrow.Author.Tests.{lt-ltb, le-ltb, le-leb, lt-leb, eq-eqb, ne-eqb}
-use lib.ListN.{length, take, drop, getD, set, length-set, length-drop}
+
+
+
 use Rattle.widening.proofs.unit.widen_units.Statement.{statement}
 use Rattle.widening.proofs.unit.widen_units.Tie as tie
-use Rattle.widening.proofs.unit.widen_units.Reads as reads
-use Rattle.widening.proofs.unit.widen_units.Lts as lts
-use Rattle.widening.proofs.unit.widen_unit.Reads as widen-unit-reads
 
 abbrev Inv-loop : tie.InvT-loop
 Inv-loop out₀ s count here₀ i₀ out here i = Walking (unitWide s) (unitPast s) count here₀ out₀ i here out
