@@ -104,12 +104,12 @@ twin-loads load other s is is′ a a′ ds end w same =
     let accepted : isAccepted (answer receive (load .bytes) (s .words) (s .arena) (load .out)) ≡ isAccepted (answer receive (other .bytes) (s .words) (s .arena) (other .out)) = t .accepted ∙ ap isAccepted room in
     record {
       number = ap refusalIn (d .answers) ∙ t .number ∙ ap refusalIn (room ∙ sym (d′ .answers));
-      left = ap₂ (λ (x y : List ℕ). record { words = x; arena = y }) (d .words ∙ by (λ h. t .left h .0) accepted ∙ sym (d′ .words)) (d .arena ∙ by (λ h. t .left h .1) accepted ∙ sym (d′ .arena));
+      left = ap₂ (λ (x y : List ℕ). record { words = x; arena = y }) (d .words ∙ by _ _ _ _ (s .words) (λ h. t .left h .0) accepted ∙ sym (d′ .words)) (d .arena ∙ by _ _ _ _ (s .arena) (λ h. t .left h .1) accepted ∙ sym (d′ .arena));
     }
   where
-    by : {a b : Bool} {x y z : List ℕ} → (a ≡ true → x ≡ y) → a ≡ b → pick a x z ≡ pick b y z
-    by {true} {b} f e = rw (sym e) (f refl)
-    by {false} {b} f e = rw (sym e)
+    by : (a b : Bool) (x y z : List ℕ) → (a ≡ true → x ≡ y) → a ≡ b → pick a x z ≡ pick b y z
+    by true b x y z f e = rw (sym e) (f refl)
+    by false b x y z f e = rw (sym e)
 
 pub demand2 : Demand2
 unfolding Chain
