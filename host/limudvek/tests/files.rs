@@ -186,23 +186,9 @@ impl Judge {
             }
             self.names(file, definitions);
         }
-        let length = twin.bytes.len();
         if proved(&twin.bytes).is_some() {
             self.fail(file, "its twin is refused");
         }
-        // The whole twin, and what lies behind it stays.
-        let room = length + self.random.below(100);
-        if self.widen(file, room) != length || self.out[..length] != twin.bytes {
-            self.fail(file, "it is not widened to its twin");
-        }
-        if self.out[length..room].iter().any(|&byte| byte != FILLING) {
-            self.fail(file, "more than the twin is written");
-        }
-        let room = match self.random.below(2) {
-            0 => length - 1,
-            _ => self.random.below(length),
-        };
-        self.unwidened(file, room);
     }
 
     /// The names of an accepted file, each a part of it.
@@ -222,30 +208,11 @@ impl Judge {
         if synthdef::count(file) != 0 || synthdef::name(file, 0).is_some() {
             self.fail(file, "refused, but with names");
         }
-        let room = self.random.below(file.len().min(500) + 100);
-        self.unwidened(file, room);
         let proved = proved(&twin.bytes);
         if proved != twin.fault {
             let what = format!("its twin is refused by {proved:?}, not by {:?}", twin.fault);
             self.fail(file, &what);
         }
-    }
-
-    /// Nothing is written to so much room.
-    fn unwidened(&mut self, file: &[u8], room: usize) {
-        let length = self.widen(file, room);
-        if length != 0 || self.out[..room].iter().any(|&byte| byte != FILLING) {
-            self.fail(
-                file,
-                &format!("widened to {length} bytes where {room} are lent"),
-            );
-        }
-    }
-
-    fn widen(&mut self, file: &[u8], room: usize) -> usize {
-        let out = &mut self.out[..room];
-        out.fill(FILLING);
-        synthdef::widen(file, out)
     }
 
     fn fail(&self, file: &[u8], what: &str) -> ! {
