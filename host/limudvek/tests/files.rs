@@ -133,7 +133,6 @@ fn judged(version: Version, kind: &Kind, seed: u64, place: u64) -> Tally {
         version,
         random: Random::new(!seeds),
         tally: Tally::default(),
-        out: vec![0; synthdef::LONGEST + 100],
     };
     kind.each(version, Random::new(seeds), &mut |file, known| {
         judge.judge(file, known);
@@ -149,7 +148,6 @@ struct Judge {
     version: Version,
     random: Random,
     tally: Tally,
-    out: Vec<u8>,
 }
 
 impl Judge {
@@ -225,9 +223,6 @@ impl Judge {
         );
     }
 }
-
-/// What the lent bytes hold before.
-const FILLING: u8 = 0xa5;
 
 /// The proved reader's refusal.
 fn proved(file: &[u8]) -> Option<Fault> {
