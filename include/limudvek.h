@@ -18,13 +18,17 @@
 extern "C" {
 #endif
 
-/* SynthDef2 files. */
+/* SynthDef files of version 1 and version 2, whose definitions are the same. A definition may take
+ * 2,048 bytes in version 2. Places are those in the file as it lies. */
 
 /* The refusal's number (2 to 11), or 0 where the file is accepted. */
 uint32_t synthdef_refusal(const uint8_t *file, size_t length);
 
 /* The place of the first byte at fault, or 0 where the file is accepted. */
 uint64_t synthdef_place(const uint8_t *file, size_t length);
+
+/* The version of an accepted file, 1 or 2; 0 where it is refused. */
+uint32_t synthdef_version(const uint8_t *file, size_t length);
 
 /* How many definitions an accepted file has; 0 where it is refused. */
 uint32_t synthdef_count(const uint8_t *file, size_t length);
@@ -34,7 +38,8 @@ uint32_t synthdef_count(const uint8_t *file, size_t length);
 uint64_t synthdef_name_start(const uint8_t *file, size_t length, uint32_t index);
 uint64_t synthdef_name_end(const uint8_t *file, size_t length, uint32_t index);
 
-/* The engine. It lives in two lent runs, which docs/LAYOUT.md describes. */
+/* The engine. It lives in two lent runs, which docs/LAYOUT.md describes. It takes files of both
+ * versions, keeps their definitions as version 2 has them, and exports version 2. */
 
 /* The lengths of the runs, in words and in bytes. */
 uint64_t engine_words(void);

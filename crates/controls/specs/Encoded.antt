@@ -10,13 +10,14 @@ use lib.ListN.{length}
 use lib.Dec.{leb}
 use Rattle.readable.specs.declared.found.Found.{Found}
 use Rattle.readable.specs.declared.found.Found.the-variants as found
+use Rattle.format.specs.declared.Width.the-variants.{Long}
 use Rattle.format.specs.Read.{onRead, Read, got, bad, repeat}
 use Rattle.readable.specs.Lookup.{parametersIn, indexIn}
 use Rattle.format.specs.Fields.{integer, float32, definitionName, count, countTo, highest16, shortCountTo}
 use Rattle.format.specs.FieldLaws.{checked-got}
 use Rattle.format.specs.RepeatLaws.{went-on, repeat-length}
 use Rattle.format.specs.Definition.{Front, Definition}
-use Rattle.format.specs.Reader.{mostParameters, parameterName, readFront, readUnits, variant, readDefinition}
+use Rattle.format.specs.Reader.{mostParameters, parameterName, frontBy, readFront, unitsBy, variant, definitionBy, readDefinition}
 use Rattle.faults.specs.declared.Fault.the-variants.{BadCount}
 use Rattle.values.specs.declared.Key.{Key}
 use Rattle.values.specs.declared.Key.the-variants.{Index, Name}
@@ -42,18 +43,18 @@ numberOr found.Nothing = 0
 
 -- the front of a definition that was read
 pub front-read : (s : List ℕ) {d : Definition} {next : ℕ} → readDefinition s 0 ≡ got d next → frontIn s ≡ d .front
-unfolding frontIn readDefinition
+unfolding frontIn definitionBy
 front-read s {d} {next} h =
     went-on (readFront s 0) _ h (λ f p1 e1 h1.
     went-on (count s p1) _ h1 (λ many p2 e2 h2.
-    went-on (readUnits (length (f .constants)) s many [] p2) _ h2 (λ units p3 e3 h3.
+    went-on (unitsBy Long (length (f .constants)) s many [] p2) _ h2 (λ units p3 e3 h3.
     went-on (shortCountTo highest16 s p3) _ h3 (λ v p4 e4 h4.
     went-on (repeat (variant (length (f .values)) s) v p4) _ h4 (λ variants p5 e5 h5.
     ap (valueOr noFront) e1 ∙ ap (λ (r : Read Definition). valueOr (frontOnly s) r .front) h5)))))
 
 -- "P at most 32"
 few-read : (s : List ℕ) {f : Front} {next : ℕ} → readFront s 0 ≡ got f next → length (f .values) ≤ mostParameters
-unfolding readFront
+unfolding frontBy
 few-read s {f} {next} h =
     went-on (definitionName s 0) _ h (λ n p1 e1 h1.
     went-on (count s p1) _ h1 (λ k p2 e2 h2.

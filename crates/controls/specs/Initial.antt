@@ -9,6 +9,7 @@ use lib.ListN.{length, take, drop, getD, set, take-append-drop}
 use lib.Seq.{paste, paste-suc, take-all}
 use Rattle.readable.specs.declared.found.ValuesFound.{ValuesFound}
 use Rattle.readable.specs.declared.found.ValuesFound.the-variants as values
+use Rattle.format.specs.declared.Width.the-variants.{Long}
 use Rattle.format.specs.Read.{onRead, Read, got, bad, repeat}
 use Rattle.readable.specs.Lookup.{valuesIn}
 use Rattle.format.specs.Fields.{float32, word}
@@ -104,17 +105,17 @@ pub record ValuesAt (s : List ℕ) (start count : ℕ) (xs : List ℕ) : Type 0 
   pub same : floatsFrom s count start ≡ xs
 
 abbrev fact : Read Front → ValuesFound
-fact r = onRead r values.Nothing (λ f next. values.At (valuesAt 0 f) (length (f .values)))
+fact r = onRead r values.Nothing (λ f next. values.At (valuesAt Long 0 f) (length (f .values)))
 
 fact-at : (s : List ℕ) (r : Read Front) {start count : ℕ} → readFront s 0 ≡ r → fact r ≡ values.At start count → ValuesAt s start count (valueOr noFront r .values)
 fact-at s (got f p) {start} {count} e h =
-    let from : valuesAt 0 f ≡ start = cc in
+    let from : valuesAt Long 0 f ≡ start = cc in
     let many : length (f .values) ≡ count = cc in
-    let read = front-got s 0 e .values in
+    let read = front-got Long s 0 e .values in
     record {
       many = sym many;
-      end = λ some. rw (sym from, sym many) (floats-end s (length (f .values)) (valuesAt 0 f) read (rw (sym many) at some));
-      same = rw (sym from, sym many) (floats-read s (length (f .values)) (valuesAt 0 f) read);
+      end = λ some. rw (sym from, sym many) (floats-end s (length (f .values)) (valuesAt Long 0 f) read (rw (sym many) at some));
+      same = rw (sym from, sym many) (floats-read s (length (f .values)) (valuesAt Long 0 f) read);
     }
 fact-at s (bad q place) {start} {count} e h = let z : _≡_ {A = ℕ} 0 1 = cc in absurd (omega arith)
 

@@ -12,6 +12,7 @@ use lib.Dec.{ltb, leb}
 use borrow.Author.Tests.{not-true, le-leb, leb-true, lt-ltb, le-ltb}
 use Rattle.words.specs.Bytes.{AreBytes}
 use Rattle.words.specs.Choice.{pick, both, either, both-true}
+use Rattle.format.specs.declared.Width.the-variants.{Long}
 use Rattle.format.specs.Read.{Read, got}
 use Rattle.format.specs.Definition.{Definition}
 use Rattle.format.specs.Reader.{readDefinition, readFile, sizeLimit, mostDefinitions, sameName, among}
@@ -122,7 +123,7 @@ formed-fine table arena b f k h r =
     let size = ap length (whole-written table arena k b (f .sized) less w) ∙ whole-size table arena k (f .sized) less w in
     rw is (record {
       bounded = ap (λ (q : Read Definition). isDefinition (valueOr noDefinition q)) (w .read)
-          ∙ definition-forth (bytesOn table arena k) (bytes-on table arena k b) 0 (w .definition) (getD table k 0) (w .read) .bounded;
+          ∙ definition-forth Long (bytesOn table arena k) (bytes-on table arena k b) 0 (w .definition) (getD table k 0) (w .read) .bounded;
       small = omega arith;
     })
 
@@ -219,10 +220,9 @@ fresh-residents ds file slots t many out idle =
 -- Demand 2, what a fresh engine accepts is exported byte for byte: a file loaded where no slot is taken
 pub fresh-export : (file : List ℕ) → AreBytes file → (ds : List Definition) (end : ℕ) → readFile file ≡ got ds end
     → (slots : List Slot) (t : List Node) → length slots ≡ slotCount → AllOut slots → ((k : ℕ) → k < slotCount → held k t ≡ false)
-    → exportFile (loaded ds (retired (namesOf ds) slots) t) ≡ file
+    → exportFile (loaded ds (retired (namesOf ds) slots) t) ≡ writeFile ds
 fresh-export file b ds end e slots t many out idle =
-    let w = file-forth file b ds end e in
-    ap writeFile (fresh-residents ds (w .bounded) slots t many out idle) ∙ w .bytes
+    ap writeFile (fresh-residents ds (file-forth file b ds end e .bounded) slots t many out idle)
 
 -- the definition that a name means, of residents by their definitions
 unfoldable pub meaningOf : List ℕ → List Definition → Option Definition

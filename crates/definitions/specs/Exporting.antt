@@ -11,6 +11,7 @@ use borrow.Author.Tests.{ltb-true, ltb-false}
 use Rattle.words.specs.Bytes.{AreBytes}
 use Rattle.words.specs.Choice.{pick}
 use Rattle.words.specs.Parts.{put, put-length, past-put}
+use Rattle.format.specs.declared.Width.the-variants.{Long}
 use Rattle.format.specs.Read.{Read}
 use Rattle.format.specs.Definition.{Definition}
 use Rattle.format.specs.Writer.{writeAll, writeDefinition, writeFile}
@@ -47,7 +48,7 @@ whole-written table arena k b z h w =
     let size : length bytes ≡ getD table k 0 = whole-size table arena k z h w in
     let whole : getD table k 0 - 0 ≡ length bytes = omega arith in
     ap (λ (r : Read Definition). writeDefinition (valueOr noDefinition r)) (w .read)
-    ∙ definition-forth bytes (bytes-on table arena k b) 0 (w .definition) (getD table k 0) (w .read) .bytes
+    ∙ definition-forth Long bytes (bytes-on table arena k b) 0 (w .definition) (getD table k 0) (w .read) .bytes
     ∙ ap (λ (n : ℕ). take n bytes) whole
     ∙ take-length bytes
 

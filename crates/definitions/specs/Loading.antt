@@ -1,5 +1,5 @@
 -- An accepted file's definitions put into slots, one after the other.
-use Prim.Native.Nat.{ℕ, _+_, _*_, _-_, _≤_, _<_}
+use Prim.Native.Nat.{ℕ, _+_, _*_, _≤_, _<_}
 use mathlib.Core.Bool.{Bool, true, false}
 use mathlib.Core.Path.{_≡_, refl, sym, ap, ap₂, _∙_}
 use mathlib.Core.List.{List, [], _++_}
@@ -10,7 +10,7 @@ use lib.Seq.{getD-set-same, getD-set-other, set-out}
 use lib.Dec.{ltb, eqb}
 use borrow.Author.Tests.{ltb-true, ltb-false, eqb-true, eqb-false}
 use Rattle.words.specs.Choice.{either-false}
-use Rattle.words.specs.Parts.{region, region-length, put, put-length}
+use Rattle.words.specs.Parts.{put, put-length}
 use Rattle.format.specs.Definition.{Definition}
 use Rattle.format.specs.Writer.{writeDefinition}
 use Rattle.nodes.specs.declared.Node.{Node}
@@ -144,16 +144,13 @@ module _ (table₀ arena₀ file : List ℕ) (tests : List Bool) (at : ℕ) (tab
     sized = m .sized;
   }
 
-  pub loading-next : k < slotCount → (from : List ℕ) → from ≡ region at (n .next - at) file
-      → Loading table₀ arena₀ file tests (n .next) (set (set table k (length from)) (slotCount + k) 1) (put (slotRoom * k) (length from) from arena)
-  loading-next less from e =
-      let same : from ≡ writeDefinition (n .first) = e ∙ sym (n .here .written) in
-      let on = n .here .forward in
-      let within = n .here .inside in
+  pub loading-next : k < slotCount
+      → Loading table₀ arena₀ file tests (n .next) (set (set table k (length (writeDefinition (n .first)))) (slotCount + k) 1) (put (slotRoom * k) (length (writeDefinition (n .first))) (writeDefinition (n .first)) arena)
+  loading-next less =
+      let from = writeDefinition (n .first) in
       let small = n .here .small in
       let many = m .many in
-      let size : length from ≡ n .next - at = ap length e ∙ region-length at (n .next - at) file (omega arith) in
-      let fits : length (writeDefinition (n .first)) ≤ slotRoom = rw (sym same) (omega arith) in
+      let fits : length (writeDefinition (n .first)) ≤ slotRoom = omega arith in
       let free : slotAt (m .slots) k .resident ≡ false = free-resident (m .slots) (holders tests) k (sym found-in ∙ sym (zero-add k)) (rw (m .many) less) in
       record {
         slots = set (m .slots) k (newSlot (n .first));
@@ -162,8 +159,8 @@ module _ (table₀ arena₀ file : List ℕ) (tests : List Bool) (at : ℕ) (tab
         left = next-left;
         many = length-set (m .slots) k (newSlot (n .first)) ∙ m .many;
         short = short-set (m .slots) k (newSlot (n .first)) (m .short) fits;
-        tableNow = rw (same, m .tableNow) (sym (table-set (m .slots) table₀ k (newSlot (n .first)) (m .many) less refl));
-        arenaNow = rw (same, m .arenaNow) (sym (arena-set (m .slots) arena₀ k (newSlot (n .first)) (m .short) (omega arith) (omega arith) free refl fits));
+        tableNow = rw (m .tableNow) (sym (table-set (m .slots) table₀ k (newSlot (n .first)) (m .many) less refl));
+        arenaNow = rw (m .arenaNow) (sym (arena-set (m .slots) arena₀ k (newSlot (n .first)) (m .short) (omega arith) (omega arith) free refl fits));
         sized = record {
           tableSize = length-set (set table k (length from)) (slotCount + k) 1 ∙ length-set table k (length from) ∙ m .sized .tableSize;
           arenaSize = let z = m .sized .arenaSize in put-length (slotRoom * k) (length from) from arena (omega arith) refl ∙ z;

@@ -9,6 +9,7 @@ use lib.Seq.{getD-set-same, getD-set-other}
 use lib.Dec.{eqb}
 use borrow.Author.Tests.{eqb-true, eqb-false}
 use Rattle.words.specs.Choice.{pick, both, either}
+use Rattle.format.specs.declared.Width.the-variants.{Long}
 use Rattle.format.specs.Read.{Read}
 use Rattle.format.specs.Fields.{stringAt}
 use Rattle.format.specs.Definition.{Definition}
@@ -30,7 +31,7 @@ pub record NamedThere (table arena : List ℕ) (k : ℕ) : Type 0 where
 
 pub named-there : (table arena : List ℕ) (k : ℕ) → Whole table arena k → NamedThere table arena k
 named-there table arena k w =
-    let d = definition-named (bytesOn table arena k) 0 (w .read) in
+    let d = definition-named Long (bytesOn table arena k) 0 (w .read) in
     record { same = ap (λ (r : Read Definition). valueOr noDefinition r .front .name) (w .read) ∙ d .0; inside = d .1 }
 
 -- the slot k is resident under a name

@@ -3,12 +3,16 @@ use fields::Cursor;
 use fields::Step;
 use fields::same_name;
 use files::read_definition;
+use files::width_of;
+use format::FIRST_PLACE;
+use format::Width;
 use layout::RECORD;
 use layout::SLOT;
 use layout::SLOTS;
 use layout::SLOT_ROOM;
 use slots::bytes_on;
 use slots::resident_count;
+use widening::widen;
 use words::wide;
 ghost use Prim.Native.Nat.{ℕ, _+_, _*_, _≤_, _<_};
 ghost use mathlib.Core.Bool.{true, not};
@@ -20,7 +24,9 @@ ghost use Rattle.words.specs.Choice.{both, either};
 ghost use Rattle.words.specs.Parts.{put};
 ghost use Rattle.format.specs.Definition.{Definition};
 ghost use Rattle.format.specs.Read.{got};
-ghost use Rattle.format.specs.Reader.{readDefinition, sizeLimit};
+ghost use Rattle.format.specs.Reader.{definitionBy, readDefinition, sizeLimit};
+ghost use Rattle.format.specs.HeaderLaws.{fileWidth};
+ghost use Rattle.format.specs.Writer.{writeDefinition};
 ghost use Rattle.format.specs.Fields.{stringAt};
 ghost use Rattle.model.specs.Layout.{slotCount, slotRoom};
 ghost use Rattle.nodes.specs.declared.Node.{Node};
@@ -35,7 +41,7 @@ ghost use Rattle.model.specs.Formed.{flagsFormed, isWhole, slotsFormed, nameRes
 ghost use Rattle.model.specs.Replies.{exportFile};
 ghost use Rattle.definitions.specs.Exporting.{headOf};
 ghost use Rattle.definitions.specs.Checking.{formedOn};
-ghost use Rattle.definitions.specs.Files.{Accepted, definitionsOn};
+ghost use Rattle.definitions.specs.Files.{Accepted, Placeable, definitionsOn};
 ghost use Rattle.definitions.specs.Loading.{Loaded, loadedOn};
 ghost use Rattle.definitions.specs.Naming.{NamedBy};
 ghost use Rattle.definitions.specs.Storing.{tableOf};
@@ -88,13 +94,14 @@ fn copy_in(to: &mut [u8], at: usize, from: &[u8])
     }
 }
 
-// A definition put into a slot, resident.
-fn place(table: &mut [u32], arena: &mut [u8], k: usize, from: &[u8])
-    requires { ⌜ SlotsFit (now table) (now arena) × ((k < slotCount) × (length (now from) ≤ slotRoom)) ⌝ }
-    ensures { λ r. ⌜ (now (table .exit) ≡ set (set (now (table .entry)) k (length (now (from .entry)))) (slotCount + k) 1) × (now (arena .exit) ≡ put (slotRoom * k) (length (now (from .entry))) (now (from .entry)) (now (arena .entry))) ⌝ }
+// The definition that was read from one place of a file to another, put into a slot in its version 2 encoding, resident.
+fn place(table: &mut [u32], arena: &mut [u8], k: usize, file: &[u8], at: usize, end: usize, width: Width)
+    requires { ⌜ SlotsFit (now table) (now arena) × ((k < slotCount) × Placeable width (now file) at end) ⌝ }
+    ensures { λ r. ⌜ ((d : Definition) → definitionBy width (now (file .entry)) at ≡ got d end → (now (table .exit) ≡ set (set (now (table .entry)) k (length (writeDefinition d))) (slotCount + k) 1) × (now (arena .exit) ≡ put (slotRoom * k) (length (writeDefinition d)) (writeDefinition d) (now (arena .entry)))) ⌝ }
 {
-    copy_in(arena, SLOT_ROOM * k, from);
-    table[k] = from.len() as u32;
+    let start = SLOT_ROOM * k;
+    let past = widen(arena, start, file, at, end, width);
+    table[k] = (past - start) as u32;
     table[SLOTS + k] = 1;
 }
 
@@ -159,11 +166,11 @@ fn mark_named(table: &[u32], arena: &[u8], name: &[u8], marks: [bool; SLOTS]) ->
     named
 }
 
-// Where a definition that starts at a place ends.
+// Where a definition that starts at a place of a file ends.
 fn definition_end(file: &[u8], at: usize) -> usize
-    ensures { λ r. ⌜ ((d : Definition) (next : ℕ) → readDefinition (now (file .entry)) at ≡ got d next → r ≡ next) ⌝ }
+    ensures { λ r. ⌜ ((d : Definition) (next : ℕ) → definitionBy (fileWidth (now (file .entry))) (now (file .entry)) at ≡ got d next → r ≡ next) ⌝ }
 {
-    match read_definition(file, Cursor { at: at }) {
+    match read_definition(file, Cursor { at: at }, width_of(file)) {
         Step::Next(next) => next.at,
         Step::Bad(refusal, place) => place,
     }
@@ -175,7 +182,7 @@ fn named_slots(table: &[u32], arena: &[u8], file: &[u8]) -> [bool; SLOTS]
     ensures { λ r. ⌜ NamedBy (now (table .entry)) (now (arena .entry)) (namesOf (definitionsOn (now (file .entry)))) r ⌝ }
 {
     let mut marks: [bool; SLOTS] = [false; SLOTS];
-    let mut at = 10;
+    let mut at = FIRST_PLACE;
     while at < file.len() {
         let marked = mark_named(table, arena, name_at(file, at), marks);
         marks = marked;
@@ -258,12 +265,12 @@ fn place_all(table: &mut [u32], arena: &mut [u8], held: [bool; SLOTS], file: &[u
     requires { ⌜ Formed (now table) (now arena) × Accepted (now file) ⌝ }
     ensures { λ r. ⌜ Loaded (now (table .entry)) (now (arena .entry)) (now (table .exit)) (now (arena .exit)) (loaded (definitionsOn (now (file .entry))) (slotsOn (now (table .entry)) (now (arena .entry))) (holders held)) ⌝ }
 {
-    let mut at = 10;
+    let mut at = FIRST_PLACE;
     while at < file.len() {
         let next = definition_end(file, at);
         let k = lowest_free(table, held);
         if k < SLOTS {
-            place(table, arena, k, &file[at..next]);
+            place(table, arena, k, file, at, next, width_of(file));
         }
         at = next;
     }
@@ -302,7 +309,7 @@ fn bytes_formed(table: &[u32], arena: &[u8], k: usize) -> bool
     if SLOT_ROOM < size {
         return false;
     }
-    match read_definition(bytes_on(table, arena, k), Cursor { at: 0 }) {
+    match read_definition(bytes_on(table, arena, k), Cursor { at: 0 }, Width::Long) {
         Step::Next(next) => next.at == size,
         Step::Bad(refusal, place) => false,
     }

@@ -1,7 +1,7 @@
 -- Demand 2: loads and exports by calls.
 use Prim.Native.Nat.{ℕ}
 use mathlib.Core.Path.{_≡_, refl, sym, ap, ap₂, _∙_, subst}
-use mathlib.Core.Bool.{true}
+use mathlib.Core.Bool.{Bool, true, false}
 use mathlib.Core.List.{List}
 use lib.ListN.{length}
 use lib.Dec.{ltb}
@@ -19,8 +19,12 @@ use Rattle.model.specs.Replies.{exportFile, replyTo, reply}
 use Rattle.model.specs.After.{wordsAfter, arenaAfter, freshState, freshArena}
 use Rattle.model.specs.Apply.{queryAnswer, answerIn, answer, isAccepted, written, replyOf, Does}
 use Rattle.model.specs.Chain.{State, engineIn, Call, Applied, Chain, Fresh}
-use Rattle.model.specs.Demands.{meaningIn, receive, export, Exports, Demand2}
-use Rattle.reload.specs.Theorem.{exported-file, accepted, meant-same}
+use Rattle.model.specs.Demands.{meaningIn, refusalIn, receive, export, Exports, SameLoads, Written, twin, Demand2}
+use Rattle.reload.specs.Theorem.{exported-file, exported-same, accepted, meant-same}
+use Rattle.reload.specs.Twins.{same-load}
+use Rattle.roundtrip.specs.Twin.{Agree, twin-agrees}
+use Rattle.format.specs.Definition.{Definition}
+use Rattle.format.specs.Reader.{readFile}
 use Rattle.sequence.specs.Ends.{reply-left, demand1}
 use Rattle.sequence.specs.Fresh.{fresh-state, fresh-formed}
 
@@ -80,6 +84,33 @@ module _ (file : List ℕ) (c : Call) (d : Loads file c) where
       let g : isAccepted (answer receive file freshState freshArena (c .out)) ≡ true = ap isAccepted (sym (d .answers) ∙ h) in
       ap₂ decode (d .words ∙ rw g) (d .arena ∙ rw g)
 
+-- two loads into one state, of a file and of its twin
+received : (c : Call) (s : State) → c .command ≡ receive → Applied c s → Does receive (c .bytes) (s .words) (s .arena) (c .out) (c .answer) (c .left .words) (c .left .arena) (c .reply)
+received c s is a = subst (λ (k : Command). Does k (c .bytes) (s .words) (s .arena) (c .out) (c .answer) (c .left .words) (c .left .arena) (c .reply)) is a
+
+-- a load asks nothing of the reply buffer
+any-room : (file words arena out out′ : List ℕ) → answer receive file words arena out ≡ answer receive file words arena out′
+unfolding answer answerIn
+any-room file words arena out out′ = refl
+
+twin-loads : (load other : Call) (s : State) → load .command ≡ receive → other .command ≡ receive → Applied load s → Applied other s
+    → (ds : List Definition) (end : ℕ) → Written (load .bytes) ds end → other .bytes ≡ twin (load .bytes) ds end → SameLoads load other
+twin-loads load other s is is′ a a′ ds end w same =
+    let d = received load s is a in
+    let d′ = received other s is′ a′ in
+    let agree = twin-agrees (load .bytes) (d .lentBytes) (w .begins) (w .read) (w .inside) in
+    let t = same-load (load .bytes) (other .bytes) (s .words) (s .arena) (load .out) (subst (λ (l : List ℕ). Agree (readFile (load .bytes)) (readFile l)) (sym same) agree) in
+    let room = any-room (other .bytes) (s .words) (s .arena) (load .out) (other .out) in
+    let accepted : isAccepted (answer receive (load .bytes) (s .words) (s .arena) (load .out)) ≡ isAccepted (answer receive (other .bytes) (s .words) (s .arena) (other .out)) = t .accepted ∙ ap isAccepted room in
+    record {
+      number = ap refusalIn (d .answers) ∙ t .number ∙ ap refusalIn (room ∙ sym (d′ .answers));
+      left = ap₂ (λ (x y : List ℕ). record { words = x; arena = y }) (d .words ∙ by _ _ _ _ (s .words) (λ h. t .left h .0) accepted ∙ sym (d′ .words)) (d .arena ∙ by _ _ _ _ (s .arena) (λ h. t .left h .1) accepted ∙ sym (d′ .arena));
+    }
+  where
+    by : (a b : Bool) (x y z : List ℕ) → (a ≡ true → x ≡ y) → a ≡ b → pick a x z ≡ pick b y z
+    by true b x y z f e = rw (sym e) (f refl)
+    by false b x y z f e = rw (sym e)
+
 pub demand2 : Demand2
 unfolding Chain
 demand2 = record {
@@ -87,6 +118,12 @@ demand2 = record {
       let d = load-by load s f is (a .0) in
       let left = ap (λ (e : Engine). exportFile (e .slots)) (load-left (load .bytes) load d h) ∙ exported-file (load .bytes) (d .lentBytes) (sym (load-answer (load .bytes) load d) ∙ h) in
       subst (λ (l : List ℕ). Exports l next) left (exports next (load .left) (demand1 load s (a .0) .kept (ap isAccepted h)) is′ (a .1 .0));
+  same = λ s f load next is is′ a h v.
+      let d = load-by load s f is (a .0) in
+      let answered = sym (load-answer (load .bytes) load d) ∙ h in
+      let left = ap (λ (e : Engine). exportFile (e .slots)) (load-left (load .bytes) load d h) ∙ exported-file (load .bytes) (d .lentBytes) answered ∙ exported-same (load .bytes) (d .lentBytes) answered v in
+      subst (λ (l : List ℕ). Exports l next) left (exports next (load .left) (demand1 load s (a .0) .kept (ap isAccepted h)) is′ (a .1 .0));
+  twins = λ s load other is is′ a a′ ds end w same. twin-loads load other s is is′ a a′ ds end w same;
   loaded = λ s whole c is a. record {
     file = exportFile (engineIn s .slots);
     exports = exports c s whole is a;

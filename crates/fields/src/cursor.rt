@@ -2,13 +2,16 @@
 use crate::name::name_bytes;
 use faults::Fault;
 use format::HIGHEST_RATE;
+use format::HIGHEST_SHORT;
+use format::Width;
 ghost use Prim.Native.Nat.{_+_, _*_, _≤_};
 ghost use mathlib.Core.Path.{_≡_};
 ghost use lib.Dec.{leb};
 ghost use lib.ListN.{length};
 ghost use Rattle.fields.specs.Answers.{numberOf, textOf};
+ghost use Rattle.format.specs.declared.Width.the-variants.{Short};
 ghost use Rattle.format.specs.Read.{checked};
-ghost use Rattle.format.specs.Fields.{word, int8, int16, int32, float32, pstring, name, definitionName, countTo, shortCountTo, rate, indexBelow};
+ghost use Rattle.format.specs.Fields.{half, word, sizeOf, extended, valueBy, int8, int16, int32, integerBy, float32, pstring, name, definitionName, countToBy, shortCountTo, rate, indexBelowBy};
 
 pub struct Cursor {
     pub at: usize,
@@ -58,6 +61,36 @@ pub fn word_at(s: &[u8], at: usize) -> u32
     ensures { λ r. ⌜ r ≡ word (now (s .entry)) at ⌝ }
 {
     number32(s[at], s[at + 1], s[at + 2], s[at + 3])
+}
+
+// A signed number of two bytes as the pattern of the same number in four: -1 stays -1.
+fn extend(a: u8, b: u8) -> u32
+    ensures { λ r. ⌜ r ≡ extended (256 * a + b) ⌝ }
+{
+    let n = number16(a, b);
+    if n <= HIGHEST_SHORT {
+        return n;
+    }
+    n + 0xFFFF_0000
+}
+
+// The number of two bytes at a place, extended.
+fn half_at(s: &[u8], at: usize) -> u32
+    requires { ⌜ at + 2 ≤ length (now s) ⌝ }
+    ensures { λ r. ⌜ r ≡ extended (half (now (s .entry)) at) ⌝ }
+{
+    extend(s[at], s[at + 1])
+}
+
+// The count or index at a place.
+pub fn value_at(s: &[u8], at: usize, width: Width) -> u32
+    requires { ⌜ at + sizeOf width ≤ length (now s) ⌝ }
+    ensures { λ r. ⌜ r ≡ valueBy width (now (s .entry)) at ⌝ }
+{
+    match width {
+        Width::Short => half_at(s, at),
+        Width::Long => word_at(s, at),
+    }
 }
 
 // A number that was read from a place on, if it is at most so many; else a refusal at that place.
@@ -112,6 +145,30 @@ impl Cursor {
         Number::Value(word_at(s, at), Cursor { at: at + 4 })
     }
 
+    // A signed number of two bytes, extended.
+    fn extended(self, s: &[u8]) -> Number
+        ensures { λ r. ⌜ numberOf r ≡ integerBy Short (now (s .entry)) (self .at) ⌝ }
+    {
+        let at = self.at;
+        if s.len() <= at {
+            return Number::Bad(Fault::Truncated, at);
+        }
+        if s.len() - at < 2 {
+            return Number::Bad(Fault::Truncated, at);
+        }
+        Number::Value(half_at(s, at), Cursor { at: at + 2 })
+    }
+
+    // The field of a count or an index.
+    pub fn integer(self, s: &[u8], width: Width) -> Number
+        ensures { λ r. ⌜ numberOf r ≡ integerBy width (now (s .entry)) (self .at) ⌝ }
+    {
+        match width {
+            Width::Short => self.extended(s),
+            Width::Long => self.int32(s),
+        }
+    }
+
     // A float is its pattern.
     pub fn float32(self, s: &[u8]) -> Number
         ensures { λ r. ⌜ numberOf r ≡ float32 (now (s .entry)) (self .at) ⌝ }
@@ -120,13 +177,13 @@ impl Cursor {
     }
 
     // A count of at most so many.
-    pub fn count_to(self, s: &[u8], most: u32) -> Number
-        ensures { λ r. ⌜ numberOf r ≡ countTo most (now (s .entry)) (self .at) ⌝ }
+    pub fn count_to(self, s: &[u8], width: Width, most: u32) -> Number
+        ensures { λ r. ⌜ numberOf r ≡ countToBy width most (now (s .entry)) (self .at) ⌝ }
     {
-        at_most(self.int32(s), most, Fault::BadCount, self.at)
+        at_most(self.integer(s, width), most, Fault::BadCount, self.at)
     }
 
-    // The same of two bytes.
+    // The same of two bytes in both versions.
     pub fn short_count_to(self, s: &[u8], most: u32) -> Number
         ensures { λ r. ⌜ numberOf r ≡ shortCountTo most (now (s .entry)) (self .at) ⌝ }
     {
@@ -140,11 +197,11 @@ impl Cursor {
     }
 
     // An index below a bound.
-    pub fn index_below(self, s: &[u8], bound: u32) -> Number
-        ensures { λ r. ⌜ numberOf r ≡ indexBelow bound (now (s .entry)) (self .at) ⌝ }
+    pub fn index_below(self, s: &[u8], width: Width, bound: u32) -> Number
+        ensures { λ r. ⌜ numberOf r ≡ indexBelowBy width bound (now (s .entry)) (self .at) ⌝ }
     {
         let at = self.at;
-        match self.int32(s) {
+        match self.integer(s, width) {
             Number::Value(n, next) => {
                 if n < bound {
                     return Number::Value(n, next);

@@ -1,4 +1,4 @@
-// The fields of a SynthDef2 file, read one by one.
+// The fields of a SynthDef file, read one by one.
 mod cursor;
 mod name;
 
@@ -6,6 +6,7 @@ pub use cursor::Cursor;
 pub use cursor::Number;
 pub use cursor::Step;
 pub use cursor::Text;
+pub use cursor::value_at;
 pub use cursor::word_at;
 pub use name::name_at;
 pub use name::name_bytes;

@@ -10,7 +10,8 @@ use Rattle.files.specs.declared.file.Checked.the-variants.{Accepted, Ref
 use Rattle.format.specs.Read.{Read, got, bad, andThen, ending}
 use Rattle.format.specs.Fields.{stringAt}
 use Rattle.format.specs.Definition.{Definition}
-use Rattle.format.specs.Reader.{mostDefinitions, fits, readDefinition}
+use Rattle.format.specs.declared.Width.{Width}
+use Rattle.format.specs.Reader.{mostDefinitions, fits, definitionBy}
 
 -- how many definitions a file has, or why it is refused and at which place
 abbrev pub verdict : Read (List Definition) → Checked
@@ -22,8 +23,8 @@ abbrev pub namesFrom : List ℕ → List ℕ → List (List ℕ)
 namesFrom s starts = map (stringAt s) starts
 
 -- a definition behind those of some names, of which only the end is fact
-abbrev pub skipFitting : List ℕ → List (List ℕ) → ℕ → Read (Unit {0})
-skipFitting s names at = ending (andThen (readDefinition s at) (λ d next. fits names at d next))
+abbrev pub skipFitting : Width → List ℕ → List (List ℕ) → ℕ → Read (Unit {0})
+skipFitting w s names at = ending (andThen (definitionBy w s at) (λ d next. fits names at d next))
 
 -- "File: "SCgf", int32 version 2, int16 count D, then D definitions": the first one starts here
 abbrev pub firstPlace : ℕ

@@ -5,6 +5,7 @@ use fields::Step;
 use fields::Text;
 use format::HIGHEST;
 use format::HIGHEST_SHORT;
+use format::Width;
 use front::FrontRead;
 use front::read_front;
 use front::skip_floats;
@@ -14,7 +15,7 @@ ghost use mathlib.Core.Path.{_≡_};
 ghost use Rattle.fields.specs.Answers.{stepOf};
 ghost use Rattle.format.specs.Read.{ending, repeat};
 ghost use lib.ListN.{length};
-ghost use Rattle.format.specs.Reader.{variant, readDefinition};
+ghost use Rattle.format.specs.Reader.{variant, definitionBy};
 ghost use Rattle.units.specs.Units.{remembered};
 
 // One variant, in a definition of so many parameters.
@@ -48,14 +49,14 @@ pub fn read_variants(s: &[u8], cursor: Cursor, parameters: u32, count: u32) -> S
 }
 
 // The next definition. What the lent ring holds before and after it says nothing.
-pub(crate) fn next_definition(s: &[u8], cursor: Cursor, outs: &mut [u32; REMEMBERED]) -> Step
+pub(crate) fn next_definition(s: &[u8], cursor: Cursor, width: Width, outs: &mut [u32; REMEMBERED]) -> Step
     requires { ⌜ length (now outs) ≡ remembered ⌝ }
-    ensures { λ r. ⌜ (stepOf r ≡ ending (readDefinition (now (s .entry)) (cursor .at))) × (length (now (outs .exit)) ≡ remembered) ⌝ }
+    ensures { λ r. ⌜ (stepOf r ≡ ending (definitionBy width (now (s .entry)) (cursor .at))) × (length (now (outs .exit)) ≡ remembered) ⌝ }
 {
-    match read_front(s, cursor) {
-        FrontRead::Value(counts, p1) => match p1.count_to(s, HIGHEST) {
+    match read_front(s, cursor, width) {
+        FrontRead::Value(counts, p1) => match p1.count_to(s, width, HIGHEST) {
             Number::Value(units, p2) => {
-                let p3 = match read_units(s, p2, counts.constants, units, outs) {
+                let p3 = match read_units(s, p2, width, counts.constants, units, outs) {
                     Step::Next(next) => next,
                     Step::Bad(refusal, place) => {
                         return Step::Bad(refusal, place);
@@ -78,9 +79,9 @@ pub(crate) fn next_definition(s: &[u8], cursor: Cursor, outs: &mut [u32; REMEMBE
 }
 
 // The next definition.
-pub fn read_definition(s: &[u8], cursor: Cursor) -> Step
-    ensures { λ r. ⌜ stepOf r ≡ ending (readDefinition (now (s .entry)) (cursor .at)) ⌝ }
+pub fn read_definition(s: &[u8], cursor: Cursor, width: Width) -> Step
+    ensures { λ r. ⌜ stepOf r ≡ ending (definitionBy width (now (s .entry)) (cursor .at)) ⌝ }
 {
     let mut outs = [0; REMEMBERED];
-    next_definition(s, cursor, &mut outs)
+    next_definition(s, cursor, width, &mut outs)
 }

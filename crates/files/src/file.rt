@@ -1,6 +1,8 @@
 // A whole file: accepted, with the number of its definitions, or refused, with the reason and the place.
 use crate::definition::next_definition;
+use encoding::too_long;
 use faults::Fault;
+use fields::word_at;
 use fields::Cursor;
 use fields::Number;
 use fields::Step;
@@ -8,8 +10,9 @@ use fields::name_at;
 use fields::same_name;
 use format::FILE_TYPE;
 use format::FILE_VERSION;
+use format::FIRST_VERSION;
 use format::MOST_DEFINITIONS;
-use format::SIZE_LIMIT;
+use format::Width;
 use units::REMEMBERED;
 use words::wide;
 ghost use mathlib.Core.Path.{_≡_};
@@ -18,8 +21,9 @@ ghost use mathlib.Core.List.{[]};
 ghost use lib.ListN.{length, take};
 ghost use Rattle.fields.specs.Answers.{numberOf, stepOf};
 ghost use Rattle.format.specs.Fields.{stringAt};
-ghost use Rattle.format.specs.Read.{ending};
-ghost use Rattle.format.specs.Reader.{mostDefinitions, among, readHeader, readDefinitions, readFile};
+ghost use Rattle.format.specs.Read.{ending, mapRead};
+ghost use Rattle.format.specs.Reader.{Header, mostDefinitions, among, isVersion, readHeader, readDefinitions, readFile};
+ghost use Rattle.format.specs.HeaderLaws.{fileWidth};
 ghost use Rattle.units.specs.Units.{remembered};
 ghost use Rattle.files.specs.File.{Begun, verdict, namesFrom, skipFitting};
 
@@ -29,9 +33,32 @@ pub enum Checked {
     Refused(Fault, usize),
 }
 
+// A version that can be read.
+fn is_version(version: u32) -> bool
+    ensures { λ r. ⌜ r ≡ isVersion version ⌝ }
+{
+    if version == FIRST_VERSION {
+        return true;
+    }
+    version == FILE_VERSION
+}
+
+// How wide the fields of a file are, by its version.
+pub fn width_of(s: &[u8]) -> Width
+    ensures { λ r. ⌜ r ≡ fileWidth (now (s .entry)) ⌝ }
+{
+    if s.len() < 8 {
+        return Width::Long;
+    }
+    if word_at(s, 4) == FIRST_VERSION {
+        return Width::Short;
+    }
+    Width::Long
+}
+
 // The file's head: how many definitions there are, and the cursor at the first.
 fn read_header(s: &[u8]) -> Number
-    ensures { λ r. ⌜ numberOf r ≡ readHeader (now (s .entry)) ⌝ }
+    ensures { λ r. ⌜ numberOf r ≡ mapRead (λ (h : Header). h .count) (readHeader (now (s .entry))) ⌝ }
 {
     let start = Cursor { at: 0 };
     match start.int32(s) {
@@ -42,7 +69,7 @@ fn read_header(s: &[u8]) -> Number
             let at = p1.at;
             match p1.int32(s) {
                 Number::Value(version, p2) => {
-                    if version != FILE_VERSION {
+                    if !is_version(version) {
                         return Number::Bad(Fault::BadVersion, at);
                     }
                     p2.short_count_to(s, MOST_DEFINITIONS as u32)
@@ -73,18 +100,19 @@ fn name_among(s: &[u8], at: usize, starts: &[usize; MOST_DEFINITIONS], count: us
 fn read_fitting(
     s: &[u8],
     cursor: Cursor,
+    width: Width,
     starts: &[usize; MOST_DEFINITIONS],
     count: usize,
     outs: &mut [u32; REMEMBERED],
 ) -> Step
     requires { ⌜ Begun (now starts) count × (length (now outs) ≡ remembered) ⌝ }
-    ensures { λ r. ⌜ (stepOf r ≡ skipFitting (now (s .entry)) (namesFrom (now (s .entry)) (take count (now (starts .entry)))) (cursor .at)) × (length (now (outs .exit)) ≡ remembered) ⌝ }
+    ensures { λ r. ⌜ (stepOf r ≡ skipFitting width (now (s .entry)) (namesFrom (now (s .entry)) (take count (now (starts .entry)))) (cursor .at)) × (length (now (outs .exit)) ≡ remembered) ⌝ }
 {
     let at = cursor.at;
-    match next_definition(s, cursor, outs) {
+    match next_definition(s, cursor, width, outs) {
         Step::Next(next) => {
             let end = next.at;
-            if SIZE_LIMIT < end - at {
+            if too_long(s, at, end, width) {
                 return Step::Bad(Fault::TooLong, at);
             }
             if name_among(s, at, starts, count) {
@@ -97,9 +125,9 @@ fn read_fitting(
 }
 
 // A file's definitions.
-fn read_definitions(s: &[u8], cursor: Cursor, count: u32) -> Step
+fn read_definitions(s: &[u8], cursor: Cursor, width: Width, count: u32) -> Step
     requires { ⌜ count ≤ mostDefinitions ⌝ }
-    ensures { λ r. ⌜ stepOf r ≡ ending (readDefinitions (now (s .entry)) count [] (cursor .at)) ⌝ }
+    ensures { λ r. ⌜ stepOf r ≡ ending (readDefinitions width (now (s .entry)) count [] (cursor .at)) ⌝ }
 {
     let many = wide(count);
     let mut starts = [0; MOST_DEFINITIONS];
@@ -107,7 +135,7 @@ fn read_definitions(s: &[u8], cursor: Cursor, count: u32) -> Step
     let mut at = cursor.at;
     let mut i = 0;
     while i < many {
-        match read_fitting(s, Cursor { at: at }, &starts, i, &mut outs) {
+        match read_fitting(s, Cursor { at: at }, width, &starts, i, &mut outs) {
             Step::Next(next) => {
                 starts[i] = at;
                 at = next.at;
@@ -126,7 +154,7 @@ pub fn check_file(s: &[u8]) -> Checked
     ensures { λ r. ⌜ r ≡ verdict (readFile (now (s .entry))) ⌝ }
 {
     match read_header(s) {
-        Number::Value(count, first) => match read_definitions(s, first, count) {
+        Number::Value(count, first) => match read_definitions(s, first, width_of(s), count) {
             Step::Next(next) => {
                 let end = next.at;
                 if end < s.len() {

@@ -13,7 +13,8 @@ use Rattle.faults.specs.declared.Fault.{Fault}
 use Rattle.faults.specs.declared.Fault.the-variants.{Truncated, BadName, BadCount}
 use Rattle.format.specs.NameLaws.{full}
 use Rattle.format.specs.Read.{Read, got, bad, checked}
-use Rattle.format.specs.Fields.{word, whole, pstring, stringAt, definitionName, integer, countTo}
+use Rattle.format.specs.declared.Width.{Width}
+use Rattle.format.specs.Fields.{whole, pstring, stringAt, definitionName, sizeOf, valueBy, integerBy, countToBy}
 
 module _ {A : Type 0} where
   -- a choice that was read is its first way
@@ -70,5 +71,5 @@ pub name-part : (s : List ℕ) (at : ℕ) {x : List ℕ} {next : ℕ} → defini
 name-part s at e = pstring-part s at (checked-got BadName full at (pstring s at) e .0)
 
 -- where a count ends
-pub count-end : (most : ℕ) (s : List ℕ) (at : ℕ) {n next : ℕ} → countTo most s at ≡ got n next → next ≡ at + 4
-count-end most s at e = sym (whole-got 4 s at (word s at) (checked-got BadCount (λ n. leb n most) at (integer s at) e .0) .1 .1)
+pub count-end : (w : Width) (most : ℕ) (s : List ℕ) (at : ℕ) {n next : ℕ} → countToBy w most s at ≡ got n next → next ≡ at + sizeOf w
+count-end w most s at e = sym (whole-got (sizeOf w) s at (valueBy w s at) (checked-got BadCount (λ n. leb n most) at (integerBy w s at) e .0) .1 .1)

@@ -5,9 +5,10 @@ pub mod Fields
 pub mod FieldLaws
 pub mod NameLaws
 pub mod Definition
-pub mod Reader
-pub mod Names
 pub mod Writer
+pub mod Reader
+pub mod HeaderLaws
+pub mod Names
 pub mod Bounds
 pub mod Endings
 pub mod Sizes

@@ -1,7 +1,9 @@
-// SynthDef2: the numbers of the format and the bounds of the paper. The format as read and written is in specs/.
+// SynthDef files: the numbers of the format and the bounds of the paper. The format as read and written is in specs/.
 
-// "SCgf" as a number, the version, and where the first definition starts.
+// "SCgf" as a number, the versions, and where the first definition starts.
 pub const FILE_TYPE: u32 = 0x5343_6766;
+
+pub const FIRST_VERSION: u32 = 1;
 
 pub const FILE_VERSION: u32 = 2;
 
@@ -24,3 +26,9 @@ pub const HIGHEST_RATE: u32 = 3;
 
 // An input's unit where it names a constant.
 pub const MINUS_ONE: u32 = 0xFFFF_FFFF;
+
+// How wide the field of a count or an index is: two bytes in version 1, four in version 2.
+pub enum Width {
+    Short,
+    Long,
+}

@@ -12,9 +12,10 @@ use Rattle.front.specs.declared.FloatsRead.the-variants as floats
 use Rattle.front.specs.declared.FrontRead.{FrontRead}
 use Rattle.front.specs.declared.FrontRead.the-variants as front
 use Rattle.format.specs.Read.{Read, got, bad, andThen, repeat, ending}
-use Rattle.format.specs.Fields.{float32, definitionName, countTo, count, highest32}
+use Rattle.format.specs.declared.Width.{Width}
+use Rattle.format.specs.Fields.{float32, definitionName, sizeOf, countToBy, countBy, highest32}
 use Rattle.format.specs.Definition.{ParameterName, Front}
-use Rattle.format.specs.Reader.{mostParameters, parameterName}
+use Rattle.format.specs.Reader.{mostParameters, parameterNameBy}
 
 -- a parameter name: its bytes from start to end, and its index
 abbrev pub entryOf : List ℕ → Entry → Read ParameterName
@@ -30,42 +31,42 @@ frontOf (front.Value c next) = got c (next .at)
 frontOf (front.Bad r at) = bad r at
 
 -- a count, and as many floats behind it: how many, and where they start
-abbrev pub countedFloats : ℕ → List ℕ → ℕ → Read Floats
-countedFloats most s at =
-    andThen (countTo most s at) (λ k p.
+abbrev pub countedFloats : Width → ℕ → List ℕ → ℕ → Read Floats
+countedFloats w most s at =
+    andThen (countToBy w most s at) (λ k p.
     andThen (ending (repeat (float32 s) k p)) (λ t end.
     got (record { count = k; at = p }) end))
 
 -- the front up to its first parameter name
-abbrev pub readCounts : List ℕ → ℕ → Read Counts
-readCounts s at =
+abbrev pub readCounts : Width → List ℕ → ℕ → Read Counts
+readCounts w s at =
     andThen (definitionName s at) (λ n p1.
-    andThen (countedFloats highest32 s p1) (λ k p2.
-    andThen (countedFloats mostParameters s p2) (λ v p3.
-    andThen (count s p3) (λ many p4.
+    andThen (countedFloats w highest32 s p1) (λ k p2.
+    andThen (countedFloats w mostParameters s p2) (λ v p3.
+    andThen (countBy w s p3) (λ many p4.
     got (record { past = p1; constants = k .count; values = v .at; parameters = v .count; first = p4; names = many }) p4))))
 
 -- and its parameter names, of which only the end is countsOf
-abbrev pub readNames : List ℕ → Counts → ℕ → Read Counts
-readNames s c at = andThen (ending (repeat (parameterName (c .parameters) s) (c .names) at)) (λ t end. got c end)
+abbrev pub readNames : Width → List ℕ → Counts → ℕ → Read Counts
+readNames w s c at = andThen (ending (repeat (parameterNameBy w (c .parameters) s) (c .names) at)) (λ t end. got c end)
 
--- the places in a front that starts at a place: each count has four bytes, and so has each float
+-- the places in a front that starts at a place: each count is as wide as the file's fields, and each float has four bytes
 abbrev pub nameEnd : ℕ → Front → ℕ
 nameEnd at f = at + (1 + length (f .name))
 
-abbrev pub valuesAt : ℕ → Front → ℕ
-valuesAt at f = nameEnd at f + 4 + 4 * length (f .constants) + 4
+abbrev pub valuesAt : Width → ℕ → Front → ℕ
+valuesAt w at f = nameEnd at f + sizeOf w + 4 * length (f .constants) + sizeOf w
 
-abbrev pub namesAt : ℕ → Front → ℕ
-namesAt at f = valuesAt at f + 4 * length (f .values) + 4
+abbrev pub namesAt : Width → ℕ → Front → ℕ
+namesAt w at f = valuesAt w at f + 4 * length (f .values) + sizeOf w
 
 -- what is countsOf of a front: its counts and places
-abbrev pub countsOf : ℕ → Front → Counts
-countsOf at f = record {
+abbrev pub countsOf : Width → ℕ → Front → Counts
+countsOf w at f = record {
   past = nameEnd at f;
   constants = length (f .constants);
-  values = valuesAt at f;
+  values = valuesAt w at f;
   parameters = length (f .values);
-  first = namesAt at f;
+  first = namesAt w at f;
   names = length (f .names);
 }

@@ -6,13 +6,14 @@ use fields::Step;
 use fields::Text;
 use format::HIGHEST;
 use format::MOST_PARAMETERS;
+use format::Width;
 use words::wide;
 ghost use mathlib.Core.Path.{_≡_};
 ghost use Rattle.fields.specs.Answers.{stepOf};
 ghost use Rattle.front.specs.Front.{entryOf, floatsOf, countedFloats, frontOf, readCounts, countsOf};
 ghost use Rattle.format.specs.Read.{mapRead, repeat, ending};
 ghost use Rattle.format.specs.Fields.{float32};
-ghost use Rattle.format.specs.Reader.{parameterName, readFront};
+ghost use Rattle.format.specs.Reader.{parameterNameBy, frontBy};
 
 // A parameter name: where its bytes start and end, its index and the next cursor, or the refusal and its place.
 pub enum Entry {
@@ -68,13 +69,13 @@ pub fn skip_floats(s: &[u8], cursor: Cursor, count: u32) -> Step
 }
 
 // One parameter name, in a definition of so many parameters.
-pub fn parameter_name(s: &[u8], cursor: Cursor, parameters: u32) -> Entry
-    ensures { λ r. ⌜ entryOf (now (s .entry)) r ≡ parameterName parameters (now (s .entry)) (cursor .at) ⌝ }
+pub fn parameter_name(s: &[u8], cursor: Cursor, width: Width, parameters: u32) -> Entry
+    ensures { λ r. ⌜ entryOf (now (s .entry)) r ≡ parameterNameBy width parameters (now (s .entry)) (cursor .at) ⌝ }
 {
     match cursor.name(s) {
         Text::Value(start, next) => {
             let end = next.at;
-            match next.index_below(s, parameters) {
+            match next.index_below(s, width, parameters) {
                 Number::Value(index, past) => Entry::Value(start, end, index, past),
                 Number::Bad(refusal, place) => Entry::Bad(refusal, place),
             }
@@ -84,13 +85,13 @@ pub fn parameter_name(s: &[u8], cursor: Cursor, parameters: u32) -> Entry
 }
 
 // So many parameter names.
-pub fn skip_parameter_names(s: &[u8], cursor: Cursor, parameters: u32, count: u32) -> Step
-    ensures { λ r. ⌜ stepOf r ≡ ending (repeat (parameterName parameters (now (s .entry))) count (cursor .at)) ⌝ }
+pub fn skip_parameter_names(s: &[u8], cursor: Cursor, width: Width, parameters: u32, count: u32) -> Step
+    ensures { λ r. ⌜ stepOf r ≡ ending (repeat (parameterNameBy width parameters (now (s .entry))) count (cursor .at)) ⌝ }
 {
     let mut at = cursor.at;
     let mut i = 0;
     while i < count {
-        match parameter_name(s, Cursor { at: at }, parameters) {
+        match parameter_name(s, Cursor { at: at }, width, parameters) {
             Entry::Value(start, end, index, next) => {
                 at = next.at;
             }
@@ -104,10 +105,10 @@ pub fn skip_parameter_names(s: &[u8], cursor: Cursor, parameters: u32, count: u3
 }
 
 // A count of at most so many, and then as many floats.
-pub fn counted_floats(s: &[u8], cursor: Cursor, most: u32) -> FloatsRead
-    ensures { λ r. ⌜ floatsOf r ≡ countedFloats most (now (s .entry)) (cursor .at) ⌝ }
+pub fn counted_floats(s: &[u8], cursor: Cursor, width: Width, most: u32) -> FloatsRead
+    ensures { λ r. ⌜ floatsOf r ≡ countedFloats width most (now (s .entry)) (cursor .at) ⌝ }
 {
-    match cursor.count_to(s, most) {
+    match cursor.count_to(s, width, most) {
         Number::Value(count, next) => {
             let at = next.at;
             match skip_floats(s, next, count) {
@@ -126,17 +127,17 @@ pub fn counted_floats(s: &[u8], cursor: Cursor, most: u32) -> FloatsRead
 }
 
 // The front up to its first parameter name.
-pub fn read_counts(s: &[u8], cursor: Cursor) -> FrontRead
-    ensures { λ r. ⌜ frontOf r ≡ readCounts (now (s .entry)) (cursor .at) ⌝ }
+pub fn read_counts(s: &[u8], cursor: Cursor, width: Width) -> FrontRead
+    ensures { λ r. ⌜ frontOf r ≡ readCounts width (now (s .entry)) (cursor .at) ⌝ }
 {
     match cursor.definition_name(s) {
         Text::Value(start, named) => {
             let past = named.at;
-            match counted_floats(s, named, HIGHEST) {
+            match counted_floats(s, named, width, HIGHEST) {
                 FloatsRead::Value(constants, before_values) => {
-                    match counted_floats(s, before_values, MOST_PARAMETERS) {
+                    match counted_floats(s, before_values, width, MOST_PARAMETERS) {
                         FloatsRead::Value(values, before_names) => {
-                            match before_names.count_to(s, HIGHEST) {
+                            match before_names.count_to(s, width, HIGHEST) {
                                 Number::Value(names, first) => {
                                     FrontRead::Value(
                                         Counts {
@@ -164,14 +165,14 @@ pub fn read_counts(s: &[u8], cursor: Cursor) -> FrontRead
 }
 
 // The whole front.
-pub fn read_front(s: &[u8], cursor: Cursor) -> FrontRead
-    ensures { λ r. ⌜ frontOf r ≡ mapRead (countsOf (cursor .at)) (readFront (now (s .entry)) (cursor .at)) ⌝ }
+pub fn read_front(s: &[u8], cursor: Cursor, width: Width) -> FrontRead
+    ensures { λ r. ⌜ frontOf r ≡ mapRead (countsOf width (cursor .at)) (frontBy width (now (s .entry)) (cursor .at)) ⌝ }
 {
-    match read_counts(s, cursor) {
+    match read_counts(s, cursor, width) {
         FrontRead::Value(counts, first) => {
             let parameters = counts.parameters;
             let names = counts.names;
-            match skip_parameter_names(s, first, parameters, names) {
+            match skip_parameter_names(s, first, width, parameters, names) {
                 Step::Next(past) => FrontRead::Value(counts, past),
                 Step::Bad(refusal, place) => FrontRead::Bad(refusal, place),
             }

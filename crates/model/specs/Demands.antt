@@ -11,7 +11,11 @@ use Rattle.words.specs.Choice.{pick, either}
 use Rattle.faults.specs.Faults.{faultNumber}
 use Rattle.refusals.specs.declared.Refusal.the-variants.{NoRoom}
 use Rattle.refusals.specs.Refusals.{numberOf}
+use Rattle.format.specs.Read.{got, repeat}
 use Rattle.format.specs.Definition.{Definition}
+use Rattle.format.specs.Reader.{Header, definitionBy, readHeader, readFile}
+use Rattle.format.specs.HeaderLaws.{versionIn}
+use Rattle.format.specs.Writer.{fileVersion, writeFile}
 use Rattle.nodes.specs.declared.Node.{Node}
 use Rattle.nodes.specs.Place.{isGroup, lives}
 use Rattle.nodes.specs.Edit.{isBelow}
@@ -26,6 +30,7 @@ use Rattle.model.specs.declared.Command.{Command}
 use Rattle.model.specs.declared.Command.the-variants as command
 use Rattle.model.specs.declared.Answer.{Answer}
 use Rattle.model.specs.declared.Answer.the-variants.{Done, Replied, Refused, RefusedAt}
+use Rattle.model.specs.Checks.{definitionsOf}
 use Rattle.model.specs.Engine.{Slot, Engine, slotAt, definitionIn, residentOf, residents}
 use Rattle.model.specs.Formed.{formed}
 use Rattle.model.specs.View.{Kind, group, synth, Row, view}
@@ -83,10 +88,32 @@ pub record Reloads (c : Call) (s : State) : Type 0 where
   pub loads : (t : State) → Fresh t → (load : Call) → load .command ≡ receive → load .bytes ≡ file → Applied load t
       → (load .answer ≡ Done) × ((name : List ℕ) → meaningIn name (engineIn (load .left)) ≡ meaningIn name (engineIn s))
 
--- Demand 2: what a fresh engine accepts is exported byte for byte; an export, from every well-formed state, loaded into a fresh engine gives the same definitions
+-- two loads into one state: the same number of refusal or none, and the same state afterwards
+pub record SameLoads (a b : Call) : Type 0 where
+  pub number : refusalIn (a .answer) ≡ refusalIn (b .answer)
+  pub left : a .left ≡ b .left
+
+-- a file whose definitions can be read one after the other, up to a place, though it may be refused for its limit, its names or the bytes that are left over
+pub record Written (file : List ℕ) (ds : List Definition) (end : ℕ) : Type 0 where
+  pub head : Header
+  pub first : ℕ
+  pub begins : readHeader file ≡ got head first
+  pub read : repeat (definitionBy (head .width) file) (head .count) first ≡ got ds end
+  pub inside : end ≤ length file
+
+-- its twin in version 2: the writing of its definitions, and the bytes that are left over
+abbrev pub twin : List ℕ → List Definition → ℕ → List ℕ
+twin file ds end = writeFile ds ++ drop end file
+
+-- Demand 2: what a fresh engine accepts is exported, in version 2, and "byte equality is asked of version 2 files only; a version 1 file must load as its widened twin
+-- does" (paper 02, 4/14); an export, from every well-formed state, loaded into a fresh engine gives the same definitions
 pub record Demand2 : Type 0 where
   pub exported : (s : State) → Fresh s → (load next : Call) → load .command ≡ receive → next .command ≡ export → Chain (load ∷ (next ∷ [])) s
-      → load .answer ≡ Done → Exports (load .bytes) next
+      → load .answer ≡ Done → Exports (writeFile (definitionsOf (readFile (load .bytes)))) next
+  pub same : (s : State) → Fresh s → (load next : Call) → load .command ≡ receive → next .command ≡ export → Chain (load ∷ (next ∷ [])) s
+      → load .answer ≡ Done → versionIn (load .bytes) ≡ fileVersion → Exports (load .bytes) next
+  pub twins : (s : State) (load other : Call) → load .command ≡ receive → other .command ≡ receive → Applied load s → Applied other s
+      → (ds : List Definition) (end : ℕ) → Written (load .bytes) ds end → other .bytes ≡ twin (load .bytes) ds end → SameLoads load other
   pub loaded : (s : State) → formed (s .words) (s .arena) ≡ true → (c : Call) → c .command ≡ export → Applied c s → Reloads c s
 
 -- the plain tree, fed each call's command and whether it was accepted

@@ -6,8 +6,8 @@ use mathlib.Core.List.{List, [], _∷_, _++_}
 use lib.ListN.{length, take, drop, replicate}
 use Rattle.format.specs.Read.{repeat}
 use Rattle.format.specs.Fields.{nameBytes}
-use Rattle.format.specs.Reader.{readFront, readUnit, readUnits, readDefinition, readDefinitions, readFile, sameName, among}
-use Rattle.format.specs.Writer.{writeAll, writeDefinition, writeFile}
+use Rattle.format.specs.Reader.{frontBy, unitBy, unitsBy, definitionBy, readDefinitions, readFile, sameName, among}
+use Rattle.format.specs.Writer.{writeAll, writeDefinitionBy, writeFile}
 use Rattle.nodes.specs.Place.{lives}
 use Rattle.nodes.specs.Edit.{lift, sink, takeDeeper, dropDeeper, onlyGroups, runOf, editRows}
 use Rattle.nodes.specs.Order.{orderFrom}
@@ -132,7 +132,7 @@ rowsFrom e =
     ∷ []
 
 computed : agrees (rowsFrom freshParts) ≡ true
-unfolding repeat nameBytes readFront readUnit readUnits readDefinition readDefinitions readFile sameName among writeAll writeDefinition writeFile lives lift sink takeDeeper dropDeeper onlyGroups runOf editRows orderFrom rowTaken tags arguments targetOf inBounds pattern held residentFrom controlsFrom firstIndex viewRows nodeNamed firstOf namesOf staying retired freeFrom loaded freeRowFrom initialWords changeWords changeAll effect plainNamed replyTo queryAnswer answerIn played answersOf agrees
+unfolding repeat nameBytes frontBy unitBy unitsBy definitionBy readDefinitions readFile sameName among writeAll writeDefinitionBy writeFile lives lift sink takeDeeper dropDeeper onlyGroups runOf editRows orderFrom rowTaken tags arguments targetOf inBounds pattern held residentFrom controlsFrom firstIndex viewRows nodeNamed firstOf namesOf staying retired freeFrom loaded freeRowFrom initialWords changeWords changeAll effect plainNamed replyTo queryAnswer answerIn played answersOf agrees
 computed = refl
 
 -- the table, played from a fresh engine

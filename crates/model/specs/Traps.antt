@@ -6,8 +6,8 @@ use mathlib.Core.List.{List, [], _∷_, _++_}
 use lib.ListN.{length, take, drop, replicate}
 use Rattle.format.specs.Read.{repeat}
 use Rattle.format.specs.Fields.{nameBytes}
-use Rattle.format.specs.Reader.{readFront, readUnit, readUnits, readDefinition, readDefinitions, readFile, sameName, among}
-use Rattle.format.specs.Writer.{writeAll, writeDefinition, writeFile}
+use Rattle.format.specs.Reader.{frontBy, unitBy, unitsBy, definitionBy, readDefinitions, readFile, sameName, among}
+use Rattle.format.specs.Writer.{writeAll, writeDefinitionBy, writeFile}
 use Rattle.nodes.specs.Place.{lives}
 use Rattle.nodes.specs.Edit.{lift, sink, takeDeeper, dropDeeper, onlyGroups, runOf, editRows}
 use Rattle.nodes.specs.Order.{orderFrom}
@@ -72,6 +72,31 @@ long = take 10 ping ++ (3 ∷ 98 ∷ 105 ∷ 103 ∷ 0 ∷ 0 ∷ 1 ∷ 254 ∷ [
 -- one unit, `U`, of a rate, with no inputs and one output of a rate
 abbrev rated : ℕ → ℕ → List ℕ
 rated rate output = fileOf 0 (int 0) (int 1 ++ (1 ∷ 85 ∷ rate ∷ []) ++ int 0 ++ int 1 ++ (0 ∷ 0 ∷ output ∷ []))
+
+-- the head's first eight bytes, of a version
+abbrev versioned : ℕ → List ℕ
+versioned v = take 4 ping ++ (0 ∷ 0 ∷ 0 ∷ v ∷ [])
+
+-- "ping" in version 1: its counts and its index in two bytes each
+abbrev narrowPing : List ℕ
+narrowPing =
+    versioned 1 ++ (0 ∷ 1 ∷ 4 ∷ 112 ∷ 105 ∷ 110 ∷ 103 ∷ 0 ∷ 0 ∷ 0 ∷ 1 ∷ 67 ∷ 220 ∷ 0 ∷ 0 ∷ 0 ∷ 1 ∷ 4 ∷ 102 ∷ 114 ∷ 101 ∷ 113 ∷ 0 ∷ 0 ∷ 0 ∷ 0 ∷ 0 ∷ 0 ∷ [])
+
+-- in version 1 a definition of one constant and one unit, whose one input has a unit index of two bytes and the constant index 0
+abbrev narrowInput : ℕ → ℕ → List ℕ
+narrowInput high low =
+    versioned 1 ++ (0 ∷ 1 ∷ 1 ∷ 97 ∷ 0 ∷ 1 ∷ 0 ∷ 0 ∷ 0 ∷ 0 ∷ 0 ∷ 0 ∷ 0 ∷ 0 ∷ 0 ∷ 1 ∷ [])
+    ++ (1 ∷ 85 ∷ 0 ∷ 0 ∷ 1 ∷ 0 ∷ 0 ∷ 0 ∷ 0 ∷ high ∷ low ∷ 0 ∷ 0 ∷ 0 ∷ 0 ∷ [])
+
+-- so many parameter names `a` of the index 0, in version 1
+unfoldable pub shortNames : ℕ → List ℕ
+shortNames zero = []
+shortNames (suc n) = 1 ∷ 97 ∷ 0 ∷ 0 ∷ shortNames n
+
+-- in version 1 a definition of one parameter and so many names, of which the count is given by its bytes
+abbrev narrowNames : ℕ → ℕ → ℕ → List ℕ
+narrowNames high low n =
+    versioned 1 ++ (0 ∷ 1 ∷ 1 ∷ 97 ∷ 0 ∷ 0 ∷ 0 ∷ 1 ∷ 0 ∷ 0 ∷ 0 ∷ 0 ∷ high ∷ low ∷ []) ++ shortNames n ++ (0 ∷ 0 ∷ 0 ∷ 0 ∷ [])
 
 -- patterns of -2, of -8 and of the lowest number
 abbrev minusTwo : ℕ
@@ -158,8 +183,22 @@ filesAndReplies e =
     ∷ example (verdict (readFile (rated 4 0))) (7 ∷ 30 ∷ [])
     ∷ example (verdict (readFile (rated 0 3))) (0 ∷ 1 ∷ [])
     ∷ example (verdict (readFile (rated 0 4))) (7 ∷ 41 ∷ [])
-    -- version 1 is not read yet
-    ∷ example (verdict (readFile (take 4 ping ++ (0 ∷ 0 ∷ 0 ∷ 1 ∷ []) ++ drop 8 ping))) (4 ∷ 4 ∷ [])
+    -- paper 02, 4/14: "Refusal 4 is now for versions other than 1 and 2": "ping" in version 1, and versions 0 and 3
+    ∷ example (verdict (readFile narrowPing)) (0 ∷ 1 ∷ [])
+    ∷ example (verdict (readFile (versioned 0 ++ drop 8 narrowPing))) (4 ∷ 4 ∷ [])
+    ∷ example (verdict (readFile (versioned 3 ++ drop 8 ping))) (4 ∷ 4 ∷ [])
+    -- the bytes of version 1 are none of version 2, nor the other way round
+    ∷ example (verdict (readFile (versioned 2 ++ drop 8 narrowPing))) (5 ∷ 23 ∷ [])
+    ∷ example (verdict (readFile (versioned 1 ++ drop 8 ping))) (2 ∷ 23 ∷ [])
+    -- "-1 staying -1": an input that names a constant; a count of -1
+    ∷ example (verdict (readFile (narrowInput 255 255))) (0 ∷ 1 ∷ [])
+    ∷ example (verdict (readFile (narrowInput 255 254))) (8 ∷ 33 ∷ [])
+    ∷ example (verdict (readFile (take 15 narrowPing ++ (255 ∷ 255 ∷ []) ++ drop 17 narrowPing))) (5 ∷ 15 ∷ [])
+    -- "The 2,048 limit is measured on the version 2 encoding": 337 names make 2,046 bytes there and 338 make 2,052, though in version 1 they are far fewer
+    ∷ example (verdict (readFile (narrowNames 1 81 337))) (0 ∷ 1 ∷ [])
+    ∷ example (verdict (readFile (narrowNames 1 82 338))) (9 ∷ 10 ∷ [])
+    -- "export always writes version 2 .. a version 1 file must load as its widened twin does"
+    ∷ example (replied e (load narrowPing ∷ []) (line (Query query.Export) [])) ping
     -- "not "SCgf""
     ∷ example (verdict (readFile (84 ∷ drop 1 ping))) (3 ∷ 0 ∷ [])
     -- an empty definition name
@@ -315,27 +354,27 @@ shownAndRefused e =
     ∷ []
 
 filesAndReplies-agrees : agrees (filesAndReplies freshParts) ≡ true
-unfolding toBits ofInt groups residents definitionsIn firstName firstOr lastOr atDepth depthOf lastAbove lastBeside firstBeside nextOf shape subtreeRows rowsBelow rowsAt treeArguments controlArguments unitCount groupCount synthCount repeat nameBytes readFront readUnit readUnits readDefinition readDefinitions readFile sameName among writeAll writeDefinition writeFile lives lift sink takeDeeper dropDeeper onlyGroups runOf editRows orderFrom rowTaken tags arguments targetOf inBounds pattern held residentFrom controlsFrom firstIndex viewRows nodeNamed firstOf namesOf staying retired freeFrom loaded freeRowFrom initialWords changeWords changeAll effect plainNamed replyTo queryAnswer answerIn played answersOf agrees
+unfolding toBits ofInt groups residents definitionsIn firstName firstOr lastOr atDepth depthOf lastAbove lastBeside firstBeside nextOf shape subtreeRows rowsBelow rowsAt treeArguments controlArguments unitCount groupCount synthCount repeat nameBytes frontBy unitBy unitsBy definitionBy readDefinitions readFile sameName among writeAll writeDefinitionBy writeFile lives lift sink takeDeeper dropDeeper onlyGroups runOf editRows orderFrom rowTaken tags arguments targetOf inBounds pattern held residentFrom controlsFrom firstIndex viewRows nodeNamed firstOf namesOf staying retired freeFrom loaded freeRowFrom initialWords changeWords changeAll effect plainNamed replyTo queryAnswer answerIn played answersOf agrees shortNames
 filesAndReplies-agrees = refl
 
 making-agrees : agrees (making freshParts) ≡ true
-unfolding toBits ofInt groups residents definitionsIn firstName firstOr lastOr atDepth depthOf lastAbove lastBeside firstBeside nextOf shape subtreeRows rowsBelow rowsAt treeArguments controlArguments unitCount groupCount synthCount repeat nameBytes readFront readUnit readUnits readDefinition readDefinitions readFile sameName among writeAll writeDefinition writeFile lives lift sink takeDeeper dropDeeper onlyGroups runOf editRows orderFrom rowTaken tags arguments targetOf inBounds pattern held residentFrom controlsFrom firstIndex viewRows nodeNamed firstOf namesOf staying retired freeFrom loaded freeRowFrom initialWords changeWords changeAll effect plainNamed replyTo queryAnswer answerIn played answersOf agrees
+unfolding toBits ofInt groups residents definitionsIn firstName firstOr lastOr atDepth depthOf lastAbove lastBeside firstBeside nextOf shape subtreeRows rowsBelow rowsAt treeArguments controlArguments unitCount groupCount synthCount repeat nameBytes frontBy unitBy unitsBy definitionBy readDefinitions readFile sameName among writeAll writeDefinitionBy writeFile lives lift sink takeDeeper dropDeeper onlyGroups runOf editRows orderFrom rowTaken tags arguments targetOf inBounds pattern held residentFrom controlsFrom firstIndex viewRows nodeNamed firstOf namesOf staying retired freeFrom loaded freeRowFrom initialWords changeWords changeAll effect plainNamed replyTo queryAnswer answerIn played answersOf agrees
 making-agrees = refl
 
 numbersAndMoves-agrees : agrees (numbersAndMoves freshParts) ≡ true
-unfolding toBits ofInt groups residents definitionsIn firstName firstOr lastOr atDepth depthOf lastAbove lastBeside firstBeside nextOf shape subtreeRows rowsBelow rowsAt treeArguments controlArguments unitCount groupCount synthCount repeat nameBytes readFront readUnit readUnits readDefinition readDefinitions readFile sameName among writeAll writeDefinition writeFile lives lift sink takeDeeper dropDeeper onlyGroups runOf editRows orderFrom rowTaken tags arguments targetOf inBounds pattern held residentFrom controlsFrom firstIndex viewRows nodeNamed firstOf namesOf staying retired freeFrom loaded freeRowFrom initialWords changeWords changeAll effect plainNamed replyTo queryAnswer answerIn played answersOf agrees
+unfolding toBits ofInt groups residents definitionsIn firstName firstOr lastOr atDepth depthOf lastAbove lastBeside firstBeside nextOf shape subtreeRows rowsBelow rowsAt treeArguments controlArguments unitCount groupCount synthCount repeat nameBytes frontBy unitBy unitsBy definitionBy readDefinitions readFile sameName among writeAll writeDefinitionBy writeFile lives lift sink takeDeeper dropDeeper onlyGroups runOf editRows orderFrom rowTaken tags arguments targetOf inBounds pattern held residentFrom controlsFrom firstIndex viewRows nodeNamed firstOf namesOf staying retired freeFrom loaded freeRowFrom initialWords changeWords changeAll effect plainNamed replyTo queryAnswer answerIn played answersOf agrees
 numbersAndMoves-agrees = refl
 
 controlsAndBuses-agrees : agrees (controlsAndBuses freshParts) ≡ true
-unfolding toBits ofInt groups residents definitionsIn firstName firstOr lastOr atDepth depthOf lastAbove lastBeside firstBeside nextOf shape subtreeRows rowsBelow rowsAt treeArguments controlArguments unitCount groupCount synthCount repeat nameBytes readFront readUnit readUnits readDefinition readDefinitions readFile sameName among writeAll writeDefinition writeFile lives lift sink takeDeeper dropDeeper onlyGroups runOf editRows orderFrom rowTaken tags arguments targetOf inBounds pattern held residentFrom controlsFrom firstIndex viewRows nodeNamed firstOf namesOf staying retired freeFrom loaded freeRowFrom initialWords changeWords changeAll effect plainNamed replyTo queryAnswer answerIn played answersOf agrees
+unfolding toBits ofInt groups residents definitionsIn firstName firstOr lastOr atDepth depthOf lastAbove lastBeside firstBeside nextOf shape subtreeRows rowsBelow rowsAt treeArguments controlArguments unitCount groupCount synthCount repeat nameBytes frontBy unitBy unitsBy definitionBy readDefinitions readFile sameName among writeAll writeDefinitionBy writeFile lives lift sink takeDeeper dropDeeper onlyGroups runOf editRows orderFrom rowTaken tags arguments targetOf inBounds pattern held residentFrom controlsFrom firstIndex viewRows nodeNamed firstOf namesOf staying retired freeFrom loaded freeRowFrom initialWords changeWords changeAll effect plainNamed replyTo queryAnswer answerIn played answersOf agrees
 controlsAndBuses-agrees = refl
 
 oldShapes-agrees : agrees (oldShapes freshParts) ≡ true
-unfolding toBits ofInt groups residents definitionsIn firstName firstOr lastOr atDepth depthOf lastAbove lastBeside firstBeside nextOf shape subtreeRows rowsBelow rowsAt treeArguments controlArguments unitCount groupCount synthCount repeat nameBytes readFront readUnit readUnits readDefinition readDefinitions readFile sameName among writeAll writeDefinition writeFile lives lift sink takeDeeper dropDeeper onlyGroups runOf editRows orderFrom rowTaken tags arguments targetOf inBounds pattern held residentFrom controlsFrom firstIndex viewRows nodeNamed firstOf namesOf staying retired freeFrom loaded freeRowFrom initialWords changeWords changeAll effect plainNamed replyTo queryAnswer answerIn played answersOf agrees
+unfolding toBits ofInt groups residents definitionsIn firstName firstOr lastOr atDepth depthOf lastAbove lastBeside firstBeside nextOf shape subtreeRows rowsBelow rowsAt treeArguments controlArguments unitCount groupCount synthCount repeat nameBytes frontBy unitBy unitsBy definitionBy readDefinitions readFile sameName among writeAll writeDefinitionBy writeFile lives lift sink takeDeeper dropDeeper onlyGroups runOf editRows orderFrom rowTaken tags arguments targetOf inBounds pattern held residentFrom controlsFrom firstIndex viewRows nodeNamed firstOf namesOf staying retired freeFrom loaded freeRowFrom initialWords changeWords changeAll effect plainNamed replyTo queryAnswer answerIn played answersOf agrees
 oldShapes-agrees = refl
 
 shownAndRefused-agrees : agrees (shownAndRefused freshParts) ≡ true
-unfolding toBits ofInt groups bodies residents definitionsIn firstName firstOr lastOr atDepth depthOf lastAbove lastBeside firstBeside nextOf shape subtreeRows rowsBelow rowsAt treeArguments controlArguments unitCount groupCount synthCount repeat nameBytes readFront readUnit readUnits readDefinition readDefinitions readFile sameName among writeAll writeDefinition writeFile lives lift sink takeDeeper dropDeeper onlyGroups runOf editRows orderFrom rowTaken tags arguments targetOf inBounds pattern held residentFrom controlsFrom firstIndex viewRows nodeNamed firstOf namesOf staying retired freeFrom loaded freeRowFrom initialWords changeWords changeAll effect plainNamed replyTo queryAnswer answerIn played answersOf agrees
+unfolding toBits ofInt groups bodies residents definitionsIn firstName firstOr lastOr atDepth depthOf lastAbove lastBeside firstBeside nextOf shape subtreeRows rowsBelow rowsAt treeArguments controlArguments unitCount groupCount synthCount repeat nameBytes frontBy unitBy unitsBy definitionBy readDefinitions readFile sameName among writeAll writeDefinitionBy writeFile lives lift sink takeDeeper dropDeeper onlyGroups runOf editRows orderFrom rowTaken tags arguments targetOf inBounds pattern held residentFrom controlsFrom firstIndex viewRows nodeNamed firstOf namesOf staying retired freeFrom loaded freeRowFrom initialWords changeWords changeAll effect plainNamed replyTo queryAnswer answerIn played answersOf agrees
 shownAndRefused-agrees = refl
 
 agrees-append : (a b : List Example) → agrees a ≡ true → agrees b ≡ true → agrees (a ++ b) ≡ true

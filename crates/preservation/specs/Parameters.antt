@@ -8,10 +8,11 @@ use lib.ListN.{length}
 use lib.Dec.{leb}
 use borrow.Author.Tests.{leb-true}
 use Rattle.faults.specs.declared.Fault.the-variants.{BadCount}
+use Rattle.format.specs.declared.Width.the-variants.{Long}
 use Rattle.format.specs.Read.{Read, got, bad, andThen, repeat}
 use Rattle.format.specs.Fields.{float32, definitionName, integer, countTo, count, shortCountTo, highest16}
 use Rattle.format.specs.Definition.{Front, Definition}
-use Rattle.format.specs.Reader.{mostParameters, parameterName, readFront, readUnits, variant, readDefinition}
+use Rattle.format.specs.Reader.{mostParameters, parameterName, frontBy, readFront, unitsBy, variant, definitionBy, readDefinition}
 use Rattle.format.specs.FieldLaws.{checked-got}
 use Rattle.format.specs.RepeatLaws.{repeat-length}
 use Rattle.model.specs.Engine.{Slot, noDefinition, valueOr, definitionIn}
@@ -29,7 +30,7 @@ abbrev Few : Front → Type 0
 Few f = length (f .values) ≤ mostParameters
 
 front-few : (s : List ℕ) (at : ℕ) → Holds Few (readFront s at)
-unfolding readFront
+unfolding frontBy
 front-few s at =
     fact-then Few (definitionName s at) _ (λ n p1 e1.
     fact-then Few (count s p1) _ (λ k p2 e2.
@@ -44,11 +45,11 @@ abbrev FewIn : Definition → Type 0
 FewIn d = Few (d .front)
 
 definition-few : (s : List ℕ) (at : ℕ) → Holds FewIn (readDefinition s at)
-unfolding readDefinition
+unfolding definitionBy
 definition-few s at =
     fact-then FewIn (readFront s at) _ (λ f p1 e1.
     fact-then FewIn (count s p1) _ (λ many p2 e2.
-    fact-then FewIn (readUnits (length (f .constants)) s many [] p2) _ (λ units p3 e3.
+    fact-then FewIn (unitsBy Long (length (f .constants)) s many [] p2) _ (λ units p3 e3.
     fact-then FewIn (shortCountTo highest16 s p3) _ (λ v p4 e4.
     fact-then FewIn (repeat (variant (length (f .values)) s) v p4) _ (λ variants end e5.
     rw e1 at (front-few s at))))))

@@ -11,6 +11,7 @@ use lib.Seq.{getD-set-same, getD-set-other}
 use lib.Dec.{eqb}
 use borrow.Author.Tests.{ne-eqb, eqb-true, eqb-false}
 use Rattle.words.specs.Choice.{pick}
+use Rattle.format.specs.declared.Width.the-variants.{Long}
 use Rattle.format.specs.Fields.{word, stringAt}
 use Rattle.format.specs.Definition.{Front}
 use Rattle.format.specs.Names.{firstName}
@@ -28,7 +29,7 @@ labelFrom s (suc n) at k = pick (eqb (word s (indexPlace s at)) k) at (labelFrom
 
 -- the same in a definition
 abbrev pub labelPlace : List ℕ → ℕ → ℕ
-labelPlace s k = onRead (readFront s 0) 0 (λ f next. labelFrom s (length (f .names)) (namesAt 0 f) k)
+labelPlace s k = onRead (readFront s 0) 0 (λ f next. labelFrom s (length (f .names)) (namesAt Long 0 f) k)
 
 -- the string at a place, where 0 is no place
 abbrev pub labelAt : List ℕ → ℕ → Option (List ℕ)
@@ -159,13 +160,13 @@ labels-last s first count i at table now done = record {
     by false e h = h
 
 -- of a front that was read
-pub labels-front : (s : List ℕ) {f : Front} {end : ℕ} (table : List ℕ) → readFront s 0 ≡ got f end → 0 < namesAt 0 f → Entries s mostParameters (length (f .names)) (namesAt 0 f)
-    → LabelledFrom s (length (f .names)) (namesAt 0 f) table → Labelled s table
+pub labels-front : (s : List ℕ) {f : Front} {end : ℕ} (table : List ℕ) → readFront s 0 ≡ got f end → 0 < namesAt Long 0 f → Entries s mostParameters (length (f .names)) (namesAt Long 0 f)
+    → LabelledFrom s (length (f .names)) (namesAt Long 0 f) table → Labelled s table
 labels-front s {f} {end} table e later known l = record {
   size = l .size;
   placed = λ i h. rw e (l .placed i h);
-  named = λ i h. rw (e, l .placed i h) (ap (firstName i) (parts s e .names) ∙ from-named s (length (f .names)) (namesAt 0 f) i later);
+  named = λ i h. rw (e, l .placed i h) (ap (firstName i) (parts s e .names) ∙ from-named s (length (f .names)) (namesAt Long 0 f) i later);
   within = λ i h p.
-      let q : 0 < labelFrom s (length (f .names)) (namesAt 0 f) i = rw (l .placed i h) at p in
-      rw (l .placed i h) (from-within s mostParameters (length (f .names)) (namesAt 0 f) i known q);
+      let q : 0 < labelFrom s (length (f .names)) (namesAt Long 0 f) i = rw (l .placed i h) at p in
+      rw (l .placed i h) (from-within s mostParameters (length (f .names)) (namesAt Long 0 f) i known q);
 }

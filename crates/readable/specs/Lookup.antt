@@ -7,6 +7,7 @@ use Rattle.readable.specs.declared.found.Found.{Found}
 use Rattle.readable.specs.declared.found.Found.the-variants as found
 use Rattle.readable.specs.declared.found.ValuesFound.{ValuesFound}
 use Rattle.readable.specs.declared.found.ValuesFound.the-variants as values
+use Rattle.format.specs.declared.Width.the-variants.{Long}
 use Rattle.format.specs.Read.{onRead}
 use Rattle.format.specs.Fields.{count}
 use Rattle.format.specs.Reader.{readFront}
@@ -35,7 +36,7 @@ unitsIn s = onRead (readFront s 0) found.Nothing (λ f next. onRead (count s nex
 
 -- where the initial values start, and how many there are
 abbrev pub valuesIn : List ℕ → ValuesFound
-valuesIn s = onRead (readFront s 0) values.Nothing (λ f next. values.At (valuesAt 0 f) (length (f .values)))
+valuesIn s = onRead (readFront s 0) values.Nothing (λ f next. values.At (valuesAt Long 0 f) (length (f .values)))
 
 -- the index of a name
 abbrev pub indexIn : List ℕ → List ℕ → Option ℕ

@@ -5,32 +5,33 @@ use mathlib.Core.List.{List, [], _∷_, _++_}
 use lib.ListN.{length}
 use Rattle.readable.specs.declared.found.Found.the-variants as found
 use Rattle.readable.specs.declared.found.ValuesFound.the-variants as values
+use Rattle.format.specs.declared.Width.the-variants.{Long}
 use Rattle.format.specs.Read.{got, repeat}
 use Rattle.format.specs.Fields.{count, shortCountTo, highest16}
 use Rattle.format.specs.Definition.{UnitSpec, Definition}
 use Rattle.format.specs.Names.{firstIndex, firstName}
-use Rattle.format.specs.Reader.{readFront, readUnit, readUnits, readDefinition, variant}
+use Rattle.format.specs.Reader.{readFront, unitBy, unitsBy, definitionBy, readDefinition, variant}
 use Rattle.front.specs.Front.{valuesAt}
 use Rattle.readable.specs.Lookup.{nameIn, parametersIn, unitsIn, valuesIn, indexIn, nameOfIn}
 use Rattle.format.specs.RepeatLaws.{got-value, went-on}
 
 -- as many units are read as were asked for
-pub units-length : (k : ℕ) (s : List ℕ) (n : ℕ) (outs : List ℕ) (at : ℕ) {us : List UnitSpec} {end : ℕ} → readUnits k s n outs at ≡ got us end → length us ≡ n
-unfolding readUnits
+pub units-length : (k : ℕ) (s : List ℕ) (n : ℕ) (outs : List ℕ) (at : ℕ) {us : List UnitSpec} {end : ℕ} → unitsBy Long k s n outs at ≡ got us end → length us ≡ n
+unfolding unitsBy
 units-length k s zero outs at e = rw (sym (got-value e))
 units-length k s (suc n) outs at e =
-    went-on (readUnit k outs s at) _ e (λ u p1 e1 r1.
-    went-on (readUnits k s n (outs ++ (length (u .outputs) ∷ [])) p1) _ r1 (λ us p2 e2 r2.
+    went-on (unitBy Long k outs s at) _ e (λ u p1 e1 r1.
+    went-on (unitsBy Long k s n (outs ++ (length (u .outputs) ∷ [])) p1) _ r1 (λ us p2 e2 r2.
     rw (sym (got-value r2), units-length k s n (outs ++ (length (u .outputs) ∷ [])) p1 e2)))
 
 -- a definition that was read: its front, and the count of its units behind it
 definition-on : {E : Type 0} (s : List ℕ) (at : ℕ) {d : Definition} {end : ℕ} → readDefinition s at ≡ got d end
     → ((p q : ℕ) → readFront s at ≡ got (d .front) p → count s p ≡ got (length (d .units)) q → E) → E
-unfolding readDefinition
+unfolding definitionBy
 definition-on s at e k =
     went-on (readFront s at) _ e (λ f p1 e1 r1.
     went-on (count s p1) _ r1 (λ many p2 e2 r2.
-    went-on (readUnits (length (f .constants)) s many [] p2) _ r2 (λ units p3 e3 r3.
+    went-on (unitsBy Long (length (f .constants)) s many [] p2) _ r2 (λ units p3 e3 r3.
     went-on (shortCountTo highest16 s p3) _ r3 (λ v p4 e4 r4.
     went-on (repeat (variant (length (f .values)) s) v p4) _ r4 (λ variants p5 e5 r5.
     k p1 p2 (rw (sym (got-value r5)) e1) (rw (sym (got-value r5), units-length (length (f .constants)) s many [] p2 e3) e2))))))
@@ -45,7 +46,7 @@ module _ (s : List ℕ) {d : Definition} {end : ℕ} (e : readDefinition s 0 ≡
   pub units-of : unitsIn s ≡ found.At (length (d .units))
   units-of = definition-on s 0 e (λ p q f u. rw (f, u))
 
-  pub values-of : valuesIn s ≡ values.At (valuesAt 0 (d .front)) (length (d .front .values))
+  pub values-of : valuesIn s ≡ values.At (valuesAt Long 0 (d .front)) (length (d .front .values))
   values-of = definition-on s 0 e (λ p q f u. rw f)
 
   pub index-of : (n : List ℕ) → indexIn n s ≡ firstIndex n (d .front .names)

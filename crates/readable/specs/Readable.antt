@@ -7,6 +7,7 @@ use borrow.Author.Tests.{leb-true}
 use lib.ListN.{length, getD}
 use lib.Dec.{leb}
 use Rattle.faults.specs.declared.Fault.the-variants.{BadName, BadCount}
+use Rattle.format.specs.declared.Width.the-variants.{Long}
 use Rattle.format.specs.Read.{got, repeat}
 use Rattle.format.specs.Fields.{word, float32, stringAt, pstring, definitionName, integer, count, countTo, highest32}
 use Rattle.format.specs.FieldLaws.{checked-got, name-length}
@@ -15,7 +16,7 @@ use Rattle.format.specs.RepeatLaws.{went-on, repeat-length, floats-end, got-val
 use Rattle.format.specs.Endings.{field-got}
 use Rattle.format.specs.Sizes.{string-got}
 use Rattle.format.specs.Definition.{Front, Definition}
-use Rattle.format.specs.Reader.{mostParameters, sizeLimit, parameterName, readFront, readDefinition}
+use Rattle.format.specs.Reader.{mostParameters, sizeLimit, parameterName, frontBy, readFront, definitionBy, readDefinition}
 use Rattle.front.specs.Front.{nameEnd, valuesAt, namesAt, countsOf}
 use Rattle.readable.specs.Lookup.{atNumber, nameIn, unitsIn}
 use Rattle.front.specs.FrontLaws.{front-got}
@@ -37,7 +38,7 @@ pub record ReadableWhole (s : List ℕ) : Type 0 where
 
 -- a readable definition has a readable front
 pub whole-readable : (s : List ℕ) → ReadableWhole s → Readable s
-unfolding readDefinition
+unfolding definitionBy
 whole-readable s w = went-on (readFront s 0) _ (w .reads) (λ f p e r. record { front = f; past = p; reads = e; short = w .short })
 
 -- a count that was read
@@ -53,15 +54,15 @@ pub record Parts (s : List ℕ) (f : Front) (end : ℕ) : Type 0 where
   pub constants : word s (nameEnd 0 f) ≡ length (f .constants)
   pub parameters : word s (nameEnd 0 f + 4 + 4 * length (f .constants)) ≡ length (f .values)
   pub few : length (f .values) ≤ mostParameters
-  pub many : word s (valuesAt 0 f + 4 * length (f .values)) ≡ length (f .names)
-  pub within : namesAt 0 f ≤ length s
-  pub names : f .names ≡ entriesFrom s (length (f .names)) (namesAt 0 f)
-  pub past : end ≡ entriesEnd s (length (f .names)) (namesAt 0 f)
-  pub known : Entries s (length (f .values)) (length (f .names)) (namesAt 0 f)
+  pub many : word s (valuesAt Long 0 f + 4 * length (f .values)) ≡ length (f .names)
+  pub within : namesAt Long 0 f ≤ length s
+  pub names : f .names ≡ entriesFrom s (length (f .names)) (namesAt Long 0 f)
+  pub past : end ≡ entriesEnd s (length (f .names)) (namesAt Long 0 f)
+  pub known : Entries s (length (f .values)) (length (f .names)) (namesAt Long 0 f)
   pub inside : end ≤ length s
 
 pub parts : (s : List ℕ) {f : Front} {end : ℕ} → readFront s 0 ≡ got f end → Parts s f end
-unfolding readFront
+unfolding frontBy
 parts s {f} {end} h =
     went-on (definitionName s 0) _ h (λ n p1 e1 r1.
     went-on (count s p1) _ r1 (λ k p2 e2 r2.
@@ -115,24 +116,24 @@ module _ {s : List ℕ} {f : Front} {end : ℕ} (w : Parts s f end) where
   pub names-fact : (k p : ℕ) → k ≡ length (f .constants) → p ≡ length (f .values) → word s (1 + getD s 0 0 + 4 + 4 * k + 4 + 4 * p) ≡ length (f .names)
   names-fact k p e g =
       let named = w .named in
-      let place : 1 + getD s 0 0 + 4 + 4 * k + 4 + 4 * p ≡ valuesAt 0 f + 4 * length (f .values) = omega arith in
+      let place : 1 + getD s 0 0 + 4 + 4 * k + 4 + 4 * p ≡ valuesAt Long 0 f + 4 * length (f .values) = omega arith in
       ap (word s) place ∙ w .many
 
   -- all of them
   pub counts-fact : (k l p q n : ℕ) → k ≡ length (f .constants) → l ≡ k → p ≡ length (f .values) → q ≡ p → n ≡ length (f .names)
-      → record { past = 1 + getD s 0 0; constants = k; values = 1 + getD s 0 0 + 4 + 4 * l + 4; parameters = p; first = 1 + getD s 0 0 + 4 + 4 * l + 4 + 4 * q + 4; names = n } ≡ countsOf 0 f
+      → record { past = 1 + getD s 0 0; constants = k; values = 1 + getD s 0 0 + 4 + 4 * l + 4; parameters = p; first = 1 + getD s 0 0 + 4 + 4 * l + 4 + 4 * q + 4; names = n } ≡ countsOf Long 0 f
   counts-fact k l p q n e e₂ g g₂ h =
       let named = w .named in
       let past : 1 + getD s 0 0 ≡ nameEnd 0 f = omega arith in
-      let first : 1 + getD s 0 0 + 4 + 4 * l + 4 ≡ valuesAt 0 f = omega arith in
-      let names : 1 + getD s 0 0 + 4 + 4 * l + 4 + 4 * q + 4 ≡ namesAt 0 f = omega arith in
+      let first : 1 + getD s 0 0 + 4 + 4 * l + 4 ≡ valuesAt Long 0 f = omega arith in
+      let names : 1 + getD s 0 0 + 4 + 4 * l + 4 + 4 * q + 4 ≡ namesAt Long 0 f = omega arith in
       cc
 
 -- the entries of a readable front
-pub front-entries : (s : List ℕ) (k : Readable s) → Entries s mostParameters (length (k .front .names)) (namesAt 0 (k .front))
+pub front-entries : (s : List ℕ) (k : Readable s) → Entries s mostParameters (length (k .front .names)) (namesAt Long 0 (k .front))
 front-entries s k =
     let w = parts s (k .reads) in
-    entries-below s (length (k .front .values)) mostParameters (length (k .front .names)) (namesAt 0 (k .front)) (w .few) (w .known)
+    entries-below s (length (k .front .values)) mostParameters (length (k .front .names)) (namesAt Long 0 (k .front)) (w .few) (w .known)
 
 -- where the count of units stands, and what the lookup tells of it
 pub record UnitsAt (s : List ℕ) : Type 0 where
@@ -141,7 +142,7 @@ pub record UnitsAt (s : List ℕ) : Type 0 where
   pub same : atNumber (word s (readable .past)) ≡ unitsIn s
 
 pub units-at : (s : List ℕ) → ReadableWhole s → UnitsAt s
-unfolding readDefinition
+unfolding definitionBy
 units-at s w =
     went-on (readFront s 0) _ (w .reads) (λ f p e r.
     went-on (count s p) _ r (λ many q g rest.
@@ -154,4 +155,4 @@ units-at s w =
 
 -- the name stands at the first byte
 pub name-fact : (s : List ℕ) → Readable s → stringAt s 0 ≡ nameIn s
-name-fact s k = rw (k .reads) (string-got s 0 (checked-got BadName full 0 (pstring s 0) (front-got s 0 (k .reads) .name) .0) .0)
+name-fact s k = rw (k .reads) (string-got s 0 (checked-got BadName full 0 (pstring s 0) (front-got Long s 0 (k .reads) .name) .0) .0)

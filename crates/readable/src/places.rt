@@ -5,6 +5,7 @@ use words::wide;
 ghost use Prim.Native.Nat.{ℕ};
 ghost use mathlib.Core.Path.{_≡_};
 ghost use Rattle.format.specs.Definition.{Front};
+ghost use Rattle.format.specs.declared.Width.the-variants.{Long};
 ghost use Rattle.front.specs.Front.{countsOf};
 ghost use Rattle.format.specs.Read.{got};
 ghost use Rattle.format.specs.Reader.{readFront};
@@ -13,7 +14,7 @@ ghost use Rattle.readable.specs.Readable.{Readable};
 // The counts and places of a front.
 pub(crate) fn counts(s: &[u8]) -> Counts
     requires { ⌜ Readable (now s) ⌝ }
-    ensures { λ r. ⌜ ((f : Front) (end : ℕ) → readFront (now (s .entry)) 0 ≡ got f end → r ≡ countsOf 0 f) ⌝ }
+    ensures { λ r. ⌜ ((f : Front) (end : ℕ) → readFront (now (s .entry)) 0 ≡ got f end → r ≡ countsOf Long 0 f) ⌝ }
 {
     let size = s[0] as usize;
     let past = 1 + size;

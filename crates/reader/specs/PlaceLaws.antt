@@ -9,10 +9,10 @@ use Rattle.words.specs.Parts.{region}
 use Rattle.faults.specs.declared.Fault.{Fault}
 use Rattle.format.specs.Read.{Read, got, bad, ending, onRead}
 use Rattle.format.specs.Definition.{Definition}
-use Rattle.format.specs.Reader.{readDefinition}
+use Rattle.format.specs.HeaderLaws.{fileWidth}
 use Rattle.files.specs.Forward.{definition-whole}
 use Rattle.reader.specs.declared.places.Span.the-variants.{Between, Nowhere}
-use Rattle.reader.specs.Places.{placeAfter, placePast, spanAt, bytesAt}
+use Rattle.reader.specs.Places.{definitionHere, placeAfter, placePast, spanAt, bytesAt}
 
 module _ {A B : Type 0} (none : B) (ask : ℕ → B) where
   on-got : (r : Read A) {u : Unit {0}} {next : ℕ} → ending r ≡ got u next → onRead r none (λ x n. ask n) ≡ ask next
@@ -26,30 +26,30 @@ module _ {A B : Type 0} (none : B) (ask : ℕ → B) where
   on-bad (bad q at) h = refl
 
 module _ (s : List ℕ) (at : ℕ) where
-  pub after-got : {u : Unit {0}} {next : ℕ} → ending (readDefinition s at) ≡ got u next → placeAfter s at ≡ next
-  after-got e = on-got (length s) (λ n. n) (readDefinition s at) e
+  pub after-got : {u : Unit {0}} {next : ℕ} → ending (definitionHere s at) ≡ got u next → placeAfter s at ≡ next
+  after-got e = on-got (length s) (λ n. n) (definitionHere s at) e
 
-  pub after-bad : {q : Fault} {place : ℕ} → ending (readDefinition s at) ≡ bad q place → placeAfter s at ≡ length s
-  after-bad e = on-bad (length s) (λ n. n) (readDefinition s at) e
+  pub after-bad : {q : Fault} {place : ℕ} → ending (definitionHere s at) ≡ bad q place → placeAfter s at ≡ length s
+  after-bad e = on-bad (length s) (λ n. n) (definitionHere s at) e
 
-  pub bytes-got : {u : Unit {0}} {next : ℕ} → ending (readDefinition s at) ≡ got u next → bytesAt s at ≡ region at (next - at) s
-  bytes-got e = on-got [] (λ n. region at (n - at) s) (readDefinition s at) e
+  pub bytes-got : {u : Unit {0}} {next : ℕ} → ending (definitionHere s at) ≡ got u next → bytesAt s at ≡ region at (next - at) s
+  bytes-got e = on-got [] (λ n. region at (n - at) s) (definitionHere s at) e
 
-  pub bytes-bad : {q : Fault} {place : ℕ} → ending (readDefinition s at) ≡ bad q place → bytesAt s at ≡ []
-  bytes-bad e = on-bad [] (λ n. region at (n - at) s) (readDefinition s at) e
+  pub bytes-bad : {q : Fault} {place : ℕ} → ending (definitionHere s at) ≡ bad q place → bytesAt s at ≡ []
+  bytes-bad e = on-bad [] (λ n. region at (n - at) s) (definitionHere s at) e
 
-  pub span-got : {u : Unit {0}} {next : ℕ} → ending (readDefinition s at) ≡ got u next → spanAt s at ≡ Between at next
-  span-got e = on-got Nowhere (λ n. Between at n) (readDefinition s at) e
+  pub span-got : {u : Unit {0}} {next : ℕ} → ending (definitionHere s at) ≡ got u next → spanAt s at ≡ Between at next
+  span-got e = on-got Nowhere (λ n. Between at n) (definitionHere s at) e
 
-  pub span-bad : {q : Fault} {place : ℕ} → ending (readDefinition s at) ≡ bad q place → spanAt s at ≡ Nowhere
-  span-bad e = on-bad Nowhere (λ n. Between at n) (readDefinition s at) e
+  pub span-bad : {q : Fault} {place : ℕ} → ending (definitionHere s at) ≡ bad q place → spanAt s at ≡ Nowhere
+  span-bad e = on-bad Nowhere (λ n. Between at n) (definitionHere s at) e
 
   -- from the file's end on no definition can be read
   module _ {B : Type 0} (none : B) (ask : ℕ → B) (h : length s ≤ at) where
-    on-end : onRead (readDefinition s at) none (λ d n. ask n) ≡ none
-    on-end = cases (readDefinition s at) refl where
-      cases : (r : Read Definition) → readDefinition s at ≡ r → onRead r none (λ d n. ask n) ≡ none
-      cases (got d next) e = absurd (omega (arith, definition-whole s at e .inside))
+    on-end : onRead (definitionHere s at) none (λ d n. ask n) ≡ none
+    on-end = cases (definitionHere s at) refl where
+      cases : (r : Read Definition) → definitionHere s at ≡ r → onRead r none (λ d n. ask n) ≡ none
+      cases (got d next) e = absurd (omega (arith, definition-whole (fileWidth s) s at e .inside))
       cases (bad q place) e = refl
 
   after-end : length s ≤ at → placeAfter s at ≡ length s

@@ -7,11 +7,17 @@ use lib.Dec.{leb}
 use Rattle.words.specs.Parts.{region}
 use Rattle.files.specs.declared.file.Checked.{Checked}
 use Rattle.files.specs.declared.file.Checked.the-variants.{Accepted, Refused}
-use Rattle.format.specs.Reader.{readDefinition}
+use Rattle.format.specs.Definition.{Definition}
+use Rattle.format.specs.Reader.{definitionBy}
+use Rattle.format.specs.HeaderLaws.{fileWidth}
 use Rattle.files.specs.File.{firstPlace}
-use Rattle.format.specs.Read.{onRead}
+use Rattle.format.specs.Read.{Read, onRead}
 use Rattle.reader.specs.declared.places.Span.{Span}
 use Rattle.reader.specs.declared.places.Span.the-variants.{Between, Nowhere}
+
+-- the definition that starts at a place of a file, by the width of the file's fields
+abbrev pub definitionHere : List ℕ → ℕ → Read Definition
+definitionHere s at = definitionBy (fileWidth s) s at
 
 -- where a reader of a file starts: at the first definition, and at the end of a file that is refused
 abbrev pub startOf : List ℕ → Checked → ℕ
@@ -24,7 +30,7 @@ endedAt s at = leb (length s) at
 
 -- the place past the definition that starts at a place, and the file's end where none can be read
 abbrev pub placeAfter : List ℕ → ℕ → ℕ
-placeAfter s at = onRead (readDefinition s at) (length s) (λ d next. next)
+placeAfter s at = onRead (definitionHere s at) (length s) (λ d next. next)
 
 -- the place past so many definitions, and the file's end where there are fewer
 unfoldable pub placePast : List ℕ → ℕ → ℕ → ℕ
@@ -33,8 +39,8 @@ placePast s (suc n) at = placePast s n (placeAfter s at)
 
 -- where the definition that starts at a place starts and ends, and nowhere where none can be read
 abbrev pub spanAt : List ℕ → ℕ → Span
-spanAt s at = onRead (readDefinition s at) Nowhere (λ d next. Between at next)
+spanAt s at = onRead (definitionHere s at) Nowhere (λ d next. Between at next)
 
 -- the definition's own bytes, and none where none can be read
 abbrev pub bytesAt : List ℕ → ℕ → List ℕ
-bytesAt s at = onRead (readDefinition s at) [] (λ d next. region at (next - at) s)
+bytesAt s at = onRead (definitionHere s at) [] (λ d next. region at (next - at) s)

@@ -12,14 +12,15 @@ use Rattle.faults.specs.declared.Fault.the-variants.{BytesLeft}
 use Rattle.reader.specs.declared.places.Span.the-variants.{Between, Nowhere}
 use Rattle.format.specs.Read.{Read, got, bad, andThen, repeat}
 use Rattle.format.specs.Definition.{Definition}
-use Rattle.format.specs.Reader.{fits, readDefinition, readDefinitions, readHeader, readFile}
+use Rattle.format.specs.Reader.{fits, readDefinitions, readHeader, readFile}
+use Rattle.format.specs.HeaderLaws.{fileWidth, header-got}
 use Rattle.format.specs.RepeatLaws.{went-on}
 use Rattle.files.specs.Forward.{definition-whole}
 use Rattle.files.specs.File.{verdict, firstPlace}
-use Rattle.reader.specs.Places.{startOf, placeAfter, placePast, spanAt}
+use Rattle.reader.specs.Places.{definitionHere, startOf, placeAfter, placePast, spanAt}
 use Rattle.reader.specs.PlaceLaws.{past-length, past-beyond, span-end}
 use Rattle.reader.specs.Spans.{endOf, definitionStart, spanIn, definitionSpan}
-use Rattle.files.specs.FileLaws.{fitting-got, definitions-length, head-few}
+use Rattle.files.specs.FileLaws.{fitting-got, definitions-length}
 
 end-keeps : {A B : Type 0} (r : Read A) (f : A → B) → endOf (andThen r (λ x n. got (f x) n)) ≡ endOf r
 end-keeps (got x n) f = refl
@@ -51,28 +52,29 @@ module _ {A : Type 0} (read : ℕ → Read A) where
       rw e1 (end-keeps (repeat read (suc i) next) (λ xs. y ∷ xs) ∙ repeat-last i next e2 e3)))
 
 -- the definitions of a file are read one after the other
-definitions-walk : (s : List ℕ) (n : ℕ) (names : List (List ℕ)) (at : ℕ) {ds : List Definition} {end : ℕ} → readDefinitions s n names at ≡ got ds end → repeat (readDefinition s) n at ≡ got ds end
+definitions-walk : (s : List ℕ) (n : ℕ) (names : List (List ℕ)) (at : ℕ) {ds : List Definition} {end : ℕ} → readDefinitions (fileWidth s) s n names at ≡ got ds end → repeat (definitionHere s) n at ≡ got ds end
 unfolding readDefinitions repeat
 definitions-walk s zero names at h = h
 definitions-walk s (suc n) names at h =
-    went-on (andThen (readDefinition s at) (λ d next. fits names at d next)) _ h (λ d next e1 r1.
-    went-on (readDefinitions s n (names ++ (d .front .name ∷ [])) next) _ r1 (λ rest last e2 r2.
-    rw (fitting-got s names at e1, definitions-walk s n (names ++ (d .front .name ∷ [])) next e2) r2))
+    went-on (andThen (definitionHere s at) (λ d next. fits names at d next)) _ h (λ d next e1 r1.
+    went-on (readDefinitions (fileWidth s) s n (names ++ (d .front .name ∷ [])) next) _ r1 (λ rest last e2 r2.
+    rw (fitting-got (fileWidth s) s names at e1, definitions-walk s n (names ++ (d .front .name ∷ [])) next e2) r2))
 
 -- those of an accepted file from the first place on, to the file's end
 pub record Read-whole (s : List ℕ) (ds : List Definition) (end : ℕ) : Type 0 where
-  pub read : readDefinitions s (length ds) [] firstPlace ≡ got ds end
+  pub read : readDefinitions (fileWidth s) s (length ds) [] firstPlace ≡ got ds end
   pub whole : length s ≤ end
 
 pub read-whole : (s : List ℕ) {ds : List Definition} {end : ℕ} → readFile s ≡ got ds end → Read-whole s ds end
 unfolding readFile
 read-whole s {ds} {end} h =
-    went-on (readHeader s) _ h (λ n first e1 r1.
-    went-on (readDefinitions s n [] first) _ r1 (λ rest last e2 r2.
+    went-on (readHeader s) _ h (λ head first e1 r1.
+    let g = header-got s e1 in
+    went-on (readDefinitions (fileWidth s) s (head .count) [] first) _ (rw (g .width) at r1) (λ rest last e2 r2.
     let w = picked (ltb last (length s)) refl r2 in
-    let many : length ds ≡ n = ap length (sym (w .0)) ∙ definitions-length s n [] first e2 in
+    let many : length ds ≡ head .count = ap length (sym (w .0)) ∙ definitions-length (fileWidth s) s (head .count) [] first e2 in
     record {
-      read = ap₂ (λ (m p : ℕ). readDefinitions s m [] p) many (sym (head-few s e1 .1)) ∙ e2 ∙ ap₂ got (w .0) (w .1 .0);
+      read = ap₂ (λ (m p : ℕ). readDefinitions (fileWidth s) s m [] p) many (sym (g .past)) ∙ e2 ∙ ap₂ got (w .0) (w .1 .0);
       whole = w .1 .1;
     })) where
       picked : {x : List Definition} {m : ℕ} (b : Bool) → ltb m (length s) ≡ b → pick b (bad BytesLeft m) (got x m) ≡ got ds end → (x ≡ ds) × ((m ≡ end) × (length s ≤ end))
@@ -83,17 +85,17 @@ read-whole s {ds} {end} h =
 
 module _ (s : List ℕ) where
   -- past definitions that were read one after the other, and past more than there are
-  past-read : (n at : ℕ) {ds : List Definition} {end : ℕ} → repeat (readDefinition s) n at ≡ got ds end → placePast s n at ≡ end
+  past-read : (n at : ℕ) {ds : List Definition} {end : ℕ} → repeat (definitionHere s) n at ≡ got ds end → placePast s n at ≡ end
   unfolding repeat placePast
   past-read zero at h = cc
   past-read (suc n) at {ds} {end} h =
-      went-on (readDefinition s at) _ h (λ d next e1 r1.
-      went-on (repeat (readDefinition s) n next) _ r1 (λ rest last e2 r2.
+      went-on (definitionHere s at) _ h (λ d next e1 r1.
+      went-on (repeat (definitionHere s) n next) _ r1 (λ rest last e2 r2.
       let same : last ≡ end = cc in
       let moved : placeAfter s at ≡ next = rw e1 in
       ap (placePast s n) moved ∙ past-read n next e2 ∙ same))
 
-  past-over : (n i at : ℕ) {ds : List Definition} {end : ℕ} → repeat (readDefinition s) n at ≡ got ds end → length s ≤ end → n ≤ i → length s ≤ placePast s i at
+  past-over : (n i at : ℕ) {ds : List Definition} {end : ℕ} → repeat (definitionHere s) n at ≡ got ds end → length s ≤ end → n ≤ i → length s ≤ placePast s i at
   unfolding repeat placePast
   past-over zero zero at {ds} {end} h l m =
       let same : at ≡ end = cc in
@@ -103,8 +105,8 @@ module _ (s : List ℕ) where
       omega (arith, past-beyond s i at (omega arith))
   past-over (suc n) zero at h l m = absurd (omega arith)
   past-over (suc n) (suc i) at {ds} {end} h l m =
-      went-on (readDefinition s at) _ h (λ d next e1 r1.
-      went-on (repeat (readDefinition s) n next) _ r1 (λ rest last e2 r2.
+      went-on (definitionHere s at) _ h (λ d next e1 r1.
+      went-on (repeat (definitionHere s) n next) _ r1 (λ rest last e2 r2.
       let same : last ≡ end = cc in
       let moved : placeAfter s at ≡ next = rw e1 in
       rw moved (past-over n i next e2 (omega arith) (omega arith))))
@@ -115,19 +117,19 @@ module _ (s : List ℕ) where
     end : ℕ
     this : Definition
     there : placePast s i firstPlace ≡ start
-    read : readDefinition s start ≡ got this end
+    read : definitionHere s start ≡ got this end
     span : definitionSpan s i ≡ Between start end
 
   spanned : (i : ℕ) {ds : List Definition} {end : ℕ} → readFile s ≡ got ds end → i < length ds → Spanned i
   unfolding definitionSpan
   spanned i {ds} h l =
-      split (readDefinition s) i (length ds) firstPlace l (definitions-walk s (length ds) [] firstPlace (read-whole s h .read)) (λ ys p x q e1 e2. record {
+      split (definitionHere s) i (length ds) firstPlace l (definitions-walk s (length ds) [] firstPlace (read-whole s h .read)) (λ ys p x q e1 e2. record {
         start = p;
         end = q;
         this = x;
         there = past-read i firstPlace e1;
         read = e2;
-        span = rw (h, lt-ltb i (length ds) l) (ap₂ Between (ap endOf e1) (repeat-last (readDefinition s) i firstPlace e1 e2));
+        span = rw (h, lt-ltb i (length ds) l) (ap₂ Between (ap endOf e1) (repeat-last (definitionHere s) i firstPlace e1 e2));
       })
 
   -- where a reader of the file comes to past so many definitions the definition of that number starts and ends, or there is none
@@ -153,7 +155,7 @@ module _ (s : List ℕ) where
     inside : Spanned i → start + 1 + getD s start 0 ≤ length s
     inside w =
         let same : start ≡ w .start = starts (sym h ∙ w .span) in
-        rw same (definition-whole s (w .start) (w .read) .inside) where
+        rw same (definition-whole (fileWidth s) s (w .start) (w .read) .inside) where
           starts : {a b c d : ℕ} → Between a b ≡ Between c d → a ≡ c
           starts e = cc
 

@@ -6,7 +6,8 @@ use lib.Dec.{ltb}
 use Rattle.words.specs.Choice.{pick}
 use Rattle.format.specs.Read.{Read, got, bad, repeat}
 use Rattle.format.specs.Definition.{Definition}
-use Rattle.format.specs.Reader.{readDefinition, readFile}
+use Rattle.format.specs.Reader.{readFile}
+use Rattle.reader.specs.Places.{definitionHere}
 use Rattle.files.specs.File.{firstPlace}
 use Rattle.reader.specs.declared.places.Span.{Span}
 use Rattle.reader.specs.declared.places.Span.the-variants.{Between, Nowhere}
@@ -19,7 +20,7 @@ module _ {A : Type 0} where
 
 -- where the definition number i of a file starts: past the first i
 abbrev pub definitionStart : List ℕ → ℕ → ℕ
-definitionStart s i = endOf (repeat (readDefinition s) i firstPlace)
+definitionStart s i = endOf (repeat (definitionHere s) i firstPlace)
 
 -- where the definition number i starts and ends, in a file that is accepted and has as many
 abbrev pub spanIn : List ℕ → ℕ → Read (List Definition) → Span

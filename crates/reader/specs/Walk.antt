@@ -8,7 +8,9 @@ use denote.Ref.{RefT, now}
 use Rattle.words.specs.Choice.{pick}
 use Rattle.format.specs.Read.{got}
 use Rattle.format.specs.Definition.{Definition}
-use Rattle.format.specs.Reader.{readDefinition, readFile}
+use Rattle.format.specs.declared.Width.{Width}
+use Rattle.format.specs.Reader.{definitionBy, readFile}
+use Rattle.format.specs.HeaderLaws.{fileWidth}
 use Rattle.files.specs.File.{verdict, firstPlace}
 use Rattle.reader.specs.declared.places.Span.{Span}
 use Rattle.reader.specs.declared.reader.Reader.{Reader}
@@ -52,16 +54,16 @@ unfoldable pub bytesOf : List (List ℕ) → List ℕ
 bytesOf [] = []
 bytesOf (p ∷ ps) = p ++ bytesOf ps
 
--- what was handed out is this definition: the bytes by themselves are read as it, to their end
-abbrev pub Hands : List ℕ → Definition → Type 0
-Hands p d = readDefinition p 0 ≡ got d (length p)
+-- what was handed out is this definition: the bytes by themselves are read as it, to their end, by the width of the file they come from
+abbrev pub Hands : Width → List ℕ → Definition → Type 0
+Hands w p d = definitionBy w p 0 ≡ got d (length p)
 
 -- one by one and in order, and no more
-pub data Each : List (List ℕ) → List Definition → Type 0 where
-  none : Each [] []
-  more : {p : List ℕ} {d : Definition} {ps : List (List ℕ)} {ds : List Definition} → Hands p d → Each ps ds → Each (p ∷ ps) (d ∷ ds)
+pub data Each (w : Width) : List (List ℕ) → List Definition → Type 0 where
+  none : Each w [] []
+  more : {p : List ℕ} {d : Definition} {ps : List (List ℕ)} {ds : List Definition} → Hands w p d → Each w ps ds → Each w (p ∷ ps) (d ∷ ds)
 
 -- a reader of a file hands out these definitions; the file's head and behind it the parts that were handed out are the file
 pub record Walks (f : RefT (List ℕ)) (n : ℕ) (ds : List Definition) : Type 0 where
-  pub each : Each (walk n (opened f .reader)) ds
+  pub each : Each (fileWidth (now f)) (walk n (opened f .reader)) ds
   pub whole : take firstPlace (now f) ++ bytesOf (walk n (opened f .reader)) ≡ now f

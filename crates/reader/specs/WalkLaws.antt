@@ -13,7 +13,8 @@ use Rattle.words.specs.Parts.{region, region-length}
 use Rattle.faults.specs.declared.Fault.{Fault}
 use Rattle.format.specs.Read.{Read, got, bad, andThen, onRead}
 use Rattle.format.specs.Definition.{Definition}
-use Rattle.format.specs.Reader.{fits, readDefinition, readDefinitions, readFile}
+use Rattle.format.specs.Reader.{fits, readDefinitions, readFile}
+use Rattle.format.specs.HeaderLaws.{fileWidth}
 use Rattle.files.specs.File.{firstPlace}
 use Rattle.format.specs.RepeatLaws.{went-on}
 use Rattle.files.specs.FileLaws.{fitting-got}
@@ -21,7 +22,7 @@ use Rattle.files.specs.Forward.{definition-whole}
 use Rattle.roundtrip.specs.Forth.{definition-forth}
 use Rattle.roundtrip.specs.Local.{definition-alone}
 use Rattle.reader.specs.declared.reader.Reader.{Reader}
-use Rattle.reader.specs.Places.{placeAfter, placePast}
+use Rattle.reader.specs.Places.{definitionHere, placeAfter, placePast}
 use Rattle.reader.specs.SpanLaws.{read-whole}
 use Rattle.reader.specs.Walk.{opened, after, past, ended, handed, walk, bytesOf, Hands, Each, none, more, Walks}
 
@@ -44,7 +45,7 @@ module _ (f : RefT (List ℕ)) where
 
   -- what is handed out from a place on, and that with it the rest of the file is at an end
   record From (n : ℕ) (p : ℕ) (ds : List Definition) : Type 0 where
-    each : Each (walk n (at-place p)) ds
+    each : Each (fileWidth s) (walk n (at-place p)) ds
     rest : bytesOf (walk n (at-place p)) ≡ drop p s
 
   from-end : (n p : ℕ) → length s ≤ p → From n p []
@@ -53,22 +54,22 @@ module _ (f : RefT (List ℕ)) where
       let none-left : walk n (at-place p) ≡ [] = ended-walk n (at-place p) (le-leb (length s) p h) in
       record { each = rw none-left none; rest = rw (none-left, drop-of-length-le s h) }
 
-  module _ (b : AreBytes s) (p : ℕ) (d : Definition) (next : ℕ) (e : readDefinition s p ≡ got d next) where
+  module _ (b : AreBytes s) (p : ℕ) (d : Definition) (next : ℕ) (e : definitionHere s p ≡ got d next) where
     bytes-here : handed (at-place p) ≡ region p (next - p) s
     bytes-here = rw e
 
-    hands : Hands (handed (at-place p)) d
+    hands : Hands (fileWidth s) (handed (at-place p)) d
     hands =
-        let w = definition-forth s b p d next e in
+        let w = definition-forth (fileWidth s) s b p d next e in
         let forward = w .forward in
         let inside = w .inside in
         let size : length (region p (next - p) s) ≡ next - p = region-length p (next - p) s (omega arith) in
-        let alone = definition-alone s b p d next e in
+        let alone = definition-alone (fileWidth s) s b p d next e in
         rw e (alone ∙ ap (λ (m : ℕ). got d m) (sym size))
 
     on-walk : (n : ℕ) → walk (suc n) (at-place p) ≡ handed (at-place p) ∷ walk n (at-place next)
     on-walk n =
-        let inside = definition-whole s p e .inside in
+        let inside = definition-whole (fileWidth s) s p e .inside in
         let left : ended (at-place p) ≡ false = lt-leb (length s) p (omega arith) in
         let moved : placeAfter s p ≡ next = rw e in
         step-walk n (at-place p) left ∙ ap (λ (q : ℕ). handed (at-place p) ∷ walk n (at-place q)) moved
@@ -76,7 +77,7 @@ module _ (f : RefT (List ℕ)) where
     from-step : (n : ℕ) (ds : List Definition) → From n next ds → From (suc n) p (d ∷ ds)
     unfolding bytesOf
     from-step n ds w =
-        let forward = definition-forth s b p d next e .forward in
+        let forward = definition-forth (fileWidth s) s b p d next e .forward in
         let ahead : next ≡ p + (next - p) = omega arith in
         record {
           each = rw (on-walk n) (more hands (w .each));
@@ -87,7 +88,7 @@ module _ (f : RefT (List ℕ)) where
         }
 
   -- definitions that were read one after the other, to the file's end, in as many steps or more
-  from-all : AreBytes s → (k : ℕ) (names : List (List ℕ)) (p : ℕ) {ds : List Definition} {end : ℕ} → readDefinitions s k names p ≡ got ds end → length s ≤ end
+  from-all : AreBytes s → (k : ℕ) (names : List (List ℕ)) (p : ℕ) {ds : List Definition} {end : ℕ} → readDefinitions (fileWidth s) s k names p ≡ got ds end → length s ≤ end
       → (n : ℕ) → k ≤ n → From n p ds
   unfolding readDefinitions
   from-all b zero names p {ds} {end} h l n m =
@@ -96,11 +97,11 @@ module _ (f : RefT (List ℕ)) where
       rw no-more (from-end n p (omega arith))
   from-all b (suc k) names p h l zero m = absurd (omega arith)
   from-all b (suc k) names p {ds} {end} h l (suc n) m =
-      went-on (andThen (readDefinition s p) (λ d next. fits names p d next)) _ h (λ d next e1 r1.
-      went-on (readDefinitions s k (names ++ (d .front .name ∷ [])) next) _ r1 (λ rest last e2 r2.
+      went-on (andThen (definitionHere s p) (λ d next. fits names p d next)) _ h (λ d next e1 r1.
+      went-on (readDefinitions (fileWidth s) s k (names ++ (d .front .name ∷ [])) next) _ r1 (λ rest last e2 r2.
       let same : last ≡ end = cc in
       let all : ds ≡ d ∷ rest = cc in
-      rw all (from-step b p d next (fitting-got s names p e1) n rest (from-all b k (names ++ (d .front .name ∷ [])) next e2 (omega arith) n (omega arith)))))
+      rw all (from-step b p d next (fitting-got (fileWidth s) s names p e1) n rest (from-all b k (names ++ (d .front .name ∷ [])) next e2 (omega arith) n (omega arith)))))
 
   -- "walks the definitions": those of an accepted file, in as many steps or more
   pub walks : AreBytes s → {ds : List Definition} {end : ℕ} → readFile s ≡ got ds end → (n : ℕ) → length ds ≤ n → Walks f n ds
@@ -119,7 +120,7 @@ past-one r = refl
 
 -- every step goes forward, so that every walk comes to an end
 pub goes-forward : (r : Reader) → ended r ≡ false → r .place < after r .place
-goes-forward r h = cases (readDefinition (now (r .file)) (r .place)) refl where
-  cases : (x : Read Definition) → readDefinition (now (r .file)) (r .place) ≡ x → r .place < onRead x (length (now (r .file))) (λ d next. next)
-  cases (got d next) e = omega (arith, definition-whole (now (r .file)) (r .place) e .forward)
+goes-forward r h = cases (definitionHere (now (r .file)) (r .place)) refl where
+  cases : (x : Read Definition) → definitionHere (now (r .file)) (r .place) ≡ x → r .place < onRead x (length (now (r .file))) (λ d next. next)
+  cases (got d next) e = omega (arith, definition-whole (fileWidth (now (r .file))) (now (r .file)) (r .place) e .forward)
   cases (bad q place) e = leb-false (length (now (r .file))) (r .place) h

@@ -4,9 +4,12 @@ use fields::Step;
 use fields::part;
 use files::Checked;
 use files::read_definition;
+use files::width_of;
 use format::FIRST_PLACE;
 ghost use mathlib.Core.Path.{_≡_};
-ghost use Rattle.reader.specs.Places.{endedAt, placeAfter, placePast, spanAt, bytesAt, startOf};
+ghost use Rattle.fields.specs.Answers.{stepOf};
+ghost use Rattle.format.specs.Read.{ending};
+ghost use Rattle.reader.specs.Places.{definitionHere, endedAt, placeAfter, placePast, spanAt, bytesAt, startOf};
 
 // Where a definition starts, and the place past it; or none.
 pub enum Span {
@@ -24,6 +27,13 @@ pub fn start_of(s: &[u8], checked: Checked) -> usize
     }
 }
 
+// The definition at a place of the file, by the width of the file's fields.
+fn definition_at(s: &[u8], at: usize) -> Step
+    ensures { λ r. ⌜ stepOf r ≡ ending (definitionHere (now (s .entry)) at) ⌝ }
+{
+    read_definition(s, Cursor { at: at }, width_of(s))
+}
+
 // Whether the file is at its end.
 pub fn ended_at(s: &[u8], at: usize) -> bool
     ensures { λ r. ⌜ r ≡ endedAt (now (s .entry)) at ⌝ }
@@ -35,7 +45,7 @@ pub fn ended_at(s: &[u8], at: usize) -> bool
 pub fn place_after(s: &[u8], at: usize) -> usize
     ensures { λ r. ⌜ r ≡ placeAfter (now (s .entry)) at ⌝ }
 {
-    match read_definition(s, Cursor { at: at }) {
+    match definition_at(s, at) {
         Step::Next(next) => next.at,
         Step::Bad(refusal, place) => s.len(),
     }
@@ -61,7 +71,7 @@ pub fn place_past(s: &[u8], at: usize, count: u32) -> usize
 pub fn span_at(s: &[u8], at: usize) -> Span
     ensures { λ r. ⌜ r ≡ spanAt (now (s .entry)) at ⌝ }
 {
-    match read_definition(s, Cursor { at: at }) {
+    match definition_at(s, at) {
         Step::Next(next) => Span::Between(at, next.at),
         Step::Bad(refusal, place) => Span::Nowhere,
     }
@@ -71,7 +81,7 @@ pub fn span_at(s: &[u8], at: usize) -> Span
 pub fn bytes_at(s: &[u8], at: usize) -> &[u8]
     ensures { λ r. ⌜ now r ≡ bytesAt (now (s .entry)) at ⌝ }
 {
-    match read_definition(s, Cursor { at: at }) {
+    match definition_at(s, at) {
         Step::Next(next) => {
             let end = next.at;
             part(s, at, end)

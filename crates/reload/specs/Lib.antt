@@ -1,3 +1,4 @@
 pub mod Fresh
 pub mod Loaded
 pub mod Theorem
+pub mod Twins

@@ -23,7 +23,9 @@ use Rattle.model.specs.Replies.{definitionsIn, exportFile}
 use Rattle.model.specs.After.{wordsAfter, arenaAfter, freshState, freshArena}
 use Rattle.model.specs.Apply.{answerIn}
 use Rattle.model.specs.Demands.{receive, meaningIn, definitionAtSlot as residentDefinition}
-use Rattle.roundtrip.specs.Forth.{file-forth}
+use Rattle.roundtrip.specs.Forth.{file-forth, file-same}
+use Rattle.format.specs.HeaderLaws.{versionIn}
+use Rattle.format.specs.Writer.{fileVersion, writeFile}
 use Rattle.state.specs.Known.{Known, known}
 use Rattle.slots.specs.Slots.{lengthsOn, flagsOn, slotsOn, slots-length, slots-lent}
 use Rattle.definitions.specs.Slots.{Formed}
@@ -49,9 +51,9 @@ accepted-read file a = by (readFile file) refl a
     by (got ds end) e t = record { definitions = ds; end = end; read = e }
     by (bad q at) e t = absurd (let z : _≡_ {A = ℕ} 0 1 = cc in omega arith)
 
--- what a fresh engine accepts is its export
+-- what a fresh engine accepts is exported: its definitions in version 2
 pub exported-file : (file : List ℕ) → AreBytes file → answerIn receive file fresh 0 ≡ Done
-    → exportFile (decode (wordsAfter receive file freshState freshArena) (arenaAfter receive file freshState freshArena) .slots) ≡ file
+    → exportFile (decode (wordsAfter receive file freshState freshArena) (arenaAfter receive file freshState freshArena) .slots) ≡ writeFile (definitionsOf (readFile file))
 exported-file file b a =
     let r = accepted-read file a in
     let ds = r .definitions in
@@ -59,6 +61,13 @@ exported-file file b a =
     let known-as : definitionsOf (readFile file) ≡ ds = ap definitionsOf (r .read) in
     ap exportFile (fresh-after file ds known-as (w .bounded))
     ∙ fresh-export file b ds (r .end) (r .read) (fresh .slots) (fresh .nodes) fresh-many fresh-out fresh-idle
+    ∙ ap writeFile (sym known-as)
+
+-- and a file of version 2 is that, byte for byte
+pub exported-same : (file : List ℕ) → AreBytes file → answerIn receive file fresh 0 ≡ Done → versionIn file ≡ fileVersion → writeFile (definitionsOf (readFile file)) ≡ file
+exported-same file b a v =
+    let r = accepted-read file a in
+    ap writeFile (ap definitionsOf (r .read)) ∙ file-same file b (r .definitions) (r .end) (r .read) v
 
 -- an export, loaded into a fresh engine
 module _ (ws bs : List ℕ) (b : AreBytes bs) (h : formed ws bs ≡ true) where

@@ -1,6 +1,7 @@
 -- The fields of a file, read back from their writing.
 use Prim.Native.Nat.{ℕ, suc, _+_, _≤_, _<_}
 use mathlib.Core.Path.{_≡_, ap, _∙_}
+use mathlib.Core.Bool.{true}
 use mathlib.Core.List.{List, [], _∷_}
 use native.Mathlib.Nat.{add-zero}
 use native.Mathlib.Omega.{arith}
@@ -9,8 +10,10 @@ use lib.Dec.{ltb, leb}
 use borrow.Author.Tests.{lt-ltb, le-leb, leb-true, ltb-true}
 use Rattle.words.specs.Choice.{both, both-true}
 use Rattle.faults.specs.declared.Fault.the-variants.{BadCount, BadName, BadRate, BadIndex}
+use Rattle.format.specs.declared.Width.{Width}
+use Rattle.format.specs.declared.Width.the-variants.{Short, Long}
 use Rattle.format.specs.Read.{got}
-use Rattle.format.specs.Fields.{whole, int8, int16, int32, float32, nameBytes, pstring, name, definitionName, highestRate, countTo, shortCountTo, rate, indexBelow}
+use Rattle.format.specs.Fields.{whole, int8, int16, int32, float32, nameBytes, pstring, name, definitionName, highestRate, highest16, integerBy, highestOf, minusOne, countToBy, shortCountTo, rate, indexBelowBy}
 use Rattle.words.specs.Bytes.{bytes8, bytes16, bytes32}
 use Rattle.format.specs.Writer.{writeInteger, writeName}
 use Rattle.format.specs.Bounds.{isName, isFloat, isRate}
@@ -61,14 +64,30 @@ definition-name-reads n t =
     let u = both-true (ltb 0 (length n)) (isName n) t in
     checked-reads BadName (λ m. both (ltb 0 (length m)) (nameBytes m)) (pstring-reads n) (rw (u .0) (both-true (leb (length n) 255) (nameBytes n) (u .1) .1))
 
-pub count-reads : (most : ℕ) → most < 4294967296 → Back (countTo most) writeInteger (λ n. leb n most)
-count-reads most h n t = let small = leb-true n most t in checked-reads BadCount (λ n. leb n most) (int32-reads n (omega arith)) t
+-- a number that is not negative, and -1
+pub integer-reads : (w : Width) (n : ℕ) → n ≤ highestOf w → Reads (integerBy w) n (writeInteger w n)
+integer-reads Short n h = record {
+  found = λ s at e.
+      rw (head-is s at _ _ e, stands-getD s at (bytes16 n) e 1 (omega arith), two-of-bytes n (omega arith), le-leb n highest16 h) (whole-got 2 s at n (e .fits));
+}
+integer-reads Long n h = int32-reads n (omega arith)
+
+pub minus-one-reads : (w : Width) → Reads (integerBy w) minusOne (writeInteger w minusOne)
+minus-one-reads Short = record {
+  found = λ s at e.
+      rw (head-is s at _ _ e, stands-getD s at (bytes16 minusOne) e 1 (omega arith)) (whole-got 2 s at minusOne (e .fits));
+}
+minus-one-reads Long = int32-reads minusOne (omega arith)
+
+-- a count that fits its field
+pub count-reads : (w : Width) (most n : ℕ) → leb n most ≡ true → n ≤ highestOf w → Reads (countToBy w most) n (writeInteger w n)
+count-reads w most n t h = checked-reads BadCount (λ n. leb n most) (integer-reads w n h) t
 
 pub short-count-reads : (most : ℕ) → most < 65536 → Back (shortCountTo most) bytes16 (λ n. leb n most)
 short-count-reads most h n t = let small = leb-true n most t in checked-reads BadCount (λ n. leb n most) (int16-reads n (omega arith)) t
 
-pub index-reads : (bound : ℕ) → bound ≤ 4294967296 → Back (indexBelow bound) writeInteger (λ i. ltb i bound)
-index-reads bound h i t = let small = ltb-true i bound t in checked-reads BadIndex (λ i. ltb i bound) (int32-reads i (omega arith)) t
+pub index-reads : (w : Width) (bound : ℕ) → bound ≤ highestOf w → Back (indexBelowBy w bound) (writeInteger w) (λ i. ltb i bound)
+index-reads w bound h i t = let small = ltb-true i bound t in checked-reads BadIndex (λ i. ltb i bound) (integer-reads w i (omega arith)) t
 
 pub rate-reads : Back rate bytes8 isRate
 rate-reads r t = checked-reads BadRate (λ r. leb r highestRate) (int8-reads r) t

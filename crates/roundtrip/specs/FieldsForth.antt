@@ -1,5 +1,5 @@
 -- The fields of a file: what is taken is the writing of what is given.
-use Prim.Native.Nat.{ℕ, suc, _+_, _-_, _≤_, _<_}
+use Prim.Native.Nat.{ℕ, suc, _+_, _-_, _/_, _%_, _≤_, _<_}
 use mathlib.Core.Path.{_≡_, refl, sym, _∙_}
 use mathlib.Core.Bool.{Bool, true, false}
 use mathlib.Core.List.{List, [], _∷_}
@@ -8,12 +8,14 @@ use native.Mathlib.Omega.{arith}
 use lib.ListN.{length, getD}
 use lib.Seq.{drop-cons}
 use lib.Dec.{ltb, leb}
-use borrow.Author.Tests.{lt-ltb, le-leb, leb-true, ltb-true}
+use borrow.Author.Tests.{lt-ltb, le-leb, leb-true, leb-false, ltb-true}
 use Rattle.words.specs.Choice.{pick, both, both-true}
 use Rattle.words.specs.Parts.{region, region-length}
 use Rattle.faults.specs.declared.Fault.the-variants.{Truncated, BadCount, BadName, BadRate, BadIndex}
+use Rattle.format.specs.declared.Width.{Width}
+use Rattle.format.specs.declared.Width.the-variants.{Short, Long}
 use Rattle.format.specs.Read.{got, bad}
-use Rattle.format.specs.Fields.{whole, int8, int16, int32, float32, nameBytes, stringAt, pstring, name, definitionName, highestRate, countTo, shortCountTo, rate, indexBelow}
+use Rattle.format.specs.Fields.{whole, int8, int16, int32, float32, nameBytes, stringAt, pstring, name, definitionName, highestRate, highest16, highest32, extended, integerBy, highestOf, countToBy, shortCountTo, rate, indexBelowBy}
 use Rattle.words.specs.Bytes.{AreBytes, bytes8, bytes16, bytes32}
 use Rattle.format.specs.Writer.{writeInteger, writeName}
 use Rattle.format.specs.Bounds.{isName, isFloat, isRate}
@@ -88,14 +90,41 @@ definition-name-sound s at h =
     let t = both-true (ltb 0 (length n)) (nameBytes n) (q .1) in
     rw (t .0, le-leb (length n) 255 (q .0)) (t .1))
 
-pub count-sound : (most : ℕ) → Forth (countTo most) writeInteger (λ n. leb n most ≡ true)
-count-sound most s at h = weaken (checked-sound BadCount (λ n. leb n most) h (int32-sound s at h)) (λ n q. q .1)
+-- a count or an index: its pattern, which fits the field where it is not negative
+pub record Fits (w : Width) (n : ℕ) : Type 0 where
+  pub pattern : n < 4294967296
+  pub short : n ≤ highest32 → n ≤ highestOf w
+
+extended-fits : (n : ℕ) → n < 65536 → (bytes16 (extended n) ≡ bytes16 n) × Fits Short (extended n)
+extended-fits n h = by (leb n highest16) refl
+  where
+    by : (b : Bool) → leb n highest16 ≡ b → (bytes16 (pick b n (n + 4294901760)) ≡ bytes16 n) × Fits Short (pick b n (n + 4294901760))
+    by true e = (refl, record { pattern = omega arith; short = λ l. leb-true n highest16 e })
+    by false e =
+        let high : (n + 4294901760) / 256 % 256 ≡ n / 256 % 256 = omega arith in
+        let low : (n + 4294901760) % 256 ≡ n % 256 = omega arith in
+        (rw (high, low), record { pattern = omega arith; short = λ l. absurd (omega (arith, leb-false n highest16 e)) })
+
+pub integer-sound : (w : Width) → Forth (integerBy w) (writeInteger w) (Fits w)
+integer-sound Short s at h =
+    let b0 = getD s at 0 in
+    let b1 = getD s (at + 1) 0 in
+    whole-sound 2 s at (extended (two b0 b1)) bytes16 (Fits Short) h
+    (λ fits b.
+    let cells : region at 2 s ≡ b0 ∷ (b1 ∷ []) = rw (region-cons s at (at + 1) 1 refl (omega arith), region-cons s (at + 1) (at + 2) 0 (omega arith) (omega arith)) in
+    let e = extended-fits (two b0 b1) (omega (arith, b at, b (at + 1))) in
+    (e .0 ∙ bytes-of-two b0 b1 (b at) (b (at + 1)) ∙ sym cells, e .1))
+integer-sound Long s at h = weaken (int32-sound s at h) (λ n q. record { pattern = q; short = λ l. l })
+
+-- a count of at most so many fits its field
+pub count-sound : (w : Width) (most : ℕ) → most ≤ highest32 → Forth (countToBy w most) (writeInteger w) (λ n. (leb n most ≡ true) × (n ≤ highestOf w))
+count-sound w most l s at h = weaken (checked-sound BadCount (λ n. leb n most) h (integer-sound w s at h)) (λ n q. (q .1, q .0 .short (omega (arith, leb-true n most (q .1)))))
 
 pub short-count-sound : (most : ℕ) → Forth (shortCountTo most) bytes16 (λ n. leb n most ≡ true)
 short-count-sound most s at h = weaken (checked-sound BadCount (λ n. leb n most) h (int16-sound s at h)) (λ n q. q .1)
 
-pub index-sound : (bound : ℕ) → Forth (indexBelow bound) writeInteger (λ i. ltb i bound ≡ true)
-index-sound bound s at h = weaken (checked-sound BadIndex (λ i. ltb i bound) h (int32-sound s at h)) (λ i q. q .1)
+pub index-sound : (w : Width) (bound : ℕ) → Forth (indexBelowBy w bound) (writeInteger w) (λ i. ltb i bound ≡ true)
+index-sound w bound s at h = weaken (checked-sound BadIndex (λ i. ltb i bound) h (integer-sound w s at h)) (λ i q. q .1)
 
 pub rate-sound : Forth rate bytes8 (λ r. isRate r ≡ true)
 rate-sound s at h = weaken (checked-sound BadRate (λ r. leb r highestRate) h (int8-sound s at h)) (λ r q. q .1)

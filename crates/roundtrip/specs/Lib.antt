@@ -7,6 +7,8 @@ pub mod Back
 pub mod Sound
 pub mod FieldsForth
 pub mod RecordsForth
+pub mod Wider
 pub mod Forth
 pub mod Place
 pub mod Local
+pub mod Twin

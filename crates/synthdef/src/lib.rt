@@ -1,12 +1,18 @@
-// SynthDef2 files, for Rust and C.
+// SynthDef files, for Rust and C.
 use faults::fault_number;
 use files::Checked;
 use files::check_file;
+use files::width_of;
+use format::FILE_VERSION;
+use format::FIRST_VERSION;
+use format::Width;
 use reader::Span;
 use reader::definition_span;
 ghost use mathlib.Core.Path.{_≡_};
 ghost use Rattle.format.specs.Reader.{readFile};
 ghost use Rattle.files.specs.File.{verdict, refusalNumber, refusalPlace, definitionCount};
+ghost use Rattle.format.specs.Writer.{versionOf};
+ghost use Rattle.synthdef.specs.Version.{acceptedVersion};
 ghost use Rattle.reader.specs.Spans.{definitionSpan, nameStart, nameEnd};
 
 // 0 where the file is accepted, or the refusal's number.
@@ -64,5 +70,26 @@ pub extern "C" fn synthdef_name_end(file: &[u8], index: u32) -> u64
             (start + 1 + size) as u64
         }
         Span::Nowhere => 0,
+    }
+}
+
+// The version whose fields are so wide.
+fn version_of(width: Width) -> u32
+    ensures { λ r. ⌜ r ≡ versionOf width ⌝ }
+{
+    match width {
+        Width::Short => FIRST_VERSION,
+        Width::Long => FILE_VERSION,
+    }
+}
+
+// The version of an accepted file; 0 where it is refused.
+#[no_mangle]
+pub extern "C" fn synthdef_version(file: &[u8]) -> u32
+    ensures { λ r. ⌜ r ≡ acceptedVersion (now (file .entry)) ⌝ }
+{
+    match check_file(file) {
+        Checked::Accepted(count) => version_of(width_of(file)),
+        Checked::Refused(refusal, place) => 0,
     }
 }

@@ -1,2 +1,4 @@
 pub mod Marks
 pub mod Units
+pub mod Walk
+pub mod Worked

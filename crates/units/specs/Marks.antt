@@ -7,65 +7,78 @@ use native.Mathlib.Omega.{arith}
 use native.Mathlib.Nat.{eq-or-lt-of-le, div-add-mod', add-zero}
 use lib.ListN.{length, getD, set, take, length-set}
 use lib.Seq.{getD-set-same, getD-set-other, getD-take, length-take-le}
-use Rattle.format.specs.Fields.{word}
+use Rattle.format.specs.declared.Width.{Width}
+use Rattle.format.specs.declared.Width.the-variants.{Short, Long}
+use Rattle.format.specs.Fields.{sizeOf, valueBy}
 
 -- behind a unit's class and rate: the counts of its inputs and outputs, the special index, the inputs and the rates
 unfoldable pub unitCounts : List ℕ → ℕ → ℕ
 unitCounts s at = at + 2 + getD s at 0
 
-unfoldable pub unitOutputs : List ℕ → ℕ → ℕ
-unitOutputs s at = word s (unitCounts s at + 4)
+unfoldable pub unitInputs : Width → List ℕ → ℕ → ℕ
+unitInputs w s at = valueBy w s (unitCounts s at)
 
-unfoldable pub unitEnd : List ℕ → ℕ → ℕ
-unitEnd s at = unitCounts s at + 10 + 8 * word s (unitCounts s at) + unitOutputs s at
+unfoldable pub unitOutputs : Width → List ℕ → ℕ → ℕ
+unitOutputs w s at = valueBy w s (unitCounts s at + sizeOf w)
+
+-- an input is two indices
+abbrev pub inputSize : Width → ℕ
+inputSize w = 2 * sizeOf w
+
+unfoldable pub unitEnd : Width → List ℕ → ℕ → ℕ
+unitEnd w s at = unitCounts s at + 2 * sizeOf w + 2 + inputSize w * unitInputs w s at + unitOutputs w s at
+
+pub size-most : (w : Width) → sizeOf w ≤ 4
+size-most Short = omega arith
+size-most Long = omega arith
 
 -- where the unit number n starts, where the first one starts at a place
-unfoldable pub unitPlace : List ℕ → ℕ → ℕ → ℕ
-unitPlace s start zero = start
-unitPlace s start (suc n) = unitEnd s (unitPlace s start n)
+unfoldable pub unitPlace : Width → List ℕ → ℕ → ℕ → ℕ
+unitPlace w s start zero = start
+unitPlace w s start (suc n) = unitEnd w s (unitPlace w s start n)
 
-pub place-up : (s : List ℕ) (start u n : ℕ) → u ≤ n → unitPlace s start u ≤ unitPlace s start n
+pub place-up : (w : Width) (s : List ℕ) (start u n : ℕ) → u ≤ n → unitPlace w s start u ≤ unitPlace w s start n
 unfolding unitPlace unitEnd unitCounts
-place-up s start u zero h =
+place-up w s start u zero h =
     let e : u ≡ 0 = omega arith in
     rw e (omega arith)
-place-up s start u (suc n) h =
+place-up w s start u (suc n) h =
     ⊎-elim
     (λ same. rw same (omega arith))
-    (λ less. omega (arith, place-up s start u n (omega arith)))
+    (λ less. omega (arith, place-up w s start u n (omega arith)))
     (eq-or-lt-of-le h)
 
 -- a unit behind another one
-pub place-behind : (s : List ℕ) (start m n : ℕ) → unitPlace s (unitPlace s start m) n ≡ unitPlace s start (m + n)
+pub place-behind : (w : Width) (s : List ℕ) (start m n : ℕ) → unitPlace w s (unitPlace w s start m) n ≡ unitPlace w s start (m + n)
 unfolding unitPlace
-place-behind s start m zero = ap (unitPlace s start) (sym (add-zero m))
-place-behind s start m (suc n) =
+place-behind w s start m zero = ap (unitPlace w s start) (sym (add-zero m))
+place-behind w s start m (suc n) =
     let e : m + suc n ≡ suc (m + n) = omega arith in
-    ap (unitEnd s) (place-behind s start m n) ∙ rw e
+    ap (unitEnd w s) (place-behind w s start m n) ∙ rw e
 
 -- the most marks of a definition
 abbrev pub mostMarks : ℕ
 mostMarks = 262144
 
 -- where every so many units start, counted from the first one
-pub record Marked (s : List ℕ) (start stride : ℕ) (marks : List ℕ) : Type 0 where
+pub record Marked (w : Width) (s : List ℕ) (start stride : ℕ) (marks : List ℕ) : Type 0 where
   pub steps : 0 < stride
-  pub placed : (k : ℕ) → k < length marks → start + getD marks k 0 ≡ unitPlace s start (k * stride)
+  pub placed : (k : ℕ) → k < length marks → start + getD marks k 0 ≡ unitPlace w s start (k * stride)
 
 -- a unit by its mark
-pub mark-place : (s : List ℕ) (start stride : ℕ) (marks : List ℕ) (unit : ℕ) → Marked s start stride marks → unit / stride < length marks
-    → unitPlace s (start + getD marks (unit / stride) 0) (unit % stride) ≡ unitPlace s start unit
-mark-place s start stride marks unit m h =
-    ap (λ (p : ℕ). unitPlace s p (unit % stride)) (m .placed (unit / stride) h)
-    ∙ place-behind s start (unit / stride * stride) (unit % stride)
-    ∙ ap (unitPlace s start) (div-add-mod' unit stride)
+pub mark-place : (w : Width) (s : List ℕ) (start stride : ℕ) (marks : List ℕ) (unit : ℕ) → Marked w s start stride marks → unit / stride < length marks
+    → unitPlace w s (start + getD marks (unit / stride) 0) (unit % stride) ≡ unitPlace w s start unit
+mark-place w s start stride marks unit m h =
+    ap (λ (p : ℕ). unitPlace w s p (unit % stride)) (m .placed (unit / stride) h)
+    ∙ place-behind w s start (unit / stride * stride) (unit % stride)
+    ∙ ap (unitPlace w s start) (div-add-mod' unit stride)
 
 -- and it starts in the file
-pub mark-within : (s : List ℕ) (start stride : ℕ) (marks : List ℕ) (unit : ℕ) → Marked s start stride marks → unit / stride < length marks
-    → start + getD marks (unit / stride) 0 ≤ unitPlace s start unit
+pub mark-within : (w : Width) (s : List ℕ) (start stride : ℕ) (marks : List ℕ) (unit : ℕ) → Marked w s start stride marks → unit / stride < length marks
+    → start + getD marks (unit / stride) 0 ≤ unitPlace w s start unit
 unfolding unitPlace
-mark-within s start stride marks unit m h =
-    rw (sym (mark-place s start stride marks unit m h)) (place-up s (start + getD marks (unit / stride) 0) 0 (unit % stride) (omega arith))
+mark-within w s start stride marks unit m h =
+    rw (sym (mark-place w s start stride marks unit m h)) (place-up w s (start + getD marks (unit / stride) 0) 0 (unit % stride) (omega arith))
 
 -- what becomes of the marks at a unit: they are as before, or it has a mark, which is the next one
 pub data Marking (marks marks' : List ℕ) (known stride unit place known' : ℕ) : Type 0 where
@@ -76,14 +89,14 @@ pub marking-same : {marks marks' : List ℕ} {known stride unit place known' : �
 marking-same (as-before e f) = ap length f
 marking-same {marks} {known = known} {place = place} (one-more e f u l) = ap length f ∙ length-set marks known place
 
-pub record Marks (s : List ℕ) (start stride : ℕ) (marks' : List ℕ) (known' : ℕ) : Type 0 where
+pub record Marks (w : Width) (s : List ℕ) (start stride : ℕ) (marks' : List ℕ) (known' : ℕ) : Type 0 where
   pub room : known' ≤ length marks'
-  pub marked : Marked s start stride (take known' marks')
+  pub marked : Marked w s start stride (take known' marks')
 
-pub marking-next : (s : List ℕ) (start : ℕ) {marks marks' : List ℕ} {known stride unit place known' : ℕ} → known ≤ length marks → start + place ≡ unitPlace s start unit
-    → Marking marks marks' known stride unit place known' → Marked s start stride (take known marks) → Marks s start stride marks' known'
-marking-next s start h p (as-before e f) m = rw (e, f) record { room = h; marked = m }
-marking-next s start {marks} {marks'} {known} {stride} {unit} {place} h p (one-more e f u l) m =
+pub marking-next : (w : Width) (s : List ℕ) (start : ℕ) {marks marks' : List ℕ} {known stride unit place known' : ℕ} → known ≤ length marks → start + place ≡ unitPlace w s start unit
+    → Marking marks marks' known stride unit place known' → Marked w s start stride (take known marks) → Marks w s start stride marks' known'
+marking-next w s start h p (as-before e f) m = rw (e, f) record { room = h; marked = m }
+marking-next w s start {marks} {marks'} {known} {stride} {unit} {place} h p (one-more e f u l) m =
     let size : length (set marks known place) ≡ length marks = length-set marks known place in
     rw (e, f) record {
       room = omega arith;
@@ -98,7 +111,7 @@ marking-next s start {marks} {marks'} {known} {stride} {unit} {place} h p (one-m
             (λ last.
             ap (λ (n : ℕ). start + n) (here ∙ ap (λ (j : ℕ). getD (set marks known place) j 0) last ∙ getD-set-same marks known place 0 l)
             ∙ p
-            ∙ ap (unitPlace s start) (sym u ∙ ap (λ (j : ℕ). j * stride) (sym last)))
+            ∙ ap (unitPlace w s start) (sym u ∙ ap (λ (j : ℕ). j * stride) (sym last)))
             (λ less.
             ap (λ (n : ℕ). start + n) (here ∙ getD-set-other marks known k place 0 (λ same. omega arith) ∙ sym (getD-take known marks k 0 less))
             ∙ m .placed k (omega arith))

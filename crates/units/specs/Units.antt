@@ -1,6 +1,6 @@
 -- Units one after the other: the outputs of the units before one, and the turns of the loop that reads them.
 use Prim.{Unit, tt}
-use Prim.Native.Nat.{ℕ, zero, suc, _+_, _-_, _%_, _≤_, _<_}
+use Prim.Native.Nat.{ℕ, zero, suc, _+_, _-_, _*_, _%_, _≤_, _<_}
 use mathlib.Core.Bool.{Bool, true, false}
 use mathlib.Core.Path.{_≡_, refl, sym, ap, _∙_}
 use mathlib.Core.List.{List, [], _∷_, _++_}
@@ -15,157 +15,158 @@ use borrow.Author.Tests.{eq-eqb, ne-eqb, lt-ltb, le-ltb}
 use Rattle.words.specs.Choice.{pick}
 use Rattle.faults.specs.declared.Fault.{Fault}
 use Rattle.faults.specs.declared.Fault.the-variants.{BadIndex}
+use Rattle.format.specs.declared.Width.{Width}
 use Rattle.format.specs.Read.{Read, got, bad, andThen, repeat, ending, mapRead}
-use Rattle.format.specs.Fields.{word, int16, name, count, rate, integer, indexBelow}
+use Rattle.format.specs.Fields.{int16, name, rate, sizeOf, valueBy, integerBy, countBy, indexBelowBy, minusOne}
 use Rattle.format.specs.Definition.{constant, output, UnitSpec}
-use Rattle.format.specs.Reader.{input, readUnit, readUnits, minusOne}
+use Rattle.format.specs.Reader.{inputBy, unitBy, unitsBy}
 use Rattle.format.specs.Endings.{then-got, then-bad, mapped-got, fact-then, fact-ending, ending-fact, ending-keeps, FixedSize, repeat-got, field-got}
 use Rattle.format.specs.RepeatLaws.{went-on}
-use Rattle.units.specs.Marks.{unitCounts, unitOutputs, unitEnd, unitPlace, place-up, mostMarks, Marked, Marking, marking-same, marking-next}
+use Rattle.units.specs.Marks.{unitCounts, unitInputs, unitOutputs, inputSize, unitEnd, unitPlace, place-up, mostMarks, Marked, Marking, marking-same, marking-next}
 use Rattle.format.specs.Sizes.{index-sized, rate-sized, count-got, name-got}
 
 -- how many outputs each of the first n units has
-unfoldable pub outsFrom : List ℕ → ℕ → ℕ → List ℕ
-outsFrom s start zero = []
-outsFrom s start (suc n) = outsFrom s start n ++ (unitOutputs s (unitPlace s start n) ∷ [])
+unfoldable pub outsFrom : Width → List ℕ → ℕ → ℕ → List ℕ
+outsFrom w s start zero = []
+outsFrom w s start (suc n) = outsFrom w s start n ++ (unitOutputs w s (unitPlace w s start n) ∷ [])
 
-pub outs-length : (s : List ℕ) (start n : ℕ) → length (outsFrom s start n) ≡ n
+pub outs-length : (w : Width) (s : List ℕ) (start n : ℕ) → length (outsFrom w s start n) ≡ n
 unfolding outsFrom
-outs-length s start zero = refl
-outs-length s start (suc n) = length-append (outsFrom s start n) _ ∙ omega (arith, outs-length s start n)
+outs-length w s start zero = refl
+outs-length w s start (suc n) = length-append (outsFrom w s start n) _ ∙ omega (arith, outs-length w s start n)
 
-pub outs-at : (s : List ℕ) (start n u : ℕ) → u < n → getD (outsFrom s start n) u 0 ≡ unitOutputs s (unitPlace s start u)
+pub outs-at : (w : Width) (s : List ℕ) (start n u : ℕ) → u < n → getD (outsFrom w s start n) u 0 ≡ unitOutputs w s (unitPlace w s start u)
 unfolding outsFrom
-outs-at s start zero u h = absurd (omega arith)
-outs-at s start (suc n) u h =
+outs-at w s start zero u h = absurd (omega arith)
+outs-at w s start (suc n) u h =
     let most : u ≤ n = omega arith in
     ⊎-elim
-    (λ same. rw same (getD-at (outsFrom s start n) _ [] 0 n (outs-length s start n)))
-    (λ less. List·getD-append (outsFrom s start n) _ 0 u (rw outs-length less) ∙ outs-at s start n u less)
+    (λ same. rw same (getD-at (outsFrom w s start n) _ [] 0 n (outs-length w s start n)))
+    (λ less. List·getD-append (outsFrom w s start n) _ 0 u (rw outs-length less) ∙ outs-at w s start n u less)
     (eq-or-lt-of-le most)
 
--- an input takes eight bytes
-pub input-sized : (k : ℕ) (outs s : List ℕ) → FixedSize (input k outs s) 8 (length s)
-input-sized k outs s at x next h =
-    went-on (integer s at) _ h (λ u n e rest.
-    let w = field-got 4 s at _ e in
-    behind (eqb u minusOne) (ltb u (length outs)) u (getD outs u 0) (w .1) rest) where
-      behind : (c d : Bool) (u b : ℕ) {n : ℕ} → n ≡ at + 4
-          → pick c (andThen (indexBelow k s n) (λ i end. got (constant i) end)) (pick d (andThen (indexBelow b s n) (λ o end. got (output u o) end)) (bad BadIndex at)) ≡ got x next
-          → (next ≡ at + 8) × (next ≤ length s)
+-- an input takes two fields
+pub input-sized : (w : Width) (k : ℕ) (outs s : List ℕ) → FixedSize (inputBy w k outs s) (inputSize w) (length s)
+input-sized w k outs s at x next h =
+    went-on (integerBy w s at) _ h (λ u n e rest.
+    behind (eqb u minusOne) (ltb u (length outs)) u (getD outs u 0) (field-got (sizeOf w) s at _ e .1) rest) where
+      behind : (c d : Bool) (u b : ℕ) {n : ℕ} → n ≡ at + sizeOf w
+          → pick c (andThen (indexBelowBy w k s n) (λ i end. got (constant i) end)) (pick d (andThen (indexBelowBy w b s n) (λ o end. got (output u o) end)) (bad BadIndex at)) ≡ got x next
+          → (next ≡ at + inputSize w) × (next ≤ length s)
       behind true d u b {n = n} e r =
-          went-on (indexBelow k s n) _ r (λ i m f last.
-          let q = index-sized k s n i m f in
+          went-on (indexBelowBy w k s n) _ r (λ i m f last.
+          let q = index-sized w k s n i m f in
           let g : m ≡ next = cc in (omega arith, omega arith))
       behind false true u b {n = n} e r =
-          went-on (indexBelow b s n) _ r (λ i m f last.
-          let q = index-sized b s n i m f in
+          went-on (indexBelowBy w b s n) _ r (λ i m f last.
+          let q = index-sized w b s n i m f in
           let g : m ≡ next = cc in (omega arith, omega arith))
       behind false false u b e r = absurd (let z : _≡_ {A = ℕ} 0 1 = cc in omega arith)
 
 -- the shape of a unit that was read
-pub record Shaped (s : List ℕ) (at out end : ℕ) : Type 0 where
-  pub outputs : out ≡ unitOutputs s at
-  pub past : end ≡ unitEnd s at
+pub record Shaped (w : Width) (s : List ℕ) (at out end : ℕ) : Type 0 where
+  pub outputs : out ≡ unitOutputs w s at
+  pub past : end ≡ unitEnd w s at
   pub within : end ≤ length s
 
-pub unit-shape : (k : ℕ) (outs s : List ℕ) (at : ℕ) {out end : ℕ} → mapRead (λ (u : UnitSpec). length (u .outputs)) (readUnit k outs s at) ≡ got out end → Shaped s at out end
-unfolding readUnit unitCounts unitOutputs unitEnd
-unit-shape k outs s at {out} {end} h =
-    let t = mapped-got _ (readUnit k outs s at) h in
+pub unit-shape : (w : Width) (k : ℕ) (outs s : List ℕ) (at : ℕ) {out end : ℕ} → mapRead (λ (u : UnitSpec). length (u .outputs)) (unitBy w k outs s at) ≡ got out end → Shaped w s at out end
+unfolding unitBy unitCounts unitInputs unitOutputs unitEnd
+unit-shape w k outs s at {out} {end} h =
+    let t = mapped-got _ (unitBy w k outs s at) h in
     went-on (name s at) _ (t .read) (λ class p1 e1 r1.
     went-on (rate s p1) _ r1 (λ r p2 e2 r2.
-    went-on (count s p2) _ r2 (λ many p3 e3 r3.
-    went-on (count s p3) _ r3 (λ o p4 e4 r4.
+    went-on (countBy w s p2) _ r2 (λ many p3 e3 r3.
+    went-on (countBy w s p3) _ r3 (λ o p4 e4 r4.
     went-on (int16 s p4) _ r4 (λ special p5 e5 r5.
-    went-on (repeat (input k outs s) many p5) _ r5 (λ inputs p6 e6 r6.
+    went-on (repeat (inputBy w k outs s) many p5) _ r5 (λ inputs p6 e6 r6.
     went-on (repeat (rate s) o p6) _ r6 (λ outputs p7 e7 r7.
     let a = name-got s at e1 in
     let b = rate-sized s p1 r p2 e2 in
-    let c = count-got s p2 e3 in
-    let d = count-got s p3 e4 in
+    let c = count-got w s p2 e3 in
+    let d = count-got w s p3 e4 in
     let e = field-got 2 s p4 _ e5 in
-    let f = repeat-got (input k outs s) 8 (length s) (input-sized k outs s) many p5 e6 in
+    let f = repeat-got (inputBy w k outs s) (inputSize w) (length s) (input-sized w k outs s) many p5 e6 in
     let g = repeat-got (rate s) 1 (length s) (rate-sized s) o p6 e7 in
     let l : got (length outputs) p7 ≡ got (length (t .value .outputs)) end = ap (mapRead (λ (u : UnitSpec). length (u .outputs))) r7 in
     let m : length outputs ≡ length (t .value .outputs) = cc in
     let n : p7 ≡ end = cc in
     let o1 : out ≡ o = sym (t .same) ∙ sym m ∙ g .many in
     let q2 : p2 ≡ at + 2 + getD s at 0 = omega arith in
-    let q3 : p3 ≡ at + 2 + getD s at 0 + 4 = omega arith in
-    let ins : many ≡ word s (at + 2 + getD s at 0) = c .0 ∙ ap (λ (p : ℕ). word s p) q2 in
-    let out1 : o ≡ word s (at + 2 + getD s at 0 + 4) = d .0 ∙ ap (λ (p : ℕ). word s p) q3 in
-    record { outputs = o1 ∙ out1; past = omega (arith, f .past, g .past); within = omega (arith, g .within (f .within (e .2))) })))))))
+    let q3 : p3 ≡ at + 2 + getD s at 0 + sizeOf w = omega arith in
+    let ins : many ≡ valueBy w s (at + 2 + getD s at 0) = c .0 ∙ ap (valueBy w s) q2 in
+    let out1 : o ≡ valueBy w s (at + 2 + getD s at 0 + sizeOf w) = d .0 ∙ ap (valueBy w s) q3 in
+    let all = ap (λ (i : ℕ). inputSize w * i) ins in
+    record { outputs = o1 ∙ out1; past = omega (arith, f .past, g .past, all); within = omega (arith, g .within (f .within (e .2))) })))))))
 
 -- a unit of which the outputs are fact, field by field
-unfoldable pub skipUnit : ℕ → List ℕ → List ℕ → ℕ → Read ℕ
-skipUnit k outs s at =
+unfoldable pub skipUnit : Width → ℕ → List ℕ → List ℕ → ℕ → Read ℕ
+skipUnit w k outs s at =
     andThen (name s at) (λ class p1.
     andThen (rate s p1) (λ r p2.
-    andThen (count s p2) (λ many p3.
-    andThen (count s p3) (λ out p4.
+    andThen (countBy w s p2) (λ many p3.
+    andThen (countBy w s p3) (λ out p4.
     andThen (int16 s p4) (λ special p5.
-    andThen (ending (repeat (input k outs s) many p5)) (λ u p6.
+    andThen (ending (repeat (inputBy w k outs s) many p5)) (λ u p6.
     andThen (ending (repeat (rate s) out p6)) (λ v end.
     got out end)))))))
 
-pub skip-unit : (k : ℕ) (outs s : List ℕ) (at : ℕ) → mapRead (λ (u : UnitSpec). length (u .outputs)) (readUnit k outs s at) ≡ skipUnit k outs s at
-unfolding readUnit skipUnit
-skip-unit k outs s at =
+pub skip-unit : (w : Width) (k : ℕ) (outs s : List ℕ) (at : ℕ) → mapRead (λ (u : UnitSpec). length (u .outputs)) (unitBy w k outs s at) ≡ skipUnit w k outs s at
+unfolding unitBy skipUnit
+skip-unit w k outs s at =
     fact-then _ (name s at) _ _ (λ class p1.
     fact-then _ (rate s p1) _ _ (λ r p2.
-    fact-then _ (count s p2) _ _ (λ many p3.
-    fact-then _ (count s p3) _ _ (λ out p4.
+    fact-then _ (countBy w s p2) _ _ (λ many p3.
+    fact-then _ (countBy w s p3) _ _ (λ out p4.
     fact-then _ (int16 s p4) _ _ (λ special p5.
-    fact-ending _ (repeat (input k outs s) many p5) _ _ (λ inputs p6 e6.
+    fact-ending _ (repeat (inputBy w k outs s) many p5) _ _ (λ inputs p6 e6.
     fact-ending _ (repeat (rate s) out p6) _ (λ end. got out end) (λ outputs end e7.
     let many = repeat-got (rate s) 1 (length s) (rate-sized s) out p6 e7 .many in
     ap (λ (n : ℕ). got n end) many)))))))
 
 -- one unit of several
-pub skip-units : (k : ℕ) (s : List ℕ) (n : ℕ) (outs : List ℕ) (at : ℕ)
-    → ending (readUnits k s (suc n) outs at) ≡ andThen (mapRead (λ (u : UnitSpec). length (u .outputs)) (readUnit k outs s at)) (λ o next. ending (readUnits k s n (outs ++ (o ∷ [])) next))
-unfolding readUnits
-skip-units k s n outs at =
-    ending-fact _ (readUnit k outs s at) _ _ (λ u next. ending-keeps (readUnits k s n (outs ++ (length (u .outputs) ∷ [])) next) (λ us. u ∷ us))
+pub skip-units : (w : Width) (k : ℕ) (s : List ℕ) (n : ℕ) (outs : List ℕ) (at : ℕ)
+    → ending (unitsBy w k s (suc n) outs at) ≡ andThen (mapRead (λ (u : UnitSpec). length (u .outputs)) (unitBy w k outs s at)) (λ o next. ending (unitsBy w k s n (outs ++ (o ∷ [])) next))
+unfolding unitsBy
+skip-units w k s n outs at =
+    ending-fact _ (unitBy w k outs s at) _ _ (λ u next. ending-keeps (unitsBy w k s n (outs ++ (length (u .outputs) ∷ [])) next) (λ us. u ∷ us))
 
--- The outputs of the last so many units are remembered while a definition is read. A unit takes at least 12 bytes, and a definition 20 besides: a name of one
--- byte, four counts of four bytes and one of two. So a definition within the size limit has fewer units than this (`units-remembered` of `files`).
+-- The outputs of the last so many units are remembered while a definition is read. In version 2 a unit takes at least 12 bytes, and a definition 20 besides: a name of
+-- one byte, four counts of four bytes and one of two. So a definition within the size limit has fewer units than this (`units-remembered` of `files`).
 abbrev pub remembered : ℕ
 remembered = 256
 
 -- what is known of the units before one: they lie in the file, the outputs of the last of them are in outs, and marks has places of some
-pub record Remembered (s : List ℕ) (start units : ℕ) (outs : List ℕ) (stride : ℕ) (marks : List ℕ) : Type 0 where
-  pub within : 0 < units → unitPlace s start units ≤ length s
-  pub known : (u : ℕ) → u < units → units ≤ u + remembered → getD outs (u % remembered) 0 ≡ unitOutputs s (unitPlace s start u)
-  pub marked : Marked s start stride marks
+pub record Remembered (w : Width) (s : List ℕ) (start units : ℕ) (outs : List ℕ) (stride : ℕ) (marks : List ℕ) : Type 0 where
+  pub within : 0 < units → unitPlace w s start units ≤ length s
+  pub known : (u : ℕ) → u < units → units ≤ u + remembered → getD outs (u % remembered) 0 ≡ unitOutputs w s (unitPlace w s start u)
+  pub marked : Marked w s start stride marks
 
 -- the ways through an input
-pub input-cut : (k : ℕ) (outs s : List ℕ) (at : ℕ) {q : Fault} {place : ℕ} → integer s at ≡ bad q place → ending (input k outs s at) ≡ bad q place
-input-cut k outs s at e = ap ending (then-bad _ e)
+pub input-cut : (w : Width) (k : ℕ) (outs s : List ℕ) (at : ℕ) {q : Fault} {place : ℕ} → integerBy w s at ≡ bad q place → ending (inputBy w k outs s at) ≡ bad q place
+input-cut w k outs s at e = ap ending (then-bad _ e)
 
-pub input-constant : (k : ℕ) (outs s : List ℕ) (at : ℕ) {u next : ℕ} → integer s at ≡ got u next → u ≡ minusOne
-    → ending (input k outs s at) ≡ ending (indexBelow k s next)
-input-constant k outs s at {u} {next} e h = rw (e, eq-eqb u minusOne h) (ending-keeps (indexBelow k s next) constant)
+pub input-constant : (w : Width) (k : ℕ) (outs s : List ℕ) (at : ℕ) {u next : ℕ} → integerBy w s at ≡ got u next → u ≡ minusOne
+    → ending (inputBy w k outs s at) ≡ ending (indexBelowBy w k s next)
+input-constant w k outs s at {u} {next} e h = rw (e, eq-eqb u minusOne h) (ending-keeps (indexBelowBy w k s next) constant)
 
-pub input-output : (k : ℕ) (outs s : List ℕ) (at : ℕ) {u next : ℕ} → integer s at ≡ got u next → (u ≡ minusOne → ⊥) → u < length outs
-    → ending (input k outs s at) ≡ ending (indexBelow (getD outs u 0) s next)
-input-output k outs s at {u} {next} e h l =
-    rw (e, ne-eqb u minusOne h, lt-ltb u (length outs) l) (ending-keeps (indexBelow (getD outs u 0) s next) (output u))
+pub input-output : (w : Width) (k : ℕ) (outs s : List ℕ) (at : ℕ) {u next : ℕ} → integerBy w s at ≡ got u next → (u ≡ minusOne → ⊥) → u < length outs
+    → ending (inputBy w k outs s at) ≡ ending (indexBelowBy w (getD outs u 0) s next)
+input-output w k outs s at {u} {next} e h l =
+    rw (e, ne-eqb u minusOne h, lt-ltb u (length outs) l) (ending-keeps (indexBelowBy w (getD outs u 0) s next) (output u))
 
-pub input-bad : (k : ℕ) (outs s : List ℕ) (at : ℕ) {u next : ℕ} → integer s at ≡ got u next → (u ≡ minusOne → ⊥) → length outs ≤ u
-    → ending (input k outs s at) ≡ bad BadIndex at
-input-bad k outs s at {u} {next} e h l = rw (e, ne-eqb u minusOne h, le-ltb u (length outs) l)
+pub input-bad : (w : Width) (k : ℕ) (outs s : List ℕ) (at : ℕ) {u next : ℕ} → integerBy w s at ≡ got u next → (u ≡ minusOne → ⊥) → length outs ≤ u
+    → ending (inputBy w k outs s at) ≡ bad BadIndex at
+input-bad w k outs s at {u} {next} e h l = rw (e, ne-eqb u minusOne h, le-ltb u (length outs) l)
 
 -- Behind i units, at a place: they are remembered.
-pub record Stood (s : List ℕ) (start : ℕ) (outs : List ℕ) (stride : ℕ) (marks : List ℕ) (at i : ℕ) : Type 0 where
-  pub here : at ≡ unitPlace s start i
+pub record Stood (w : Width) (s : List ℕ) (start : ℕ) (outs : List ℕ) (stride : ℕ) (marks : List ℕ) (at i : ℕ) : Type 0 where
+  pub here : at ≡ unitPlace w s start i
   pub sized : length outs ≡ remembered
-  pub before : Remembered s start i outs stride marks
+  pub before : Remembered w s start i outs stride marks
 
-pub stood-first : (s : List ℕ) (start : ℕ) (outs : List ℕ) (stride : ℕ) (marks : List ℕ) → length outs ≡ remembered → 0 < stride → length marks ≡ 0 → Stood s start outs stride marks start 0
+pub stood-first : (w : Width) (s : List ℕ) (start : ℕ) (outs : List ℕ) (stride : ℕ) (marks : List ℕ) → length outs ≡ remembered → 0 < stride → length marks ≡ 0 → Stood w s start outs stride marks start 0
 unfolding unitPlace
-stood-first s start outs stride marks h p none = record {
+stood-first w s start outs stride marks h p none = record {
   here = refl;
   sized = h;
   before = record {
@@ -176,23 +177,23 @@ stood-first s start outs stride marks h p none = record {
 }
 
 -- What a run of units leaves, from one number to another: behind them the units are remembered, and what is left to read, however much, reads as it does with the run; or the run is bad.
-unfoldable pub Ran : (k : ℕ) (s : List ℕ) (start from to at stride : ℕ) (marks outs : List ℕ) → Read (Unit {0}) → Type 0
-Ran k s start from to at stride marks outs (got _ next) =
-    Stood s start outs stride marks next to × ((n : ℕ) → ending (readUnits k s n (outsFrom s start to) next) ≡ ending (readUnits k s ((to - from) + n) (outsFrom s start from) at))
-Ran k s start from to at stride marks outs (bad q place) = (length outs ≡ remembered) × ((n : ℕ) → ending (readUnits k s ((to - from) + n) (outsFrom s start from) at) ≡ bad q place)
+unfoldable pub Ran : (w : Width) (k : ℕ) (s : List ℕ) (start from to at stride : ℕ) (marks outs : List ℕ) → Read (Unit {0}) → Type 0
+Ran w k s start from to at stride marks outs (got _ next) =
+    Stood w s start outs stride marks next to × ((n : ℕ) → ending (unitsBy w k s n (outsFrom w s start to) next) ≡ ending (unitsBy w k s ((to - from) + n) (outsFrom w s start from) at))
+Ran w k s start from to at stride marks outs (bad q place) = (length outs ≡ remembered) × ((n : ℕ) → ending (unitsBy w k s ((to - from) + n) (outsFrom w s start from) at) ≡ bad q place)
 
 -- The turns of the loop of a run.
-module _ (k : ℕ) (s : List ℕ) (start : ℕ) {outs : List ℕ} {stride : ℕ} {marks : List ℕ} {at i : ℕ} (st : Stood s start outs stride marks at i) where
-  run-shaped : {o next : ℕ} → skipUnit k (outsFrom s start i) s at ≡ got o next → Shaped s (unitPlace s start i) o next
-  run-shaped {o} {next} e = rw (st .here) at (unit-shape k (outsFrom s start i) s at (skip-unit k (outsFrom s start i) s at ∙ e))
+module _ (w : Width) (k : ℕ) (s : List ℕ) (start : ℕ) {outs : List ℕ} {stride : ℕ} {marks : List ℕ} {at i : ℕ} (st : Stood w s start outs stride marks at i) where
+  run-shaped : {o next : ℕ} → skipUnit w k (outsFrom w s start i) s at ≡ got o next → Shaped w s (unitPlace w s start i) o next
+  run-shaped {o} {next} e = rw (st .here) at (unit-shape w k (outsFrom w s start i) s at (skip-unit w k (outsFrom w s start i) s at ∙ e))
 
-  run-turn : (n : ℕ) → ending (readUnits k s (suc n) (outsFrom s start i) at)
-      ≡ andThen (skipUnit k (outsFrom s start i) s at) (λ o next. ending (readUnits k s n (outsFrom s start i ++ (o ∷ [])) next))
+  run-turn : (n : ℕ) → ending (unitsBy w k s (suc n) (outsFrom w s start i) at)
+      ≡ andThen (skipUnit w k (outsFrom w s start i) s at) (λ o next. ending (unitsBy w k s n (outsFrom w s start i ++ (o ∷ [])) next))
   run-turn n =
-      skip-units k s n (outsFrom s start i) at
-      ∙ ap (λ (r : Read ℕ). andThen r (λ o next. ending (readUnits k s n (outsFrom s start i ++ (o ∷ [])) next))) (skip-unit k (outsFrom s start i) s at)
+      skip-units w k s n (outsFrom w s start i) at
+      ∙ ap (λ (r : Read ℕ). andThen r (λ o next. ending (unitsBy w k s n (outsFrom w s start i ++ (o ∷ [])) next))) (skip-unit w k (outsFrom w s start i) s at)
 
-  pub run-stood : {o next : ℕ} → skipUnit k (outsFrom s start i) s at ≡ got o next → Stood s start (set outs (i % remembered) o) stride marks next (i + 1)
+  pub run-stood : {o next : ℕ} → skipUnit w k (outsFrom w s start i) s at ≡ got o next → Stood w s start (set outs (i % remembered) o) stride marks next (i + 1)
   unfolding unitPlace
   run-stood {o} {next} e =
       let shape = run-shaped e in
@@ -211,58 +212,58 @@ module _ (k : ℕ) (s : List ℕ) (start : ℕ) {outs : List ℕ} {stride : ℕ}
         };
       }
 
-  pub run-next : (m n : ℕ) {o next : ℕ} → skipUnit k (outsFrom s start i) s at ≡ got o next → m ≡ suc n
-      → ending (readUnits k s n (outsFrom s start (i + 1)) next) ≡ ending (readUnits k s m (outsFrom s start i) at)
+  pub run-next : (m n : ℕ) {o next : ℕ} → skipUnit w k (outsFrom w s start i) s at ≡ got o next → m ≡ suc n
+      → ending (unitsBy w k s n (outsFrom w s start (i + 1)) next) ≡ ending (unitsBy w k s m (outsFrom w s start i) at)
   unfolding outsFrom
   run-next m n {o} {next} e h =
       let shape = run-shaped e in
-      rw (add-one, h) (ap (λ (x : ℕ). ending (readUnits k s n (outsFrom s start i ++ (x ∷ [])) next)) (sym (shape .outputs))
-      ∙ sym (run-turn n ∙ then-got (λ o next. ending (readUnits k s n (outsFrom s start i ++ (o ∷ [])) next)) e))
+      rw (add-one, h) (ap (λ (x : ℕ). ending (unitsBy w k s n (outsFrom w s start i ++ (x ∷ [])) next)) (sym (shape .outputs))
+      ∙ sym (run-turn n ∙ then-got (λ o next. ending (unitsBy w k s n (outsFrom w s start i ++ (o ∷ [])) next)) e))
 
-  pub run-bad : (m n : ℕ) {q : Fault} {place : ℕ} → skipUnit k (outsFrom s start i) s at ≡ bad q place → m ≡ suc n → ending (readUnits k s m (outsFrom s start i) at) ≡ bad q place
-  run-bad m n e h = rw h (run-turn n ∙ then-bad (λ o next. ending (readUnits k s n (outsFrom s start i ++ (o ∷ [])) next)) e)
+  pub run-bad : (m n : ℕ) {q : Fault} {place : ℕ} → skipUnit w k (outsFrom w s start i) s at ≡ bad q place → m ≡ suc n → ending (unitsBy w k s m (outsFrom w s start i) at) ≡ bad q place
+  run-bad m n e h = rw h (run-turn n ∙ then-bad (λ o next. ending (unitsBy w k s n (outsFrom w s start i ++ (o ∷ [])) next)) e)
 
 -- all units of a definition in one run
-pub run-whole : (k : ℕ) (s : List ℕ) (start count stride : ℕ) (marks outs : List ℕ) (r : Read (Unit {0})) → Ran k s start 0 count start stride marks outs r → r ≡ ending (readUnits k s count [] start)
-unfolding Ran readUnits outsFrom
-run-whole k s start count stride marks outs (got u next) h =
+pub run-whole : (w : Width) (k : ℕ) (s : List ℕ) (start count stride : ℕ) (marks outs : List ℕ) (r : Read (Unit {0})) → Ran w k s start 0 count start stride marks outs r → r ≡ ending (unitsBy w k s count [] start)
+unfolding Ran unitsBy outsFrom
+run-whole w k s start count stride marks outs (got u next) h =
     let same : (count - 0) + 0 ≡ count = omega arith in
     h .1 0 ∙ rw same
-run-whole k s start count stride marks outs (bad q place) h =
+run-whole w k s start count stride marks outs (bad q place) h =
     let same : (count - 0) + 0 ≡ count = omega arith in
     sym (rw same at (h .1 0))
 
-pub run-sized : (k : ℕ) (s : List ℕ) (start from to at stride : ℕ) (marks outs : List ℕ) (r : Read (Unit {0})) → Ran k s start from to at stride marks outs r → length outs ≡ remembered
+pub run-sized : (w : Width) (k : ℕ) (s : List ℕ) (start from to at stride : ℕ) (marks outs : List ℕ) (r : Read (Unit {0})) → Ran w k s start from to at stride marks outs r → length outs ≡ remembered
 unfolding Ran
-run-sized k s start from to at stride marks outs (got u next) h = h .0 .sized
-run-sized k s start from to at stride marks outs (bad q place) h = h .0
+run-sized w k s start from to at stride marks outs (got u next) h = h .0 .sized
+run-sized w k s start from to at stride marks outs (bad q place) h = h .0
 
 -- The turns of a loop that reads units run by run, behind i of them: what is left to read, from the present place, reads as the whole does from the first.
-pub record Standing (k : ℕ) (s : List ℕ) (start count : ℕ) (outs : List ℕ) (stride : ℕ) (marks : List ℕ) (known at i : ℕ) : Type 0 where
+pub record Standing (w : Width) (k : ℕ) (s : List ℕ) (start count : ℕ) (outs : List ℕ) (stride : ℕ) (marks : List ℕ) (known at i : ℕ) : Type 0 where
   pub most : i ≤ count
   pub room : known ≤ length marks
   pub few : length marks ≤ mostMarks
-  pub stood : Stood s start outs stride (take known marks) at i
-  pub left : ending (readUnits k s (count - i) (outsFrom s start i) at) ≡ ending (readUnits k s count [] start)
+  pub stood : Stood w s start outs stride (take known marks) at i
+  pub left : ending (unitsBy w k s (count - i) (outsFrom w s start i) at) ≡ ending (unitsBy w k s count [] start)
 
-pub stands-first : (k : ℕ) (s : List ℕ) (start count : ℕ) (outs : List ℕ) (stride : ℕ) (marks : List ℕ) → length outs ≡ remembered → 0 < stride → length marks ≤ mostMarks
-    → Standing k s start count outs stride marks 0 start 0
+pub stands-first : (w : Width) (k : ℕ) (s : List ℕ) (start count : ℕ) (outs : List ℕ) (stride : ℕ) (marks : List ℕ) → length outs ≡ remembered → 0 < stride → length marks ≤ mostMarks
+    → Standing w k s start count outs stride marks 0 start 0
 unfolding outsFrom
-stands-first k s start count outs stride marks h p l = record {
+stands-first w k s start count outs stride marks h p l = record {
   most = omega arith;
   room = omega arith;
   few = l;
-  stood = stood-first s start outs stride (take 0 marks) h p (length-take-le 0 marks (omega arith));
+  stood = stood-first w s start outs stride (take 0 marks) h p (length-take-le 0 marks (omega arith));
   left = rw sub-zero;
 }
 
-module _ (k : ℕ) (s : List ℕ) (start count : ℕ) {outs : List ℕ} {stride : ℕ} {marks : List ℕ} {known at i : ℕ} (st : Standing k s start count outs stride marks known at i) where
+module _ (w : Width) (k : ℕ) (s : List ℕ) (start count : ℕ) {outs : List ℕ} {stride : ℕ} {marks : List ℕ} {known at i : ℕ} (st : Standing w k s start count outs stride marks known at i) where
   -- the unit at the place may be marked
-  pub stands-marked : {marks' : List ℕ} {known' : ℕ} → Marking marks marks' known stride i (at - start) known' → Standing k s start count outs stride marks' known' at i
+  pub stands-marked : {marks' : List ℕ} {known' : ℕ} → Marking marks marks' known stride i (at - start) known' → Standing w k s start count outs stride marks' known' at i
   unfolding unitPlace
   stands-marked {marks'} {known'} m =
-      let place : start + (at - start) ≡ unitPlace s start i = omega (arith, st .stood .here, place-up s start 0 i (omega arith)) in
-      let next = marking-next s start (st .room) place m (st .stood .before .marked) in
+      let place : start + (at - start) ≡ unitPlace w s start i = omega (arith, st .stood .here, place-up w s start 0 i (omega arith)) in
+      let next = marking-next w s start (st .room) place m (st .stood .before .marked) in
       record {
         most = st .most;
         room = next .room;
@@ -275,7 +276,7 @@ module _ (k : ℕ) (s : List ℕ) (start count : ℕ) {outs : List ℕ} {stride 
         left = st .left;
       }
 
-  pub stands-next : (outs' : List ℕ) {to next : ℕ} → i ≤ to → to ≤ count → Ran k s start i to at stride (take known marks) outs' (got tt next) → Standing k s start count outs' stride marks known next to
+  pub stands-next : (outs' : List ℕ) {to next : ℕ} → i ≤ to → to ≤ count → Ran w k s start i to at stride (take known marks) outs' (got tt next) → Standing w k s start count outs' stride marks known next to
   unfolding Ran
   stands-next outs' {to} {next} l h r =
       let same : (to - i) + (count - to) ≡ count - i = omega arith in
@@ -287,14 +288,14 @@ module _ (k : ℕ) (s : List ℕ) (start count : ℕ) {outs : List ℕ} {stride 
         left = r .1 (count - to) ∙ rw same (st .left);
       }
 
-  pub stands-bad : (outs' : List ℕ) {to : ℕ} {q : Fault} {place : ℕ} → i ≤ to → to ≤ count → Ran k s start i to at stride (take known marks) outs' (bad q place) → ending (readUnits k s count [] start) ≡ bad q place
+  pub stands-bad : (outs' : List ℕ) {to : ℕ} {q : Fault} {place : ℕ} → i ≤ to → to ≤ count → Ran w k s start i to at stride (take known marks) outs' (bad q place) → ending (unitsBy w k s count [] start) ≡ bad q place
   unfolding Ran
   stands-bad outs' {to} l h r =
       let same : (to - i) + (count - to) ≡ count - i = omega arith in
       sym (st .left) ∙ (rw same at (r .1 (count - to)))
 
-  pub stands-done : count ≤ i → ending (readUnits k s count [] start) ≡ got tt at
-  unfolding readUnits
+  pub stands-done : count ≤ i → ending (unitsBy w k s count [] start) ≡ got tt at
+  unfolding unitsBy
   stands-done l =
       let none : count - i ≡ 0 = omega arith in
       sym (st .left) ∙ rw none

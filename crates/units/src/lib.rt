@@ -4,23 +4,24 @@ use fields::Cursor;
 use fields::Number;
 use fields::Step;
 use fields::Text;
-use fields::word_at;
+use fields::value_at;
 use format::HIGHEST;
 use format::MINUS_ONE;
+use format::Width;
 use words::wide;
 ghost use Prim.Native.Nat.{_≤_, _<_};
 ghost use mathlib.Core.Path.{_≡_};
 ghost use mathlib.Core.List.{[]};
 ghost use lib.ListN.{length};
 ghost use Rattle.fields.specs.Answers.{numberOf, stepOf};
-ghost use Rattle.format.specs.Fields.{rate, indexBelow};
+ghost use Rattle.format.specs.Fields.{sizeOf, rate, indexBelowBy};
 ghost use Rattle.format.specs.Read.{ending, repeat};
-ghost use Rattle.format.specs.Reader.{input, readUnits};
-ghost use Rattle.units.specs.Marks.{unitCounts, unitOutputs, unitEnd, unitPlace, mostMarks, Marked, Marking};
+ghost use Rattle.format.specs.Reader.{inputBy, unitsBy};
+ghost use Rattle.units.specs.Marks.{unitCounts, unitInputs, unitOutputs, unitEnd, unitPlace, mostMarks, Marked, Marking};
 ghost use Rattle.units.specs.Units.{remembered, outsFrom, skipUnit, Remembered, Stood, Ran};
 
-// The outputs of the last so many units are remembered. A unit takes at least 12 bytes and a definition 20 besides,
-// so a definition within the size limit has fewer units than this.
+// The outputs of the last so many units are remembered. In version 2 a unit takes at least 12 bytes and a definition 20
+// besides, so a definition within the size limit has fewer units than this.
 pub const REMEMBERED: usize = 256;
 
 // A definition of more units has marks besides, where every so many units start: so many marks, or in a long one more. The
@@ -29,66 +30,85 @@ const MANY_MARKS: usize = 65536;
 
 const MOST_MARKS: usize = 262144;
 
+// How many bytes a count or an index takes.
+pub fn field_size(width: Width) -> usize
+    ensures { λ r. ⌜ r ≡ sizeOf width ⌝ }
+{
+    match width {
+        Width::Short => 2,
+        Width::Long => 4,
+    }
+}
+
 // The place of the counts of the unit at a place.
-fn unit_counts(s: &[u8], at: usize) -> usize
-    requires { ⌜ unitEnd (now s) at ≤ length (now s) ⌝ }
+pub fn unit_counts(s: &[u8], at: usize) -> usize
+    requires { ⌜ unitCounts (now s) at ≤ length (now s) ⌝ }
     ensures { λ r. ⌜ r ≡ unitCounts (now (s .entry)) at ⌝ }
 {
     let size = s[at] as usize;
     at + 2 + size
 }
 
+// How many inputs the unit at a place has.
+pub fn unit_inputs(s: &[u8], at: usize, width: Width) -> u32
+    requires { ⌜ unitEnd width (now s) at ≤ length (now s) ⌝ }
+    ensures { λ r. ⌜ r ≡ unitInputs width (now (s .entry)) at ⌝ }
+{
+    value_at(s, unit_counts(s, at), width)
+}
+
 // How many outputs the unit at a place has.
-fn unit_outputs(s: &[u8], at: usize) -> u32
-    requires { ⌜ unitEnd (now s) at ≤ length (now s) ⌝ }
-    ensures { λ r. ⌜ r ≡ unitOutputs (now (s .entry)) at ⌝ }
+pub fn unit_outputs(s: &[u8], at: usize, width: Width) -> u32
+    requires { ⌜ unitEnd width (now s) at ≤ length (now s) ⌝ }
+    ensures { λ r. ⌜ r ≡ unitOutputs width (now (s .entry)) at ⌝ }
 {
     let counts = unit_counts(s, at);
-    word_at(s, counts + 4)
+    value_at(s, counts + field_size(width), width)
 }
 
 // The place past the unit at a place.
-fn unit_end(s: &[u8], at: usize) -> usize
-    requires { ⌜ unitEnd (now s) at ≤ length (now s) ⌝ }
-    ensures { λ r. ⌜ r ≡ unitEnd (now (s .entry)) at ⌝ }
+pub fn unit_end(s: &[u8], at: usize, width: Width) -> usize
+    requires { ⌜ unitEnd width (now s) at ≤ length (now s) ⌝ }
+    ensures { λ r. ⌜ r ≡ unitEnd width (now (s .entry)) at ⌝ }
 {
+    let size = field_size(width);
     let counts = unit_counts(s, at);
-    let inputs = word_at(s, counts);
-    let outputs = unit_outputs(s, at);
-    counts + 10 + 8 * inputs as usize + outputs as usize
+    let inputs = unit_inputs(s, at, width);
+    let outputs = unit_outputs(s, at, width);
+    counts + 2 * size + 2 + 2 * size * inputs as usize + outputs as usize
 }
 
 // How many outputs the unit so many units behind the one at a place has.
-fn outputs_behind(s: &[u8], start: usize, unit: u32) -> u32
-    requires { ⌜ unitEnd (now s) (unitPlace (now s) start unit) ≤ length (now s) ⌝ }
-    ensures { λ r. ⌜ r ≡ unitOutputs (now (s .entry)) (unitPlace (now (s .entry)) start unit) ⌝ }
+fn outputs_behind(s: &[u8], start: usize, width: Width, unit: u32) -> u32
+    requires { ⌜ unitEnd width (now s) (unitPlace width (now s) start unit) ≤ length (now s) ⌝ }
+    ensures { λ r. ⌜ r ≡ unitOutputs width (now (s .entry)) (unitPlace width (now (s .entry)) start unit) ⌝ }
 {
     let mut at = start;
     let mut i = 0;
     while i < unit {
-        at = unit_end(s, at);
+        at = unit_end(s, at, width);
         i += 1;
     }
-    unit_outputs(s, at)
+    unit_outputs(s, at, width)
 }
 
 // How many outputs a unit has, by a walk from its mark.
-fn far_outputs(s: &[u8], start: usize, unit: u32, stride: u32, marks: &[u32]) -> u32
-    requires { ⌜ (unitEnd (now s) (unitPlace (now s) start unit) ≤ length (now s)) × Marked (now s) start stride (now marks) ⌝ }
-    ensures { λ r. ⌜ r ≡ unitOutputs (now (s .entry)) (unitPlace (now (s .entry)) start unit) ⌝ }
+fn far_outputs(s: &[u8], start: usize, width: Width, unit: u32, stride: u32, marks: &[u32]) -> u32
+    requires { ⌜ (unitEnd width (now s) (unitPlace width (now s) start unit) ≤ length (now s)) × Marked width (now s) start stride (now marks) ⌝ }
+    ensures { λ r. ⌜ r ≡ unitOutputs width (now (s .entry)) (unitPlace width (now (s .entry)) start unit) ⌝ }
 {
     let index = wide(unit / stride);
     if index < marks.len() {
-        return outputs_behind(s, start + wide(marks[index]), unit % stride);
+        return outputs_behind(s, start + wide(marks[index]), width, unit % stride);
     }
-    outputs_behind(s, start, unit)
+    outputs_behind(s, start, width, unit)
 }
 
 // An index below a bound.
-fn read_index(s: &[u8], cursor: Cursor, bound: u32) -> Step
-    ensures { λ r. ⌜ stepOf r ≡ ending (indexBelow bound (now (s .entry)) (cursor .at)) ⌝ }
+fn read_index(s: &[u8], cursor: Cursor, width: Width, bound: u32) -> Step
+    ensures { λ r. ⌜ stepOf r ≡ ending (indexBelowBy width bound (now (s .entry)) (cursor .at)) ⌝ }
 {
-    match cursor.index_below(s, bound) {
+    match cursor.index_below(s, width, bound) {
         Number::Value(_, next) => Step::Next(next),
         Number::Bad(refusal, place) => Step::Bad(refusal, place),
     }
@@ -108,6 +128,7 @@ fn read_rate(s: &[u8], cursor: Cursor) -> Step
 fn read_input(
     s: &[u8],
     cursor: Cursor,
+    width: Width,
     constants: u32,
     start: usize,
     units: u32,
@@ -115,22 +136,27 @@ fn read_input(
     stride: u32,
     marks: &[u32],
 ) -> Step
-    requires { ⌜ Remembered (now s) start units (now outs) stride (now marks) ⌝ }
-    ensures { λ r. ⌜ stepOf r ≡ ending (input constants (outsFrom (now (s .entry)) start units) (now (s .entry)) (cursor .at)) ⌝ }
+    requires { ⌜ Remembered width (now s) start units (now outs) stride (now marks) ⌝ }
+    ensures { λ r. ⌜ stepOf r ≡ ending (inputBy width constants (outsFrom width (now (s .entry)) start units) (now (s .entry)) (cursor .at)) ⌝ }
 {
     let at = cursor.at;
-    match cursor.int32(s) {
+    match cursor.integer(s, width) {
         Number::Value(unit, next) => {
             if unit == MINUS_ONE {
-                return read_index(s, next, constants);
+                return read_index(s, next, width, constants);
             }
             if units <= unit {
                 return Step::Bad(Fault::BadIndex, at);
             }
             if wide(units) <= wide(unit) + REMEMBERED {
-                return read_index(s, next, outs[wide(unit) % REMEMBERED]);
+                return read_index(s, next, width, outs[wide(unit) % REMEMBERED]);
             }
-            read_index(s, next, far_outputs(s, start, unit, stride, marks))
+            read_index(
+                s,
+                next,
+                width,
+                far_outputs(s, start, width, unit, stride, marks),
+            )
         }
         Number::Bad(refusal, place) => Step::Bad(refusal, place),
     }
@@ -140,6 +166,7 @@ fn read_input(
 fn read_inputs(
     s: &[u8],
     cursor: Cursor,
+    width: Width,
     count: u32,
     constants: u32,
     start: usize,
@@ -148,8 +175,8 @@ fn read_inputs(
     stride: u32,
     marks: &[u32],
 ) -> Step
-    requires { ⌜ Remembered (now s) start units (now outs) stride (now marks) ⌝ }
-    ensures { λ r. ⌜ stepOf r ≡ ending (repeat (input constants (outsFrom (now (s .entry)) start units) (now (s .entry))) count (cursor .at)) ⌝ }
+    requires { ⌜ Remembered width (now s) start units (now outs) stride (now marks) ⌝ }
+    ensures { λ r. ⌜ stepOf r ≡ ending (repeat (inputBy width constants (outsFrom width (now (s .entry)) start units) (now (s .entry))) count (cursor .at)) ⌝ }
 {
     let mut at = cursor.at;
     let mut i = 0;
@@ -157,6 +184,7 @@ fn read_inputs(
         match read_input(
             s,
             Cursor { at: at },
+            width,
             constants,
             start,
             units,
@@ -200,6 +228,7 @@ fn read_rates(s: &[u8], cursor: Cursor, count: u32) -> Step
 fn read_unit(
     s: &[u8],
     cursor: Cursor,
+    width: Width,
     constants: u32,
     start: usize,
     units: u32,
@@ -207,8 +236,8 @@ fn read_unit(
     stride: u32,
     marks: &[u32],
 ) -> Number
-    requires { ⌜ Remembered (now s) start units (now outs) stride (now marks) ⌝ }
-    ensures { λ r. ⌜ numberOf r ≡ skipUnit constants (outsFrom (now (s .entry)) start units) (now (s .entry)) (cursor .at) ⌝ }
+    requires { ⌜ Remembered width (now s) start units (now outs) stride (now marks) ⌝ }
+    ensures { λ r. ⌜ numberOf r ≡ skipUnit width constants (outsFrom width (now (s .entry)) start units) (now (s .entry)) (cursor .at) ⌝ }
 {
     let p1 = match cursor.name(s) {
         Text::Value(_, next) => next,
@@ -222,8 +251,8 @@ fn read_unit(
             return Number::Bad(refusal, place);
         }
     };
-    match p2.count_to(s, HIGHEST) {
-        Number::Value(inputs, p3) => match p3.count_to(s, HIGHEST) {
+    match p2.count_to(s, width, HIGHEST) {
+        Number::Value(inputs, p3) => match p3.count_to(s, width, HIGHEST) {
             Number::Value(outputs, p4) => {
                 let p5 = match p4.int16(s) {
                     Number::Value(_, next) => next,
@@ -234,6 +263,7 @@ fn read_unit(
                 let p6 = match read_inputs(
                     s,
                     p5,
+                    width,
                     inputs,
                     constants,
                     start,
@@ -280,6 +310,7 @@ fn mark_unit(marks: &mut [u32], known: usize, stride: u32, unit: u32, place: usi
 fn read_run(
     s: &[u8],
     cursor: Cursor,
+    width: Width,
     constants: u32,
     start: usize,
     from: u32,
@@ -288,8 +319,8 @@ fn read_run(
     stride: u32,
     marks: &[u32],
 ) -> Step
-    requires { ⌜ (from ≤ to) × Stood (now s) start (now outs) stride (now marks) (cursor .at) from ⌝ }
-    ensures { λ r. ⌜ Ran constants (now (s .entry)) start from to (cursor .at) stride (now (marks .entry)) (now (outs .exit)) (stepOf r) ⌝ }
+    requires { ⌜ (from ≤ to) × Stood width (now s) start (now outs) stride (now marks) (cursor .at) from ⌝ }
+    ensures { λ r. ⌜ Ran width constants (now (s .entry)) start from to (cursor .at) stride (now (marks .entry)) (now (outs .exit)) (stepOf r) ⌝ }
 {
     let mut at = cursor.at;
     let mut i = from;
@@ -297,6 +328,7 @@ fn read_run(
         match read_unit(
             s,
             Cursor { at: at },
+            width,
             constants,
             start,
             i,
@@ -321,17 +353,19 @@ fn read_run(
 fn read_few(
     s: &[u8],
     cursor: Cursor,
+    width: Width,
     constants: u32,
     count: u32,
     outs: &mut [u32; REMEMBERED],
 ) -> Step
     requires { ⌜ length (now outs) ≡ remembered ⌝ }
-    ensures { λ r. ⌜ (stepOf r ≡ ending (readUnits constants (now (s .entry)) count [] (cursor .at))) × (length (now (outs .exit)) ≡ remembered) ⌝ }
+    ensures { λ r. ⌜ (stepOf r ≡ ending (unitsBy width constants (now (s .entry)) count [] (cursor .at))) × (length (now (outs .exit)) ≡ remembered) ⌝ }
 {
     let marks = [0u32; 1];
     read_run(
         s,
         cursor,
+        width,
         constants,
         cursor.at,
         0,
@@ -357,13 +391,14 @@ fn run_end(from: u32, stride: u32, count: u32) -> u32
 fn read_marked(
     s: &[u8],
     cursor: Cursor,
+    width: Width,
     constants: u32,
     count: u32,
     stride: u32,
     marks: &mut [u32],
 ) -> Step
     requires { ⌜ (0 < stride) × (length (now marks) ≤ mostMarks) ⌝ }
-    ensures { λ r. ⌜ stepOf r ≡ ending (readUnits constants (now (s .entry)) count [] (cursor .at)) ⌝ }
+    ensures { λ r. ⌜ stepOf r ≡ ending (unitsBy width constants (now (s .entry)) count [] (cursor .at)) ⌝ }
 {
     let start = cursor.at;
     let mut outs = [0; REMEMBERED];
@@ -376,6 +411,7 @@ fn read_marked(
         match read_run(
             s,
             Cursor { at: at },
+            width,
             constants,
             start,
             i,
@@ -397,49 +433,64 @@ fn read_marked(
 }
 
 // So many units, the first of a definition, with as many marks as there are at most.
-fn read_most(s: &[u8], cursor: Cursor, constants: u32, count: u32, stride: u32) -> Step
+fn read_most(
+    s: &[u8],
+    cursor: Cursor,
+    width: Width,
+    constants: u32,
+    count: u32,
+    stride: u32,
+) -> Step
     requires { ⌜ 0 < stride ⌝ }
-    ensures { λ r. ⌜ stepOf r ≡ ending (readUnits constants (now (s .entry)) count [] (cursor .at)) ⌝ }
+    ensures { λ r. ⌜ stepOf r ≡ ending (unitsBy width constants (now (s .entry)) count [] (cursor .at)) ⌝ }
 {
     let mut marks = [0u32; MOST_MARKS];
-    read_marked(s, cursor, constants, count, stride, &mut marks)
+    read_marked(s, cursor, width, constants, count, stride, &mut marks)
 }
 
 // So many units can't all be remembered, and at most so many of them are there. Since it calls itself, the compiler keeps it and
 // what it calls apart: the marks' room is not part of what every definition takes.
-fn read_many(s: &[u8], cursor: Cursor, constants: u32, count: u32, most: usize) -> Step
-    ensures { λ r. ⌜ stepOf r ≡ ending (readUnits constants (now (s .entry)) count [] (cursor .at)) ⌝ }
+fn read_many(
+    s: &[u8],
+    cursor: Cursor,
+    width: Width,
+    constants: u32,
+    count: u32,
+    most: usize,
+) -> Step
+    ensures { λ r. ⌜ stepOf r ≡ ending (unitsBy width constants (now (s .entry)) count [] (cursor .at)) ⌝ }
 {
     if wide(count) < most {
-        return read_many(s, cursor, constants, count, wide(count));
+        return read_many(s, cursor, width, constants, count, wide(count));
     }
     if 2 * MANY_MARKS < most {
         let stride = most / MOST_MARKS + 2;
-        return read_most(s, cursor, constants, count, stride as u32);
+        return read_most(s, cursor, width, constants, count, stride as u32);
     }
     let mut marks = [0u32; MANY_MARKS];
-    read_marked(s, cursor, constants, count, 2, &mut marks)
+    read_marked(s, cursor, width, constants, count, 2, &mut marks)
 }
 
 // So many units, the first of a definition. What the lent ring holds before and after it says nothing.
 pub fn read_units(
     s: &[u8],
     cursor: Cursor,
+    width: Width,
     constants: u32,
     count: u32,
     outs: &mut [u32; REMEMBERED],
 ) -> Step
     requires { ⌜ length (now outs) ≡ remembered ⌝ }
-    ensures { λ r. ⌜ (stepOf r ≡ ending (readUnits constants (now (s .entry)) count [] (cursor .at))) × (length (now (outs .exit)) ≡ remembered) ⌝ }
+    ensures { λ r. ⌜ (stepOf r ≡ ending (unitsBy width constants (now (s .entry)) count [] (cursor .at))) × (length (now (outs .exit)) ≡ remembered) ⌝ }
 {
     let at = cursor.at;
     if REMEMBERED < wide(count) {
         if at < s.len() {
-            let most = (s.len() - at) / 12;
+            let most = (s.len() - at) / (2 * field_size(width) + 4);
             if REMEMBERED < most {
-                return read_many(s, cursor, constants, count, most);
+                return read_many(s, cursor, width, constants, count, most);
             }
         }
     }
-    read_few(s, cursor, constants, count, outs)
+    read_few(s, cursor, width, constants, count, outs)
 }

@@ -1,9 +1,9 @@
 //! The proved reader's time as a multiple of the independent Rust reader's, on the same files in
-//! one run. Run it by `cargo run --release -p bench`.
+//! one run, with the same definitions in both versions. Run it by `cargo run --release -p bench`.
 
 mod hostile;
 
-use independent::{write, Random, Shape, MOST_BYTES, MOST_DEFINITIONS};
+use independent::{write_as, Definition, Random, Shape, Version, MOST_BYTES, MOST_DEFINITIONS};
 use limudvek::synthdef;
 use std::hint::black_box;
 use std::time::{Duration, Instant};
@@ -21,10 +21,11 @@ fn main() {
     println!(
         "Each time is the median of {SAMPLES} samples; the two readers take turns. Seed {SEED}."
     );
+    println!("Times are ns for each byte of the file.");
     println!();
     println!(
-        "{:44} {:>9} {:>9} {:>9} {:>6}",
-        "files", "bytes", "proved", "Rust", "ratio"
+        "{:44} {:>7} {:>9} {:>9} {:>9} {:>6}",
+        "files", "version", "bytes", "proved", "Rust", "ratio"
     );
     let mut random = Random::new(SEED);
     measure("200 files of 32 small definitions", &small(&mut random));
@@ -54,39 +55,47 @@ fn main() {
     hostile::measure(&[64 << 10, 256 << 10, 1 << 20, 4 << 20, 16 << 20, 64 << 20]);
 }
 
-fn small(random: &mut Random) -> Vec<Vec<u8>> {
+/// What a file holds.
+type Definitions = Vec<Definition>;
+
+fn small(random: &mut Random) -> Vec<Definitions> {
     (0..200)
-        .map(|_| write(&random.definitions(MOST_DEFINITIONS, &[Shape::SMALL])).bytes)
+        .map(|_| random.definitions(MOST_DEFINITIONS, &[Shape::SMALL]))
         .collect()
 }
 
 /// Files of one definition each, of just 2,048 bytes, nearly all of them units.
-fn full(random: &mut Random, shape: &Shape, count: usize) -> Vec<Vec<u8>> {
+fn full(random: &mut Random, shape: &Shape, count: usize) -> Vec<Definitions> {
     let mut files = Vec::new();
     while files.len() < count {
         let mut definition = random.short_definition(shape);
         if definition.size() > MOST_BYTES - 60 {
             random.lengthen(&mut definition, MOST_BYTES);
-            files.push(write(&[definition]).bytes);
+            files.push(vec![definition]);
         }
     }
     files
 }
 
 /// One file as long as an accepted file can be.
-fn long(random: &mut Random, shape: &Shape) -> Vec<u8> {
-    let mut definitions = Vec::new();
-    for place in 0..MOST_DEFINITIONS {
-        let file = full(random, shape, 1).remove(0);
-        let mut read = independent::read(&file).expect("it was written without faults");
-        let mut definition = read.remove(0);
+fn long(random: &mut Random, shape: &Shape) -> Definitions {
+    let mut definitions = full(random, shape, MOST_DEFINITIONS).concat();
+    for (place, definition) in definitions.iter_mut().enumerate() {
         definition.name[0] = b'A' + place as u8;
-        definitions.push(definition);
     }
-    write(&definitions).bytes
+    definitions
 }
 
-fn measure(what: &str, files: &[Vec<u8>]) {
+/// The same definitions in both versions.
+fn measure(what: &str, files: &[Definitions]) {
+    for version in [Version::Two, Version::One] {
+        let write = |definitions: &Definitions| write_as(version, definitions).bytes;
+        let files: Vec<Vec<u8>> = files.iter().map(write).collect();
+        measure_files(what, version, &files);
+    }
+}
+
+fn measure_files(what: &str, version: Version, files: &[Vec<u8>]) {
     let bytes: usize = files.iter().map(Vec::len).sum();
     for file in files {
         assert_eq!(synthdef::refusal(file), 0);
@@ -112,7 +121,8 @@ fn measure(what: &str, files: &[Vec<u8>]) {
         |times: Vec<Duration>| median(times).as_secs_f64() * 1e9 / (turns * bytes) as f64;
     let (proved, rust) = (per_byte(times.0), per_byte(times.1));
     println!(
-        "{what:44} {bytes:>9} {:>9} {:>9} {:>6.2}",
+        "{what:44} {:>7} {bytes:>9} {:>9} {:>9} {:>6.2}",
+        version.field(),
         format!("{proved:.3}"),
         format!("{rust:.3}"),
         proved / rust

@@ -304,27 +304,49 @@ fn the_program_says_what_it_cannot_read() {
     }
 }
 
+/// Runs the program in the examples' folder on standard input. Answers the exit status and both outputs.
+fn from_input(script: &[u8]) -> (Option<i32>, String, Vec<u8>) {
+    let mut child = Command::new(PROGRAM)
+        .args(["play", "-"])
+        .current_dir(examples())
+        .stdin(Stdio::piped())
+        .stdout(Stdio::piped())
+        .stderr(Stdio::piped())
+        .spawn()
+        .expect("the program runs");
+    let mut input = child.stdin.take().expect("it has one");
+    input.write_all(script).expect("it reads");
+    drop(input);
+    let output = child.wait_with_output().expect("the program ends");
+    let out = String::from_utf8(output.stdout).expect("it prints text");
+    (output.status.code(), out, output.stderr)
+}
+
 #[test]
 fn the_program_plays_standard_input() {
-    let play = |script: &[u8]| {
-        let mut child = Command::new(PROGRAM)
-            .args(["play", "-"])
-            .current_dir(examples())
-            .stdin(Stdio::piped())
-            .stdout(Stdio::piped())
-            .stderr(Stdio::piped())
-            .spawn()
-            .expect("the program runs");
-        let mut input = child.stdin.take().expect("it has one");
-        input.write_all(script).expect("it reads");
-        drop(input);
-        let output = child.wait_with_output().expect("the program ends");
-        let out = String::from_utf8(output.stdout).expect("it prints text");
-        (output.status.code(), out, output.stderr)
-    };
     let kept = fs::read_to_string(examples().join("show.out")).expect("its output");
     let script = fs::read(examples().join("show.txt")).expect("the script");
-    assert_eq!(play(&script), (Some(0), kept, Vec::new()));
-    let (status, out, _) = play(b"/quit\n");
+    assert_eq!(from_input(&script), (Some(0), kept, Vec::new()));
+    let (status, out, _) = from_input(b"/quit\n");
     assert_eq!((status, &*out), (Some(1), "line 1: /quit is no command\n"));
+}
+
+#[test]
+fn a_version_1_file_plays_as_its_twin() {
+    let script = |file: &str| {
+        format!(
+            "/d_recv {file}\n/s_new \"great hall\" 1 0 0\n/s_get 1 \"room size\"\n\
+             /d_recv {file}\n/s_new strings 2 0 0\ntree\n/status\nexport\n"
+        )
+    };
+    let (twin, _) = played(script("strings.scsyndef").as_bytes());
+    assert!(
+        twin.ends_with("  385 bytes, 2 definitions: strings \"great hall\"\n"),
+        "{twin}"
+    );
+    let original = script("strings-original.scsyndef");
+    let (text, _) = played(original.as_bytes());
+    assert_eq!(text.replace("-original", ""), twin);
+    let (status, text, _) = from_input(original.as_bytes());
+    assert_eq!((status, text.replace("-original", "")), (Some(0), twin));
 }

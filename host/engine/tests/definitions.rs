@@ -11,7 +11,8 @@ use common::pair::Pair;
 use common::sequences;
 use common::tally::{check, Tally};
 use independent::engine::SLOTS;
-use independent::{read, write, Call, Definition, Random, Shape, MOST_BYTES, MOST_DEFINITIONS};
+use independent::{read, write, write_as, Call, Definition, Random, Shape, Version};
+use independent::{MOST_BYTES, MOST_DEFINITIONS};
 use std::collections::{BTreeMap, BTreeSet};
 use std::rc::Rc;
 
@@ -179,6 +180,7 @@ fn libraries_agree() {
         &[
             ("operations", 100_000),
             ("loads", 5000),
+            ("loads of version 1 files", 2000),
             ("loads that take the last free slot", 500),
             ("loads of one more than fit", 500),
             ("files with a fault", 500),
@@ -333,7 +335,8 @@ impl Library {
         let names = definitions.iter();
         let names = names.map(|definition| definition.name.clone()).collect();
         let room = SLOTS - self.staying(&names);
-        let mut file = write(&definitions);
+        let version = self.random.one_of(&Version::ALL);
+        let mut file = write_as(version, &definitions);
         if self.random.below(20) == 0 && !definitions.is_empty() {
             // The last definition is cut.
             let end = file.bytes.len() - 1 - self.random.below(10);
@@ -360,6 +363,10 @@ impl Library {
         let tally = &mut self.tally;
         tally.count("files with a fault", fault.is_some());
         tally.count("loads", refusal == 0);
+        tally.count(
+            "loads of version 1 files",
+            refusal == 0 && version == Version::One,
+        );
         tally.count(
             "loads that take the last free slot",
             refusal == 0 && definitions.len() == room,

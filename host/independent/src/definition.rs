@@ -1,6 +1,8 @@
 //! A synth definition as plain data. Floats are their 32 bits. Numbers are signed as in the file,
 //! so that faulty definitions can be written too.
 
+use crate::Version;
+
 #[derive(Clone, Debug, Default, PartialEq, Eq)]
 pub struct Definition {
     pub name: Vec<u8>,
@@ -36,33 +38,29 @@ pub struct Variant {
 }
 
 impl Definition {
-    /// The number of bytes that it takes in a file.
+    /// The number of bytes that it takes in version 2, which the limit is on.
     pub fn size(&self) -> usize {
-        let parameters: usize = self.parameters.iter().map(|(name, _)| 5 + name.len()).sum();
-        let units: usize = self.units.iter().map(Unit::size).sum();
-        let variants: usize = self.variants.iter().map(Variant::size).sum();
-        1 + self.name.len()
-            + 4
-            + 4 * self.constants.len()
-            + 4
-            + 4 * self.initial.len()
-            + 4
-            + parameters
-            + 4
-            + units
-            + 2
-            + variants
+        self.size_in(Version::Two)
     }
-}
 
-impl Unit {
-    fn size(&self) -> usize {
-        1 + self.class.len() + 1 + 4 + 4 + 2 + 8 * self.inputs.len() + self.outputs.len()
-    }
-}
-
-impl Variant {
-    fn size(&self) -> usize {
-        1 + self.name.len() + 4 * self.values.len()
+    /// The number of bytes that it takes in a file of some version.
+    pub fn size_in(&self, version: Version) -> usize {
+        let number = version.width();
+        let name = |name: &[u8]| 1 + name.len();
+        let parameters = self.parameters.iter();
+        let parameters: usize = parameters.map(|(own, _)| name(own) + number).sum();
+        let units = self.units.iter();
+        let units: usize = units
+            .map(|unit| {
+                let inputs = 2 * number * unit.inputs.len();
+                name(&unit.class) + 1 + 2 * number + 2 + inputs + unit.outputs.len()
+            })
+            .sum();
+        let variants = self.variants.iter();
+        let variants: usize = variants
+            .map(|variant| name(&variant.name) + 4 * variant.values.len())
+            .sum();
+        let floats = self.constants.len() + self.initial.len();
+        name(&self.name) + 4 * number + 4 * floats + parameters + units + 2 + variants
     }
 }

@@ -7,7 +7,7 @@ mod slots;
 mod tree;
 mod view;
 
-use crate::{read, Command, Fault, Key, Value};
+use crate::{read_versioned, write, Command, Fault, Key, Value, Version};
 use slots::{Kept, Slots};
 use tree::{Kind, Place, Synth, Tree, ROOT};
 
@@ -91,7 +91,13 @@ impl Engine {
             Command::QueryTree { group, flag } => return self.query_tree(group, flag, reply),
             Command::Status => return self.status(reply),
             Command::Export => return self.export(reply),
-            Command::Receive(file) => self.slots.load(read(file)?, file),
+            Command::Receive(file) => match read_versioned(file)? {
+                (Version::One, definitions) => {
+                    let twin = write(&definitions).bytes;
+                    self.slots.load(definitions, &twin)
+                }
+                (Version::Two, definitions) => self.slots.load(definitions, file),
+            },
             Command::Delete(name) => need(self.slots.retire(name), 16),
             Command::NewSynth {
                 definition,

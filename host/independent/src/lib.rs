@@ -1,16 +1,19 @@
-//! SynthDef2 files, messages and the engine as the papers describe them, written without a look at the proved
+//! SynthDef files of both versions, messages and the engine as the papers describe them, written without a look at the proved
 //! code: the two are compared on many files and commands, so neither is to copy the other's mistakes.
 
 mod after;
 mod command;
 mod definition;
 pub mod engine;
+pub mod files;
 mod formed;
 pub mod layout;
 pub mod linked;
 mod message;
 mod random;
 mod read;
+mod version;
+mod widen;
 mod write;
 
 pub use after::leave;
@@ -20,8 +23,10 @@ pub use engine::{Answer, Engine, View};
 pub use formed::{depths, nodes_formed, running, well_formed};
 pub use message::{read_message, write_message, Argument, Message};
 pub use random::{Random, Shape};
-pub use read::{check, read, read_definition};
-pub use write::{write, Field, Rule, Written};
+pub use read::{check, read, read_definition, read_versioned, version};
+pub use version::Version;
+pub use widen::{twin, Twin};
+pub use write::{write, write_as, Field, Rule, Written};
 
 /// Bounds of the paper.
 pub const MOST_DEFINITIONS: usize = 32;

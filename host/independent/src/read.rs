@@ -1,26 +1,33 @@
-//! The reader. Fields are checked from the front and the first fault decides.
+//! The reader of both versions. Fields are checked from the front and the first fault decides.
 
-use crate::{Definition, Fault, Input, Unit, Variant};
+use crate::{Definition, Fault, Input, Unit, Variant, Version};
 use crate::{HIGHEST_RATE, MOST_BYTES, MOST_DEFINITIONS, MOST_PARAMETERS};
 
 /// Whether the file is accepted, and if not, why. Builds nothing.
 pub fn check(file: &[u8]) -> Result<(), Fault> {
+    version(file).map(|_| ())
+}
+
+/// The version of an accepted file.
+pub fn version(file: &[u8]) -> Result<Version, Fault> {
     walk(file, &mut Nobody)
 }
 
 /// The definitions of the file.
 pub fn read(file: &[u8]) -> Result<Vec<Definition>, Fault> {
-    let mut definitions = Vec::new();
-    walk(file, &mut definitions)?;
-    Ok(definitions)
+    read_versioned(file).map(|(_, definitions)| definitions)
 }
 
-/// The one definition that these bytes are, if they are one and no more. Any length will do.
+/// The version of the file, and its definitions.
+pub fn read_versioned(file: &[u8]) -> Result<(Version, Vec<Definition>), Fault> {
+    let mut definitions = Vec::new();
+    let version = walk(file, &mut definitions)?;
+    Ok((version, definitions))
+}
+
+/// The one definition that these bytes are in version 2, if they are one and no more. Any length will do.
 pub fn read_definition(bytes: &[u8]) -> Option<Definition> {
-    let mut reader = Reader {
-        length: bytes.len(),
-        rest: bytes,
-    };
+    let mut reader = Reader::<WIDE>::new(bytes);
     let mut definitions = Vec::with_capacity(1);
     definition(&mut reader, &mut Vec::new(), &mut definitions).ok()?;
     definitions.pop().filter(|_| reader.rest.is_empty())
@@ -96,13 +103,35 @@ fn patterns(floats: &[u8]) -> Vec<u32> {
         .collect()
 }
 
-/// The part of a file that is not yet read.
-struct Reader<'a> {
+const NARROW: usize = Version::One.width();
+const WIDE: usize = Version::Two.width();
+
+/// The part of a file that is not yet read. Numbers have so many bytes.
+struct Reader<'a, const WIDTH: usize> {
     length: usize,
     rest: &'a [u8],
+    /// How many bytes more version 2 takes for what was read.
+    added: usize,
 }
 
-impl<'a> Reader<'a> {
+impl<'a, const WIDTH: usize> Reader<'a, WIDTH> {
+    fn new(bytes: &'a [u8]) -> Self {
+        Reader {
+            length: bytes.len(),
+            rest: bytes,
+            added: 0,
+        }
+    }
+
+    /// The same place, and numbers of another width from here on.
+    fn with<const OTHER: usize>(self) -> Reader<'a, OTHER> {
+        Reader {
+            length: self.length,
+            rest: self.rest,
+            added: self.added,
+        }
+    }
+
     fn place(&self) -> usize {
         self.length - self.rest.len()
     }
@@ -126,9 +155,18 @@ impl<'a> Reader<'a> {
         self.field().map(i32::from_be_bytes)
     }
 
+    /// A number, signed in both versions.
+    fn number(&mut self) -> Result<i32, Fault> {
+        self.added += WIDE - WIDTH;
+        match WIDTH {
+            NARROW => self.int16().map(i32::from),
+            _ => self.int32(),
+        }
+    }
+
     fn count(&mut self, most: usize) -> Result<usize, Fault> {
         let place = self.place();
-        match usize::try_from(self.int32()?) {
+        match usize::try_from(self.number()?) {
             Ok(count) if count <= most => Ok(count),
             _ => Err(Fault::new(5, place)),
         }
@@ -145,7 +183,7 @@ impl<'a> Reader<'a> {
     /// An index from 0 and below a bound.
     fn index(&mut self, bound: usize) -> Result<i32, Fault> {
         let place = self.place();
-        let index = self.int32()?;
+        let index = self.number()?;
         match usize::try_from(index) {
             Ok(at) if at < bound => Ok(index),
             _ => Err(Fault::new(8, place)),
@@ -188,7 +226,10 @@ impl<'a> Reader<'a> {
     fn outputs(&mut self, count: usize) -> Result<&'a [u8], Fault> {
         let place = self.place();
         let (rates, rest) = self.rest.split_at(count.min(self.rest.len()));
-        if let Some(bad) = rates.iter().position(|&rate| !(0..=HIGHEST_RATE).contains(&(rate as i8))) {
+        if let Some(bad) = rates
+            .iter()
+            .position(|&rate| !(0..=HIGHEST_RATE).contains(&(rate as i8)))
+        {
             return Err(Fault::new(7, place + bad));
         }
         if rates.len() < count {
@@ -199,24 +240,33 @@ impl<'a> Reader<'a> {
     }
 }
 
-fn walk(file: &[u8], listener: &mut impl Listener) -> Result<(), Fault> {
-    let mut reader = Reader {
-        length: file.len(),
-        rest: file,
-    };
+fn walk(file: &[u8], listener: &mut impl Listener) -> Result<Version, Fault> {
+    let mut reader = Reader::<WIDE>::new(file);
     if &reader.field()? != b"SCgf" {
         return Err(Fault::new(3, 0));
     }
-    if reader.int32()? != 2 {
-        return Err(Fault::new(4, 4));
+    let version = Version::of(reader.int32()?).ok_or(Fault::new(4, 4))?;
+    match version {
+        Version::One => body(reader.with::<NARROW>(), listener)?,
+        Version::Two => body(reader, listener)?,
     }
+    Ok(version)
+}
+
+/// All after the version.
+fn body<const WIDTH: usize>(
+    mut reader: Reader<WIDTH>,
+    listener: &mut impl Listener,
+) -> Result<(), Fault> {
     let count = reader.short_count(MOST_DEFINITIONS)?;
     let mut names = Vec::with_capacity(count);
     let mut outputs = Vec::new();
     for _ in 0..count {
         let start = reader.place();
+        let added = reader.added;
         let name = definition(&mut reader, &mut outputs, listener)?;
-        if reader.place() - start > MOST_BYTES {
+        // The limit is on what it takes in version 2.
+        if reader.place() - start + (reader.added - added) > MOST_BYTES {
             return Err(Fault::new(9, start));
         }
         if names.contains(&name) {
@@ -232,8 +282,8 @@ fn walk(file: &[u8], listener: &mut impl Listener) -> Result<(), Fault> {
 }
 
 /// Reads one definition and answers its name. `outputs` is room for each unit's number of outputs.
-fn definition<'a>(
-    reader: &mut Reader<'a>,
+fn definition<'a, const WIDTH: usize>(
+    reader: &mut Reader<'a, WIDTH>,
     outputs: &mut Vec<usize>,
     listener: &mut impl Listener,
 ) -> Result<&'a [u8], Fault> {
@@ -265,7 +315,7 @@ fn definition<'a>(
         listener.unit(class, rate, special);
         for _ in 0..input_count {
             let place = reader.place();
-            let unit = reader.int32()?;
+            let unit = reader.number()?;
             let bound = if unit == -1 {
                 constants
             } else {

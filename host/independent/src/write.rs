@@ -1,7 +1,7 @@
-//! The writer. It writes what it is given, right or wrong, and keeps a map of the fields with the
-//! rule that each is under, so that a test knows what a damaged field should answer.
+//! The writer of both versions. It writes what it is given, right or wrong, and keeps a map of the
+//! fields with the rule that each is under, so that a test knows what a damaged field should answer.
 
-use crate::{Definition, Fault, Unit};
+use crate::{Definition, Fault, Unit, Version};
 use crate::{HIGHEST_RATE, MOST_BYTES, MOST_DEFINITIONS, MOST_PARAMETERS};
 
 /// What the paper asks of one field.
@@ -47,7 +47,7 @@ impl Field {
             });
         let (refusal, holds) = match self.rule {
             Rule::Magic => (3, bytes == b"SCgf"),
-            Rule::Version => (4, number == 2),
+            Rule::Version => (4, [1, 2].contains(&number)),
             Rule::Count(most) => (5, (0..=i64::from(most)).contains(&number)),
             Rule::Name { empty } => (
                 6,
@@ -67,17 +67,27 @@ impl Field {
 }
 
 /// A written file with the map of its fields.
-#[derive(Clone, Debug, Default)]
+#[derive(Clone, Debug)]
 pub struct Written {
+    pub version: Version,
     pub bytes: Vec<u8>,
     pub fields: Vec<Field>,
 }
 
 /// Writes a version 2 file.
 pub fn write(definitions: &[Definition]) -> Written {
-    let mut file = Written::default();
+    write_as(Version::Two, definitions)
+}
+
+/// Writes a file. The version has all its numbers.
+pub fn write_as(version: Version, definitions: &[Definition]) -> Written {
+    let mut file = Written {
+        version,
+        bytes: Vec::new(),
+        fields: Vec::new(),
+    };
     file.field(b"SCgf", Rule::Magic);
-    file.field(&2i32.to_be_bytes(), Rule::Version);
+    file.field(&version.field().to_be_bytes(), Rule::Version);
     let count = i16::try_from(definitions.len()).expect("the count of definitions is an int16");
     file.field(&count.to_be_bytes(), Rule::Count(MOST_DEFINITIONS as i32));
     for (place, definition) in definitions.iter().enumerate() {
@@ -115,9 +125,15 @@ impl Written {
         });
     }
 
-    fn count(&mut self, count: usize, most: usize) {
+    fn number(&mut self, number: i32, rule: Rule) {
+        let (least, most) = self.version.bounds();
+        assert!((least..=most).contains(&number), "the version has it");
+        self.field(&number.to_be_bytes()[4 - self.version.width()..], rule);
+    }
+
+    fn count(&mut self, count: usize, most: i32) {
         let count = i32::try_from(count).expect("a count is an int32");
-        self.field(&count.to_be_bytes(), Rule::Count(most as i32));
+        self.number(count, Rule::Count(most));
     }
 
     fn name(&mut self, name: &[u8], empty: bool) {
@@ -134,18 +150,18 @@ impl Written {
     }
 
     fn definition(&mut self, definition: &Definition, repeated: bool) {
-        let most = i32::MAX as usize;
+        let (_, most) = self.version.bounds();
         let start = self.bytes.len();
         self.name(&definition.name, false);
         self.count(definition.constants.len(), most);
         self.floats(&definition.constants);
-        self.count(definition.initial.len(), MOST_PARAMETERS);
+        self.count(definition.initial.len(), MOST_PARAMETERS as i32);
         self.floats(&definition.initial);
         self.count(definition.parameters.len(), most);
         for (name, index) in &definition.parameters {
             self.name(name, true);
             let below = definition.initial.len() as i32;
-            self.field(&index.to_be_bytes(), Rule::Index(0, below));
+            self.number(*index, Rule::Index(0, below));
         }
         self.count(definition.units.len(), most);
         for (place, unit) in definition.units.iter().enumerate() {
@@ -162,26 +178,27 @@ impl Written {
             start,
             end: start,
             rule: Rule::End {
-                long: self.bytes.len() - start > MOST_BYTES,
+                long: definition.size() > MOST_BYTES,
                 repeated,
             },
         });
     }
 
     fn unit(&mut self, unit: &Unit, definition: &Definition, place: usize) {
+        let (_, most) = self.version.bounds();
         self.name(&unit.class, true);
         self.field(&unit.rate.to_be_bytes(), Rule::Rate);
-        self.count(unit.inputs.len(), i32::MAX as usize);
-        self.count(unit.outputs.len(), i32::MAX as usize);
+        self.count(unit.inputs.len(), most);
+        self.count(unit.outputs.len(), most);
         self.field(&unit.special.to_be_bytes(), Rule::Any);
         for input in &unit.inputs {
             // -1 and the units before this one: the range has no gap.
-            self.field(&input.unit.to_be_bytes(), Rule::Index(-1, place as i32));
+            self.number(input.unit, Rule::Index(-1, place as i32));
             let below = match usize::try_from(input.unit) {
                 Ok(unit) => definition.units.get(unit).map_or(0, |u| u.outputs.len()),
                 Err(_) => definition.constants.len(),
             };
-            self.field(&input.index.to_be_bytes(), Rule::Index(0, below as i32));
+            self.number(input.index, Rule::Index(0, below as i32));
         }
         for rate in &unit.outputs {
             self.field(&rate.to_be_bytes(), Rule::Rate);

@@ -1,7 +1,7 @@
 //! The files in examples/ are what the independent writer makes of these definitions. With
 //! LIMUDVEK_WRITE_EXAMPLES set, they are written.
 
-use independent::{check, write, Definition, Input, Unit};
+use independent::{check, write_as, Definition, Input, Unit, Version};
 use std::fs;
 use std::path::Path;
 
@@ -9,16 +9,26 @@ use std::path::Path;
 fn the_files_are_those_written_here() {
     let folder = Path::new(env!("CARGO_MANIFEST_DIR")).join("../../examples");
     let files = [
-        ("ping.scsyndef", vec![ping()]),
-        ("rain.scsyndef", vec![rain(["amp", "fade", "pan"])]),
+        ("ping.scsyndef", Version::Two, vec![ping()]),
+        (
+            "rain.scsyndef",
+            Version::Two,
+            vec![rain(["amp", "fade", "pan"])],
+        ),
         (
             "rain-reordered.scsyndef",
+            Version::Two,
             vec![rain(["pan", "amp", "fade"])],
         ),
-        ("strings.scsyndef", vec![strings(), hall()]),
+        ("strings.scsyndef", Version::Two, vec![strings(), hall()]),
+        (
+            "strings-original.scsyndef",
+            Version::One,
+            vec![strings(), hall()],
+        ),
     ];
-    for (name, definitions) in files {
-        let file = write(&definitions).bytes;
+    for (name, version, definitions) in files {
+        let file = write_as(version, &definitions).bytes;
         assert_eq!(check(&file), Ok(()));
         let path = folder.join(name);
         if std::env::var_os("LIMUDVEK_WRITE_EXAMPLES").is_some() {

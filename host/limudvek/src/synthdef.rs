@@ -1,4 +1,4 @@
-//! SynthDef2 files: accepted, or refused with a number and a place.
+//! SynthDef files of version 1 and 2: accepted, or refused with a number and a place.
 
 use crate::refusal::reason;
 use std::fmt;
@@ -8,6 +8,7 @@ mod proved {
     extern "C" {
         pub fn synthdef_refusal(file: *const u8, length: usize) -> u32;
         pub fn synthdef_place(file: *const u8, length: usize) -> u64;
+        pub fn synthdef_version(file: *const u8, length: usize) -> u32;
         pub fn synthdef_count(file: *const u8, length: usize) -> u32;
         pub fn synthdef_name_start(file: *const u8, length: usize, index: u32) -> u64;
         pub fn synthdef_name_end(file: *const u8, length: usize, index: u32) -> u64;
@@ -61,6 +62,12 @@ pub fn check(file: &[u8]) -> Result<(), Refused> {
             place: place(file),
         }),
     }
+}
+
+/// The version, 1 or 2; 0 where the file is refused.
+pub fn version(file: &[u8]) -> u32 {
+    // SAFETY: as above.
+    unsafe { proved::synthdef_version(file.as_ptr(), file.len()) }
 }
 
 /// The number of definitions, 0 where the file is refused.

@@ -1,6 +1,9 @@
 //! The paper's examples on files, and each of its rules once, byte by byte, on both readers.
 
-use independent::{Definition, Fault};
+mod common;
+
+use common::{accepted, refused};
+use independent::Definition;
 use limudvek::synthdef;
 
 /// A header for so many definitions.
@@ -23,28 +26,6 @@ const NO_VARIANTS: &[u8] = &[0, 0];
 
 /// Neither inputs nor outputs, class `U`, rate 2, special index 0.
 const UNIT: &[u8] = b"\x01U\x02\0\0\0\0\0\0\0\0\0\0";
-
-fn answers(file: &[u8], expected: Result<(), (u32, u64)>) {
-    let expected = expected.map_err(|(number, place)| Fault { number, place });
-    let proved = synthdef::check(file).map_err(|refused| Fault {
-        number: refused.number,
-        place: refused.place,
-    });
-    assert_eq!(proved, expected, "the proved reader on {file:?}");
-    assert_eq!(
-        independent::check(file),
-        expected,
-        "the independent reader on {file:?}"
-    );
-}
-
-fn refused(file: &[u8], number: u32, place: u64) {
-    answers(file, Err((number, place)));
-}
-
-fn accepted(file: &[u8]) {
-    answers(file, Ok(()));
-}
 
 #[test]
 fn no_definitions() {
@@ -164,7 +145,16 @@ fn the_header() {
     refused(b"SCgx", 3, 0);
     refused(b"SCgf", 2, 4);
     refused(b"SCgf\0\0\x01", 2, 4);
-    refused(b"SCgf\0\0\0\x01", 4, 4);
+    for version in [
+        b"\0\0\0\0",
+        b"\0\0\0\x03",
+        b"\x01\0\0\0",
+        b"\0\x01\0\x01",
+        b"\xff\xff\xff\xff",
+    ] {
+        refused(&[b"SCgf", version.as_slice()].concat(), 4, 4);
+    }
+    refused(b"SCgf\0\0\0\x01", 2, 8);
     refused(b"SCgf\0\0\0\x02", 2, 8);
     refused(b"SCgf\0\0\0\x02\xff", 2, 8);
     refused(b"SCgf\0\0\0\x02\xff\xff", 5, 8);

@@ -1,21 +1,35 @@
-
-
-
+use Prim.Native.Nat.{_*_, _-_}
+use mathlib.Core.Path.{_≡_}
 use native.Mathlib.Omega.{arith}
 use borrow.Author.Needs.{needs}
-use lib.ListN.{length-set}
-use borrow.Author.Needs.{needs}
+use lib.ListN.{length, length-set}
+use Rattle.format.specs.Writer.{writeDefinition}
+use Rattle.model.specs.Layout.{slotRoom}
 use Rattle.definitions.proofs.place.Statement.{statement}
 use Rattle.definitions.proofs.place.Tie as tie
 
-mul-copy-in : tie.Need-mul-copy-in
-mul-copy-in c = search needs
+mul-start : tie.Need-mul-start
+mul-start c = search needs
 
-copy-in-requires : tie.Need-copy-in-requires
-copy-in-requires c κs = search needs
+widen-requires : tie.Need-widen-requires
+widen-requires c κs =
+    let p = c .before .before .before .before .pre in
+    let h = p .1 .1 in
+    let size = p .0 .arenaSize in
+    let small = h .small in
+    record { readable = record { definition = h .definition; read = h .read }; room = omega arith }
+
+sub-table : tie.Need-sub-table
+sub-table c =
+    let h = c .before .before .before .before .before .before .before .pre .1 .1 in
+    let w = c .before .before .widen .ensures (h .definition) (h .read) in
+    omega (arith, w .end)
 
 cast-table : tie.Need-cast-table
-cast-table c = search needs
+cast-table c =
+    let h = c .before .before .before .before .before .before .before .pre .1 .1 in
+    let w = c .before .before .widen .ensures (h .definition) (h .read) in
+    omega (arith, w .end, h .small)
 
 mul-table : tie.Need-mul-table
 mul-table c = search needs
@@ -39,14 +53,19 @@ same-length-2 : tie.Need-same-length-2
 same-length-2 c = search needs
 
 returns : tie.Need-returns
-returns c = search needs
+returns c = λ d e.
+    let w = c .before .before .widen .ensures d e in
+    let a = c .before .before .before .before .before .before .before .args in
+    let size : c .before .before .widen .result - slotRoom * a .k ≡ length (writeDefinition d) = omega (arith, w .end) in
+    (rw size, w .bytes)
 
 pub place-spec : {M : Type 1} → statement M
 place-spec =
     tie.close
     (tie.spec
-    mul-copy-in
-    copy-in-requires
+    mul-start
+    widen-requires
+    sub-table
     cast-table
     mul-table
     slice-write-table

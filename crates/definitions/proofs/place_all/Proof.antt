@@ -1,13 +1,12 @@
-use Rattle.words.specs.Parts.{region-length}
 use Prim.{tt}
 use Rattle.definitions.specs.Naming.{run-next}
 use Rattle.definitions.specs.Loading.{Loading, loading-first, loading-next, loading-skip, loading-last}
 use Rattle.definitions.specs.Files.{accepted-run}
-use Prim.Native.Nat.{ℕ, _-_}
-use mathlib.Core.Path.{_≡_, sym, ap, _∙_}
+use Prim.Native.Nat.{_-_}
+use mathlib.Core.Path.{_≡_, sym, _∙_}
 use native.Mathlib.Omega.{arith}
 use borrow.Author.Needs.{needs}
-use lib.ListN.{length, take, drop}
+use lib.ListN.{length}
 use Rattle.definitions.proofs.place_all.Statement.{statement}
 use Rattle.definitions.proofs.place_all.Tie as tie
 
@@ -28,53 +27,35 @@ definition-end-requires c κs = tt
 lowest-free-requires : tie.Need-lowest-free-requires Inv-loop μ-loop
 lowest-free-requires c κs = c .before .before .before .loop .inv .sized .tableSize
 
-sub-place : tie.Need-sub-place Inv-loop μ-loop
-sub-place c = let n = run-next (c .before .before .before .before .before .before .before .loop .inv .run) (c .before .before .before .before .before .before .loop-test .taken) in
-    let end = c .before .before .before .before .before .definition-end .ensures (n .first) (n .next) (n .here .read) in
-    let on = n .here .forward in
-    omega arith
-
-part-place-start : tie.Need-part-place-start Inv-loop μ-loop
-part-place-start c = let n = run-next (c .before .before .before .before .before .before .before .loop .inv .run) (c .before .before .before .before .before .before .loop-test .taken) in
-    let end = c .before .before .before .before .before .definition-end .ensures (n .first) (n .next) (n .here .read) in
-    let on = n .here .forward in
-    omega arith
-
-part-place-end : tie.Need-part-place-end Inv-loop μ-loop
-part-place-end c = let n = run-next (c .before .before .before .before .before .before .before .loop .inv .run) (c .before .before .before .before .before .before .loop-test .taken) in
-    let end = c .before .before .before .before .before .definition-end .ensures (n .first) (n .next) (n .here .read) in
-    let within = n .here .inside in
-    omega arith
+width-of-requires : tie.Need-width-of-requires Inv-loop μ-loop
+width-of-requires c κs = tt
 
 place-requires : tie.Need-place-requires Inv-loop μ-loop
-place-requires c κs = let n = run-next (c .before .before .before .before .before .before .before .before .loop .inv .run) (c .before .before .before .before .before .before .before .loop-test .taken) in
+place-requires c κs =
+    let n = run-next (c .before .before .before .before .before .before .before .before .loop .inv .run) (c .before .before .before .before .before .before .before .loop-test .taken) in
     let end = c .before .before .before .before .before .before .definition-end .ensures (n .first) (n .next) (n .here .read) in
-    let on = n .here .forward in
-    let within = n .here .inside in
-    let small = n .here .small in
-    let at = c .before .before .before .before .before .before .before .before .loop .at in
-    let file = c .before .before .before .before .before .before .before .before .before .before .before .before .args .file .now in
-    let size = region-length at (c .before .before .before .before .before .before .definition-end .result - at) file (omega arith) in
-    (c .before .before .before .before .before .before .before .before .loop .inv .sized, (c .before .before .before .if1 .taken, omega arith))
+    let read = rw (sym (c .width-of .ensures), sym end) at (n .here .read) in
+    (c .before .before .before .before .before .before .before .before .loop .inv .sized, (c .before .before .before .if1 .taken, record { definition = n .first; read = read; small = n .here .small }))
 
 loop-less : tie.Need-loop-less Inv-loop μ-loop
-loop-less c = let n = run-next (c .before .before .before .before .before .before .before .before .before .before .before .before .before .loop .inv .run) (c .before .before .before .before .before .before .before .before .before .before .before .before .loop-test .taken) in
+loop-less c =
+    let n = run-next (c .before .before .before .before .before .before .before .before .before .before .before .before .before .loop .inv .run) (c .before .before .before .before .before .before .before .before .before .before .before .before .loop-test .taken) in
     let end = c .before .before .before .before .before .before .before .before .before .before .before .definition-end .ensures (n .first) (n .next) (n .here .read) in
     let on = n .here .forward in
     let less = c .before .before .before .before .before .before .before .before .before .before .before .before .loop-test .taken in
     omega arith
 
 loop-again : tie.Need-loop-again Inv-loop μ-loop
-loop-again c = let s = c .before .before .before .before .before .before .before .before .before .before .before .before .before .before .before .before .before in
+loop-again c =
+    let s = c .before .before .before .before .before .before .before .before .before .before .before .before .before .before .before .before .before in
     let a = s .args in
     let l = c .before .before .before .before .before .before .before .before .before .before .before .before .before .loop in
     let n = run-next (l .inv .run) (c .before .before .before .before .before .before .before .before .before .before .before .before .loop-test .taken) in
     let end : c .before .before .before .before .before .before .before .before .before .before .before .definition-end .result ≡ n .next = c .before .before .before .before .before .before .before .before .before .before .before .definition-end .ensures (n .first) (n .next) (n .here .read) in
-    let from = take (c .before .before .before .before .before .before .before .before .before .before .before .definition-end .result - l .at) (drop (l .at) (a .file .now)) in
-    let same : from ≡ take (n .next - l .at) (drop (l .at) (a .file .now)) = ap (λ (e : ℕ). take (e - l .at) (drop (l .at) (a .file .now))) end in
-    let p = c .before .before .before .before .place .ensures in
+    let read = rw (sym (c .before .before .before .before .before .width-of .ensures), sym end) at (n .here .read) in
+    let p = c .before .before .before .before .place .ensures (n .first) read in
     rw (end, p .0, p .1)
-    (loading-next (a .table .now) (a .arena .now) (a .file .now) (a .held) (l .at) (l .table) (l .arena) (s .pre .0 .sized .arenaSize) (l .inv) n (c .before .before .before .before .before .before .before .before .before .lowest-free .result) (c .before .before .before .before .before .before .before .before .before .lowest-free .ensures) (c .before .before .before .before .before .before .before .before .if1 .taken) from same)
+    (loading-next (a .table .now) (a .arena .now) (a .file .now) (a .held) (l .at) (l .table) (l .arena) (s .pre .0 .sized .arenaSize) (l .inv) n (c .before .before .before .before .before .before .before .before .before .lowest-free .result) (c .before .before .before .before .before .before .before .before .before .lowest-free .ensures) (c .before .before .before .before .before .before .before .before .if1 .taken))
 
 loop-less-2 : tie.Need-loop-less-2 Inv-loop μ-loop
 loop-less-2 c = let n = run-next (c .before .before .before .before .before .loop .inv .run) (c .before .before .before .before .loop-test .taken) in
@@ -110,9 +91,7 @@ place-all-spec =
     loop-holds
     definition-end-requires
     lowest-free-requires
-    sub-place
-    part-place-start
-    part-place-end
+    width-of-requires
     place-requires
     loop-less
     loop-again

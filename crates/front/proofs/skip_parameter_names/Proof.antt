@@ -4,16 +4,16 @@ use native.Mathlib.Omega.{arith}
 use borrow.Author.Needs.{needs}
 use native.Mathlib.Nat.{sub-zero}
 use Rattle.format.specs.Read.{repeat, ending}
-use Rattle.format.specs.Reader.{parameterName}
+use Rattle.format.specs.Reader.{parameterNameBy}
 use Rattle.format.specs.RepeatLaws.{ending-turn, ending-none}
 use Rattle.front.proofs.skip_parameter_names.Statement.{statement}
 use Rattle.front.proofs.skip_parameter_names.Tie as tie
 
 abbrev Inv-loop : tie.InvT-loop
-Inv-loop s parameters count at₀ i₀ at i = (i ≤ count) × (ending (repeat (parameterName parameters s) (count - i) at) ≡ ending (repeat (parameterName parameters s) count at₀))
+Inv-loop s width parameters count at₀ i₀ at i = (i ≤ count) × (ending (repeat (parameterNameBy width parameters s) (count - i) at) ≡ ending (repeat (parameterNameBy width parameters s) count at₀))
 
 abbrev μ-loop : tie.MeasureT-loop
-μ-loop s parameters count at₀ i₀ at i = count - i
+μ-loop s width parameters count at₀ i₀ at i = count - i
 
 loop-holds : tie.Need-loop-holds Inv-loop μ-loop
 loop-holds c = (omega arith, rw sub-zero)
@@ -32,7 +32,7 @@ returns c =
     let a = c .before .before .before .before .before .before .before .args in
     let l = c .before .before .before .before .before .loop in
     let e = rw (c .before .refusal .given .1) at (c .before .before .before .parameter-name .ensures) in
-    rw (sym e) at (sym (ending-turn (parameterName (a .parameters) (a .s .now)) (a .count) (l .i) (l .at) (omega arith)) ∙ l .inv .1)
+    rw (sym e) at (sym (ending-turn (parameterNameBy (a .width) (a .parameters) (a .s .now)) (a .count) (l .i) (l .at) (omega arith)) ∙ l .inv .1)
 
 add-i : tie.Need-add-i Inv-loop μ-loop
 add-i c = omega arith
@@ -45,13 +45,13 @@ loop-again c =
     let a = c .before .before .before .before .before .before .before .args in
     let l = c .before .before .before .before .before .loop in
     let e = rw (c .before .start .given .1) at (c .before .before .before .parameter-name .ensures) in
-    (omega arith, rw (sym e) at (sym (ending-turn (parameterName (a .parameters) (a .s .now)) (a .count) (l .i) (l .at) (omega arith)) ∙ l .inv .1))
+    (omega arith, rw (sym e) at (sym (ending-turn (parameterNameBy (a .width) (a .parameters) (a .s .now)) (a .count) (l .i) (l .at) (omega arith)) ∙ l .inv .1))
 
 returns-2 : tie.Need-returns-2 Inv-loop μ-loop
 returns-2 c =
     let a = c .before .before .before .args in
     let l = c .before .loop in
-    sym (ending-none (parameterName (a .parameters) (a .s .now)) (a .count) (l .i) (l .at) (omega arith)) ∙ l .inv .1
+    sym (ending-none (parameterNameBy (a .width) (a .parameters) (a .s .now)) (a .count) (l .i) (l .at) (omega arith)) ∙ l .inv .1
 
 pub skip-parameter-names-spec : {M : Type 1} → statement M
 skip-parameter-names-spec =

@@ -14,7 +14,7 @@ use Rattle.units.proofs.+read_many.{statement}
 use Rattle.units.proofs.+read_many.Tie.{close}
 
 abbrev μ-read-many : Measures 1 read-many-kinds.ps ℕ
-μ-read-many κs a = a .1 .1 .1 .1 .0
+μ-read-many κs a = a .1 .1 .1 .1 .1 .0
 
 abbrev read-many-at : ℕ → In 1 read-many-kinds.ps
 read-many-at t = and 1 read-many-kinds.ps (is 1 read-many-kinds.ps μ-read-many t) read-many.Pre

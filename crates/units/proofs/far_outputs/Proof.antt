@@ -31,7 +31,7 @@ add-outputs-behind c =
     let index : c .before .before .before .wide .result ≡ k = c .before .before .before .wide .ensures in
     let low : k < length m = rw index at (c .before .before .if1 .taken) in
     let place : c .wide2 .result ≡ getD m k 0 = c .wide2 .ensures ∙ ap (λ (n : ℕ). getD m n 0) index in
-    omega (arith, mark-within (a .args .s .now) (a .args .start) (a .args .stride) m (a .args .unit) (a .pre .1) low)
+    omega (arith, mark-within (a .args .width) (a .args .s .now) (a .args .start) (a .args .stride) m (a .args .unit) (a .pre .1) low)
 
 rem-outputs-behind : tie.Need-rem-outputs-behind
 rem-outputs-behind c = search needs
@@ -44,7 +44,7 @@ outputs-behind-requires c κs =
     let index : c .before .before .before .wide .result ≡ k = c .before .before .before .wide .ensures in
     let low : k < length m = rw index at (c .before .before .if1 .taken) in
     let place : c .wide2 .result ≡ getD m k 0 = c .wide2 .ensures ∙ ap (λ (n : ℕ). getD m n 0) index in
-    rw (place, mark-place (a .args .s .now) (a .args .start) (a .args .stride) m (a .args .unit) (a .pre .1) low) (a .pre .0)
+    rw (place, mark-place (a .args .width) (a .args .s .now) (a .args .start) (a .args .stride) m (a .args .unit) (a .pre .1) low) (a .pre .0)
 
 returns : tie.Need-returns
 returns c =
@@ -55,8 +55,8 @@ returns c =
     let low : k < length m = rw index at (c .before .before .before .if1 .taken) in
     let place : c .before .wide2 .result ≡ getD m k 0 = c .before .wide2 .ensures ∙ ap (λ (n : ℕ). getD m n 0) index in
     c .outputs-behind .ensures
-    ∙ ap (unitOutputs (a .args .s .now)) (ap (λ (p : ℕ). unitPlace (a .args .s .now) (a .args .start + p) (a .args .unit % a .args .stride)) place
-    ∙ mark-place (a .args .s .now) (a .args .start) (a .args .stride) m (a .args .unit) (a .pre .1) low)
+    ∙ ap (unitOutputs (a .args .width) (a .args .s .now)) (ap (λ (p : ℕ). unitPlace (a .args .width) (a .args .s .now) (a .args .start + p) (a .args .unit % a .args .stride)) place
+    ∙ mark-place (a .args .width) (a .args .s .now) (a .args .start) (a .args .stride) m (a .args .unit) (a .pre .1) low)
 
 outputs-behind-requires-2 : tie.Need-outputs-behind-requires-2
 outputs-behind-requires-2 c κs = search needs

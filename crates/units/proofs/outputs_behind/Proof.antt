@@ -8,10 +8,10 @@ use Rattle.units.proofs.outputs_behind.Statement.{statement}
 use Rattle.units.proofs.outputs_behind.Tie as tie
 
 abbrev Inv-loop : tie.InvT-loop
-Inv-loop s start unit at₀ i₀ at i = (i ≤ unit) × (at ≡ unitPlace s start i)
+Inv-loop s start width unit at₀ i₀ at i = (i ≤ unit) × (at ≡ unitPlace width s start i)
 
 abbrev μ-loop : tie.MeasureT-loop
-μ-loop s start unit at₀ i₀ at i = unit - i
+μ-loop s start width unit at₀ i₀ at i = unit - i
 
 loop-holds : tie.Need-loop-holds Inv-loop μ-loop
 unfolding unitPlace
@@ -22,7 +22,7 @@ unfolding unitPlace
 unit-end-requires c κs =
     let a = c .before .before .before .args in
     let i = c .before .loop .i in
-    rw (c .before .loop .inv .1) (le-trans (place-up (a .s .now) (a .start) (suc i) (suc (a .unit)) (omega arith)) (c .before .before .before .pre))
+    rw (c .before .loop .inv .1) (le-trans (place-up (a .width) (a .s .now) (a .start) (suc i) (suc (a .unit)) (omega arith)) (c .before .before .before .pre))
 
 add-i : tie.Need-add-i Inv-loop μ-loop
 add-i c = omega arith
@@ -35,7 +35,7 @@ unfolding unitPlace
 loop-again c =
     let a = c .before .before .before .before .args in
     let i = c .before .before .loop .i in
-    (omega arith, rw add-one (c .unit-end .ensures ∙ ap (unitEnd (a .s .now)) (c .before .before .loop .inv .1)))
+    (omega arith, rw add-one (c .unit-end .ensures ∙ ap (unitEnd (a .width) (a .s .now)) (c .before .before .loop .inv .1)))
 
 unit-outputs-requires : tie.Need-unit-outputs-requires Inv-loop μ-loop
 unfolding unitPlace
@@ -48,7 +48,7 @@ returns c =
     let a = c .before .before .before .before .args in
     let same : c .before .before .loop .i ≡ a .unit = omega arith in
     c .unit-outputs .ensures
-    ∙ ap (unitOutputs (a .s .now)) (c .before .before .loop .inv .1 ∙ ap (unitPlace (a .s .now) (a .start)) same)
+    ∙ ap (unitOutputs (a .width) (a .s .now)) (c .before .before .loop .inv .1 ∙ ap (unitPlace (a .width) (a .s .now) (a .start)) same)
 
 pub outputs-behind-spec : {M : Type 1} → statement M
 outputs-behind-spec =

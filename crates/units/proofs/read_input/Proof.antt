@@ -4,15 +4,15 @@ use native.Mathlib.Omega.{arith}
 use native.Mathlib.Nat.{le-trans}
 use borrow.Author.Needs.{needs}
 use lib.ListN.{getD}
-use Rattle.format.specs.Fields.{indexBelow}
+use Rattle.format.specs.Fields.{indexBelowBy}
 use Rattle.format.specs.Read.{ending}
 use Rattle.units.specs.Marks.{unitPlace, place-up}
 use Rattle.units.specs.Units.{remembered, outsFrom, outs-length, outs-at, input-cut, input-constant, input-output, input-bad}
 use Rattle.units.proofs.read_input.Statement.{statement}
 use Rattle.units.proofs.read_input.Tie as tie
 
-int32-requires : tie.Need-int32-requires
-int32-requires c κs = search needs
+integer-requires : tie.Need-integer-requires
+integer-requires c κs = search needs
 
 enum-known-unit : tie.Need-enum-known-unit
 enum-known-unit c = search needs
@@ -23,14 +23,14 @@ read-index-requires c κs = search needs
 returns : tie.Need-returns
 returns c =
     let a = c .before .before .before .before .before .before .before .before .args in
-    let read = sym (rw (c .before .before .before .unit .given .1) at (c .before .before .before .before .before .int32 .ensures)) in
-    c .read-index .ensures ∙ sym (input-constant (a .constants) (outsFrom (a .s .now) (a .start) (a .units)) (a .s .now) (a .cursor .at) read (c .before .if1 .taken))
+    let read = sym (rw (c .before .before .before .unit .given .1) at (c .before .before .before .before .before .integer .ensures)) in
+    c .read-index .ensures ∙ sym (input-constant (a .width) (a .constants) (outsFrom (a .width) (a .s .now) (a .start) (a .units)) (a .s .now) (a .cursor .at) read (c .before .if1 .taken))
 
 returns-2 : tie.Need-returns-2
 returns-2 c =
     let a = c .before .before .before .before .before .before .before .before .args in
-    let read = sym (rw (c .before .before .before .unit .given .1) at (c .before .before .before .before .before .int32 .ensures)) in
-    sym (input-bad (a .constants) (outsFrom (a .s .now) (a .start) (a .units)) (a .s .now) (a .cursor .at) read (c .before .if1 .left) (rw outs-length (omega arith)))
+    let read = sym (rw (c .before .before .before .unit .given .1) at (c .before .before .before .before .before .integer .ensures)) in
+    sym (input-bad (a .width) (a .constants) (outsFrom (a .width) (a .s .now) (a .start) (a .units)) (a .s .now) (a .cursor .at) read (c .before .if1 .left) (rw outs-length (omega arith)))
 
 wide-requires : tie.Need-wide-requires
 wide-requires c κs = search needs
@@ -57,20 +57,20 @@ returns-3 : tie.Need-returns-3
 returns-3 c =
     let a = c .before .before .before .before .before .before .before .before .before .before .before .before .before .before in
     let u = c .before .before .before .before .before .before .before .before .before .unit .given .0 .0 in
-    let read = sym (rw (c .before .before .before .before .before .before .before .before .before .unit .given .1) at (c .before .before .before .before .before .before .before .before .before .before .before .int32 .ensures)) in
+    let read = sym (rw (c .before .before .before .before .before .before .before .before .before .unit .given .1) at (c .before .before .before .before .before .before .before .before .before .before .before .integer .ensures)) in
     let less : u < a .args .units = omega arith in
-    let known = outs-at (a .args .s .now) (a .args .start) (a .args .units) u less in
+    let known = outs-at (a .args .width) (a .args .s .now) (a .args .start) (a .args .units) u less in
     let fact = a .pre .known u less (omega (arith, c .before .before .before .before .before .wide .ensures, c .before .before .before .before .wide2 .ensures, c .before .before .before .if3 .taken)) in
     c .read-index2 .ensures
-    ∙ ap (λ (b : ℕ). ending (indexBelow b (a .args .s .now) (c .before .before .before .before .before .before .before .before .before .unit .given .0 .1 .0 .at))) (ap (λ (n : ℕ). getD (a .args .outs .now) (n % remembered) 0) (c .before .before .wide3 .ensures) ∙ fact ∙ sym known)
-    ∙ sym (input-output (a .args .constants) (outsFrom (a .args .s .now) (a .args .start) (a .args .units)) (a .args .s .now) (a .args .cursor .at) read (c .before .before .before .before .before .before .before .if1 .left) (rw outs-length less))
+    ∙ ap (λ (b : ℕ). ending (indexBelowBy (a .args .width) b (a .args .s .now) (c .before .before .before .before .before .before .before .before .before .unit .given .0 .1 .0 .at))) (ap (λ (n : ℕ). getD (a .args .outs .now) (n % remembered) 0) (c .before .before .wide3 .ensures) ∙ fact ∙ sym known)
+    ∙ sym (input-output (a .args .width) (a .args .constants) (outsFrom (a .args .width) (a .args .s .now) (a .args .start) (a .args .units)) (a .args .s .now) (a .args .cursor .at) read (c .before .before .before .before .before .before .before .if1 .left) (rw outs-length less))
 
 far-outputs-requires : tie.Need-far-outputs-requires
 unfolding unitPlace
 far-outputs-requires c κs =
     let a = c .before .before .before .before .before .before .before .before .before .before .before in
     let u = c .before .before .before .before .before .before .unit .given .0 .0 in
-    (le-trans (place-up (a .args .s .now) (a .args .start) (suc u) (a .args .units) (omega arith)) (a .pre .within (omega arith)), a .pre .marked)
+    (le-trans (place-up (a .args .width) (a .args .s .now) (a .args .start) (suc u) (a .args .units) (omega arith)) (a .pre .within (omega arith)), a .pre .marked)
 
 read-index-requires-3 : tie.Need-read-index-requires-3
 read-index-requires-3 c κs = search needs
@@ -82,24 +82,24 @@ returns-4 : tie.Need-returns-4
 returns-4 c =
     let a = c .before .before .before .before .before .before .before .before .before .before .before .before .before in
     let u = c .before .before .before .before .before .before .before .before .unit .given .0 .0 in
-    let read = sym (rw (c .before .before .before .before .before .before .before .before .unit .given .1) at (c .before .before .before .before .before .before .before .before .before .before .int32 .ensures)) in
+    let read = sym (rw (c .before .before .before .before .before .before .before .before .unit .given .1) at (c .before .before .before .before .before .before .before .before .before .before .integer .ensures)) in
     let less : u < a .args .units = omega arith in
-    let known = outs-at (a .args .s .now) (a .args .start) (a .args .units) u less in
+    let known = outs-at (a .args .width) (a .args .s .now) (a .args .start) (a .args .units) u less in
     c .read-index3 .ensures
-    ∙ ap (λ (b : ℕ). ending (indexBelow b (a .args .s .now) (c .before .before .before .before .before .before .before .before .unit .given .0 .1 .0 .at))) (c .before .far-outputs .ensures ∙ sym known)
-    ∙ sym (input-output (a .args .constants) (outsFrom (a .args .s .now) (a .args .start) (a .args .units)) (a .args .s .now) (a .args .cursor .at) read (c .before .before .before .before .before .before .if1 .left) (rw outs-length less))
+    ∙ ap (λ (b : ℕ). ending (indexBelowBy (a .args .width) b (a .args .s .now) (c .before .before .before .before .before .before .before .before .unit .given .0 .1 .0 .at))) (c .before .far-outputs .ensures ∙ sym known)
+    ∙ sym (input-output (a .args .width) (a .args .constants) (outsFrom (a .args .width) (a .args .s .now) (a .args .start) (a .args .units)) (a .args .s .now) (a .args .cursor .at) read (c .before .before .before .before .before .before .if1 .left) (rw outs-length less))
 
 returns-5 : tie.Need-returns-5
 returns-5 c =
     let a = c .before .before .before .before .before .before .args in
-    let read = sym (rw (c .before .refusal .given .1) at (c .before .before .before .int32 .ensures)) in
-    sym (input-cut (a .constants) (outsFrom (a .s .now) (a .start) (a .units)) (a .s .now) (a .cursor .at) read)
+    let read = sym (rw (c .before .refusal .given .1) at (c .before .before .before .integer .ensures)) in
+    sym (input-cut (a .width) (a .constants) (outsFrom (a .width) (a .s .now) (a .start) (a .units)) (a .s .now) (a .cursor .at) read)
 
 pub read-input-spec : {M : Type 1} → statement M
 read-input-spec =
     tie.close
     (tie.spec
-    int32-requires
+    integer-requires
     enum-known-unit
     read-index-requires
     returns

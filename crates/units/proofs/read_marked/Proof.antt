@@ -10,22 +10,22 @@ use Rattle.units.proofs.read_marked.Statement.{statement}
 use Rattle.units.proofs.read_marked.Tie as tie
 
 abbrev Inv-loop : tie.InvT-loop
-Inv-loop s constants count stride marks₀ start outs₀ known₀ at₀ i₀ marks outs known at i = Standing constants s start count outs stride marks known at i × (length marks ≡ length marks₀)
+Inv-loop s width constants count stride marks₀ start outs₀ known₀ at₀ i₀ marks outs known at i = Standing width constants s start count outs stride marks known at i × (length marks ≡ length marks₀)
 
 abbrev μ-loop : tie.MeasureT-loop
-μ-loop s constants count stride marks₀ start outs₀ known₀ at₀ i₀ marks outs known at i = count - i
+μ-loop s width constants count stride marks₀ start outs₀ known₀ at₀ i₀ marks outs known at i = count - i
 
 loop-holds : tie.Need-loop-holds Inv-loop μ-loop
 loop-holds c =
     let a = c .before .before in
-    (stands-first (a .args .constants) (a .args .s .now) (a .args .cursor .at) (a .args .count) _ (a .args .stride) (a .args .marks .now) refl (a .pre .0) (a .pre .1), refl)
+    (stands-first (a .args .width) (a .args .constants) (a .args .s .now) (a .args .cursor .at) (a .args .count) _ (a .args .stride) (a .args .marks .now) refl (a .pre .0) (a .pre .1), refl)
 
 sub-mark-unit : tie.Need-sub-mark-unit Inv-loop μ-loop
 unfolding unitPlace
 sub-mark-unit c =
     let a = c .before .before .before .before .before .args in
     let l = c .before .before .loop in
-    omega (arith, l .inv .0 .stood .here, place-up (a .s .now) (a .cursor .at) 0 (l .i) (omega arith))
+    omega (arith, l .inv .0 .stood .here, place-up (a .width) (a .s .now) (a .cursor .at) 0 (l .i) (omega arith))
 
 mark-unit-requires : tie.Need-mark-unit-requires Inv-loop μ-loop
 mark-unit-requires c κs =
@@ -40,7 +40,7 @@ slice-reshare-prefix-read-run c =
     let a = c .before .before .before .before .before .before .before .before .before .before .args in
     let l = c .before .before .before .before .before .before .before .loop in
     let m = c .before .before .before .before .mark-unit .ensures in
-    let st = stands-marked (a .constants) (a .s .now) (a .cursor .at) (a .count) (l .inv .0) m in
+    let st = stands-marked (a .width) (a .constants) (a .s .now) (a .cursor .at) (a .count) (l .inv .0) m in
     st .room
 
 slice-aggregate-read-run : tie.Need-slice-aggregate-read-run Inv-loop μ-loop
@@ -48,7 +48,7 @@ slice-aggregate-read-run c =
     let a = c .before .before .before .before .before .before .before .before .before .before .before .args in
     let l = c .before .before .before .before .before .before .before .before .loop in
     let m = c .before .before .before .before .before .mark-unit .ensures in
-    let st = stands-marked (a .constants) (a .s .now) (a .cursor .at) (a .count) (l .inv .0) m in
+    let st = stands-marked (a .width) (a .constants) (a .s .now) (a .cursor .at) (a .count) (l .inv .0) m in
     sym (length-take-le _ _ (st .room))
 
 read-run-requires : tie.Need-read-run-requires Inv-loop μ-loop
@@ -56,7 +56,7 @@ read-run-requires c κs =
     let a = c .before .before .before .before .before .before .before .before .before .before .before .args in
     let l = c .before .before .before .before .before .before .before .before .loop in
     let m = c .before .before .before .before .before .mark-unit .ensures in
-    let st = stands-marked (a .constants) (a .s .now) (a .cursor .at) (a .count) (l .inv .0) m in
+    let st = stands-marked (a .width) (a .constants) (a .s .now) (a .cursor .at) (a .count) (l .inv .0) m in
     (omega (arith, c .before .before .run-end .ensures), st .stood)
 
 enum-known-next : tie.Need-enum-known-next Inv-loop μ-loop
@@ -73,10 +73,10 @@ returns c =
     let a = c .before .before .before .before .before .before .before .before .before .before .before .before .before .before .before .args in
     let l = c .before .before .before .before .before .before .before .before .before .before .before .before .loop in
     let m = c .before .before .before .before .before .before .before .before .before .mark-unit .ensures in
-    let st = stands-marked (a .constants) (a .s .now) (a .cursor .at) (a .count) (l .inv .0) m in
+    let st = stands-marked (a .width) (a .constants) (a .s .now) (a .cursor .at) (a .count) (l .inv .0) m in
     let to = c .before .before .before .before .before .before .run-end .ensures in
     let found = rw (c .before .refusal .given .1) at (c .before .before .before .read-run .ensures) in
-    sym (stands-bad (a .constants) (a .s .now) (a .cursor .at) (a .count) st _ (omega (arith, to)) (to .1) found)
+    sym (stands-bad (a .width) (a .constants) (a .s .now) (a .cursor .at) (a .count) st _ (omega (arith, to)) (to .1) found)
 
 loop-less : tie.Need-loop-less Inv-loop μ-loop
 loop-less c = omega (arith, c .before .before .before .before .before .before .run-end .ensures)
@@ -86,10 +86,10 @@ loop-again c =
     let a = c .before .before .before .before .before .before .before .before .before .before .before .before .before .before .before .args in
     let l = c .before .before .before .before .before .before .before .before .before .before .before .before .loop in
     let m = c .before .before .before .before .before .before .before .before .before .mark-unit .ensures in
-    let st = stands-marked (a .constants) (a .s .now) (a .cursor .at) (a .count) (l .inv .0) m in
+    let st = stands-marked (a .width) (a .constants) (a .s .now) (a .cursor .at) (a .count) (l .inv .0) m in
     let to = c .before .before .before .before .before .before .run-end .ensures in
     let found = rw (c .before .next .given .1) at (c .before .before .before .read-run .ensures) in
-    (stands-next (a .constants) (a .s .now) (a .cursor .at) (a .count) st _ (omega (arith, to)) (to .1) found, marking-same m ∙ l .inv .1)
+    (stands-next (a .width) (a .constants) (a .s .now) (a .cursor .at) (a .count) st _ (omega (arith, to)) (to .1) found, marking-same m ∙ l .inv .1)
 
 same-length-2 : tie.Need-same-length-2 Inv-loop μ-loop
 same-length-2 c = c .before .loop .inv .1
@@ -97,7 +97,7 @@ same-length-2 c = c .before .loop .inv .1
 returns-2 : tie.Need-returns-2 Inv-loop μ-loop
 returns-2 c =
     let a = c .before .before .before .before .args in
-    sym (stands-done (a .constants) (a .s .now) (a .cursor .at) (a .count) (c .before .loop .inv .0) (c .loop-test .left))
+    sym (stands-done (a .width) (a .constants) (a .s .now) (a .cursor .at) (a .count) (c .before .loop .inv .0) (c .loop-test .left))
 
 pub read-marked-spec : {M : Type 1} → statement M
 read-marked-spec =

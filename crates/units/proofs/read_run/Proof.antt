@@ -3,20 +3,20 @@ use mathlib.Core.Path.{_≡_, refl, sym, _∙_}
 use native.Mathlib.Omega.{arith}
 use borrow.Author.Needs.{needs}
 use Rattle.format.specs.Read.{ending}
-use Rattle.format.specs.Reader.{readUnits}
+use Rattle.format.specs.Reader.{unitsBy}
 use Rattle.units.specs.Units.{outsFrom, Stood, Ran, run-stood, run-next, run-bad}
 use Rattle.units.proofs.read_run.Statement.{statement}
 use Rattle.units.proofs.read_run.Tie as tie
 
 abbrev Inv-loop : tie.InvT-loop
-Inv-loop s constants start from to outs₀ stride marks at₀ i₀ outs at i =
+Inv-loop s width constants start from to outs₀ stride marks at₀ i₀ outs at i =
     (from ≤ i)
     × (i ≤ to)
-    × Stood s start outs stride marks at i
-    × ((n : ℕ) → ending (readUnits constants s ((to - i) + n) (outsFrom s start i) at) ≡ ending (readUnits constants s ((to - from) + n) (outsFrom s start from) at₀))
+    × Stood width s start outs stride marks at i
+    × ((n : ℕ) → ending (unitsBy width constants s ((to - i) + n) (outsFrom width s start i) at) ≡ ending (unitsBy width constants s ((to - from) + n) (outsFrom width s start from) at₀))
 
 abbrev μ-loop : tie.MeasureT-loop
-μ-loop s constants start from to outs₀ stride marks at₀ i₀ outs at i = to - i
+μ-loop s width constants start from to outs₀ stride marks at₀ i₀ outs at i = to - i
 
 loop-holds : tie.Need-loop-holds Inv-loop μ-loop
 loop-holds c =
@@ -47,7 +47,7 @@ returns c =
     let a = c .before .before .before .before .before .before .before .before .before .args in
     let l = c .before .before .before .before .before .before .loop in
     let found = sym (rw (c .before .refusal .given .1) at (c .before .before .before .read-unit .ensures)) in
-    (l .inv .2 .sized, λ n. sym (l .inv .3 n) ∙ run-bad (a .constants) (a .s .now) (a .start) (l .inv .2) ((a .to - l .i) + n) ((a .to - suc (l .i)) + n) found (omega arith))
+    (l .inv .2 .sized, λ n. sym (l .inv .3 n) ∙ run-bad (a .width) (a .constants) (a .s .now) (a .start) (l .inv .2) ((a .to - l .i) + n) ((a .to - suc (l .i)) + n) found (omega arith))
 
 add-i : tie.Need-add-i Inv-loop μ-loop
 add-i c = omega arith
@@ -62,8 +62,8 @@ loop-again c =
     let found = sym (rw (c .before .before .outputs .given .1) at (c .before .before .before .before .read-unit .ensures)) in (
       omega arith,
       omega arith,
-      rw (c .wide .ensures) (run-stood (a .constants) (a .s .now) (a .start) (l .inv .2) found),
-      λ n. run-next (a .constants) (a .s .now) (a .start) (l .inv .2) ((a .to - l .i) + n) ((a .to - (l .i + 1)) + n) found (omega arith) ∙ l .inv .3 n,
+      rw (c .wide .ensures) (run-stood (a .width) (a .constants) (a .s .now) (a .start) (l .inv .2) found),
+      λ n. run-next (a .width) (a .constants) (a .s .now) (a .start) (l .inv .2) ((a .to - l .i) + n) ((a .to - (l .i + 1)) + n) found (omega arith) ∙ l .inv .3 n,
     )
 
 returns-2 : tie.Need-returns-2 Inv-loop μ-loop

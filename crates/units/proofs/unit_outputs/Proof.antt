@@ -1,28 +1,35 @@
-use Prim.Native.Nat.{ℕ, _+_}
-use mathlib.Core.Path.{ap, _∙_}
+use Prim.Native.Nat.{_+_}
+use mathlib.Core.Path.{_≡_, ap, _∙_}
 use native.Mathlib.Omega.{arith}
 use borrow.Author.Needs.{needs}
-use Rattle.units.specs.Marks.{unitOutputs, unitEnd}
-use Rattle.format.specs.Fields.{word}
+use Rattle.format.specs.Fields.{sizeOf, valueBy}
+use Rattle.units.specs.Marks.{unitCounts, unitOutputs, unitEnd}
 use Rattle.units.proofs.unit_outputs.Statement.{statement}
 use Rattle.units.proofs.unit_outputs.Tie as tie
 
 unit-counts-requires : tie.Need-unit-counts-requires
-unit-counts-requires c κs = search needs
-
-add-word-at : tie.Need-add-word-at
 unfolding unitEnd
-add-word-at c = omega arith
+unit-counts-requires c κs = omega arith
 
-word-at-requires : tie.Need-word-at-requires
+field-size-requires : tie.Need-field-size-requires
+field-size-requires c κs = search needs
+
+add-value-at : tie.Need-add-value-at
 unfolding unitEnd
-word-at-requires c κs = omega arith
+add-value-at c = omega arith
+
+value-at-requires : tie.Need-value-at-requires
+unfolding unitEnd
+value-at-requires c κs = omega arith
 
 returns : tie.Need-returns
 unfolding unitOutputs
 returns c =
-    let s = c .before .before .before .args .s .now in
-    c .word-at .ensures ∙ ap (λ (p : ℕ). word s (p + 4)) (c .before .unit-counts .ensures)
+    let a = c .before .before .before .before .args in
+    let place : c .before .before .unit-counts .result + c .before .field-size .result ≡ unitCounts (a .s .now) (a .at) + sizeOf (a .width) = omega arith in
+    c .value-at .ensures ∙ ap (valueBy (a .width) (a .s .now)) place
 
 pub unit-outputs-spec : {M : Type 1} → statement M
-unit-outputs-spec = tie.close (tie.spec unit-counts-requires add-word-at word-at-requires returns)
+unit-outputs-spec =
+    tie.close
+    (tie.spec unit-counts-requires field-size-requires add-value-at value-at-requires returns)

@@ -2,7 +2,7 @@
 
 use super::tree::{Kind, ROOT};
 use super::{Engine, BUSES, MOST_NODES};
-use crate::{write, Call, Definition, Random, Shape, MOST_BYTES};
+use crate::{write_as, Call, Definition, Random, Shape, Version, MOST_BYTES};
 
 /// Numbers at the edges of what a node can be named by.
 pub const EDGES: [i32; 12] = [
@@ -454,7 +454,8 @@ impl Commands {
                 definitions.push(definition);
             }
         }
-        let mut bytes = write(&definitions).bytes;
+        let version = self.random.one_of(&Version::ALL);
+        let mut bytes = write_as(version, &definitions).bytes;
         match self.random.below(50) {
             0 => bytes.truncate(self.random.below(bytes.len())),
             1 => bytes.push(self.random.byte()),

@@ -79,7 +79,7 @@ impl Slots {
         kept.expect("a taken slot has a definition")
     }
 
-    /// Loads the definitions of a file, or nothing.
+    /// Loads the definitions of a version 2 file, or nothing.
     pub fn load(&mut self, definitions: Vec<Definition>, file: &[u8]) -> Result<(), Fault> {
         let taken = self.slots.iter().filter(|slot| slot.kept.is_some()).count();
         let given_up = definitions

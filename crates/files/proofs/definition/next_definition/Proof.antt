@@ -31,7 +31,7 @@ returns c =
     let e1 = sym (rw (c .before .before .before .before .before .before .before .before .before .before .counts .given .1) at (c .before .before .before .before .before .before .before .before .before .before .before .before .read-front .ensures)) in
     let e2 = sym (rw (c .before .before .before .before .before .before .units .given .1) at (c .before .before .before .before .before .before .before .before .count-to .ensures)) in
     let e3 = sym (rw (c .before .refusal .given .1) at (c .before .before .before .read-units .ensures .0)) in
-    (rw (skip-definition (a .s .now) (a .cursor .at), e1, e2, e3), c .before .before .before .read-units .ensures .1)
+    (rw (skip-definition (a .width) (a .s .now) (a .cursor .at), e1, e2, e3), c .before .before .before .read-units .ensures .1)
 
 short-count-to-requires : tie.Need-short-count-to-requires
 short-count-to-requires c κs = search needs
@@ -58,7 +58,7 @@ returns-2 c =
     let e2 = sym (rw (c .before .before .before .before .before .before .before .before .before .before .before .units .given .1) at (c .before .before .before .before .before .before .before .before .before .before .before .before .before .count-to .ensures)) in
     let e3 = sym (rw (c .before .before .before .before .before .before .next .given .1) at (c .before .before .before .before .before .before .before .before .read-units .ensures .0)) in
     let e4 = sym (rw (c .before .before .variants .given .1) at (c .before .before .before .before .short-count-to .ensures)) in
-    (rw (skip-definition (a .s .now) (a .cursor .at), e1, e2, e3, e4) (c .read-variants .ensures), c .before .before .before .before .before .before .before .before .read-units .ensures .1)
+    (rw (skip-definition (a .width) (a .s .now) (a .cursor .at), e1, e2, e3, e4) (c .read-variants .ensures), c .before .before .before .before .before .before .before .before .read-units .ensures .1)
 
 returns-3 : tie.Need-returns-3
 returns-3 c =
@@ -67,20 +67,20 @@ returns-3 c =
     let e2 = sym (rw (c .before .before .before .before .before .before .before .before .before .before .units .given .1) at (c .before .before .before .before .before .before .before .before .before .before .before .before .count-to .ensures)) in
     let e3 = sym (rw (c .before .before .before .before .before .next .given .1) at (c .before .before .before .before .before .before .before .read-units .ensures .0)) in
     let e4 = sym (rw (c .before .refusal2 .given .1) at (c .before .before .before .short-count-to .ensures)) in
-    (rw (skip-definition (a .s .now) (a .cursor .at), e1, e2, e3, e4), c .before .before .before .before .before .before .before .read-units .ensures .1)
+    (rw (skip-definition (a .width) (a .s .now) (a .cursor .at), e1, e2, e3, e4), c .before .before .before .before .before .before .before .read-units .ensures .1)
 
 returns-4 : tie.Need-returns-4
 returns-4 c =
     let a = c .before .before .before .before .before .before .before .before .before .args in
     let e1 = sym (rw (c .before .before .before .before .before .counts .given .1) at (c .before .before .before .before .before .before .before .read-front .ensures)) in
     let e2 = sym (rw (c .before .refusal3 .given .1) at (c .before .before .before .count-to .ensures)) in
-    (rw (skip-definition (a .s .now) (a .cursor .at), e1, e2), c .before .before .before .before .before .before .before .before .before .pre)
+    (rw (skip-definition (a .width) (a .s .now) (a .cursor .at), e1, e2), c .before .before .before .before .before .before .before .before .before .pre)
 
 returns-5 : tie.Need-returns-5
 returns-5 c =
     let a = c .before .before .before .before .before .args in
     let e1 = sym (rw (c .before .refusal4 .given .1) at (c .before .before .before .read-front .ensures)) in
-    (rw (skip-definition (a .s .now) (a .cursor .at), e1), c .before .before .before .before .before .pre)
+    (rw (skip-definition (a .width) (a .s .now) (a .cursor .at), e1), c .before .before .before .before .before .pre)
 
 pub next-definition-spec : {M : Type 1} → statement M
 next-definition-spec =

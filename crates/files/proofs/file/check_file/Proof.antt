@@ -11,19 +11,22 @@ read-header-requires c κs = search needs
 enum-known-count : tie.Need-enum-known-count
 enum-known-count c = search needs
 
+width-of-requires : tie.Need-width-of-requires
+width-of-requires c κs = search needs
+
 read-definitions-requires : tie.Need-read-definitions-requires
 read-definitions-requires c κs =
-    let head = sym (rw (c .before .count .given .1) at (c .before .before .before .read-header .ensures)) in
-    omega (arith, head-few (c .before .before .before .before .before .args .s .now) head .0)
+    let head = sym (rw (c .before .before .count .given .1) at (c .before .before .before .before .read-header .ensures)) in
+    omega (arith, head-few (c .before .before .before .before .before .before .args .s .now) head .0)
 
 enum-known-next : tie.Need-enum-known-next
 enum-known-next c = search needs
 
 returns : tie.Need-returns
 returns c =
-    let head = sym (rw (c .before .before .before .before .before .before .count .given .1) at (c .before .before .before .before .before .before .before .before .read-header .ensures)) in
-    let read = sym (rw (c .before .before .next .given .1) at (c .before .before .before .before .read-definitions .ensures)) in
-    sym (file-left (c .before .before .before .before .before .before .before .before .before .before .args .s .now) head read (c .if1 .taken))
+    let head = sym (rw (c .before .before .before .before .before .before .before .count .given .1) at (c .before .before .before .before .before .before .before .before .before .read-header .ensures)) in
+    let read = sym (rw (c .before .before .next .given .1, c .before .before .before .before .before .width-of .ensures) at (c .before .before .before .before .read-definitions .ensures)) in
+    sym (file-left (c .before .before .before .before .before .before .before .before .before .before .before .args .s .now) head read (c .if1 .taken))
 
 enum-known-refusal : tie.Need-enum-known-refusal
 enum-known-refusal c = search needs
@@ -33,15 +36,15 @@ enum-known-refusal-2 c = search needs
 
 returns-2 : tie.Need-returns-2
 returns-2 c =
-    let head = sym (rw (c .before .before .before .before .before .before .count .given .1) at (c .before .before .before .before .before .before .before .before .read-header .ensures)) in
-    let read = sym (rw (c .before .before .next .given .1) at (c .before .before .before .before .read-definitions .ensures)) in
-    sym (file-accepted (c .before .before .before .before .before .before .before .before .before .before .args .s .now) head read (c .if1 .left))
+    let head = sym (rw (c .before .before .before .before .before .before .before .count .given .1) at (c .before .before .before .before .before .before .before .before .before .read-header .ensures)) in
+    let read = sym (rw (c .before .before .next .given .1, c .before .before .before .before .before .width-of .ensures) at (c .before .before .before .before .read-definitions .ensures)) in
+    sym (file-accepted (c .before .before .before .before .before .before .before .before .before .before .before .args .s .now) head read (c .if1 .left))
 
 returns-3 : tie.Need-returns-3
 returns-3 c =
-    let head = sym (rw (c .before .before .before .before .before .count .given .1) at (c .before .before .before .before .before .before .before .read-header .ensures)) in
-    let read = sym (rw (c .before .refusal .given .1) at (c .before .before .before .read-definitions .ensures)) in
-    sym (file-bad (c .before .before .before .before .before .before .before .before .before .args .s .now) head read)
+    let head = sym (rw (c .before .before .before .before .before .before .count .given .1) at (c .before .before .before .before .before .before .before .before .read-header .ensures)) in
+    let read = sym (rw (c .before .refusal .given .1, c .before .before .before .before .width-of .ensures) at (c .before .before .before .read-definitions .ensures)) in
+    sym (file-bad (c .before .before .before .before .before .before .before .before .before .before .args .s .now) head read)
 
 returns-4 : tie.Need-returns-4
 returns-4 c =
@@ -54,6 +57,7 @@ check-file-spec =
     (tie.spec
     read-header-requires
     enum-known-count
+    width-of-requires
     read-definitions-requires
     enum-known-next
     returns

@@ -9,10 +9,10 @@ use Rattle.files.proofs.file.read_definitions.Statement.{statement}
 use Rattle.files.proofs.file.read_definitions.Tie as tie
 
 abbrev Inv-loop : tie.InvT-loop
-Inv-loop s count many starts₀ outs₀ at₀ i₀ starts outs at i = Walked s at₀ count starts at i × (length outs ≡ remembered)
+Inv-loop s width count many starts₀ outs₀ at₀ i₀ starts outs at i = Walked width s at₀ count starts at i × (length outs ≡ remembered)
 
 abbrev μ-loop : tie.MeasureT-loop
-μ-loop s count many starts₀ outs₀ at₀ i₀ starts outs at i = count - i
+μ-loop s width count many starts₀ outs₀ at₀ i₀ starts outs at i = count - i
 
 wide-requires : tie.Need-wide-requires Inv-loop μ-loop
 wide-requires c κs = tt
@@ -20,7 +20,7 @@ wide-requires c κs = tt
 loop-holds : tie.Need-loop-holds Inv-loop μ-loop
 loop-holds c =
     let a = c .before .before .args in
-    (walked-first (a .s .now) (a .cursor .at) (a .count) _ (c .before .before .pre) refl, refl)
+    (walked-first (a .width) (a .s .now) (a .cursor .at) (a .count) _ (c .before .before .pre) refl, refl)
 
 read-fitting-requires : tie.Need-read-fitting-requires Inv-loop μ-loop
 read-fitting-requires c κs =
@@ -46,7 +46,7 @@ returns c =
     let a = c .before .before .before .before .before .before .before .before .before .before .args in
     let found = sym (rw (c .before .refusal .given .1) at (c .before .before .before .read-fitting .ensures .0)) in
     let less : c .before .before .before .before .before .before .before .loop .i < a .count = omega (arith, c .before .before .before .before .before .before .loop-test .taken, c .before .before .before .before .before .before .before .before .wide .ensures) in
-    sym (walked-bad (a .s .now) (a .cursor .at) (a .count) (c .before .before .before .before .before .before .before .loop .inv .0) less found)
+    sym (walked-bad (a .width) (a .s .now) (a .cursor .at) (a .count) (c .before .before .before .before .before .before .before .loop .inv .0) less found)
 
 add-i : tie.Need-add-i Inv-loop μ-loop
 add-i c = omega arith
@@ -59,13 +59,13 @@ loop-again c =
     let a = c .before .before .before .before .before .before .before .before .before .before .args in
     let found = sym (rw (c .before .next .given .1) at (c .before .before .before .read-fitting .ensures .0)) in
     let less : c .before .before .before .before .before .before .before .loop .i < a .count = omega (arith, c .before .before .before .before .before .before .loop-test .taken, c .before .before .before .before .before .before .before .before .wide .ensures) in
-    (walked-next (a .s .now) (a .cursor .at) (a .count) (c .before .before .before .before .before .before .before .loop .inv .0) less found, c .before .before .before .read-fitting .ensures .1)
+    (walked-next (a .width) (a .s .now) (a .cursor .at) (a .count) (c .before .before .before .before .before .before .before .loop .inv .0) less found, c .before .before .before .read-fitting .ensures .1)
 
 returns-2 : tie.Need-returns-2 Inv-loop μ-loop
 returns-2 c =
     let a = c .before .before .before .before .args in
     let done : a .count ≤ c .before .loop .i = omega (arith, c .loop-test .left, c .before .before .wide .ensures) in
-    sym (walked-done (a .s .now) (a .cursor .at) (a .count) (c .before .loop .inv .0) done)
+    sym (walked-done (a .width) (a .s .now) (a .cursor .at) (a .count) (c .before .loop .inv .0) done)
 
 pub read-definitions-spec : {M : Type 1} → statement M
 read-definitions-spec =

@@ -1,8 +1,9 @@
 use native.Mathlib.Omega.{arith}
-use mathlib.Core.Path.{sym}
+use mathlib.Core.Path.{sym, _∙_}
 use borrow.Author.Needs.{needs}
-use borrow.Author.Tests.{eq-eqb, ne-eqb}
-use Rattle.format.specs.Reader.{fileType, fileVersion}
+use borrow.Author.Tests.{eq-eqb, ne-eqb, not-true, not-false}
+use Rattle.format.specs.Writer.{fileType}
+use Rattle.files.specs.FileLaws.{head-count}
 use Rattle.files.proofs.file.read_header.Statement.{statement}
 use Rattle.files.proofs.file.read_header.Tie as tie
 
@@ -24,12 +25,15 @@ int32-requires-2 c κs = search needs
 enum-known-version : tie.Need-enum-known-version
 enum-known-version c = search needs
 
+is-version-requires : tie.Need-is-version-requires
+is-version-requires c κs = search needs
+
 returns-2 : tie.Need-returns-2
 returns-2 c =
-    let e1 = sym (rw (c .before .before .before .before .before .before .before .kind .given .1) at (c .before .before .before .before .before .before .before .before .before .int32 .ensures)) in
-    let q1 = eq-eqb (c .before .before .before .before .before .before .before .kind .given .0 .0) fileType (c .before .before .before .before .before .if1 .left) in
-    let e2 = sym (rw (c .before .before .version .given .1) at (c .before .before .before .before .int322 .ensures)) in
-    let q2 = ne-eqb (c .before .before .version .given .0 .0) fileVersion (c .if2 .taken) in
+    let e1 = sym (rw (c .before .before .before .before .before .before .before .before .kind .given .1) at (c .before .before .before .before .before .before .before .before .before .before .int32 .ensures)) in
+    let q1 = eq-eqb (c .before .before .before .before .before .before .before .before .kind .given .0 .0) fileType (c .before .before .before .before .before .before .if1 .left) in
+    let e2 = sym (rw (c .before .before .before .version .given .1) at (c .before .before .before .before .before .int322 .ensures)) in
+    let q2 = sym (c .before .is-version .ensures) ∙ not-true (c .before .is-version .result) (c .if2 .taken) in
     rw (e1, q1, e2, q2)
 
 cast-short-count-to : tie.Need-cast-short-count-to
@@ -46,11 +50,11 @@ enum-known-refusal-2 c = search needs
 
 returns-3 : tie.Need-returns-3
 returns-3 c =
-    let e1 = sym (rw (c .before .before .before .before .before .before .before .before .kind .given .1) at (c .before .before .before .before .before .before .before .before .before .before .int32 .ensures)) in
-    let q1 = eq-eqb (c .before .before .before .before .before .before .before .before .kind .given .0 .0) fileType (c .before .before .before .before .before .before .if1 .left) in
-    let e2 = sym (rw (c .before .before .before .version .given .1) at (c .before .before .before .before .before .int322 .ensures)) in
-    let q2 = eq-eqb (c .before .before .before .version .given .0 .0) fileVersion (c .before .if2 .left) in
-    rw (e1, q1, e2, q2) (c .short-count-to .ensures)
+    let e1 = sym (rw (c .before .before .before .before .before .before .before .before .before .kind .given .1) at (c .before .before .before .before .before .before .before .before .before .before .before .int32 .ensures)) in
+    let q1 = eq-eqb (c .before .before .before .before .before .before .before .before .before .kind .given .0 .0) fileType (c .before .before .before .before .before .before .before .if1 .left) in
+    let e2 = sym (rw (c .before .before .before .before .version .given .1) at (c .before .before .before .before .before .before .int322 .ensures)) in
+    let q2 = sym (c .before .before .is-version .ensures) ∙ not-false (c .before .before .is-version .result) (c .before .if2 .left) in
+    rw (e1, q1, e2, q2) (c .short-count-to .ensures ∙ sym (head-count (c .before .before .before .before .version .given .0 .0) _))
 
 returns-4 : tie.Need-returns-4
 returns-4 c =
@@ -73,6 +77,7 @@ read-header-spec =
     returns
     int32-requires-2
     enum-known-version
+    is-version-requires
     returns-2
     cast-short-count-to
     short-count-to-requires

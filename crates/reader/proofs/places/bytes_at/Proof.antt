@@ -4,8 +4,8 @@ use Rattle.reader.specs.PlaceLaws.{bytes-got, bytes-bad}
 use Rattle.reader.proofs.places.bytes_at.Statement.{statement}
 use Rattle.reader.proofs.places.bytes_at.Tie as tie
 
-read-definition-requires : tie.Need-read-definition-requires
-read-definition-requires c κs = search needs
+definition-at-requires : tie.Need-definition-at-requires
+definition-at-requires c κs = search needs
 
 enum-known-next : tie.Need-enum-known-next
 enum-known-next c = search needs
@@ -22,20 +22,20 @@ part-requires-2 c κs = search needs
 returns : tie.Need-returns
 returns c =
     let a = c .before .before .before .before .before .before .args in
-    let fact = sym (rw (c .before .before .next .given .1) at (c .before .before .before .before .read-definition .ensures)) in
+    let fact = sym (rw (c .before .before .next .given .1) at (c .before .before .before .before .definition-at .ensures)) in
     c .part .ensures ∙ sym (bytes-got (a .s .now) (a .at) fact)
 
 returns-2 : tie.Need-returns-2
 returns-2 c =
     let a = c .before .before .before .before .before .before .args in
-    let fact = sym (rw (c .before .before .refusal .given .1) at (c .before .before .before .before .read-definition .ensures)) in
+    let fact = sym (rw (c .before .before .refusal .given .1) at (c .before .before .before .before .definition-at .ensures)) in
     c .part2 .ensures ∙ sym (bytes-bad (a .s .now) (a .at) fact)
 
 pub bytes-at-spec : {M : Type 1} → statement M
 bytes-at-spec =
     tie.close
     (tie.spec
-    read-definition-requires
+    definition-at-requires
     enum-known-next
     part-requires
     enum-known-refusal

@@ -4,8 +4,8 @@ use Rattle.reader.specs.PlaceLaws.{after-got, after-bad}
 use Rattle.reader.proofs.places.place_after.Statement.{statement}
 use Rattle.reader.proofs.places.place_after.Tie as tie
 
-read-definition-requires : tie.Need-read-definition-requires
-read-definition-requires c κs = search needs
+definition-at-requires : tie.Need-definition-at-requires
+definition-at-requires c κs = search needs
 
 enum-known-next : tie.Need-enum-known-next
 enum-known-next c = search needs
@@ -16,14 +16,14 @@ enum-known-refusal c = search needs
 returns : tie.Need-returns
 returns c =
     let a = c .before .before .before .before .before .args in
-    let fact = sym (rw (c .before .next .given .1) at (c .before .before .before .read-definition .ensures)) in
+    let fact = sym (rw (c .before .next .given .1) at (c .before .before .before .definition-at .ensures)) in
     sym (after-got (a .s .now) (a .at) fact)
 
 returns-2 : tie.Need-returns-2
 returns-2 c =
     let a = c .before .before .before .before .before .args in
-    let fact = sym (rw (c .before .refusal .given .1) at (c .before .before .before .read-definition .ensures)) in
+    let fact = sym (rw (c .before .refusal .given .1) at (c .before .before .before .definition-at .ensures)) in
     sym (after-bad (a .s .now) (a .at) fact)
 
 pub place-after-spec : {M : Type 1} → statement M
-place-after-spec = tie.close (tie.spec read-definition-requires enum-known-next enum-known-refusal returns returns-2)
+place-after-spec = tie.close (tie.spec definition-at-requires enum-known-next enum-known-refusal returns returns-2)

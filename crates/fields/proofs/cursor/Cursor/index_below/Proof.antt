@@ -6,8 +6,8 @@ use Rattle.format.specs.ReadLaws.{checked-pass, checked-fail, checked-bad}
 use Rattle.fields.proofs.cursor.Cursor.index_below.Statement.{statement}
 use Rattle.fields.proofs.cursor.Cursor.index_below.Tie as tie
 
-int32-requires : tie.Need-int32-requires
-int32-requires c κs = search needs
+integer-requires : tie.Need-integer-requires
+integer-requires c κs = search needs
 
 enum-known-n : tie.Need-enum-known-n
 enum-known-n c = search needs
@@ -15,7 +15,7 @@ enum-known-n c = search needs
 returns : tie.Need-returns
 returns c =
     let a = c .before .before .before .before .before .before .args in
-    let read = rw (c .before .before .n .given .1) at (c .before .before .before .before .int32 .ensures) in
+    let read = rw (c .before .before .n .given .1) at (c .before .before .before .before .integer .ensures) in
     checked-pass BadIndex (λ n. ltb n (a .bound)) (a .self .at) read (lt-ltb _ _ (c .if1 .taken))
 
 enum-known-refusal : tie.Need-enum-known-refusal
@@ -24,15 +24,15 @@ enum-known-refusal c = search needs
 returns-2 : tie.Need-returns-2
 returns-2 c =
     let a = c .before .before .before .before .before .before .args in
-    let read = rw (c .before .before .n .given .1) at (c .before .before .before .before .int32 .ensures) in
+    let read = rw (c .before .before .n .given .1) at (c .before .before .before .before .integer .ensures) in
     checked-fail BadIndex (λ n. ltb n (a .bound)) (a .self .at) read (le-ltb _ _ (c .if1 .left))
 
 returns-3 : tie.Need-returns-3
 returns-3 c =
     let a = c .before .before .before .before .before .args in
-    let read = rw (c .before .refusal .given .1) at (c .before .before .before .int32 .ensures) in
+    let read = rw (c .before .refusal .given .1) at (c .before .before .before .integer .ensures) in
     checked-bad BadIndex (λ n. ltb n (a .bound)) (a .self .at) read
 
 pub index-below-spec : {M : Type 1} → statement M
 index-below-spec =
-    tie.close (tie.spec int32-requires enum-known-n returns enum-known-refusal returns-2 returns-3)
+    tie.close (tie.spec integer-requires enum-known-n returns enum-known-refusal returns-2 returns-3)

@@ -1,67 +1,28 @@
-//! Runs the built program.
+//! `limudvek check`, as the built program.
 
+mod common;
+
+use common::{Folder, PROGRAM};
+use independent::Version;
 use std::ffi::OsStr;
 use std::fs;
 use std::os::unix::ffi::OsStrExt;
-use std::path::{Path, PathBuf};
 use std::process::{Command, Stdio};
-
-const PROGRAM: &str = env!("CARGO_BIN_EXE_limudvek-check");
 
 const EMPTY_FILE: &[u8] = b"SCgf\0\0\0\x02\0\0";
 
-/// A folder of one test's own, removed at its end.
-struct Folder(PathBuf);
-
-impl Folder {
-    fn new(test: &str) -> Folder {
-        let path =
-            Path::new(env!("CARGO_TARGET_TMPDIR")).join(format!("{test}-{}", std::process::id()));
-        fs::create_dir_all(&path).expect("a folder for the test");
-        Folder(path)
-    }
-
-    fn write(&self, name: impl AsRef<Path>, bytes: &[u8]) {
-        fs::write(self.0.join(name), bytes).expect("a file for the test");
-    }
-
-    /// Runs the program in the folder. Answers the exit status, standard output and standard error.
-    fn run<S: AsRef<OsStr>>(&self, words: &[S]) -> (i32, String, String) {
-        let output = Command::new(PROGRAM)
-            .args(words)
-            .current_dir(&self.0)
-            .output()
-            .expect("the program runs");
-        (
-            output.status.code().expect("the program exits"),
-            String::from_utf8(output.stdout).expect("it prints text"),
-            String::from_utf8(output.stderr).expect("it prints text"),
-        )
-    }
-
-    /// Runs the program on these files, with nothing on standard error.
-    fn check<S: AsRef<OsStr>>(&self, files: &[S]) -> (i32, String) {
-        let (status, out, err) = self.run(files);
-        assert_eq!(err, "");
-        (status, out)
-    }
-}
-
-impl Drop for Folder {
-    fn drop(&mut self) {
-        let _ = fs::remove_dir_all(&self.0);
-    }
-}
-
-/// A file of definitions of these names with every count 0.
+/// A version 2 file of definitions of these names with every count 0.
 fn file(names: &[&[u8]]) -> Vec<u8> {
-    let mut bytes = [b"SCgf\0\0\0\x02\0".as_slice(), &[names.len() as u8]].concat();
-    for name in names {
-        bytes.push(name.len() as u8);
-        bytes.extend_from_slice(name);
-        bytes.extend_from_slice(&[0; 18]);
-    }
-    bytes
+    common::file(Version::Two, names)
+}
+
+/// Runs the program on these files, with nothing on standard error.
+fn check<S: AsRef<OsStr>>(folder: &Folder, files: &[S]) -> (i32, String) {
+    let command = [OsStr::new("check")];
+    let words = command.into_iter().chain(files.iter().map(AsRef::as_ref));
+    let (status, out, err) = folder.run(&words.collect::<Vec<_>>());
+    assert_eq!(err, "");
+    (status, out)
 }
 
 #[test]
@@ -70,12 +31,29 @@ fn accepted_files_list_their_names() {
     folder.write("none", EMPTY_FILE);
     folder.write("one", &file(&[b"ping"]));
     folder.write("two", &file(&[b"kick", b"long pad"]));
-    let (status, out) = folder.check(&["two", "none", "one"]);
+    let (status, out) = check(&folder, &["two", "none", "one"]);
     assert_eq!(
         out,
-        "two: accepted, 2 definitions: kick \"long pad\"\n\
-         none: accepted, 0 definitions\n\
-         one: accepted, 1 definition: ping\n"
+        "two: accepted, version 2, 2 definitions: kick \"long pad\"\n\
+         none: accepted, version 2, 0 definitions\n\
+         one: accepted, version 2, 1 definition: ping\n"
+    );
+    assert_eq!(status, 0);
+}
+
+#[test]
+fn a_line_says_the_version() {
+    let folder = Folder::new("version");
+    folder.write("none", b"SCgf\0\0\0\x01\0\0");
+    let names: [&[u8]; 2] = [b"kick", b"long pad"];
+    folder.write("old", &common::file(Version::One, &names));
+    folder.write("new", &common::file(Version::Two, &names));
+    let (status, out) = check(&folder, &["old", "new", "none"]);
+    assert_eq!(
+        out,
+        "old: accepted, version 1, 2 definitions: kick \"long pad\"\n\
+         new: accepted, version 2, 2 definitions: kick \"long pad\"\n\
+         none: accepted, version 1, 0 definitions\n"
     );
     assert_eq!(status, 0);
 }
@@ -86,7 +64,7 @@ fn as_many_and_as_long_names_as_there_can_be() {
     let names: Vec<Vec<u8>> = (0..32).map(|place| vec![b'A' + place; 255]).collect();
     let names: Vec<&[u8]> = names.iter().map(Vec::as_slice).collect();
     folder.write("many", &file(&names));
-    let (status, out) = folder.check(&["many"]);
+    let (status, out) = check(&folder, &["many"]);
     let shown: Vec<String> = names
         .iter()
         .map(|name| match name[0] {
@@ -96,7 +74,10 @@ fn as_many_and_as_long_names_as_there_can_be() {
         .collect();
     assert_eq!(
         out,
-        format!("many: accepted, 32 definitions: {}\n", shown.join(" "))
+        format!(
+            "many: accepted, version 2, 32 definitions: {}\n",
+            shown.join(" ")
+        )
     );
     assert_eq!(status, 0);
 }
@@ -108,10 +89,10 @@ fn a_name_that_could_be_misread_stands_in_quotes() {
         "a",
         &file(&[b"great hall", b"a\"b", b"#1", b"440", b"-8", b"4a"]),
     );
-    let (status, out) = folder.check(&["a"]);
+    let (status, out) = check(&folder, &["a"]);
     assert_eq!(
         out,
-        "a: accepted, 6 definitions: \"great hall\" \"a\\\"b\" \"#1\" \"440\" \"-8\" 4a\n"
+        "a: accepted, version 2, 6 definitions: \"great hall\" \"a\\\"b\" \"#1\" \"440\" \"-8\" 4a\n"
     );
     assert_eq!(status, 0);
 }
@@ -125,13 +106,13 @@ fn a_name_cannot_steer_the_terminal() {
     );
     let every: Vec<u8> = (1..=127).collect();
     folder.write("b", &file(&[&every]));
-    let (status, out) = folder.check(&["a", "b"]);
+    let (status, out) = check(&folder, &["a", "b"]);
     let (first, second) = out.split_once('\n').expect("two lines");
     assert_eq!(
         first,
-        r#"a: accepted, 4 definitions: "\x1b[2J" "a\x0ab\x0d" "c:\\d" "\x01\x7f~ ""#
+        r#"a: accepted, version 2, 4 definitions: "\x1b[2J" "a\x0ab\x0d" "c:\\d" "\x01\x7f~ ""#
     );
-    assert!(second.starts_with(r#"b: accepted, 1 definition: "\x01\x02"#));
+    assert!(second.starts_with(r#"b: accepted, version 2, 1 definition: "\x01\x02"#));
     assert!(second.ends_with("}~\\x7f\"\n"));
     assert!(second
         .trim_end()
@@ -152,13 +133,13 @@ fn a_path_cannot_steer_the_terminal() {
     for name in strange {
         folder.write(OsStr::from_bytes(name), EMPTY_FILE);
     }
-    let (status, out) = folder.check(&strange.map(OsStr::from_bytes));
+    let (status, out) = check(&folder, &strange.map(OsStr::from_bytes));
     assert_eq!(
         out,
-        "a\\x1b[31m\\x0a: accepted, 0 definitions\n\
-         b\\\\: accepted, 0 definitions\n\
-         c\\xff\\x80: accepted, 0 definitions\n\
-         d\u{e9}\\xc2\\x9b2J: accepted, 0 definitions\n"
+        "a\\x1b[31m\\x0a: accepted, version 2, 0 definitions\n\
+         b\\\\: accepted, version 2, 0 definitions\n\
+         c\\xff\\x80: accepted, version 2, 0 definitions\n\
+         d\u{e9}\\xc2\\x9b2J: accepted, version 2, 0 definitions\n"
     );
     assert_eq!(status, 0);
 }
@@ -167,7 +148,7 @@ fn a_path_cannot_steer_the_terminal() {
 fn every_refusal_has_its_line() {
     let folder = Folder::new("refused");
     let mut version = file(&[b"a"]);
-    version[7] = 1;
+    version[7] = 3;
     let mut count = file(&[b"a"]);
     count[12] = 255;
     let unit = |tail: &[u8]| {
@@ -184,22 +165,22 @@ fn every_refusal_has_its_line() {
     let files: [(&str, Vec<u8>, &str); 10] = [
         ("2", b"SCgf\0\0\0".to_vec(), "refused 2 at 4: the file ends before this field does"),
         ("3", b"RIFF\0\0\0\0".to_vec(), "refused 3 at 0: it does not begin with SCgf, so it is no synth definition file"),
-        ("4", version, "refused 4 at 4: the version is not 2"),
+        ("4", version, "refused 4 at 4: the version is neither 1 nor 2"),
         ("5", count, "refused 5 at 12: this count is out of bounds"),
         ("6", file(&[b"a", b""]), "refused 6 at 30: this is no name: a definition's is empty, or a byte is not from 1 to 127"),
         ("7", unit(b"\x01\x01U\x04"), "refused 7 at 30: this rate is not 0, 1, 2 or 3"),
         ("8", unit(b"\x01\0\0\0\0\0\x01\0\0\0\0\0\0\0\0\0\0"), "refused 8 at 40: this index names nothing that stands before it"),
-        ("9", long, "refused 9 at 10: this definition is longer than 2,048 bytes"),
+        ("9", long, "refused 9 at 10: this definition takes more than 2,048 bytes in version 2"),
         ("10", file(&[b"a", b"b", b"a"]), "refused 10 at 50: an earlier definition has this name too"),
         ("11", more, "refused 11 at 30: bytes follow the last definition"),
     ];
     for (name, bytes, line) in &files {
         folder.write(name, bytes);
-        let (status, out) = folder.check(&[name]);
+        let (status, out) = check(&folder, &[name]);
         assert_eq!(out, format!("{name}: {line}\n"));
         assert_eq!(status, 1);
     }
-    let (status, out) = folder.check(&files.each_ref().map(|(name, ..)| name));
+    let (status, out) = check(&folder, &files.each_ref().map(|(name, ..)| name));
     assert_eq!(out.lines().count(), 10);
     assert_eq!(status, 1);
 }
@@ -221,17 +202,17 @@ fn what_cannot_be_read_has_its_line() {
         "good/below",
         "good",
     ];
-    let (status, out) = folder.check(&files);
+    let (status, out) = check(&folder, &files);
     assert_eq!(
         out,
-        "good: accepted, 0 definitions\n\
+        "good: accepted, version 2, 0 definitions\n\
          folder: unreadable\n\
          bad: refused 2 at 0: the file ends before this field does\n\
          missing: unreadable\n\
          : unreadable\n\
          empty: refused 2 at 0: the file ends before this field does\n\
          good/below: unreadable\n\
-         good: accepted, 0 definitions\n"
+         good: accepted, version 2, 0 definitions\n"
     );
     assert_eq!(status, 2);
 }
@@ -241,7 +222,7 @@ fn the_worst_file_gives_the_status() {
     let folder = Folder::new("status");
     folder.write("good", EMPTY_FILE);
     folder.write("bad", b"");
-    let status = |files: &[&str]| folder.check(files).0;
+    let status = |files: &[&str]| check(&folder, files).0;
     assert_eq!(status(&["good"]), 0);
     assert_eq!(status(&["good", "good"]), 0);
     assert_eq!(status(&["bad", "good"]), 1);
@@ -252,11 +233,24 @@ fn the_worst_file_gives_the_status() {
 }
 
 #[test]
-fn without_a_file_it_gives_the_usage() {
-    let (status, out, err) = Folder::new("usage").run::<&str>(&[]);
-    assert_eq!(status, 2);
-    assert_eq!(out, "");
-    assert_eq!(err, "usage: limudvek check FILE...\n");
+fn with_other_words_it_gives_the_usage() {
+    let folder = Folder::new("usage");
+    folder.write("good", EMPTY_FILE);
+    let words: [&[&str]; 5] = [
+        &[],
+        &["check"],
+        &["good"],
+        &["play", "good"],
+        &["", "good"],
+    ];
+    for words in words {
+        let (status, out, err) = folder.run(words);
+        assert_eq!((status, out.as_str()), (2, ""));
+        assert_eq!(
+            err,
+            "usage: limudvek check FILE...\n"
+        );
+    }
 }
 
 #[test]
@@ -270,11 +264,11 @@ fn large_files() {
     folder.write("constants", &constants);
     constants.truncate(30_000_001);
     folder.write("cut", &constants);
-    let (status, out) = folder.check(&["zeros", "constants", "cut"]);
+    let (status, out) = check(&folder, &["zeros", "constants", "cut"]);
     assert_eq!(
         out,
         "zeros: refused 3 at 0: it does not begin with SCgf, so it is no synth definition file\n\
-         constants: refused 9 at 10: this definition is longer than 2,048 bytes\n\
+         constants: refused 9 at 10: this definition takes more than 2,048 bytes in version 2\n\
          cut: refused 2 at 30000000: the file ends before this field does\n"
     );
     assert_eq!(status, 1);
@@ -285,6 +279,7 @@ fn closed_standard_output_is_no_panic() {
     let folder = Folder::new("closed");
     folder.write("good", EMPTY_FILE);
     let mut child = Command::new(PROGRAM)
+        .arg("check")
         .args(std::iter::repeat_n("good", 20_000))
         .current_dir(&folder.0)
         .stdout(Stdio::piped())

@@ -1,0 +1,31 @@
+-- How long the encoding of a definition is that stands in a file of either version.
+use Prim.Native.Nat.{ℕ, _+_, _*_}
+use mathlib.Core.Path.{_≡_}
+use mathlib.Core.List.{List, [], _∷_}
+use lib.ListN.{length}
+use Rattle.format.specs.declared.Width.{Width}
+use Rattle.format.specs.Read.{got}
+use Rattle.format.specs.Definition.{UnitSpec, Definition}
+use Rattle.format.specs.Reader.{definitionBy}
+
+-- a definition is read from one place to another
+pub record Readable (w : Width) (s : List ℕ) (at end : ℕ) : Type 0 where
+  pub definition : Definition
+  pub read : definitionBy w s at ≡ got definition end
+
+-- the same where its end is not said
+pub record Begins (w : Width) (s : List ℕ) (at : ℕ) : Type 0 where
+  pub end : ℕ
+  pub readable : Readable w s at end
+
+module _ {A : Type 0} where
+  unfoldable pub total : (A → ℕ) → List A → ℕ
+  total count [] = 0
+  total count (x ∷ xs) = count x + total count xs
+
+-- Paper 02, 4/14: "int16 for K, P, N, U, the parameter index, I, O and both input indices": how many such fields a unit has, and a definition
+abbrev pub unitFields : UnitSpec → ℕ
+unitFields u = 2 + 2 * length (u .inputs)
+
+abbrev pub fieldsIn : Definition → ℕ
+fieldsIn d = 4 + length (d .front .names) + total unitFields (d .units)

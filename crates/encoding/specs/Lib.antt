@@ -1,0 +1,4 @@
+pub mod Encoding
+pub mod Lengths
+pub mod Walked
+pub mod Worked

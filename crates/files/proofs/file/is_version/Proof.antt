@@ -1,0 +1,13 @@
+use borrow.Author.Tests.{eq-eqb, ne-eqb}
+use Rattle.format.specs.Writer.{firstVersion}
+use Rattle.files.proofs.file.is_version.Statement.{statement}
+use Rattle.files.proofs.file.is_version.Tie as tie
+
+returns : tie.Need-returns
+returns c = rw (eq-eqb _ firstVersion (c .if1 .taken))
+
+returns-2 : tie.Need-returns-2
+returns-2 c = rw (ne-eqb _ firstVersion (c .if1 .left))
+
+pub is-version-spec : {M : Type 1} → statement M
+is-version-spec = tie.close (tie.spec returns returns-2)

@@ -1,0 +1,46 @@
+use mathlib.Core.Path.{sym, ap, _∙_}
+use borrow.Author.Needs.{needs}
+use Rattle.format.specs.Reader.{readFile}
+use Rattle.format.specs.Writer.{versionOf}
+use Rattle.synthdef.specs.Version.{version-accepted, version-refused}
+use Rattle.synthdef.proofs.synthdef_version.Statement.{statement}
+use Rattle.synthdef.proofs.synthdef_version.Tie as tie
+
+check-file-requires : tie.Need-check-file-requires
+check-file-requires c κs = search needs
+
+enum-known-count : tie.Need-enum-known-count
+enum-known-count c = search needs
+
+width-of-requires : tie.Need-width-of-requires
+width-of-requires c κs = search needs
+
+version-of-requires : tie.Need-version-of-requires
+version-of-requires c κs = search needs
+
+enum-known-refusal : tie.Need-enum-known-refusal
+enum-known-refusal c = search needs
+
+returns : tie.Need-returns
+returns c =
+    let s = c .before .before .before .before .before .before .before .args .file .now in
+    let told = rw (c .before .before .before .count .given .1) at (c .before .before .before .before .before .check-file .ensures) in
+    c .version-of .ensures ∙ ap versionOf (c .before .width-of .ensures) ∙ sym (version-accepted (readFile s) _ told)
+
+returns-2 : tie.Need-returns-2
+returns-2 c =
+    let s = c .before .before .before .before .before .args .file .now in
+    let told = rw (c .before .refusal .given .1) at (c .before .before .before .check-file .ensures) in
+    sym (version-refused (readFile s) _ told)
+
+pub synthdef-version-spec : {M : Type 1} → statement M
+synthdef-version-spec =
+    tie.close
+    (tie.spec
+    check-file-requires
+    enum-known-count
+    width-of-requires
+    version-of-requires
+    enum-known-refusal
+    returns
+    returns-2)

@@ -1,0 +1,56 @@
+use Rattle.words.specs.Parts.{region-length}
+use Prim.Native.Nat.{_+_, _-_}
+use mathlib.Core.Path.{_≡_, refl}
+use native.Mathlib.Omega.{arith}
+use borrow.Author.Needs.{needs}
+
+use borrow.Author.Needs.{needs}
+use Rattle.widening.proofs.places.keep.Statement.{statement}
+use Rattle.widening.proofs.places.keep.Tie as tie
+
+add-end : tie.Need-add-end
+add-end c = search needs
+
+sub-put-bytes : tie.Need-sub-put-bytes
+sub-put-bytes c = search needs
+
+part-put-bytes-start : tie.Need-part-put-bytes-start
+part-put-bytes-start c = search needs
+
+part-put-bytes-end : tie.Need-part-put-bytes-end
+part-put-bytes-end c = search needs
+
+put-bytes-requires : tie.Need-put-bytes-requires
+put-bytes-requires c κs =
+    let a = c .before .before .before .before in
+    let k : a .args .at .from + a .args .count - a .args .at .from ≡ a .args .count = omega arith in
+    rw k (a .pre .fits)
+
+add-t11 : tie.Need-add-t11
+add-t11 c = search needs
+
+same-length : tie.Need-same-length
+same-length c = search needs
+
+returns : tie.Need-returns
+returns c =
+    let a = c .before .before .before .before .before .before .before .before in
+    let k : a .args .at .from + a .args .count - a .args .at .from ≡ a .args .count = omega arith in
+    record {
+      bytes = rw k at (c .before .before .before .put-bytes .ensures);
+      from = refl;
+      to = rw (region-length (a .args .at .from) (a .args .count) (a .args .s .now) (a .pre .inside)) refl;
+    }
+
+pub keep-spec : {M : Type 1} → statement M
+keep-spec =
+    tie.close
+    (tie.spec
+    add-end
+    sub-put-bytes
+    part-put-bytes-start
+    part-put-bytes-end
+    put-bytes-requires
+    add-t11
+    same-length
+    returns)

@@ -1,0 +1,39 @@
+use Rattle.osc.specs.Over.{over}
+use Rattle.words.specs.Bytes.{bytes32}
+use Prim.Native.Nat.{ℕ}
+use mathlib.Core.Path.{refl, ap, _∙_}
+
+
+use borrow.Author.Needs.{needs}
+
+use borrow.Author.Needs.{needs}
+use Rattle.widening.proofs.places.widen_integer.Statement.{statement}
+use Rattle.widening.proofs.places.widen_integer.Tie as tie
+
+value-at-requires : tie.Need-value-at-requires
+value-at-requires c κs = search needs
+
+put-int-requires : tie.Need-put-int-requires
+put-int-requires c κs = search needs
+
+add-t9 : tie.Need-add-t9
+add-t9 c = search needs
+
+add-t10 : tie.Need-add-t10
+add-t10 c = search needs
+
+same-length : tie.Need-same-length
+same-length c = search needs
+
+returns : tie.Need-returns
+returns c =
+    let a = c .before .before .before .before .before .before .before .before .before .args in
+    record {
+      bytes = c .before .before .before .before .put-int .ensures ∙ ap (λ (n : ℕ). over (a .at .to) (bytes32 n) (a .out .now)) (c .before .before .before .before .before .value-at .ensures);
+      from = refl;
+      to = refl;
+    }
+
+pub widen-integer-spec : {M : Type 1} → statement M
+widen-integer-spec =
+    tie.close (tie.spec value-at-requires put-int-requires add-t9 add-t10 same-length returns)

@@ -1,0 +1,5 @@
+pub mod Walk
+pub mod Moved
+pub mod Pieces
+pub mod Widened
+pub mod Encoded

@@ -1,0 +1,25 @@
+/* Files from C, as include/limudvek.h declares them. Ends with 0 where all is as it should be, else with
+ * the line of the first fault. ./test builds it with the proved library. */
+#include "limudvek.h"
+
+#define WANT(holds) \
+    do { \
+        if (!(holds)) return __LINE__; \
+    } while (0)
+
+int main(void) {
+    static const uint8_t one[36] = "SCgf\0\0\0\1\0\1\4ping\0\0\0\1\x43\xdc\0\0\0\1\4freq\0\0\0\0\0";
+    static const uint8_t two[46] = "SCgf\0\0\0\2\0\1\4ping\0\0\0\0\0\0\0\1\x43\xdc\0\0\0\0\0\1\4freq\0\0\0\0\0\0\0";
+
+    /* One definition in either version. */
+    WANT(synthdef_refusal(one, sizeof one) == 0 && synthdef_refusal(two, sizeof two) == 0);
+    WANT(synthdef_version(one, sizeof one) == 1 && synthdef_version(two, sizeof two) == 2);
+    WANT(synthdef_count(one, sizeof one) == 1 && synthdef_count(two, sizeof two) == 1);
+    WANT(synthdef_name_start(one, sizeof one, 0) == 11 && synthdef_name_end(one, sizeof one, 0) == 15);
+
+    /* Refused: cut, and of another version. */
+    WANT(synthdef_refusal(one, sizeof one - 1) == 2 && synthdef_place(one, sizeof one - 1) == 34);
+    WANT(synthdef_version(one, sizeof one - 1) == 0);
+    WANT(synthdef_refusal((const uint8_t *)"SCgf\0\0\0\3\0", 10) == 4);
+    return 0;
+}
