@@ -38,6 +38,11 @@ uint32_t synthdef_count(const uint8_t *file, size_t length);
 uint64_t synthdef_name_start(const uint8_t *file, size_t length, uint32_t index);
 uint64_t synthdef_name_end(const uint8_t *file, size_t length, uint32_t index);
 
+/* Writes the version 2 file of the same definitions from the first byte of out on, and answers its
+ * length, at most 65,546; bytes past it stay. Of a version 2 file that is the file itself. Answers 0
+ * where the file is refused or out is too short, and then nothing is written. */
+uint64_t synthdef_widen(const uint8_t *file, size_t length, uint8_t *out, size_t out_length);
+
 /* The engine. It lives in two lent runs, which docs/LAYOUT.md describes. It takes files of both
  * versions, keeps their definitions as version 2 has them, and exports version 2. */
 

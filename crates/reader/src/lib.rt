@@ -3,6 +3,7 @@ mod places;
 mod reader;
 
 pub use places::Span;
+pub use places::place_after;
 pub use reader::Opened;
 pub use reader::Reader;
 pub use reader::definition_span;

@@ -1,1 +1,3 @@
-pub mod Version
+pub mod Twin
+pub mod Reading
+pub mod Worked

@@ -1,18 +1,19 @@
 // SynthDef files, for Rust and C.
+mod twin;
+
+use crate::twin::twin_size;
+use crate::twin::version_of;
+use crate::twin::write_twin;
 use faults::fault_number;
 use files::Checked;
 use files::check_file;
 use files::width_of;
-use format::FILE_VERSION;
-use format::FIRST_VERSION;
-use format::Width;
 use reader::Span;
 use reader::definition_span;
 ghost use mathlib.Core.Path.{_≡_};
 ghost use Rattle.format.specs.Reader.{readFile};
 ghost use Rattle.files.specs.File.{verdict, refusalNumber, refusalPlace, definitionCount};
-ghost use Rattle.format.specs.Writer.{versionOf};
-ghost use Rattle.synthdef.specs.Version.{acceptedVersion};
+ghost use Rattle.synthdef.specs.Twin.{acceptedVersion, Widens};
 ghost use Rattle.reader.specs.Spans.{definitionSpan, nameStart, nameEnd};
 
 // 0 where the file is accepted, or the refusal's number.
@@ -73,16 +74,6 @@ pub extern "C" fn synthdef_name_end(file: &[u8], index: u32) -> u64
     }
 }
 
-// The version whose fields are so wide.
-fn version_of(width: Width) -> u32
-    ensures { λ r. ⌜ r ≡ versionOf width ⌝ }
-{
-    match width {
-        Width::Short => FIRST_VERSION,
-        Width::Long => FILE_VERSION,
-    }
-}
-
 // The version of an accepted file; 0 where it is refused.
 #[no_mangle]
 pub extern "C" fn synthdef_version(file: &[u8]) -> u32
@@ -90,6 +81,24 @@ pub extern "C" fn synthdef_version(file: &[u8]) -> u32
 {
     match check_file(file) {
         Checked::Accepted(count) => version_of(width_of(file)),
+        Checked::Refused(refusal, place) => 0,
+    }
+}
+
+// Writes the twin of an accepted file from the first byte on, where it has room, and answers its length; else 0, and nothing is written.
+#[no_mangle]
+pub extern "C" fn synthdef_widen(file: &[u8], out: &mut [u8]) -> u64
+    ensures { λ r. ⌜ Widens (now (file .entry)) (now (out .entry)) (now (out .exit)) r ⌝ }
+{
+    match check_file(file) {
+        Checked::Accepted(count) => {
+            let size = twin_size(file, count);
+            if out.len() < size {
+                return 0;
+            }
+            write_twin(out, file, count);
+            size as u64
+        }
         Checked::Refused(refusal, place) => 0,
     }
 }

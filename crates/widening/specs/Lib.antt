@@ -3,3 +3,4 @@ pub mod Moved
 pub mod Pieces
 pub mod Widened
 pub mod Encoded
+pub mod Worked

@@ -21,7 +21,7 @@ pub record Moved (wide : List ℕ) (past : ℕ) (p : Places) (before after : Lis
   pub to : q .to ≡ p .to + length wide
 
 -- no bytes
-over-none : (at : ℕ) (us : List ℕ) → us ≡ over at [] us
+pub over-none : (at : ℕ) (us : List ℕ) → us ≡ over at [] us
 over-none at us = sym (rw (add-zero at, append-nil (take at us)) (take-append-drop at us))
 
 pub moved-length : {wide : List ℕ} {past : ℕ} {p q : Places} {before after : List ℕ} → Moved wide past p before after q → p .to + length wide ≤ length before → length after ≡ length before

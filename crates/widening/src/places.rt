@@ -1,6 +1,6 @@
 // Version 1 bytes written as version 2, piece by piece: a count or an index takes two bytes more, and all else stays as it is.
-use format::Width;
 use fields::value_at;
+use format::Width;
 use osc::put_bytes;
 use osc::put_int;
 ghost use Prim.Native.Nat.{_+_};

@@ -1,6 +1,7 @@
 //! The program `limudvek-files`: the commands that need the library of files alone.
 
 mod check;
+mod widen;
 
 use std::env;
 use std::ffi::OsString;
@@ -17,8 +18,9 @@ fn main() -> ExitCode {
     let command = words.first().and_then(|word| word.to_str());
     let status = match (command, words.get(1..).unwrap_or_default()) {
         (Some("check"), files @ [_, ..]) => check::files(files),
+        (Some("widen"), [from, to]) => widen::file(from, to),
         _ => {
-            eprintln!("usage: limudvek check FILE...");
+            eprintln!("usage: limudvek check FILE...\n       limudvek widen IN OUT");
             UNREADABLE
         }
     };

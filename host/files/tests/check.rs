@@ -236,10 +236,13 @@ fn the_worst_file_gives_the_status() {
 fn with_other_words_it_gives_the_usage() {
     let folder = Folder::new("usage");
     folder.write("good", EMPTY_FILE);
-    let words: [&[&str]; 5] = [
+    let words: [&[&str]; 8] = [
         &[],
         &["check"],
         &["good"],
+        &["widen"],
+        &["widen", "good"],
+        &["widen", "good", "a", "b"],
         &["play", "good"],
         &["", "good"],
     ];
@@ -248,7 +251,7 @@ fn with_other_words_it_gives_the_usage() {
         assert_eq!((status, out.as_str()), (2, ""));
         assert_eq!(
             err,
-            "usage: limudvek check FILE...\n"
+            "usage: limudvek check FILE...\n       limudvek widen IN OUT\n"
         );
     }
 }

@@ -12,6 +12,12 @@ mod proved {
         pub fn synthdef_count(file: *const u8, length: usize) -> u32;
         pub fn synthdef_name_start(file: *const u8, length: usize, index: u32) -> u64;
         pub fn synthdef_name_end(file: *const u8, length: usize, index: u32) -> u64;
+        pub fn synthdef_widen(
+            file: *const u8,
+            length: usize,
+            out: *mut u8,
+            out_length: usize,
+        ) -> u64;
     }
 }
 
@@ -95,4 +101,25 @@ pub fn name(file: &[u8], index: u32) -> Option<&[u8]> {
 /// The names of the definitions, in file order.
 pub fn names(file: &[u8]) -> impl Iterator<Item = &[u8]> {
     (0..count(file)).filter_map(move |index| name(file, index))
+}
+
+/// The most bytes that an accepted file takes in version 2.
+pub const LONGEST: usize = 65_546;
+
+/// Writes the version 2 file of the same definitions from the first byte of `out` on, and answers its
+/// length. Where the file is refused or `out` is too short, nothing is written and the answer is 0.
+pub fn widen(file: &[u8], out: &mut [u8]) -> usize {
+    // SAFETY: each pointer and length are those of one slice, lent until the call returns.
+    let length =
+        unsafe { proved::synthdef_widen(file.as_ptr(), file.len(), out.as_mut_ptr(), out.len()) };
+    length as usize
+}
+
+/// The version 2 file of the same definitions, or why the file is refused.
+pub fn widened(file: &[u8]) -> Result<Vec<u8>, Refused> {
+    check(file)?;
+    let mut twin = vec![0; LONGEST];
+    let length = widen(file, &mut twin);
+    twin.truncate(length);
+    Ok(twin)
 }

@@ -133,6 +133,7 @@ fn judged(version: Version, kind: &Kind, seed: u64, place: u64) -> Tally {
         version,
         random: Random::new(!seeds),
         tally: Tally::default(),
+        out: vec![0; synthdef::LONGEST + 100],
     };
     kind.each(version, Random::new(seeds), &mut |file, known| {
         judge.judge(file, known);
@@ -148,6 +149,7 @@ struct Judge {
     version: Version,
     random: Random,
     tally: Tally,
+    out: Vec<u8>,
 }
 
 impl Judge {
@@ -184,9 +186,23 @@ impl Judge {
             }
             self.names(file, definitions);
         }
+        let length = twin.bytes.len();
         if proved(&twin.bytes).is_some() {
             self.fail(file, "its twin is refused");
         }
+        // The whole twin, and what lies behind it stays.
+        let room = length + self.random.below(100);
+        if self.widen(file, room) != length || self.out[..length] != twin.bytes {
+            self.fail(file, "it is not widened to its twin");
+        }
+        if self.out[length..room].iter().any(|&byte| byte != FILLING) {
+            self.fail(file, "more than the twin is written");
+        }
+        let room = match self.random.below(2) {
+            0 => length - 1,
+            _ => self.random.below(length),
+        };
+        self.unwidened(file, room);
     }
 
     /// The names of an accepted file, each a part of it.
@@ -206,11 +222,30 @@ impl Judge {
         if synthdef::count(file) != 0 || synthdef::name(file, 0).is_some() {
             self.fail(file, "refused, but with names");
         }
+        let room = self.random.below(file.len().min(500) + 100);
+        self.unwidened(file, room);
         let proved = proved(&twin.bytes);
         if proved != twin.fault {
             let what = format!("its twin is refused by {proved:?}, not by {:?}", twin.fault);
             self.fail(file, &what);
         }
+    }
+
+    /// Nothing is written to so much room.
+    fn unwidened(&mut self, file: &[u8], room: usize) {
+        let length = self.widen(file, room);
+        if length != 0 || self.out[..room].iter().any(|&byte| byte != FILLING) {
+            self.fail(
+                file,
+                &format!("widened to {length} bytes where {room} are lent"),
+            );
+        }
+    }
+
+    fn widen(&mut self, file: &[u8], room: usize) -> usize {
+        let out = &mut self.out[..room];
+        out.fill(FILLING);
+        synthdef::widen(file, out)
     }
 
     fn fail(&self, file: &[u8], what: &str) -> ! {
@@ -223,6 +258,9 @@ impl Judge {
         );
     }
 }
+
+/// What the lent bytes hold before.
+const FILLING: u8 = 0xa5;
 
 /// The proved reader's refusal.
 fn proved(file: &[u8]) -> Option<Fault> {

@@ -21,7 +21,13 @@ fn original(fields: &[&[u8]]) -> Vec<u8> {
 fn widens(file: &[u8], version: u32, twin: &[u8]) {
     accepted(file);
     assert_eq!(synthdef::version(file), version);
+    assert_eq!(synthdef::widened(file).as_deref(), Ok(twin));
     assert_eq!(independent::twin(file).bytes, twin);
+    let mut out = vec![7; twin.len() + 3];
+    assert_eq!(synthdef::widen(file, &mut out[..twin.len() - 1]), 0);
+    assert!(out.iter().all(|&byte| byte == 7));
+    assert_eq!(synthdef::widen(file, &mut out), twin.len());
+    assert_eq!(out, [twin, &[7; 3]].concat());
 }
 
 #[test]
@@ -65,7 +71,10 @@ fn every_field_once() {
     widens(&file, 1, &twin);
     assert_eq!(synthdef::name(&file, 0), Some(b"a".as_slice()));
     for length in 0..file.len() {
+        let mut out = [7; 200];
         assert_eq!(synthdef::version(&file[..length]), 0);
+        assert_eq!(synthdef::widen(&file[..length], &mut out), 0);
+        assert_eq!(out, [7; 200]);
     }
 }
 
@@ -181,6 +190,10 @@ fn the_size_limit() {
     assert_eq!(most.len(), 12 + 8 * 169);
     let most = file(&[most]);
     accepted(&most);
+    assert_eq!(
+        synthdef::widened(&most).map(|twin| twin.len()),
+        Ok(10 + 2048)
+    );
     refused(&file(&[long(170, 0)]), 9, 10);
     accepted(&file(&[long(1, 504)]));
     refused(&file(&[long(1, 505)]), 9, 10);
