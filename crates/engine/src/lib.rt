@@ -1,7 +1,6 @@
 // The engine: `fresh`, `apply`, which every command goes through, `message`, which takes it as bytes, and what other languages call. Nothing here asks anything of what it is lent.
 mod commands;
 mod exports;
-mod query;
 mod sent;
 mod start;
 

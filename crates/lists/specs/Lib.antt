@@ -1,0 +1,5 @@
+pub mod Lent
+pub mod OneByOne
+pub mod Walk
+pub mod Judging
+pub mod Running
