@@ -90,12 +90,12 @@ pub record Lists (us bytes ws bs : List ℕ) (r : Outcome) (ws′ bs′ : List �
   pub lentBytes : AreBytes bytes
   pub lentArena : AreBytes bs
 
--- what the 64 bits leave for the count, 2^16, and for a place, 2^40
+-- room in the 64 bits for the count, 2^16, and for a place, 2^39
 abbrev pub countRoom : ℕ
 countRoom = 65536
 
 abbrev pub placeRoom : ℕ
-placeRoom = 1099511627776
+placeRoom = 549755813888
 
 abbrev pub placeIn : Answer → ℕ
 placeIn Done = 0

@@ -1,7 +1,6 @@
 -- A list's items from a place on: what is left of the list, as a walk along it finds them.
 use Prim.Native.Nat.{ℕ, suc, _+_, _*_, _-_, _<_, _≤_}
-use mathlib.Core.Bool.{Bool, true, false}
-use mathlib.Core.Path.{_≡_, refl, sym, ap, ap₂, _∙_}
+use mathlib.Core.Path.{_≡_, ap, _∙_}
 use mathlib.Core.List.{List, [], _∷_}
 use native.Mathlib.Omega.{arith}
 use lib.ListN.{drop}
@@ -21,7 +20,7 @@ pub items-next : (us : List ℕ) (i : ℕ) → i < countIn us → itemsAt us i �
 unfolding itemsFrom
 items-next us i h =
     let n : countIn us - i ≡ suc (countIn us - (i + 1)) = omega arith in
-    let far : width + width * i ≡ width * (i + 1) = omega arith in
+    let far : width * i + width ≡ width * (i + 1) = omega arith in
     ap (λ (k : ℕ). itemsFrom k (drop (width * i) us)) n
     ∙ ap (λ (l : List ℕ). itemAt us i ∷ itemsFrom (countIn us - (i + 1)) l) (drop-drop width (width * i) us ∙ ap (λ (k : ℕ). drop k us) far)
 

@@ -4,13 +4,36 @@ use crate::Verdict;
 use crate::item::item_kind;
 ghost use mathlib.Core.Path.{_≡_};
 ghost use lib.Dec.{leb};
-ghost use Rattle.lists.specs.Lent.{most, verdict};
+ghost use Rattle.words.specs.Choice.{both};
+ghost use Rattle.lists.specs.Lent.{isItem, acts, most, verdict};
 
 // A list that is not too long.
 fn is_short(count: usize) -> bool
     ensures { λ r. ⌜ r ≡ leb count most ⌝ }
 {
     count <= 512
+}
+
+// An item is one.
+fn is_item(kind: Kind) -> bool
+    ensures { λ r. ⌜ r ≡ isItem kind ⌝ }
+{
+    match kind {
+        Kind::NoItem => false,
+        Kind::Replies => true,
+        Kind::Acts => true,
+    }
+}
+
+// A list that was fit so far, with one more item.
+fn still_fit(fit: bool, kind: Kind) -> bool
+    ensures { λ r. ⌜ r ≡ both fit (acts kind) ⌝ }
+{
+    match kind {
+        Kind::NoItem => false,
+        Kind::Replies => false,
+        Kind::Acts => fit,
+    }
 }
 
 // Whether these words, beside these bytes, are a list, and one whose commands are tried.
@@ -25,15 +48,11 @@ pub fn judge(items: &[u32], bytes: &[u8]) -> Verdict
     let mut fit = is_short(count);
     let mut i = 0;
     while i < count {
-        match item_kind(items, 12 * i, room) {
-            Kind::NoItem => {
-                return Verdict::NoList;
-            }
-            Kind::Replies => {
-                fit = false;
-            }
-            Kind::Acts => {}
+        let kind = item_kind(items, 12 * i, room);
+        if !is_item(kind) {
+            return Verdict::NoList;
         }
+        fit = still_fit(fit, kind);
         i += 1;
     }
     if fit {

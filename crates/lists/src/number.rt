@@ -3,14 +3,13 @@ use crate::Outcome;
 use faults::fault_number;
 use model::Answer;
 use refusals::refusal_number;
-ghost use Prim.Native.Nat.{_<_};
 ghost use mathlib.Core.Path.{_≡_};
 ghost use Rattle.model.specs.Demands.{refusalIn};
 ghost use Rattle.lists.specs.OneByOne.{placeIn, listNumber};
 
 // The number of the refusal that an answer gives, 0 where it gives none.
 fn refusal_in(answer: Answer) -> u32
-    ensures { λ r. ⌜ (r ≡ refusalIn answer) × (r < 256) ⌝ }
+    ensures { λ r. ⌜ r ≡ refusalIn answer ⌝ }
 {
     match answer {
         Answer::Done => 0,
@@ -39,8 +38,9 @@ pub fn list_number(outcome: Outcome) -> u64
     match outcome {
         Outcome::NoList => 255,
         Outcome::Ended(answer, accepted) => {
-            refusal_in(answer) as u64 + 256 * (accepted as u64 % 65536)
-                + 16777216 * (place_in(answer) as u64 % 1099511627776)
+            refusal_in(answer) as u64
+                + 256 * (accepted as u64 % 65536)
+                + 16777216 * (place_in(answer) as u64 % 549755813888)
         }
     }
 }

@@ -35,13 +35,7 @@ fn is_accepted(answer: Answer) -> bool
 }
 
 // The command of the item at a place, in a well-formed state: there is no room for a reply, since none of these replies.
-fn item_step(
-    items: &[u32],
-    at: usize,
-    bytes: &[u8],
-    words: &mut [u32],
-    arena: &mut [u8],
-) -> Answer
+fn item_step(items: &[u32], at: usize, bytes: &[u8], words: &mut [u32], arena: &mut [u8]) -> Answer
     requires { ⌜ (at + width ≤ length (now items)) × ((kindOf (length (now bytes)) (itemIn (drop at (now items))) ≡ Acts) × (formed (now words) (now arena) ≡ true)) ⌝ }
     ensures { λ r. ⌜ Goes (itemIn (drop at (now (items .entry)))) (now (bytes .entry)) (now (words .entry)) (now (arena .entry)) r (now (words .exit)) (now (arena .exit)) ⌝ }
 {
