@@ -5,3 +5,5 @@ pub mod Walk
 pub mod Judging
 pub mod Running
 pub mod Ending
+pub mod OnEngine
+pub mod Worked

@@ -13,7 +13,7 @@ use Rattle.model.specs.Engine.{decode}
 use Rattle.model.specs.Formed.{formed}
 use Rattle.model.specs.After.{wordsAfter, arenaAfter}
 use Rattle.model.specs.Apply.{answer, isAccepted, written, replyOf}
-use Rattle.model.specs.Chain.{State, Call, leftBy}
+use Rattle.model.specs.Chain.{State, Call, Chain, leftBy}
 use Rattle.model.specs.Demands.{refusalIn}
 use Rattle.model.specs.Script.{Line}
 use Rattle.lists.specs.declared.Verdict.{Verdict}
@@ -82,11 +82,13 @@ outcomeOf us bytes s = outcomeBy (lent.verdict us bytes) (lent.linesOf us bytes)
 abbrev pub lentState : List ℕ → List ℕ → State
 lentState ws bs = record { words = ws; arena = bs }
 
--- a call of a list on the lent words and arena: what it ends in, and the words and the arena that its calls one by one leave. What is lent as bytes is bytes
+-- a call of a list on the lent words and arena: what it ends in, and the words and the arena that its calls one by one leave, each of them a call as `engine::apply` promises it. What is
+-- lent as bytes is bytes
 pub record Lists (us bytes ws bs : List ℕ) (r : Outcome) (ws′ bs′ : List ℕ) : Type 0 where
   pub ends : r ≡ outcomeOf us bytes (lentState ws bs)
   pub words : ws′ ≡ leftBy (callsOf us bytes (lentState ws bs)) (lentState ws bs) .words
   pub arena : bs′ ≡ leftBy (callsOf us bytes (lentState ws bs)) (lentState ws bs) .arena
+  pub chain : Chain (callsOf us bytes (lentState ws bs)) (lentState ws bs)
   pub lentBytes : AreBytes bytes
   pub lentArena : AreBytes bs
 
