@@ -1,3 +1,4 @@
+-- `lists::item::is_laid` meets its contract.
 use borrow.Author.Tests.{not-true, not-false}
 use Rattle.lists.specs.Lent.{itemIn}
 use Rattle.lists.specs.Laid.{laid-later, laid-past, laid-by}

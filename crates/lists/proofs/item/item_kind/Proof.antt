@@ -1,3 +1,4 @@
+-- `lists::item::item_kind` meets its contract.
 use borrow.Author.Tests.{not-true, not-false}
 use Rattle.lists.specs.Lent.{ofParsed}
 use mathlib.Core.Path.{sym, ap, _∙_}

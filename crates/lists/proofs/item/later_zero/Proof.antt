@@ -1,3 +1,4 @@
+-- `lists::item::later_zero` meets its contract.
 use lib.Dec.{eqb}
 use Rattle.lists.specs.Laid.{zeros-1, zeros-2, zeros-3, zeros-4}
 use Prim.Native.Nat.{ℕ}

@@ -1,3 +1,4 @@
+-- `lists::item::parsed_at` meets its contract.
 use mathlib.Core.Path.{sym}
 use borrow.Author.Needs.{needs}
 use borrow.Author.Needs.{needs}

@@ -1,3 +1,4 @@
+-- `lists::item::word` meets its contract.
 use lib.Seq.{getD-drop}
 use mathlib.Core.Path.{sym}
 use borrow.Author.Needs.{needs}

@@ -1,3 +1,4 @@
+-- `lists::judged::judge` meets its contract.
 use Rattle.lists.specs.Judging.{Judging, not-whole, judge-begins, judge-stops, judge-goes, judge-ends, no-list, a-list}
 use Rattle.lists.specs.Walk.{itemAt}
 use Rattle.lists.specs.Lent.{isItem, acts, kindOf}

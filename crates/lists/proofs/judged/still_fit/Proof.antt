@@ -1,3 +1,4 @@
+-- `lists::judged::still_fit` meets its contract.
 use Rattle.lists.specs.Judging.{both-none, both-right}
 use Rattle.lists.specs.Lent.{acts}
 use Rattle.lists.specs.declared.Kind.{Kind}

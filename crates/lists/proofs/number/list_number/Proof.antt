@@ -1,3 +1,4 @@
+-- `lists::number::list_number` meets its contract.
 use Rattle.lists.specs.OneByOne.{countRoom, placeRoom, listNumber}
 use Prim.Native.Nat.{_%_}
 use mathlib.Core.Path.{ap₂}

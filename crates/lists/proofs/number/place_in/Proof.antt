@@ -1,3 +1,4 @@
+-- `lists::number::place_in` meets its contract.
 use Rattle.lists.specs.OneByOne.{placeIn}
 use mathlib.Core.Path.{sym, ap}
 use borrow.Author.Needs.{needs}

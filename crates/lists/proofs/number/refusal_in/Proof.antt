@@ -1,3 +1,4 @@
+-- `lists::number::refusal_in` meets its contract.
 use Rattle.model.specs.Demands.{refusalIn}
 use mathlib.Core.Path.{sym, ap, _∙_}
 use borrow.Author.Needs.{needs}

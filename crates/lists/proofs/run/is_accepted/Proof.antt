@@ -1,3 +1,4 @@
+-- `lists::run::is_accepted` meets its contract.
 use Rattle.model.specs.Apply.{isAccepted}
 use mathlib.Core.Path.{sym, ap}
 use borrow.Author.Needs.{needs}

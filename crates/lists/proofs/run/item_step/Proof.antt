@@ -1,3 +1,4 @@
+-- `lists::run::item_step` meets its contract.
 use Rattle.lists.specs.Running.{goes-by}
 use Rattle.lists.specs.Laid.{acts-laid, acts-parsed}
 use Rattle.lists.specs.Lent.{itemIn}

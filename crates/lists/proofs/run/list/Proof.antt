@@ -1,3 +1,4 @@
+-- `lists::run::list` meets its contract.
 use Rattle.lists.specs.Ending.{lists-none, lists-unfit, lists-unfit-bad, lists-fit-bad, lists-fit}
 use borrow.Author.Tests.{not-true, not-false}
 use mathlib.Core.Path.{sym, _∙_}

@@ -1,3 +1,4 @@
+-- `lists::run::run` meets its contract.
 use Rattle.lists.specs.Running.{Running, same-size, run-begins, run-kind, run-goes, run-stops, run-ends}
 use borrow.Author.Tests.{not-true, not-false}
 use Prim.{tt}
