@@ -5,5 +5,6 @@ pub mod Walk
 pub mod Judging
 pub mod Running
 pub mod Ending
+pub mod Count
 pub mod OnEngine
 pub mod Worked
