@@ -118,7 +118,7 @@ impl Pair {
         let expected = match command {
             Ok(command) => {
                 let answer = self.model.apply(&command, expected_reply);
-                if answer.is_ok() && !replies(&command) {
+                if answer.is_ok() && !command.replies() {
                     let view = self.model.view();
                     leave(
                         Call::of(&command).op,
@@ -186,7 +186,7 @@ impl Pair {
     /// How long the reply to a command is.
     fn length(&mut self, command: Result<Command, u64>) -> usize {
         match command {
-            Ok(command) if replies(&command) => {
+            Ok(command) if command.replies() => {
                 let answer = self.model.apply(&command, &mut self.expected_reply);
                 answer.unwrap_or(0)
             }
@@ -228,19 +228,6 @@ fn apply(call: &Call, words: &mut [u32], arena: &mut [u8], reply: &mut [u8]) -> 
 /// An answer's refusal, and its place or length.
 fn parts(answer: u64) -> (u64, u64) {
     (answer % 256, answer / 256)
-}
-
-/// Whether a command replies and changes nothing.
-fn replies(command: &Command) -> bool {
-    matches!(
-        command,
-        Command::Get { .. }
-            | Command::GetBus(_)
-            | Command::Query(_)
-            | Command::QueryTree { .. }
-            | Command::Status
-            | Command::Export
-    )
 }
 
 /// The first place where two runs of one length differ.
