@@ -122,13 +122,10 @@ pub fn read(text: &[u8]) -> Result<Option<Line>, String> {
         expect(0)?;
         return Ok(Some(line));
     }
-    match address {
-        b"/d_recv" => {
-            expect(1)?;
-            let file = arguments[0].bytes.clone();
-            return Ok(Some(Line::Load { text, file }));
-        }
-        _ => {}
+    if address == b"/d_recv" {
+        expect(1)?;
+        let file = arguments[0].bytes.clone();
+        return Ok(Some(Line::Load { text, file }));
     }
     let Some((op, kinds)) = command(address) else {
         return Err(format!("{} is no command", show::path(address)));
