@@ -5,7 +5,7 @@ use mathlib.Core.Path.{_≡_, refl, ap, _∙_}
 use mathlib.Core.List.{List, [], _∷_, _++_}
 use lib.ListN.{take}
 use Rattle.format.specs.Read.{repeat}
-use Rattle.format.specs.Reader.{sameName, readFile, readFront, readUnit, readUnits, readDefinition, readDefinitions, among}
+use Rattle.format.specs.Reader.{sameName, readFile, frontBy, unitBy, unitsBy, definitionBy, readDefinitions, among}
 use Rattle.nodes.specs.Place.{lives}
 use Rattle.nodes.specs.Edit.{lift, sink, takeDeeper, dropDeeper, onlyGroups, runOf, editRows}
 use Rattle.nodes.specs.Order.{orderFrom}
@@ -20,7 +20,7 @@ use Rattle.model.specs.Apply.{answerIn, queryAnswer}
 use Rattle.model.specs.Examples.{header}
 use Rattle.model.specs.Fresh.{freshEngine, freshParts, fresh-parts}
 use Rattle.format.specs.Fields.{nameBytes}
-use Rattle.format.specs.Writer.{writeAll, writeDefinition, writeFile}
+use Rattle.format.specs.Writer.{writeAll, writeDefinitionBy, writeFile}
 use Rattle.nodes.specs.Formed.{rowTaken, freeRowFrom}
 use Rattle.osc.specs.Message.{tags, arguments}
 use Rattle.format.specs.Names.{firstIndex}
@@ -87,7 +87,7 @@ rowsFrom e =
     ∷ []
 
 computed : agrees (rowsFrom freshParts) ≡ true
-unfolding repeat nameBytes readFront readUnit readUnits readDefinition readDefinitions readFile sameName among writeAll writeDefinition writeFile lives lift sink takeDeeper dropDeeper onlyGroups runOf editRows orderFrom rowTaken tags arguments targetOf inBounds pattern held residentFrom controlsFrom firstIndex viewRows nodeNamed firstOf namesOf staying retired freeFrom loaded freeRowFrom initialWords changeWords changeAll effect plainNamed replyTo queryAnswer answerIn agrees commandOf itemsFrom zeros every verdict linesIn endingOn times
+unfolding repeat nameBytes frontBy unitBy unitsBy definitionBy readDefinitions readFile sameName among writeAll writeDefinitionBy writeFile lives lift sink takeDeeper dropDeeper onlyGroups runOf editRows orderFrom rowTaken tags arguments targetOf inBounds pattern held residentFrom controlsFrom firstIndex viewRows nodeNamed firstOf namesOf staying retired freeFrom loaded freeRowFrom initialWords changeWords changeAll effect plainNamed replyTo queryAnswer answerIn agrees commandOf itemsFrom zeros every verdict linesIn endingOn times
 computed = refl
 
 abbrev pub table : List Example
