@@ -1,4 +1,5 @@
-/* A host in C: a fresh engine, a definition loaded, a voice made, faded and asked for.
+/* A host in C: a fresh engine, a definition loaded, a voice made, faded and asked for; then a list of
+ * commands in one call, of which the third is refused.
  * Build it with the proved library, as ./test does:
  *   cc -Iinclude examples/host.c target/staticlib/libengine.a -o host
  */
@@ -27,6 +28,10 @@ int main(void) {
     printf("/s_get 1000 freq: %" PRIu64 ", %" PRIu64 " bytes:", answer % 256, answer / 256);
     for (uint64_t i = 0; i < answer / 256; i++) printf(" %02x", reply[i]);
     printf("\n");
+    /* /g_new 1 1 0, /n_set 1000 freq 110.0, /n_free 7, /n_free 1000 */
+    static const uint32_t items[4][12] = {{4, 1, 1, 0}, {14, 1000, 0, 0, 0, 0x42DC0000, 0, 4}, {5, 7}, {5, 1000}};
+    answer = engine_list(items[0], 4 * 12, (const uint8_t *)"freq", 4, words, words_length, arena, arena_length);
+    printf("a list of 4: refused %" PRIu64 ", %" PRIu64 " before it stay done\n", answer % 256, answer / 256 % 65536);
     free(words);
     free(arena);
     return 0;

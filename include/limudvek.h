@@ -102,6 +102,23 @@ uint64_t engine_message(const uint8_t *message, size_t message_length,
                         uint8_t *arena, size_t arena_length,
                         uint8_t *reply, size_t reply_length);
 
+/* Does the commands of a list one by one, up to the first that is refused; those before it stay done. It
+ * leaves what sending them one by one leaves, and the state is checked once. An item is twelve words:
+ *
+ *   op a b c d e   as engine_apply takes them; what the op does not take is not looked at
+ *   start length   its bytes are bytes[start .. start + length], within bytes also where the op takes none
+ *   0 0 0 0
+ *
+ * Answers the refusal's number, 0 where all were accepted, plus 256 times how many were accepted before
+ * it (all of them where it is 0), plus 2^24 times the place (refusals 2 to 11). Before the first command
+ * is done, and then nothing changes and none is accepted: 255 where items_length is no multiple of 12, an
+ * op or a value's kind is none, one of the last four words is not 0, or bytes are named that are not
+ * there; then 1; then 34 where the list has more than 512 commands, or one that replies (op 21 to 27). */
+uint64_t engine_list(const uint32_t *items, size_t items_length,
+                     const uint8_t *bytes, size_t bytes_length,
+                     uint32_t *words, size_t words_length,
+                     uint8_t *arena, size_t arena_length);
+
 /* Writes a command, given as engine_apply takes it, as the OSC message that is read as that command,
  * from the first byte of out on; bytes past it stay. What the command does not take is not looked at.
  * Answers 256 times the message's length; or a refusal's number, and then nothing is written: 255 as

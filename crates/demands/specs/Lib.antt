@@ -3,3 +3,4 @@ pub mod Theorems
 pub mod Session
 pub mod SessionTheorem
 pub mod Played
+pub mod WorkedLists

@@ -6,6 +6,7 @@ use mathlib.Core.Path.{_≡_, refl, sym, ap, ap₂, _∙_, subst}
 use mathlib.Core.List.{List, [], _∷_, _++_}
 use lib.ListN.{length}
 use native.Mathlib.Omega.{arith}
+use Rattle.words.specs.Choice.{pick}
 use Rattle.refusals.specs.declared.Refusal.{Refusal}
 use Rattle.refusals.specs.declared.Refusal.the-variants.{Malformed, UnknownMessage}
 use Rattle.refusals.specs.Refusals.{numberOf}
@@ -13,41 +14,87 @@ use Rattle.model.specs.declared.Answer.the-variants.{Refused}
 use Rattle.model.specs.Formed.{formed}
 use Rattle.model.specs.Apply.{answerIn, answer, isAccepted}
 use Rattle.model.specs.Chain.{State, engineIn, Call, Chain, leftBy, Fresh}
-use Rattle.model.specs.Demands.{refusalIn}
+use Rattle.model.specs.Demands.{refusalIn, Ends}
 use Rattle.sequence.specs.Fresh.{fresh-state, fresh-formed}
 use Rattle.sequence.specs.Sound.{never-one}
 use Rattle.messages.specs.Receive.{Meaning, malformed, unknown, means}
 use Rattle.messages.specs.Sent.{Refuses, Serves}
 use Rattle.demands.specs.Theorems.{demand1, demand3}
-use Rattle.demands.specs.Session.{Given, command, message, Made, Promised, Session, leftAfter, meaningIn, callOf, callsBy, commandsOf, EndsWith, EndsBy, Demand1OfCalls, AllHold, Demand3OfCalls}
+use Rattle.lists.specs.declared.Verdict.{Verdict}
+use Rattle.lists.specs.declared.Verdict.the-variants.{NoList, Unfit, Fit}
+use Rattle.lists.specs.Lent.{verdict, linesOf}
+use Rattle.lists.specs.OneByOne.{outcomeBy, tried, lastAnswer}
+use Rattle.lists.specs.OneByOne as lists
+use Rattle.demands.specs.Session.{Given, command, message, One, Listed, Made, one, list, leftOf, PromisedOne, Promised, Session, leftAfter, meaningIn, callOf, callsBy, callsOf, commandsOf, EndsWith, EndsBy, AllEnd, ListEnds, Demand1OfCalls, refusalAtEnd, refusalOf, AllHold, Demand3OfCalls}
 
 -- what is done by its meaning
-abbrev Served : Meaning → Made → State → Type 0
+abbrev Served : Meaning → One → State → Type 0
 Served x m s = Serves x (s .words) (s .arena) (m .out) (m .answer) (m .left .words) (m .left .arena) (m .reply)
 
-served : (m : Made) (s : State) → Promised m s → Served (meaningIn (m .given)) m s
+served : (m : One) (s : State) → PromisedOne m s → Served (meaningIn (m .given)) m s
 served m s p = go (m .given) p
   where
-    go : (g : Given) → Promised (record { given = g; out = m .out; answer = m .answer; left = m .left; reply = m .reply }) s → Served (meaningIn g) m s
+    go : (g : Given) → PromisedOne (record { given = g; out = m .out; answer = m .answer; left = m .left; reply = m .reply }) s → Served (meaningIn g) m s
     go (command c bytes) p = p
     go (message bytes) p = p .serves
 
-ends-with : (r : Refusal) (m : Made) (s : State) → Refuses r (s .words) (s .arena) (m .out) (m .answer) (m .left .words) (m .left .arena) (m .reply) → EndsWith r m s
+ends-with : (r : Refusal) (m : One) (s : State) → Refuses r (s .words) (s .arena) (m .out) (m .answer) (m .left .words) (m .left .arena) (m .reply) → EndsWith r m s
 ends-with r m s h = record {
   table = h .answers;
   unchanged = (ap₂ (λ (ws bs : List ℕ). record { words = ws; arena = bs }) (h .words) (h .arena), h .reply);
 }
 
-ends-by : (x : Meaning) (m : Made) (s : State) → Served x m s → EndsBy x m s
+ends-by : (x : Meaning) (m : One) (s : State) → Served x m s → EndsBy x m s
 ends-by malformed m s h = ends-with Malformed m s h
 ends-by unknown m s h = ends-with UnknownMessage m s h
 ends-by (means c bytes) m s h = demand1 (callOf m c bytes) s h
 
+-- a command in a well-formed state leaves one
+ended-formed : (c : Call) (s : State) → formed (s .words) (s .arena) ≡ true → Ends c s → formed (c .left .words) (c .left .arena) ≡ true
+ended-formed c s whole e = go (isAccepted (c .answer)) refl
+  where
+    go : (b : Bool) → isAccepted (c .answer) ≡ b → formed (c .left .words) (c .left .arena) ≡ true
+    go true h = e .kept h
+    go false h = ap (λ (x : State). formed (x .words) (x .arena)) (e .unchanged h .0) ∙ whole
+
+-- each call of a chain ends as a command does
+all-end : (cs : List Call) (s : State) → Chain cs s → AllEnd cs s
+unfolding Chain AllEnd
+all-end [] s h = tt
+all-end (c ∷ cs) s h = (demand1 c s (h .0), all-end cs (c .left) (h .1))
+
+-- a list
+module _ (m : Listed) (s : State) (p : Promised (list m) s) where
+  list-left : leftBy (lists.callsOf (m .items) (m .bytes) s) s ≡ m .left
+  list-left = sym (ap₂ (λ (ws bs : List ℕ). record { words = ws; arena = bs }) (p .words) (p .arena))
+
+  list-bad : (v : Verdict) → formed (s .words) (s .arena) ≡ false → leftBy (lists.callsBy v (linesOf (m .items) (m .bytes)) s) s ≡ s
+  unfolding leftBy
+  list-bad NoList h = refl
+  list-bad Unfit h = refl
+  list-bad Fit h = rw h
+
+  list-unfit : (v : Verdict) → (v ≡ Fit → ⊥) → leftBy (lists.callsBy v (linesOf (m .items) (m .bytes)) s) s ≡ s
+  unfolding leftBy
+  list-unfit NoList h = refl
+  list-unfit Unfit h = refl
+  list-unfit Fit h = absurd (h refl)
+
+  list-ends : ListEnds m s
+  list-ends = record {
+    table = p .ends;
+    each = all-end (lists.callsOf (m .items) (m .bytes) s) s (p .chain);
+    left = list-left;
+    refused1 = λ h. sym list-left ∙ list-bad (verdict (m .items) (m .bytes)) h;
+    refused34 = λ h. sym list-left ∙ list-unfit (verdict (m .items) (m .bytes)) h;
+  }
+
 pub demand1-of-calls : Demand1OfCalls
-demand1-of-calls m s p = ends-by (meaningIn (m .given)) m s (served m s p)
+demand1-of-calls (one m) s p = ends-by (meaningIn (m .given)) m s (served m s p)
+demand1-of-calls (list m) s p = list-ends m s p
 
 -- a call in a well-formed state leaves one, and is not refused with 1
-module _ (m : Made) (s : State) (whole : formed (s .words) (s .arena) ≡ true) where
+module _ (m : One) (s : State) (whole : formed (s .words) (s .arena) ≡ true) where
   refused : (r : Refusal) → (numberOf r ≡ 1 → ⊥) → EndsWith r m s → refusalIn (m .answer) ≡ 1 → ⊥
   refused r other e h =
       let own : m .answer ≡ Refused r = e .table ∙ rw whole in
@@ -61,56 +108,102 @@ module _ (m : Made) (s : State) (whole : formed (s .words) (s .arena) ≡ true) 
       let own : m .answer ≡ answerIn c bytes (engineIn s) (length (m .out)) = p .answers ∙ rw whole in
       never-one c bytes (engineIn s) (length (m .out)) (ap refusalIn (sym own) ∙ h)
 
-  pub sound : Promised m s → refusalIn (m .answer) ≡ 1 → ⊥
-  sound p = sound-by (meaningIn (m .given)) (served m s p)
-
   same-formed : m .left ≡ s → formed (m .left .words) (m .left .arena) ≡ true
   same-formed h = ap (λ (x : State). formed (x .words) (x .arena)) h ∙ whole
 
   formed-by : (x : Meaning) → EndsBy x m s → formed (m .left .words) (m .left .arena) ≡ true
   formed-by malformed e = same-formed (e .unchanged .0)
   formed-by unknown e = same-formed (e .unchanged .0)
-  formed-by (means c bytes) e = go (isAccepted (m .answer)) refl
-    where
-      go : (b : Bool) → isAccepted (m .answer) ≡ b → formed (m .left .words) (m .left .arena) ≡ true
-      go true h = e .kept h
-      go false h = same-formed (e .unchanged h .0)
+  formed-by (means c bytes) e = ended-formed (callOf m c bytes) s whole e
 
-  pub next-formed : Promised m s → formed (m .left .words) (m .left .arena) ≡ true
-  next-formed p = formed-by (meaningIn (m .given)) (demand1-of-calls m s p)
+-- calls in a row in a well-formed state: they leave one, and none is refused with 1
+all-formed : (cs : List Call) (s : State) → formed (s .words) (s .arena) ≡ true → AllEnd cs s → formed (leftBy cs s .words) (leftBy cs s .arena) ≡ true
+unfolding AllEnd leftBy
+all-formed [] s h e = h
+all-formed (c ∷ cs) s h e = all-formed cs (c .left) (ended-formed c s h (e .0)) (e .1)
+
+all-sound : (cs : List Call) (s : State) → formed (s .words) (s .arena) ≡ true → AllEnd cs s → refusalIn (lastAnswer cs) ≡ 1 → ⊥
+unfolding AllEnd lastAnswer answer
+all-sound [] s h e q = omega arith
+all-sound (c ∷ cs) s h e q = go (isAccepted (c .answer)) (all-sound cs (c .left) (ended-formed c s h (e .0)) (e .1)) q
+  where
+    go : (b : Bool) → (refusalIn (lastAnswer cs) ≡ 1 → ⊥) → refusalIn (pick b (lastAnswer cs) (c .answer)) ≡ 1 → ⊥
+    go true more k = more k
+    go false more k =
+        let own : c .answer ≡ answerIn (c .command) (c .bytes) (engineIn s) (length (c .out)) = e .0 .table ∙ rw h in
+        never-one (c .command) (c .bytes) (engineIn s) (length (c .out)) (ap refusalIn (sym own) ∙ k)
+
+list-sound : (m : Listed) (s : State) → formed (s .words) (s .arena) ≡ true → ListEnds m s → refusalAtEnd (m .outcome) ≡ 1 → ⊥
+list-sound m s h e q = go (verdict (m .items) (m .bytes)) (e .each) (ap refusalAtEnd (sym (e .table)) ∙ q)
+  where
+    go : (v : Verdict) → AllEnd (lists.callsBy v (linesOf (m .items) (m .bytes)) s) s → refusalAtEnd (outcomeBy v (linesOf (m .items) (m .bytes)) s) ≡ 1 → ⊥
+    go NoList each k = omega arith
+    go Unfit each k = let z = rw h at k in omega arith
+    go Fit each k = all-sound (tried (linesOf (m .items) (m .bytes)) s) s h (rw h at each) (rw h at k)
+
+pub sound : (m : Made) (s : State) → formed (s .words) (s .arena) ≡ true → Promised m s → refusalOf m ≡ 1 → ⊥
+sound (one m) s h p = sound-by m s h (meaningIn (m .given)) (served m s p)
+sound (list m) s h p = list-sound m s h (list-ends m s p)
+
+pub next-formed : (m : Made) (s : State) → formed (s .words) (s .arena) ≡ true → Promised m s → formed (leftOf m .words) (leftOf m .arena) ≡ true
+next-formed (one m) s h p = formed-by m s h (meaningIn (m .given)) (ends-by (meaningIn (m .given)) m s (served m s p))
+next-formed (list m) s h p =
+    ap (λ (x : State). formed (x .words) (x .arena)) (sym (list-left m s p)) ∙ all-formed (lists.callsOf (m .items) (m .bytes) s) s h (list-ends m s p .each)
 
 all-hold : (ms : List Made) (s : State) → formed (s .words) (s .arena) ≡ true → Session ms s → AllHold ms s
 unfolding Session AllHold
 all-hold [] s h p = tt
-all-hold (m ∷ ms) s h p = (record { sound = sound m s h (p .0); ends = demand1-of-calls m s (p .0) }, all-hold ms (m .left) (next-formed m s h (p .0)) (p .1))
+all-hold (m ∷ ms) s h p = (record { sound = sound m s h (p .0); ends = demand1-of-calls m s (p .0) }, all-hold ms (leftOf m) (next-formed m s h (p .0)) (p .1))
 
--- the commands that a session stands for are a chain
-chain-by : (x : Meaning) (m : Made) (s : State) → Served x m s → EndsBy x m s → (more : List Call) → Chain more (m .left) → Chain (callsBy m x ++ more) s
-unfolding Chain
-chain-by malformed m s p e more h = subst (λ (t : State). Chain more t) (e .unchanged .0) h
-chain-by unknown m s p e more h = subst (λ (t : State). Chain more t) (e .unchanged .0) h
-chain-by (means c bytes) m s p e more h = (p, h)
+-- calls in a row, and more behind them
+chain-append : (cs : List Call) (s : State) → Chain cs s → (more : List Call) → Chain more (leftBy cs s) → Chain (cs ++ more) s
+unfolding Chain leftBy
+chain-append [] s h more k = k
+chain-append (c ∷ cs) s h more k = (h .0, chain-append cs (c .left) (h .1) more k)
 
-chained : (ms : List Made) (s : State) → Session ms s → Chain (commandsOf ms) s
+left-append : (cs : List Call) (s : State) (more : List Call) → leftBy (cs ++ more) s ≡ leftBy more (leftBy cs s)
+unfolding leftBy
+left-append [] s more = refl
+left-append (c ∷ cs) s more = left-append cs (c .left) more
+
+-- what a call stands for is a chain, and leaves what the call leaves
+pub record StandsFor (m : Made) (s : State) : Type 0 where
+  pub chain : Chain (callsOf m s) s
+  pub left : leftBy (callsOf m s) s ≡ leftOf m
+
+one-stands : (x : Meaning) (m : One) (s : State) → Served x m s → EndsBy x m s → Chain (callsBy m x) s × (leftBy (callsBy m x) s ≡ m .left)
+unfolding Chain leftBy
+one-stands malformed m s p e = (tt, sym (e .unchanged .0))
+one-stands unknown m s p e = (tt, sym (e .unchanged .0))
+one-stands (means c bytes) m s p e = ((p, tt), refl)
+
+stands : (m : Made) (s : State) → Promised m s → StandsFor m s
+stands (one m) s p =
+    let v = served m s p in
+    let h = one-stands (meaningIn (m .given)) m s v (ends-by (meaningIn (m .given)) m s v) in
+    record { chain = h .0; left = h .1 }
+stands (list m) s p = record { chain = p .chain; left = list-left m s p }
+
+-- the commands that a session stands for are a chain, and leave what it leaves
+chained : (ms : List Made) (s : State) → Session ms s → Chain (commandsOf ms s) s
 unfolding Session commandsOf Chain
 chained [] s p = tt
-chained (m ∷ ms) s p = chain-by (meaningIn (m .given)) m s (served m s (p .0)) (demand1-of-calls m s (p .0)) (commandsOf ms) (chained ms (m .left) (p .1))
+chained (m ∷ ms) s p =
+    let v = stands m s (p .0) in
+    chain-append (callsOf m s) s (v .chain) (commandsOf ms (leftOf m)) (subst (λ (t : State). Chain (commandsOf ms (leftOf m)) t) (sym (v .left)) (chained ms (leftOf m) (p .1)))
 
-left-by : (x : Meaning) (m : Made) (s : State) → EndsBy x m s → (more : List Call) → leftBy (callsBy m x ++ more) s ≡ leftBy more (m .left)
-unfolding leftBy
-left-by malformed m s e more = ap (λ (t : State). leftBy more t) (sym (e .unchanged .0))
-left-by unknown m s e more = ap (λ (t : State). leftBy more t) (sym (e .unchanged .0))
-left-by (means c bytes) m s e more = refl
-
-same-left : (ms : List Made) (s : State) → Session ms s → leftBy (commandsOf ms) s ≡ leftAfter ms s
+same-left : (ms : List Made) (s : State) → Session ms s → leftBy (commandsOf ms s) s ≡ leftAfter ms s
 unfolding Session commandsOf leftAfter leftBy
 same-left [] s p = refl
-same-left (m ∷ ms) s p = left-by (meaningIn (m .given)) m s (demand1-of-calls m s (p .0)) (commandsOf ms) ∙ same-left ms (m .left) (p .1)
+same-left (m ∷ ms) s p =
+    left-append (callsOf m s) s (commandsOf ms (leftOf m))
+    ∙ ap (λ (t : State). leftBy (commandsOf ms (leftOf m)) t) (stands m s (p .0) .left)
+    ∙ same-left ms (leftOf m) (p .1)
 
--- Demand 3 of commands and messages in any mixture
+-- Demand 3 of commands, messages and lists in any mixture
 pub demand3-of-calls : (s : State) → Fresh s → (ms : List Made) → Session ms s → Demand3OfCalls ms s
 demand3-of-calls s f ms p = record {
   each = all-hold ms s (ap (λ (x : State). formed (x .words) (x .arena)) (fresh-state s f) ∙ fresh-formed) p;
-  commands = demand3 s f (commandsOf ms) (chained ms s p);
+  commands = demand3 s f (commandsOf ms s) (chained ms s p);
   left = same-left ms s p;
 }

@@ -13,6 +13,8 @@ use Rattle.model.specs.Apply.{Does, sized, freshAnswer, Freshly}
 use Rattle.messages.specs.Table.{Given}
 use Rattle.messages.specs.Write.{Writes}
 use Rattle.messages.specs.Sent.{Sends}
+use Rattle.lists.specs.declared.Outcome.{Outcome}
+use Rattle.lists.specs.OneByOne.{Lists, listNumber}
 use Rattle.calls.specs.declared.Parsed.{Parsed}
 use Rattle.calls.specs.declared.Parsed.the-variants.{Call, Nothing}
 use Rattle.calls.specs.Numbers.{callNumber}
@@ -45,6 +47,12 @@ pub record Sent (message ws bs out : List ℕ) (r : ℕ) (ws′ bs′ out′ : L
   pub answer : Answer
   pub number : r ≡ callNumber answer
   pub sends : Sends message ws bs out answer ws′ bs′ out′
+
+-- a list of commands: what it does, and what it ends in as a number
+pub record Listed (items bytes ws bs : List ℕ) (r : ℕ) (ws′ bs′ : List ℕ) : Type 0 where
+  pub outcome : Outcome
+  pub number : r ≡ listNumber outcome
+  pub lists : Lists items bytes ws bs outcome ws′ bs′
 
 -- a command written as a message, and the answer as a number
 pub record AnsweredAs (g : Given) (out : List ℕ) (r : ℕ) (out′ : List ℕ) : Type 0 where

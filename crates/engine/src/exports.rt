@@ -7,12 +7,14 @@ use calls::call_number;
 use calls::command_of;
 use layout::ARENA;
 use layout::WORDS;
+use lists::list;
+use lists::list_number;
 use messages::Numbers;
 use messagewrite::write;
 ghost use mathlib.Core.Path.{_≡_};
 ghost use Rattle.model.specs.Layout.{wordsLength, arenaLength};
 ghost use Rattle.calls.specs.Ops.{commandOf};
-ghost use Rattle.engine.specs.Calls.{Made, Called, Sent, Wrote};
+ghost use Rattle.engine.specs.Calls.{Made, Called, Sent, Listed, Wrote};
 
 // The length of the words.
 #[no_mangle]
@@ -71,6 +73,19 @@ pub extern "C" fn engine_message(
     ensures { λ r. ⌜ Sent (now (sent .entry)) (now (words .entry)) (now (arena .entry)) (now (reply .entry)) r (now (words .exit)) (now (arena .exit)) (now (reply .exit)) ⌝ }
 {
     call_number(message(sent, words, arena, reply))
+}
+
+// One call: a list of commands, on what is lent. 255 where it is no list.
+#[no_mangle]
+pub extern "C" fn engine_list(
+    items: &[u32],
+    bytes: &[u8],
+    words: &mut [u32],
+    arena: &mut [u8],
+) -> u64
+    ensures { λ r. ⌜ Listed (now (items .entry)) (now (bytes .entry)) (now (words .entry)) (now (arena .entry)) r (now (words .exit)) (now (arena .exit)) ⌝ }
+{
+    list_number(list(items, bytes, words, arena))
 }
 
 // The command of `op` with its numbers as a message in the lent buffer.

@@ -1,7 +1,6 @@
-// The engine: `fresh`, `apply`, which every command goes through, `message`, which takes it as bytes, and what other languages call. Nothing here asks anything of what it is lent.
+// The engine: `fresh`, `apply`, which every command goes through, `message`, which takes it as bytes, and what other languages call, `engine_list` among them, which is `lists::list`. Nothing here asks anything of what it is lent.
 mod commands;
 mod exports;
-mod query;
 mod sent;
 mod start;
 
@@ -9,6 +8,7 @@ pub use commands::apply;
 pub use exports::engine_apply;
 pub use exports::engine_arena;
 pub use exports::engine_fresh;
+pub use exports::engine_list;
 pub use exports::engine_message;
 pub use exports::engine_words;
 pub use exports::message_write;

@@ -1,10 +1,10 @@
 // A message on any words, any arena and any reply buffer: the state check, and then the step of the command that it stands for.
-use crate::commands::step;
 use messageread::read;
 use messages::Received;
 use model::Answer;
 use refusals::Refusal;
 use statecheck::well_formed;
+use steps::step;
 ghost use Rattle.messages.specs.Sent.{Sends};
 
 // A message in any state at all: refusal 1 where the state is not well formed, then 26 or 27 where it is no command, and otherwise its command's step.

@@ -20,6 +20,7 @@ pub enum Refusal {
     NoNumber,
     Malformed,
     UnknownMessage,
+    ListUnfit,
 }
 
 // A refusal's number.
@@ -44,5 +45,6 @@ pub fn refusal_number(refusal: Refusal) -> u32
         Refusal::NoNumber => 25,
         Refusal::Malformed => 26,
         Refusal::UnknownMessage => 27,
+        Refusal::ListUnfit => 34,
     }
 }

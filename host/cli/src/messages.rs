@@ -72,6 +72,8 @@ fn message<D: Applies>(line: Line, folder: &Path) -> Result<(u32, Vec<u8>), Stri
     match line {
         Line::Help => Err(unwritten("help", NO_ADDRESS)),
         Line::Tree => Err(unwritten("tree", NO_ADDRESS)),
+        Line::List => Err(unwritten("list", NO_ADDRESS)),
+        Line::End => Err(unwritten("end", NO_ADDRESS)),
         Line::Load { text, file } => of(&text, &load(&file, folder)?),
         Line::Call { text, call } => of(&text, &call),
     }

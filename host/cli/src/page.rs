@@ -7,7 +7,7 @@ mod html;
 mod json;
 
 use crate::play::line::{self, Line};
-use crate::play::{Applies, Player};
+use crate::play::{Applies, Player, NO_END};
 use ask::{Answers, Shape};
 use data::Data;
 use html::{List, Verdict};
@@ -73,27 +73,36 @@ pub fn page(
     let mut data = Data::new(ask(&mut player, &mut shapes)?);
     let mut list = List::default();
     let mut all_read = true;
-    for (place, text) in script.split(|&byte| byte == b'\n').enumerate() {
-        let (number, text) = (place + 1, text.trim_ascii_end());
+    let mut number = 0;
+    for text in script.split(|&byte| byte == b'\n') {
+        number += 1;
+        let text = text.trim_ascii_end();
         let mut named = [None; 2];
-        let (verdict, answer) = match line::read(text) {
+        let played = match line::read(text) {
             Ok(None) if text.is_empty() => {
                 list.empty();
                 continue;
             }
-            Ok(None) => {
-                list.idle(number, text);
-                continue;
-            }
+            Ok(None) => None,
             Ok(Some(line)) => {
                 named = names(&line, data.answers().latest);
-                play(line, folder, &mut player)?
+                play(line, number, folder, &mut player)?
             }
-            Err(why) => (Verdict::Unread, why),
+            Err(why) => Some((Verdict::Unread, player.unread(number, why))),
+        };
+        // A comment, or a line that its list's end will send.
+        let Some((verdict, answer)) = played else {
+            list.idle(number, text);
+            continue;
         };
         all_read &= verdict != Verdict::Unread;
         list.step(number, text, verdict, &answer);
         data.step(number, named, ask(&mut player, &mut shapes)?);
+    }
+    if player.list.is_some() {
+        all_read = false;
+        list.step(number + 1, b"", Verdict::Unread, NO_END);
+        data.step(number + 1, [None; 2], ask(&mut player, &mut shapes)?);
     }
     let html = html::page(title, &list, &data.json(&shapes));
     Ok(Page { html, all_read })
@@ -104,29 +113,35 @@ fn ask(player: &mut Player<impl Applies>, shapes: &mut Vec<Shape>) -> io::Result
     Answers::ask(player, shapes).ok_or_else(fault)
 }
 
-/// Plays a line. Answers how it was answered: what `play` prints, without the line itself.
+/// Plays a line. Answers how it was answered: what `play` prints, without the line itself; or none where
+/// the line stands in a list, which is played at its end.
 fn play(
     line: Line,
+    number: usize,
     folder: &Path,
     player: &mut Player<impl Applies>,
-) -> io::Result<(Verdict, String)> {
-    let echo = match &line {
-        Line::Help => String::new(),
-        Line::Tree => "tree: ".to_string(),
-        Line::Load { text, .. } | Line::Call { text, .. } => format!("{text}: "),
+) -> io::Result<Option<(Verdict, String)>> {
+    let echo = match (&line, &player.list) {
+        (Line::End, Some(open)) => open.shown(),
+        (Line::Help | Line::List | Line::End, _) => String::new(),
+        (Line::Tree, _) => "tree".to_string(),
+        (Line::Load { text, .. } | Line::Call { text, .. }, _) => text.clone(),
     };
     let mut out = Vec::new();
-    if let Some(why) = player.line(line, folder, &mut out)? {
-        return Ok((Verdict::Unread, why));
+    if let Some(why) = player.line(line, number, folder, &mut out)? {
+        return Ok(Some((Verdict::Unread, why)));
+    }
+    if player.list.is_some() {
+        return Ok(None);
     }
     let out = String::from_utf8_lossy(&out);
-    let answer = out.strip_prefix(&echo).unwrap_or(&out);
-    let verdict = if answer.starts_with("refused") {
+    let answer = out.strip_prefix(&format!("{echo}: ")).unwrap_or(&out);
+    let verdict = if answer.starts_with("refused") || answer.starts_with("not sent") {
         Verdict::Refused
     } else {
         Verdict::Accepted
     };
-    Ok((verdict, answer.to_string()))
+    Ok(Some((verdict, answer.to_string())))
 }
 
 /// The nodes that a line names, as far as its first two numbers are such.

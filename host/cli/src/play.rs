@@ -1,13 +1,16 @@
-//! `limudvek play FILE`: sends a script's commands to an engine as messages, one a line, and prints the
-//! answers.
+//! `limudvek play FILE`: sends a script's commands to an engine as messages, one a line, and those between
+//! `list` and `end` as one list, and prints the answers.
 
 pub(crate) mod line;
+mod list;
 pub(crate) mod message;
 pub mod messages;
 pub(crate) mod tree;
 
+use engine::{List, ListRefused};
 use limudvek::{refusal, show};
 use line::{Call, Line};
+use list::Open;
 use message::Message;
 use std::ffi::OsStr;
 use std::fs::{self, File};
@@ -28,6 +31,9 @@ const REPLY: usize = 1 << 20;
 /// All of a message but its name or its file takes less.
 const FRAME: usize = 64;
 
+/// Said of a list where the script ends before it does.
+pub(crate) const NO_END: &str = "this list has no end, and was not sent";
+
 /// The exit status where a line can't be read, and where the script can't be.
 const LINES_UNREADABLE: u8 = 1;
 const UNREADABLE: u8 = 2;
@@ -39,6 +45,9 @@ pub trait Applies {
 
     /// Does the command that a message is, and answers as `engine_message`.
     fn message(&mut self, message: &[u8], reply: &mut [u8]) -> u64;
+
+    /// Does the commands of a list, up to the first that is refused, as `engine_list`.
+    fn list(&mut self, list: &List) -> Result<usize, ListRefused>;
 
     /// Writes a command as a message, and answers as `message_write`.
     fn write(op: u32, numbers: [u32; 5], bytes: &[u8], out: &mut [u8]) -> u64;
@@ -54,6 +63,10 @@ impl Applies for engine::Engine {
 
     fn message(&mut self, message: &[u8], reply: &mut [u8]) -> u64 {
         packed(self.message(message, reply))
+    }
+
+    fn list(&mut self, list: &List) -> Result<usize, ListRefused> {
+        self.list(list)
     }
 
     fn write(op: u32, numbers: [u32; 5], bytes: &[u8], out: &mut [u8]) -> u64 {
@@ -148,10 +161,14 @@ pub fn play(
     let mut place = 0;
     while let Some(text) = next_line(&mut script)? {
         place += 1;
-        if let Some(why) = player.text(&text, folder, out)? {
+        if let Some(why) = player.text(&text, place, folder, out)? {
             all_read = false;
             writeln!(out, "line {place}: {why}")?;
         }
+    }
+    if let Some(open) = player.list {
+        all_read = false;
+        writeln!(out, "line {}: {NO_END}", open.place)?;
     }
     out.flush()?;
     Ok(all_read)
@@ -166,14 +183,20 @@ pub fn prompt(
 ) -> Result<bool, Stopped> {
     let mut player = Player::new(engine);
     writeln!(out, "A command a line; help lists them, Ctrl-D ends.")?;
+    // Lines are counted within a list.
+    let mut place = 0;
     loop {
-        write!(out, "> ")?;
+        place = player.list.as_ref().map_or(0, |_| place + 1);
+        write!(out, "{}> ", if place > 0 { "list" } else { "" })?;
         out.flush()?;
         let Some(text) = next_line(&mut input)? else {
             writeln!(out)?;
+            if player.list.is_some() {
+                writeln!(out, "{NO_END}")?;
+            }
             return Ok(true);
         };
-        if let Some(why) = player.text(&text, folder, out)? {
+        if let Some(why) = player.text(&text, place, folder, out)? {
             writeln!(out, "{why}")?;
         }
     }
@@ -218,6 +241,8 @@ fn verdict(text: &str, number: u32, place: usize, out: &mut impl Write) -> io::R
 pub(crate) struct Player<'a, D> {
     pub(crate) engine: &'a mut D,
     pub(crate) reply: Vec<u8>,
+    /// The list that the lines go to, until its end.
+    pub(crate) list: Option<Open>,
 }
 
 impl<D: Applies> Player<'_, D> {
@@ -225,6 +250,7 @@ impl<D: Applies> Player<'_, D> {
         Player {
             engine,
             reply: vec![0; REPLY],
+            list: None,
         }
     }
 
@@ -232,36 +258,65 @@ impl<D: Applies> Player<'_, D> {
     fn text(
         &mut self,
         text: &[u8],
+        place: usize,
         folder: &Path,
         out: &mut impl Write,
     ) -> io::Result<Option<String>> {
         match line::read(text) {
             Ok(None) => Ok(None),
-            Ok(Some(line)) => self.line(line, folder, out),
-            Err(why) => Ok(Some(why)),
+            Ok(Some(line)) => self.line(line, place, folder, out),
+            Err(why) => Ok(Some(self.unread(place, why))),
         }
     }
 
+    /// A line can't be read, and so the list that it stands in is not sent.
+    pub(crate) fn unread(&mut self, place: usize, why: String) -> String {
+        if let Some(open) = &mut self.list {
+            open.spoil(place);
+        }
+        why
+    }
+
+    /// Does what a line says, or keeps it for its list. Answers as `text`.
     pub(crate) fn line(
         &mut self,
         line: Line,
+        place: usize,
         folder: &Path,
         out: &mut impl Write,
     ) -> io::Result<Option<String>> {
-        match line {
+        let (text, call) = match line {
+            Line::End => match self.list.take() {
+                Some(open) => return open.send(self.engine, out).map(|_| None),
+                None => return Ok(Some("end stands behind no list".to_string())),
+            },
+            Line::Load { text, file } => match load(&file, folder) {
+                Ok(call) => (text, call),
+                Err(why) => return Ok(Some(self.unread(place, why))),
+            },
+            Line::Call { text, call } => (text, call),
+            Line::Help | Line::Tree | Line::List if self.list.is_some() => {
+                let why = "between list and end stand commands only".to_string();
+                return Ok(Some(self.unread(place, why)));
+            }
+            Line::List => {
+                self.list = Some(Open::new(place));
+                return Ok(None);
+            }
             Line::Help => {
                 let (_, script) = HELP.split_once("\n\n").unwrap_or_default();
                 write!(out, "{script}")?;
+                return Ok(None);
             }
             Line::Tree => {
                 writeln!(out, "tree: ok")?;
                 self.tree(out)?;
+                return Ok(None);
             }
-            Line::Load { text, file } => match load(&file, folder) {
-                Ok(call) => self.call(&text, &call, out)?,
-                Err(why) => return Ok(Some(why)),
-            },
-            Line::Call { text, call } => self.call(&text, &call, out)?,
+        };
+        match &mut self.list {
+            Some(open) => open.push(place, text, call),
+            None => self.call(&text, &call, out)?,
         }
         Ok(None)
     }

@@ -64,7 +64,7 @@ fn a_script_as_messages() {
 #[test]
 fn lines_that_are_no_message_are_named_and_the_rest_is_written() {
     let script = b"/status\nexport\ntree\nhelp\n/quit\n/d_free \"a\\x80\"\n/n_free five\n\
-                   /d_recv nofile\n/n_free 5\n";
+                   /d_recv nofile\nlist\n/n_free 5\nend\n";
     let (out, named, all) = written(script);
     assert_eq!(
         out,
@@ -88,7 +88,14 @@ fn lines_that_are_no_message_are_named_and_the_rest_is_written() {
         lines[6].starts_with("limudvek: line 8: nofile: "),
         "{named}"
     );
-    assert_eq!(lines.len(), 7);
+    // The lines of a list are written one by one.
+    assert_eq!(
+        lines[7..],
+        [
+            "limudvek: line 9: list: it has no address",
+            "limudvek: line 11: end: it has no address",
+        ]
+    );
 }
 
 #[test]
@@ -182,7 +189,7 @@ fn answers(text: &str) -> Vec<&str> {
 fn a_script_and_its_messages_go_the_same_way() {
     let show = fs::read_to_string(examples().join("show.txt")).expect("the script");
     for script in [EVERY, &show] {
-        let no_message = |line: &str| line == "tree" || line == "export";
+        let no_message = |line: &str| matches!(line, "tree" | "export" | "list" | "end");
         let lines = script.lines().filter(|line| !no_message(line));
         let script = lines.collect::<Vec<_>>().join("\n");
         let (file, named, all) = written(script.as_bytes());

@@ -142,6 +142,108 @@ fn a_refused_file_has_its_place() {
 }
 
 #[test]
+fn a_list_is_one_call() {
+    prints(
+        "list\nend\n  list # of two\n\n/g_new 1 1 0\n  # then\n/g_new 2 1 0   # another\nend # now\n\
+         list\n/d_recv ping.scsyndef\n/s_new ping 10 0 1\n/n_set 10 freq 2\n/n_free 7\n/n_free 10\nend\n\
+         list\n/n_free 7\nend\nlist\n/n_free 10\n/n_free 10\nend\nlist\n/n_free 2\nend\n",
+        "list of 0 commands: ok\nlist of 2 commands: ok\n\
+         list of 5 commands: refused 17 at line 13, /n_free 7: there is no such node; the 3 before it \
+         stay done\n\
+         list of 1 command: refused 17 at line 17, /n_free 7: there is no such node; nothing was done\n\
+         list of 2 commands: refused 17 at line 21, /n_free 10: there is no such node; the one before \
+         it stays done\n\
+         list of 1 command: ok\n",
+    );
+    prints(
+        "list\n/g_new 1 1 0\n/d_recv show.txt\n/g_new 2 1 0\nend\n/g_queryTree 0 0\n",
+        "list of 3 commands: refused 3 at line 3, /d_recv show.txt: it does not begin with SCgf, so it is \
+         no synth definition file, at byte 0; the one before it stays done\n\
+         /g_queryTree 0 0: ok\n  /g_queryTree.reply\n  0 group of 1\n    1 group of 0\n",
+    );
+}
+
+#[test]
+fn a_list_that_is_refused_whole() {
+    let whole = "refused 34: a list has at most 512 commands, and none of them replies";
+    prints(
+        "list\n/g_new 1 1 0\n\n/n_query 1\nexport\nend\n/n_query 1\n",
+        &format!(
+            "list of 3 commands: {whole}; that of line 4 does: /n_query 1\n\
+             /n_query 1: refused 17: there is no such node\n"
+        ),
+    );
+    let list = |count| format!("list\n{}end\n", "/c_set 7 1\n".repeat(count));
+    prints(&list(512), "list of 512 commands: ok\n");
+    prints(&list(513), &format!("list of 513 commands: {whole}\n"));
+}
+
+#[test]
+fn a_list_with_a_line_that_cannot_be_read_is_not_sent() {
+    let not_sent = |count, line| {
+        format!("list of {count} commands: not sent, since line {line} can't be read\n")
+    };
+    let group = "/g_new 1 1 0\n";
+    for (line, why) in [
+        ("/quit", "/quit is no command"),
+        ("/n_free five", "five is no integer of 32 bits"),
+        ("tree", "between list and end stand commands only"),
+        ("help", "between list and end stand commands only"),
+        ("list", "between list and end stand commands only"),
+        ("end now", "end takes 0 arguments, not 1"),
+    ] {
+        let script = format!("list\n{group}{line}\n{line}\n/g_new 2 1 0\nend\n{group}");
+        let expected = format!(
+            "line 3: {why}\nline 4: {why}\n{}/g_new 1 1 0: ok\n",
+            not_sent(2, 3)
+        );
+        assert_eq!(played(script.as_bytes()), (expected, false), "{line}");
+    }
+    // A file that can't be read.
+    let (text, read) = played(b"list\n/d_recv nofile\nend\n");
+    assert!(text.starts_with("line 2: nofile: "), "{text}");
+    assert!(text.ends_with(&not_sent(0, 2)), "{text}");
+    assert!(!read);
+}
+
+#[test]
+fn a_list_without_its_end_and_an_end_without_its_list() {
+    unread("end", "end stands behind no list");
+    for last in ["", "/g_new 2 1 0", "/g_new 2 1 0\n", "# end"] {
+        let script = format!("/g_new 1 1 0\nlist\n/n_free 1\n{last}");
+        let expected = "/g_new 1 1 0: ok\nline 2: this list has no end, and was not sent\n";
+        assert_eq!(played(script.as_bytes()), (expected.to_string(), false));
+    }
+    // The first end ends it.
+    let (text, read) = played(b"list\nlist\nend\nend\n");
+    assert_eq!(
+        text,
+        "line 2: between list and end stand commands only\n\
+         list of 0 commands: not sent, since line 2 can't be read\n\
+         line 4: end stands behind no list\n"
+    );
+    assert!(!read);
+}
+
+#[test]
+fn a_prompt_takes_lists() {
+    let mut out = Vec::new();
+    let input = b"list\n/g_new 1 0 0\n/n_free 9\nend\nlist\ntree\nend\nend\nlist\n/n_free 1\n";
+    let read = prompt(&input[..], &examples(), &mut Independent::new(), &mut out);
+    assert!(matches!(read, Ok(true)));
+    assert_eq!(
+        String::from_utf8(out).expect("it prints text"),
+        "A command a line; help lists them, Ctrl-D ends.\n\
+         > list> list> list> list of 2 commands: refused 17 at line 2, /n_free 9: there is no such \
+         node; the one before it stays done\n\
+         > list> between list and end stand commands only\n\
+         list> list of 0 commands: not sent, since line 1 can't be read\n\
+         > end stands behind no list\n\
+         > list> list> \nthis list has no end, and was not sent\n"
+    );
+}
+
+#[test]
 fn every_command_has_its_kind() {
     let script = EVERY;
     let (text, read) = played(script.as_bytes());
@@ -197,7 +299,7 @@ fn help_lists_the_commands_with_their_arguments() {
     let every = EVERY
         .lines()
         .map(|line| line.split(' ').next().unwrap_or(""));
-    assert_eq!(names, every.chain(["help"]).collect());
+    assert_eq!(names, every.chain(["help", "list", "end"]).collect());
     assert_eq!(names.len(), listed.len());
 }
 

@@ -38,6 +38,16 @@ mod proved {
             reply: *mut u8,
             reply_length: usize,
         ) -> u64;
+        pub fn engine_list(
+            items: *const u32,
+            items_length: usize,
+            bytes: *const u8,
+            bytes_length: usize,
+            words: *mut u32,
+            words_length: usize,
+            arena: *mut u8,
+            arena_length: usize,
+        ) -> u64;
         pub fn message_write(
             op: u32,
             a: u32,
@@ -133,6 +143,28 @@ pub fn message(message: &[u8], words: &mut [u32], arena: &mut [u8], reply: &mut 
     }
 }
 
+/// Does the commands of a list one by one, up to the first that is refused; those before it stay done.
+/// An item is twelve words: the command's kind and five numbers as `apply` takes them, where its part
+/// of `bytes` starts, that part's length, and four that are 0. Answers the refusal's number, or 0, plus
+/// 256 times how many commands were accepted, plus 2^24 times the place (refusals 2 to 11). What is no
+/// list is `UNKNOWN`, then a state is refused with 1, then with 34 a list of more than 512 commands or
+/// with one that replies; then nothing changes.
+pub fn list(items: &[u32], bytes: &[u8], words: &mut [u32], arena: &mut [u8]) -> u64 {
+    // SAFETY: as above.
+    unsafe {
+        proved::engine_list(
+            items.as_ptr(),
+            items.len(),
+            bytes.as_ptr(),
+            bytes.len(),
+            words.as_mut_ptr(),
+            words.len(),
+            arena.as_mut_ptr(),
+            arena.len(),
+        )
+    }
+}
+
 /// Writes a command, given as `apply` takes it, as an OSC message from the first byte of `out` on. What
 /// the command has no use for is not looked at. Answers 256 times the message's length, or a refusal,
 /// and then nothing is written: `UNKNOWN`, then 26 for a name with a byte that is not from 1 to 127 or
@@ -172,6 +204,47 @@ fn unpacked(answer: u64) -> Result<usize, Refused> {
             number: number as u32,
             place: answer / 256,
         }),
+    }
+}
+
+/// A list that was not done to its end: the refusal, and how many commands before it stay done.
+#[derive(Clone, Copy, Debug, PartialEq, Eq)]
+pub struct ListRefused {
+    pub refused: Refused,
+    pub accepted: usize,
+}
+
+/// Commands for one call, in order.
+#[derive(Clone, Debug, Default, PartialEq, Eq)]
+pub struct List {
+    items: Vec<u32>,
+    bytes: Vec<u8>,
+}
+
+impl List {
+    pub fn new() -> List {
+        List::default()
+    }
+
+    /// Adds a command, given as `apply` takes it. Answers whether there was room: all commands' bytes
+    /// together are fewer than 2^32.
+    pub fn push(&mut self, op: u32, numbers: [u32; 5], bytes: &[u8]) -> bool {
+        let end = self.bytes.len().checked_add(bytes.len());
+        if end.is_none_or(|end| u32::try_from(end).is_err()) {
+            return false;
+        }
+        let part = [self.bytes.len(), bytes.len()].map(|number| number as u32);
+        self.items.push(op);
+        self.items.extend(numbers);
+        self.items.extend(part);
+        self.items.extend([0; 4]);
+        self.bytes.extend_from_slice(bytes);
+        true
+    }
+
+    /// The items and the bytes, as `list` takes them.
+    pub fn lent(&self) -> (&[u32], &[u8]) {
+        (&self.items, &self.bytes)
     }
 }
 
@@ -217,6 +290,23 @@ impl Engine {
     pub fn message(&mut self, message: &[u8], reply: &mut [u8]) -> Result<usize, Refused> {
         let answer = self::message(message, &mut self.words, &mut self.arena, reply);
         unpacked(answer)
+    }
+
+    /// Does the commands of a list, up to the first that is refused. Answers how many they were.
+    pub fn list(&mut self, list: &List) -> Result<usize, ListRefused> {
+        let (items, bytes) = list.lent();
+        let answer = self::list(items, bytes, &mut self.words, &mut self.arena);
+        let accepted = (answer >> 8) as u16 as usize;
+        match answer % 256 {
+            0 => Ok(accepted),
+            number => Err(ListRefused {
+                refused: Refused {
+                    number: number as u32,
+                    place: answer >> 24,
+                },
+                accepted,
+            }),
+        }
     }
 
     pub fn words(&self) -> &[u32] {

@@ -186,11 +186,31 @@ impl Call {
         Call::new(op, [a, b, c, mark, pattern], bytes)
     }
 
-    /// The command, or none where the kind is unknown, or a value is marked neither float nor integer.
+    /// The command, if there is one.
     pub fn command(&self) -> Option<Command<'_>> {
-        let [a, b, c, mark, pattern] = self.numbers;
+        Command::of(self.op, self.numbers, &self.bytes)
+    }
+}
+
+impl<'a> Command<'a> {
+    /// Whether it replies and changes nothing.
+    pub fn replies(&self) -> bool {
+        matches!(
+            self,
+            Command::Get { .. }
+                | Command::GetBus(_)
+                | Command::Query(_)
+                | Command::QueryTree { .. }
+                | Command::Status
+                | Command::Export
+        )
+    }
+
+    /// The command of a call, or none where the kind is unknown, or a value is marked neither float nor
+    /// integer.
+    pub fn of(op: u32, numbers: [u32; 5], bytes: &'a [u8]) -> Option<Command<'a>> {
+        let [a, b, c, mark, pattern] = numbers;
         let [a, b, c] = [a, b, c].map(|pattern| pattern as i32);
-        let bytes = self.bytes.as_slice();
         let index = Key::Index(b);
         let name = Key::Name(bytes);
         let value = match mark {
@@ -218,7 +238,7 @@ impl Call {
             key,
             bus: c,
         };
-        Some(match self.op {
+        Some(match op {
             1 => Command::Receive(bytes),
             2 => Command::Delete(bytes),
             3 => Command::NewSynth {

@@ -1,4 +1,4 @@
-//! SynthDef files of both versions, messages and the engine as the papers describe them, written without a look at the proved
+//! SynthDef files of both versions, messages, lists and the engine as the papers describe them, written without a look at the proved
 //! code: the two are compared on many files and commands, so neither is to copy the other's mistakes.
 
 mod after;
@@ -9,6 +9,7 @@ pub mod files;
 mod formed;
 pub mod layout;
 pub mod linked;
+mod list;
 mod message;
 mod random;
 mod read;
@@ -21,6 +22,7 @@ pub use command::{Call, Command, Key, Value};
 pub use definition::{Definition, Input, Unit, Variant};
 pub use engine::{Answer, Engine, View};
 pub use formed::{depths, nodes_formed, running, well_formed};
+pub use list::{lend_list, read_list, Listed, ITEM, MOST_COMMANDS};
 pub use message::{read_message, write_message, Argument, Message};
 pub use random::{Random, Shape};
 pub use read::{check, read, read_definition, read_versioned, version};

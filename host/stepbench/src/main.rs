@@ -1,11 +1,15 @@
 //! The proved engine's time as a multiple of the independent Rust engine's, for the same commands in
 //! one run: whole (`apply`), and with the time of its state check taken off (`step`); and messages
-//! against commands as they are, their reading and writing against plain Rust; and the lookup of a node.
+//! against commands as they are, their reading and writing against plain Rust; the lookup of a node; and
+//! lists.
 //!
-//! Run it from `host/`, after `./archives engine`, by `cargo run --release -p stepbench`.
+//! Run it from `host/`, after `./archives engine`, by `cargo run --release -p stepbench`; words after `--`, as `lists`, ask
+//! for parts of it.
 
 mod clock;
 mod commands;
+mod fast;
+mod lists;
 mod lookups;
 mod messages;
 
@@ -54,9 +58,27 @@ impl State {
     }
 }
 
+/// The parts, each by the word that asks for it alone.
+const PARTS: [(&str, fn()); 5] = [
+    ("commands", every_command),
+    ("lookups", lookups::measure),
+    ("lists", lists::measure),
+    ("messages", messages::measure),
+    ("checks", checks),
+];
+
 fn main() {
     println!("Proved engine against independent Rust engine, the same commands on the same state.");
     println!("Times are nanoseconds a command, each the least of {SAMPLES} samples in turns.");
+    let asked: Vec<String> = std::env::args().skip(1).collect();
+    for (word, part) in PARTS {
+        if asked.is_empty() || asked.iter().any(|asked| asked == word) {
+            part();
+        }
+    }
+}
+
+fn every_command() {
     println!("Of commands that undo each other the mean is given.");
     for nodes in [8, 64, 256] {
         println!();
@@ -69,9 +91,6 @@ fn main() {
             measure(name, nodes, &calls);
         }
     }
-    lookups::measure();
-    messages::measure();
-    checks();
 }
 
 fn measure(name: &str, nodes: usize, calls: &[Call]) {

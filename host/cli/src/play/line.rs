@@ -30,8 +30,17 @@ impl Call {
 pub enum Line {
     Help,
     Tree,
-    Load { text: String, file: Vec<u8> },
-    Call { text: String, call: Call },
+    /// The first line of a list, and the one after its last.
+    List,
+    End,
+    Load {
+        text: String,
+        file: Vec<u8>,
+    },
+    Call {
+        text: String,
+        call: Call,
+    },
 }
 
 /// What stands after a command's address.
@@ -102,21 +111,21 @@ pub fn read(text: &[u8]) -> Result<Option<Line>, String> {
             Err(format!("{shown} takes {takes}, not {given}"))
         }
     };
-    match address {
-        b"help" => {
-            expect(0)?;
-            return Ok(Some(Line::Help));
-        }
-        b"tree" => {
-            expect(0)?;
-            return Ok(Some(Line::Tree));
-        }
-        b"/d_recv" => {
-            expect(1)?;
-            let file = arguments[0].bytes.clone();
-            return Ok(Some(Line::Load { text, file }));
-        }
-        _ => {}
+    let alone = match address {
+        b"help" => Some(Line::Help),
+        b"tree" => Some(Line::Tree),
+        b"list" => Some(Line::List),
+        b"end" => Some(Line::End),
+        _ => None,
+    };
+    if let Some(line) = alone {
+        expect(0)?;
+        return Ok(Some(line));
+    }
+    if address == b"/d_recv" {
+        expect(1)?;
+        let file = arguments[0].bytes.clone();
+        return Ok(Some(Line::Load { text, file }));
     }
     let Some((op, kinds)) = command(address) else {
         return Err(format!("{} is no command", show::path(address)));

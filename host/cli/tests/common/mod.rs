@@ -1,8 +1,9 @@
 //! What the tests of scripts and of messages share.
 
 use cli::play::Applies;
+use engine::{List, ListRefused, Refused};
 use independent::engine::packed;
-use independent::{layout, read_message, write_message, Call, Engine};
+use independent::{layout, read_list, read_message, write_message, Call, Engine};
 use std::path::{Path, PathBuf};
 
 /// The independent engine, with its state as words.
@@ -36,6 +37,23 @@ impl Applies for Independent {
         let answer = read_message(message).and_then(|command| self.engine.apply(&command, reply));
         (self.words, _) = layout::state(&self.engine.view());
         packed(answer)
+    }
+
+    fn list(&mut self, list: &List) -> Result<usize, ListRefused> {
+        let (items, bytes) = list.lent();
+        let commands = read_list(items, bytes).expect("a script has known commands only");
+        let listed = self.engine.list(&commands, |_, _| {});
+        (self.words, _) = layout::state(&self.engine.view());
+        match listed.refused {
+            None => Ok(listed.accepted),
+            Some(fault) => Err(ListRefused {
+                refused: Refused {
+                    number: fault.number,
+                    place: fault.place,
+                },
+                accepted: listed.accepted,
+            }),
+        }
     }
 
     fn write(op: u32, numbers: [u32; 5], bytes: &[u8], out: &mut [u8]) -> u64 {

@@ -1,7 +1,9 @@
 //! What the tests share. Each takes what it needs of it.
 #![allow(dead_code)]
 
+pub mod damage;
 pub mod desk;
+pub mod lent;
 pub mod osc;
 pub mod pair;
 pub mod shuffle;

@@ -1,7 +1,8 @@
 //! The proved engine and the independent one side by side.
 
 use independent::engine::packed;
-use independent::{layout, leave, read_message, Call, Command, Engine, Random};
+use independent::{layout, leave, read_list, read_message, Call, Command, Engine, Random};
+use independent::{Fault, Listed};
 
 /// Longer than any reply.
 const LONGEST: usize = 1 << 20;
@@ -79,6 +80,38 @@ impl Pair {
         Ok((answer % 256) as u32)
     }
 
+    /// Sends a list to both, and its commands one by one to a second copy of the proved engine, where the
+    /// list is not refused whole. Answers what all answer.
+    pub fn list(&mut self, items: &[u32], bytes: &[u8]) -> Result<u64, String> {
+        self.sent += 1;
+        let mut copy = (self.words.clone(), self.arena.clone());
+        let commands = read_list(items, bytes);
+        let expected = match &commands {
+            Some(commands) => {
+                let (words, arena) = (&mut self.expected_words, &mut self.expected_arena);
+                let listed = self.model.list(commands, |model, command| {
+                    leave(Call::of(command).op, &model.view(), words, arena);
+                });
+                if listed.refused.is_none_or(|fault| fault.number != 34) {
+                    let by_one = one_by_one(commands, &mut copy.0, &mut copy.1);
+                    if by_one != listed {
+                        return Err(format!("one by one {by_one:?}, expected {listed:?}"));
+                    }
+                }
+                listed.packed()
+            }
+            None => engine::UNKNOWN,
+        };
+        let answer = engine::list(items, bytes, &mut self.words, &mut self.arena);
+        if answer != expected {
+            return Err(format!("answer {answer:#x}, expected {expected:#x}"));
+        }
+        self.compare_runs(&self.expected_words, &self.expected_arena)?;
+        self.compare_runs(&copy.0, &copy.1)
+            .map_err(|what| format!("one by one: {what}"))?;
+        Ok(answer)
+    }
+
     /// Sends a command whose answer the paper settles.
     pub fn expect(&mut self, refusal: u32, call: &Call, random: &mut Random) -> Result<(), String> {
         match self.send(call, random) {
@@ -118,7 +151,7 @@ impl Pair {
         let expected = match command {
             Ok(command) => {
                 let answer = self.model.apply(&command, expected_reply);
-                if answer.is_ok() && !replies(&command) {
+                if answer.is_ok() && !command.replies() {
                     let view = self.model.view();
                     leave(
                         Call::of(&command).op,
@@ -139,14 +172,20 @@ impl Pair {
         if let Some(place) = differ(reply, expected_reply) {
             return Err(format!("reply byte {place} of {room} differs"));
         }
-        if let Some(place) = differ(&self.words, &self.expected_words) {
-            let (word, expected) = (self.words[place], self.expected_words[place]);
+        self.compare_runs(&self.expected_words, &self.expected_arena)?;
+        Ok(answer)
+    }
+
+    /// The proved engine's runs are these.
+    fn compare_runs(&self, words: &[u32], arena: &[u8]) -> Result<(), String> {
+        if let Some(place) = differ(&self.words, words) {
+            let (word, expected) = (self.words[place], words[place]);
             return Err(format!("word {place} is {word}, expected {expected}"));
         }
-        if let Some(place) = differ(&self.arena, &self.expected_arena) {
-            return Err(format!("arena byte {place} differs"));
+        match differ(&self.arena, arena) {
+            Some(place) => Err(format!("arena byte {place} differs")),
+            None => Ok(()),
         }
-        Ok(answer)
     }
 
     /// Sends a command that must be refused by 1, or be unknown.
@@ -161,6 +200,14 @@ impl Pair {
     pub fn refuse_message(&mut self, message: &[u8]) -> Result<(), String> {
         self.broken(1, |words, arena, reply| {
             engine::message(message, words, arena, reply)
+        })
+    }
+
+    /// Sends a list that must be refused by 1, or is none.
+    pub fn refuse_list(&mut self, items: &[u32], bytes: &[u8]) -> Result<(), String> {
+        let expected = read_list(items, bytes).map_or(engine::UNKNOWN, |_| 1);
+        self.broken(expected, |words, arena, _| {
+            engine::list(items, bytes, words, arena)
         })
     }
 
@@ -186,7 +233,7 @@ impl Pair {
     /// How long the reply to a command is.
     fn length(&mut self, command: Result<Command, u64>) -> usize {
         match command {
-            Ok(command) if replies(&command) => {
+            Ok(command) if command.replies() => {
                 let answer = self.model.apply(&command, &mut self.expected_reply);
                 answer.unwrap_or(0)
             }
@@ -225,22 +272,31 @@ fn apply(call: &Call, words: &mut [u32], arena: &mut [u8], reply: &mut [u8]) -> 
     engine::apply(call.op, call.numbers, &call.bytes, words, arena, reply)
 }
 
+/// Sends commands one by one, up to the first that is refused.
+fn one_by_one(commands: &[Command], words: &mut [u32], arena: &mut [u8]) -> Listed {
+    for (accepted, command) in commands.iter().enumerate() {
+        let answer = apply(&Call::of(command), words, arena, &mut []);
+        if answer != 0 {
+            let (number, place) = parts(answer);
+            let fault = Fault {
+                number: number as u32,
+                place,
+            };
+            return Listed {
+                accepted,
+                refused: Some(fault),
+            };
+        }
+    }
+    Listed {
+        accepted: commands.len(),
+        refused: None,
+    }
+}
+
 /// An answer's refusal, and its place or length.
 fn parts(answer: u64) -> (u64, u64) {
     (answer % 256, answer / 256)
-}
-
-/// Whether a command replies and changes nothing.
-fn replies(command: &Command) -> bool {
-    matches!(
-        command,
-        Command::Get { .. }
-            | Command::GetBus(_)
-            | Command::Query(_)
-            | Command::QueryTree { .. }
-            | Command::Status
-            | Command::Export
-    )
 }
 
 /// The first place where two runs of one length differ.

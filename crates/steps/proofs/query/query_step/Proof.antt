@@ -1,9 +1,9 @@
--- `engine::query::query_step` meets its contract: each arm hands on what its function ensures.
+-- `steps::query::query_step` meets its contract: each arm hands on what its function ensures.
 use mathlib.Core.Path.{_≡_}
 use borrow.Author.Needs.{needs}
 use Rattle.model.specs.declared.Query.the-variants.{Status, Export}
-use Rattle.engine.proofs.query.query_step.Statement.{statement}
-use Rattle.engine.proofs.query.query_step.Tie as tie
+use Rattle.steps.proofs.query.query_step.Statement.{statement}
+use Rattle.steps.proofs.query.query_step.Tie as tie
 
 enum-known-query : tie.Need-enum-known-query
 enum-known-query c = search needs

@@ -1,9 +1,9 @@
--- `engine::commands::step` meets its contract: each kind's step is what the door asks.
+-- `steps::commands::step` meets its contract: each kind's step is what the door asks.
 use borrow.Author.Needs.{needs}
 use Rattle.state.specs.Known.{known}
 use Rattle.state.specs.Does.{definitions-do, tree-does, controls-do, buses-do, query-does}
-use Rattle.engine.proofs.commands.step.Statement.{statement}
-use Rattle.engine.proofs.commands.step.Tie as tie
+use Rattle.steps.proofs.commands.step.Statement.{statement}
+use Rattle.steps.proofs.commands.step.Tie as tie
 
 enum-known-command : tie.Need-enum-known-command
 enum-known-command c = search needs

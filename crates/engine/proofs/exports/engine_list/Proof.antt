@@ -1,0 +1,31 @@
+-- `engine::exports::engine_list` meets its contract.
+use borrow.Author.Needs.{needs}
+use Rattle.engine.proofs.exports.engine_list.Statement.{statement}
+use Rattle.engine.proofs.exports.engine_list.Tie as tie
+
+list-requires : tie.Need-list-requires
+list-requires c κs = search needs
+
+list-number-requires : tie.Need-list-number-requires
+list-number-requires c κs = search needs
+
+same-length : tie.Need-same-length
+same-length c = search needs
+
+same-length-2 : tie.Need-same-length-2
+same-length-2 c = search needs
+
+returns : tie.Need-returns
+returns c =
+    let list = c .before .before .before .before .before .list in
+    record { outcome = list .result; number = c .list-number .ensures; lists = list .ensures }
+
+pub engine-list-spec : {M : Type 1} → statement M
+engine-list-spec =
+    tie.close
+    (tie.spec
+    list-requires
+    list-number-requires
+    same-length
+    same-length-2
+    returns)

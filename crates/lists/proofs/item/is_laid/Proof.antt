@@ -1,0 +1,48 @@
+-- `lists::item::is_laid` meets its contract.
+use borrow.Author.Tests.{not-true, not-false}
+use Rattle.lists.specs.Lent.{itemIn}
+use Rattle.lists.specs.Laid.{laid-later, laid-past, laid-by}
+use mathlib.Core.Path.{sym, _∙_}
+use native.Mathlib.Omega.{arith}
+use borrow.Author.Needs.{needs}
+use lib.ListN.{drop}
+use borrow.Author.Needs.{needs}
+use Rattle.lists.proofs.item.is_laid.Statement.{statement}
+use Rattle.lists.proofs.item.is_laid.Tie as tie
+
+later-zero-requires : tie.Need-later-zero-requires
+later-zero-requires c κs = search needs
+
+returns : tie.Need-returns
+returns c = laid-later (c .before .before .before .args .room) (itemIn (drop (c .before .before .before .args .at) (c .before .before .before .args .items .now))) (sym (c .before .later-zero .ensures) ∙ not-true (c .before .later-zero .result) (c .if1 .taken))
+
+part-start-requires : tie.Need-part-start-requires
+part-start-requires c κs = search needs
+
+part-size-requires : tie.Need-part-size-requires
+part-size-requires c κs = search needs
+
+returns-2 : tie.Need-returns-2
+returns-2 c =
+    let later = c .before .before .before .before .later-zero in
+    let start = c .before .before .part-start .ensures in
+    let less = c .if2 .taken in
+    laid-past (c .before .before .before .before .before .before .args .room) (itemIn (drop (c .before .before .before .before .before .before .args .at) (c .before .before .before .before .before .before .args .items .now))) (sym (later .ensures) ∙ not-false (later .result) (c .before .before .before .if1 .left)) (omega arith)
+
+returns-3 : tie.Need-returns-3
+returns-3 c =
+    let later = c .before .before .before .before .later-zero in
+    let start = c .before .before .part-start .ensures in
+    let low = c .if2 .left in
+    rw (c .before .part-size .ensures, start) (laid-by (c .before .before .before .before .before .before .args .room) (itemIn (drop (c .before .before .before .before .before .before .args .at) (c .before .before .before .before .before .before .args .items .now))) (sym (later .ensures) ∙ not-false (later .result) (c .before .before .before .if1 .left)) (omega arith))
+
+pub is-laid-spec : {M : Type 1} → statement M
+is-laid-spec =
+    tie.close
+    (tie.spec
+    later-zero-requires
+    returns
+    part-start-requires
+    part-size-requires
+    returns-2
+    returns-3)

@@ -1,0 +1,10 @@
+pub mod Lent
+pub mod OneByOne
+pub mod Laid
+pub mod Walk
+pub mod Judging
+pub mod Running
+pub mod Ending
+pub mod Count
+pub mod OnEngine
+pub mod Worked

@@ -1,0 +1,31 @@
+// A list of commands in one call: the list judged as a whole, the state check, and then its commands one by one up to the first refusal.
+mod item;
+mod judged;
+mod number;
+mod run;
+
+use model::Answer;
+
+// A list as a whole: none, one that is refused with 34, or one whose commands are tried.
+pub enum Verdict {
+    NoList,
+    Unfit,
+    Fit,
+}
+
+// One item: none, a command that replies, or one that doesn't.
+pub enum Kind {
+    NoItem,
+    Replies,
+    Acts,
+}
+
+// What a list ends in: that it is none; or an answer, and how many commands were accepted before it.
+pub enum Outcome {
+    NoList,
+    Ended(Answer, usize),
+}
+
+pub use judged::judge;
+pub use number::list_number;
+pub use run::list;
