@@ -30,7 +30,7 @@ use Rattle.model.specs.declared.Query.{Query}
 use Rattle.model.specs.declared.Query.the-variants as query
 use Rattle.model.specs.declared.Command.the-variants as command
 use Rattle.model.specs.Layout.{rowWords}
-use Rattle.model.specs.Engine.{Slot, Engine, definitionOf, controlsFrom, controlsOf, residents}
+use Rattle.model.specs.Engine.{Slot, Engine, definitionOf, controlsOf, residents}
 use Rattle.model.specs.View.{group, synth, PlainNode, Row, viewOf, viewRows, view}
 use Rattle.model.specs.Meaning.{meant, known, nodeNamed, node as nodeOf, coverOf, hasControls, negativeKey, isNegative}
 use Rattle.model.specs.Checks.{notGroup, noControls}
@@ -41,6 +41,7 @@ use Rattle.model.specs.PlainReplies.{bytesOf, nodeIn, aboutNode, nodeInfo, floa
 use Rattle.model.specs.Demands.{Same}
 use Rattle.refinement.specs.Kept.{Kept, view-tree, group-kind, same-meant}
 use Rattle.refinement.specs.RowReplies.{info-address, set-address, bus-address, tree-address, status-address, info-rows, node-rows, same-read, same-key, control-in, tree-rows, units-rows, groups-rows, synths-rows}
+use Rattle.refinement.specs.RowChange.{controls-many}
 use Rattle.refinement.specs.Widths.{indexIn, same-start}
 
 -- a node that lives is found, and is seen as it lies in the table
@@ -62,11 +63,6 @@ named-view slots controls n (r ∷ l) h = go (eqb (r .number) n) h (named-view s
         → pick b (viewOf slots controls r) (plainNamed n (viewRows slots controls l)) ≡ viewOf slots controls (pick b r (nodeNamed n l))
     go true u ih = refl
     go false u ih = ih u
-
-controls-many : (n : ℕ) (us : List ℕ) → length (controlsFrom n us) ≡ n
-unfolding controlsFrom
-controls-many zero us = refl
-controls-many (suc n) us = ap suc (controls-many n (drop 2 us))
 
 -- "Any nonzero flag is 1."
 same-included : (flag : ℕ) (l : List Argument) → pick (not (eqb flag 0)) l [] ≡ included flag l
