@@ -1,7 +1,8 @@
 -- A definition whose front is known to be readable: where its parts stand.
-use Prim.Native.Nat.{ℕ, _+_, _*_, _≤_}
+use Prim.Native.Nat.{ℕ, _+_, _*_, _≤_, _<_}
 use mathlib.Core.Path.{_≡_, sym, ap, _∙_}
 use mathlib.Core.List.{List}
+use mathlib.Core.Option.{some}
 use native.Mathlib.Omega.{arith}
 use borrow.Author.Tests.{leb-true}
 use lib.ListN.{length, getD}
@@ -15,12 +16,14 @@ use Rattle.format.specs.NameLaws.{full}
 use Rattle.format.specs.RepeatLaws.{went-on, repeat-length, floats-end, got-value, got-place}
 use Rattle.format.specs.Endings.{field-got}
 use Rattle.format.specs.Sizes.{string-got}
-use Rattle.format.specs.Definition.{Front, Definition}
+use Rattle.format.specs.Definition.{ParameterName, Front, Definition}
+use Rattle.format.specs.Names.{firstIndex, nextIndex, coveredBy}
+use Rattle.format.specs.Widths.{next-above}
 use Rattle.format.specs.Reader.{mostParameters, sizeLimit, parameterName, frontBy, readFront, definitionBy, readDefinition}
 use Rattle.front.specs.Front.{nameEnd, valuesAt, namesAt, countsOf}
-use Rattle.readable.specs.Lookup.{atNumber, nameIn, unitsIn}
+use Rattle.readable.specs.Lookup.{atNumber, nameIn, unitsIn, coverIn}
 use Rattle.front.specs.FrontLaws.{front-got}
-use Rattle.readable.specs.Entries.{entriesFrom, entriesEnd, Entries, entries-got, entries-below}
+use Rattle.readable.specs.Entries.{entriesFrom, entriesEnd, Entries, entries-got, entries-below, named-below}
 
 -- bytes whose front is readable. A definition has at most 2,048 bytes.
 pub record Readable (s : List ℕ) : Type 0 where
@@ -134,6 +137,19 @@ pub front-entries : (s : List ℕ) (k : Readable s) → Entries s mostParameters
 front-entries s k =
     let w = parts s (k .reads) in
     entries-below s (length (k .front .values)) mostParameters (length (k .front .names)) (namesAt Long 0 (k .front)) (w .few) (w .known)
+
+-- what a name covers, by the entries
+abbrev pub namesOf : (s : List ℕ) → Readable s → List ParameterName
+namesOf s k = entriesFrom s (length (k .front .names)) (namesAt Long 0 (k .front))
+
+pub cover-entries : (s name : List ℕ) (k : Readable s) → coverIn name s ≡ coveredBy name (length (k .front .values)) (namesOf s k)
+cover-entries s name k = rw (k .reads) (ap (coveredBy name (length (k .front .values))) (parts s (k .reads) .names))
+
+-- a name's index is below P, and so the next one is past it
+pub next-past : (s name : List ℕ) (k : Readable s) (i : ℕ) → firstIndex name (namesOf s k) ≡ some i → i < nextIndex i (length (k .front .values)) (namesOf s k)
+next-past s name k i e =
+    next-above i (length (k .front .values)) (namesOf s k)
+    (named-below s name (length (k .front .values)) (length (k .front .names)) (namesAt Long 0 (k .front)) i (parts s (k .reads) .known) e)
 
 -- where the count of units stands, and what the lookup tells of it
 pub record UnitsAt (s : List ℕ) : Type 0 where
