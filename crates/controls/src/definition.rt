@@ -1,9 +1,9 @@
 // What a definition, in its encoded bytes, tells of its controls. Its front is known to be readable.
 use fields::Cursor;
 use fields::Number;
+use layout::ROW_WORDS;
 use readable::Cover;
 use readable::ValuesFound;
-use layout::ROW_WORDS;
 use values::Key;
 use words::wide;
 ghost use Prim.Native.Nat.{_+_, _-_, _*_, _≤_};

@@ -1,8 +1,8 @@
 -- A definition whose front is known to be readable: where its parts stand.
-use Prim.Native.Nat.{ℕ, _+_, _*_, _≤_, _<_}
+use Prim.Native.Nat.{ℕ, _+_, _-_, _*_, _≤_, _<_}
 use mathlib.Core.Path.{_≡_, sym, ap, _∙_}
 use mathlib.Core.List.{List}
-use mathlib.Core.Option.{some}
+use mathlib.Core.Option.{Option, none, some}
 use native.Mathlib.Omega.{arith}
 use borrow.Author.Tests.{leb-true}
 use lib.ListN.{length, getD}
@@ -16,8 +16,8 @@ use Rattle.format.specs.NameLaws.{full}
 use Rattle.format.specs.RepeatLaws.{went-on, repeat-length, floats-end, got-value, got-place}
 use Rattle.format.specs.Endings.{field-got}
 use Rattle.format.specs.Sizes.{string-got}
-use Rattle.format.specs.Definition.{ParameterName, Front, Definition}
-use Rattle.format.specs.Names.{firstIndex, nextIndex, coveredBy}
+use Rattle.format.specs.Definition.{Front, Definition}
+use Rattle.format.specs.Names.{firstIndex, nextIndex, coverFrom, coveredBy}
 use Rattle.format.specs.Widths.{next-above}
 use Rattle.format.specs.Reader.{mostParameters, sizeLimit, parameterName, frontBy, readFront, definitionBy, readDefinition}
 use Rattle.front.specs.Front.{nameEnd, valuesAt, namesAt, countsOf}
@@ -138,18 +138,26 @@ front-entries s k =
     let w = parts s (k .reads) in
     entries-below s (length (k .front .values)) mostParameters (length (k .front .names)) (namesAt Long 0 (k .front)) (w .few) (w .known)
 
--- what a name covers, by the entries
-abbrev pub namesOf : (s : List ℕ) → Readable s → List ParameterName
-namesOf s k = entriesFrom s (length (k .front .names)) (namesAt Long 0 (k .front))
+-- what a name covers, by what is found along the entries
+module _ (s name : List ℕ) (k : Readable s) (p n at : ℕ) (few : p ≡ length (k .front .values)) (many : n ≡ length (k .front .names)) (here : at ≡ namesAt Long 0 (k .front)) where
+  by-entries : coverIn name s ≡ coverFrom (firstIndex name (entriesFrom s n at)) p (entriesFrom s n at)
+  by-entries = rw (few, many, here, k .reads) (ap (coveredBy name (length (k .front .values))) (parts s (k .reads) .names))
 
-pub cover-entries : (s name : List ℕ) (k : Readable s) → coverIn name s ≡ coveredBy name (length (k .front .values)) (namesOf s k)
-cover-entries s name k = rw (k .reads) (ap (coveredBy name (length (k .front .values))) (parts s (k .reads) .names))
+  pub cover-none : none ≡ firstIndex name (entriesFrom s n at) → none ≡ coverIn name s
+  cover-none e = sym (by-entries ∙ ap (λ (o : Option ℕ). coverFrom o p (entriesFrom s n at)) (sym e))
 
--- a name's index is below P, and so the next one is past it
-pub next-past : (s name : List ℕ) (k : Readable s) (i : ℕ) → firstIndex name (namesOf s k) ≡ some i → i < nextIndex i (length (k .front .values)) (namesOf s k)
-next-past s name k i e =
-    next-above i (length (k .front .values)) (namesOf s k)
-    (named-below s name (length (k .front .values)) (length (k .front .names)) (namesAt Long 0 (k .front)) i (parts s (k .reads) .known) e)
+  module _ (i next : ℕ) (first : some i ≡ firstIndex name (entriesFrom s n at)) (e : next ≡ nextIndex i p (entriesFrom s n at)) where
+    -- its index is below P, and so the next one is past it
+    pub next-past : i < next
+    next-past =
+        rw e
+        (next-above i p (entriesFrom s n at)
+        (named-below s name p n at i (rw (few, many, here) (parts s (k .reads) .known)) (sym first)))
+
+    pub cover-some : some (record { index = i; width = next - i }) ≡ coverIn name s
+    cover-some =
+        ap (λ (m : ℕ). some (record { index = i; width = m - i })) e
+        ∙ sym (by-entries ∙ ap (λ (o : Option ℕ). coverFrom o p (entriesFrom s n at)) (sym first))
 
 -- where the count of units stands, and what the lookup tells of it
 pub record UnitsAt (s : List ℕ) : Type 0 where
