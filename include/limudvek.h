@@ -75,7 +75,10 @@ uint32_t engine_fresh(uint32_t *words, size_t words_length, uint8_t *arena, size
  *   13 /n_set        a, index b, value d e
  *   14 /n_set        a, bytes: the name, value d e
  *
- * A value is a float's pattern in e where d is 0, an integer in e where d is 1. */
+ * A value is a float's pattern in e where d is 0, an integer in e where d is 1. A control's name means the
+ * index of its first entry, and covers the controls from there up to the next larger index that has a name,
+ * else up to the last: a fill by name (16) of more is refused with 28 on a synth, after 21, and on a group
+ * fills each synth as far as the name covers there. */
 uint64_t engine_apply(uint32_t op, uint32_t a, uint32_t b, uint32_t c, uint32_t d, uint32_t e,
                       const uint8_t *bytes, size_t bytes_length,
                       uint32_t *words, size_t words_length,

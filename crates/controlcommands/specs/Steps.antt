@@ -9,7 +9,7 @@ use lib.Dec.{eqb}
 use Rattle.words.specs.Choice.{pick, either}
 use Rattle.words.specs.Parts.{region}
 use Rattle.refusals.specs.declared.Refusal.{Refusal}
-use Rattle.refusals.specs.declared.Refusal.the-variants.{NoNode, NoControl, NoBus, BadValue}
+use Rattle.refusals.specs.declared.Refusal.the-variants.{NoNode, NoControl, NoBus, BadValue, PastWidth}
 use Rattle.nodes.specs.declared.Node.{Node}
 use Rattle.nodes.specs.Place.{end-most}
 use Rattle.values.specs.declared.Key.{Key}
@@ -26,8 +26,8 @@ use Rattle.model.specs.declared.Answer.{Answer}
 use Rattle.model.specs.declared.Answer.the-variants.{Done, Refused}
 use Rattle.model.specs.Layout.{nodesPlace, nodesWords, countIn, nodesIn, controlsIn, putControls}
 use Rattle.model.specs.Engine.{Engine, decode}
-use Rattle.model.specs.Meaning.{minusOne, isBus, meant, known, mappingTo}
-use Rattle.model.specs.Checks.{check, firstOf, noControls}
+use Rattle.model.specs.Meaning.{minusOne, isBus, meant, known, node, mappingTo}
+use Rattle.model.specs.Checks.{check, firstOf, noControls, pastName}
 use Rattle.model.specs.Effects.{effect, controlEffect, changeAll, changed}
 use Rattle.model.specs.After.{wordsAfter}
 use Rattle.model.specs.Apply.{answerIn, isAccepted}
@@ -39,7 +39,10 @@ use Rattle.controls.specs.declared.control.Change.{Change}
 use Rattle.controls.specs.declared.control.Change.the-variants as change
 use Rattle.controls.specs.Change.{changeOf}
 use Rattle.controls.specs.Ready.{nodeIn}
-use Rattle.controls.specs.Asked.{controlsMissing}
+use Rattle.controls.specs.declared.definition.Asked.{Asked}
+use Rattle.controls.specs.declared.definition.Asked.the-variants as asked
+use Rattle.controls.specs.Cover.{askedBy}
+use Rattle.controls.specs.Asked.{controlsAsked, one-there}
 use Rattle.controls.specs.All.{all-run}
 
 abbrev pub Steps : ControlCommand → List ℕ → List ℕ → List ℕ → Answer → List ℕ → Type 0
@@ -58,20 +61,26 @@ run-inside ws at many end live same e =
 abbrev pub runChanged : (ControlValue → ControlValue) → Key → ℕ → List ℕ → ℕ → List ℕ → List ℕ → List ℕ
 runChanged f key count bytes at ws bs = changeAll f key bytes count (decode ws bs .slots) (take (runEnd ws at - at) (drop at (nodesIn ws))) (controlsIn ws)
 
--- refusal 21 on the node at a place, or its run changed
+-- refusals 21 and 28, by what is asked of the node at a place
+abbrev pub answerTo : Asked → Answer
+answerTo asked.There = Done
+answerTo asked.Missing = Refused NoControl
+answerTo asked.PastWidth = Refused PastWidth
+
+-- one of them, or the run of the node changed
 pub record Changed (c : Change) (key : Key) (count : ℕ) (bytes : List ℕ) (at : ℕ) (ws bs : List ℕ) (a : Answer) (ws′ : List ℕ) : Type 0 where
-  pub answers : a ≡ pick (controlsMissing key count bytes (decode ws bs .slots) (nodeIn ws at)) (Refused NoControl) Done
+  pub answers : a ≡ answerTo (controlsAsked key count bytes (decode ws bs .slots) (nodeIn ws at))
   pub words : ws′ ≡ pick (isAccepted a) (putControls (runChanged (changeOf c) key count bytes at ws bs) ws) ws
 
 pub run-changed : (c : Change) (key : Key) (count : ℕ) (bytes : List ℕ) (at : ℕ) (ws bs : List ℕ) (many end : ℕ) (ws′ : List ℕ)
-    → controlsMissing key count bytes (decode ws bs .slots) (nodeIn ws at) ≡ false
+    → asked.There ≡ controlsAsked key count bytes (decode ws bs .slots) (nodeIn ws at)
     → many ≡ countIn ws → end ≡ endAt many (region nodesPlace nodesWords ws) at
     → ws′ ≡ putControls (changeAll (changeOf c) key bytes count (decode ws bs .slots) (take (end - at) (drop at (nodesIn ws))) (controlsIn ws)) ws
     → Changed c key count bytes at ws bs Done ws′
 run-changed c key count bytes at ws bs many end ws′ there same e o =
     let here : end ≡ runEnd ws at = e ∙ ap (λ (k : ℕ). endAt k (region nodesPlace nodesWords ws) at) same in
     record {
-      answers = sym (ap (λ (x : Bool). pick x (Refused NoControl) Done) there);
+      answers = ap answerTo there;
       words = o ∙ ap (λ (k : ℕ). putControls (changeAll (changeOf c) key bytes count (decode ws bs .slots) (take (k - at) (drop at (nodesIn ws))) (controlsIn ws)) ws) here;
     }
 
@@ -80,29 +89,43 @@ after : (c : ControlCommand) (bytes ws bs : List ℕ) → wordsAfter (command.Co
 unfolding wordsAfter effect
 after c bytes ws bs = refl
 
--- three checks, by what is known of them
-unfoldable pub threeChecks : Refusal → Bool → Refusal → Bool → Bool → Answer
-threeChecks r a q b c = firstOf (check r a ∷ (check q b ∷ (check NoControl c ∷ []))) Done
+-- four checks, by what is known of them
+unfoldable pub fourChecks : Refusal → Bool → Refusal → Bool → Bool → Bool → Answer
+fourChecks r a q b c d = firstOf (check r a ∷ (check q b ∷ (check NoControl c ∷ (check PastWidth d ∷ [])))) Done
 
-third : (r : Refusal) (a : Bool) (q : Refusal) (b c : Bool) → a ≡ false → b ≡ false → threeChecks r a q b c ≡ pick c (Refused NoControl) Done
-unfolding threeChecks firstOf
-third r a q b c h g = rw (h, g)
+last-two : (r : Refusal) (a : Bool) (q : Refusal) (b c d : Bool) → a ≡ false → b ≡ false → fourChecks r a q b c d ≡ answerTo (askedBy c d)
+unfolding fourChecks firstOf
+last-two r a q b c d h g = rw (h, g) (go c d)
+  where
+    go : (c d : Bool) → pick c (Refused NoControl) (pick d (Refused PastWidth) Done) ≡ answerTo (askedBy c d)
+    go true d = refl
+    go false true = refl
+    go false false = refl
+
+-- three of them, where the fourth fires only behind the third
+three-checks : (r : Refusal) (a : Bool) (q : Refusal) (b c d : Bool) → (c ≡ false → d ≡ false) → firstOf (check r a ∷ (check q b ∷ (check NoControl c ∷ []))) Done ≡ fourChecks r a q b c d
+unfolding fourChecks firstOf
+three-checks r true q b c d h = refl
+three-checks r false q true c d h = refl
+three-checks r false q false true d h = refl
+three-checks r false q false false d h = sym (rw (h refl))
 
 -- the node that an argument names, at its place
 module _ (n : NodeArgument) (ws bs : List ℕ) (at : ℕ) (named : Named n ws at) where
-  pub no-node : (c : ControlCommand) (bytes : List ℕ) (q : Refusal) (b d : Bool) → answerIn (command.Controls c) bytes (decode ws bs) 0 ≡ threeChecks NoNode (not (known n (decode ws bs))) q b d
+  pub no-node : (c : ControlCommand) (bytes : List ℕ) (q : Refusal) (b d e : Bool) → answerIn (command.Controls c) bytes (decode ws bs) 0 ≡ fourChecks NoNode (not (known n (decode ws bs))) q b d e
       → countIn ws ≤ at → Steps c bytes ws bs (Refused NoNode) ws
-  unfolding threeChecks firstOf
-  no-node c bytes q b d e h = record { answers = sym (e ∙ rw (named-unknown n ws bs at named h)); words = refl }
+  unfolding fourChecks firstOf
+  no-node c bytes q b d e row h = record { answers = sym (row ∙ rw (named-unknown n ws bs at named h)); words = refl }
 
   module _ (live : at < countIn ws) where
-    pub second : (c : ControlCommand) (bytes : List ℕ) (q : Refusal) (b d : Bool) → answerIn (command.Controls c) bytes (decode ws bs) 0 ≡ threeChecks NoNode (not (known n (decode ws bs))) q b d
+    pub second : (c : ControlCommand) (bytes : List ℕ) (q : Refusal) (b d e : Bool) → answerIn (command.Controls c) bytes (decode ws bs) 0 ≡ fourChecks NoNode (not (known n (decode ws bs))) q b d e
         → b ≡ true → Steps c bytes ws bs (Refused q) ws
-    unfolding threeChecks firstOf
-    second c bytes q b d e h = record { answers = sym (e ∙ rw (named-known n ws bs at named live, h)); words = refl }
+    unfolding fourChecks firstOf
+    second c bytes q b d e row h = record { answers = sym (row ∙ rw (named-known n ws bs at named live, h)); words = refl }
 
-    missing : (key : Key) (count : ℕ) (bytes : List ℕ) → noControls key count bytes n (decode ws bs) ≡ controlsMissing key count bytes (decode ws bs .slots) (nodeIn ws at)
-    missing key count bytes = ap (λ (r : Node). controlsMissing key count bytes (decode ws bs .slots) r) (named-here n ws bs at named live)
+    asked-here : (key : Key) (count : ℕ) (bytes : List ℕ)
+        → askedBy (noControls key count bytes n (decode ws bs)) (pastName key count bytes n (decode ws bs)) ≡ controlsAsked key count bytes (decode ws bs .slots) (nodeIn ws at)
+    asked-here key count bytes = ap (λ (r : Node). controlsAsked key count bytes (decode ws bs .slots) r) (named-here n ws bs at named live)
 
     reached : (f : ControlValue → ControlValue) (key : Key) (count : ℕ) (bytes : List ℕ) → runChanged f key count bytes at ws bs ≡ changed f n key count bytes (decode ws bs) .controls
     unfolding decode
@@ -111,14 +134,14 @@ module _ (n : NodeArgument) (ws bs : List ℕ) (at : ℕ) (named : Named n ws at
         (depthAt (region nodesPlace nodesWords ws) at) (runEnd ws at) refl refl (controlsIn ws))
 
     pub ran : (c : ControlCommand) (h : Change) (f : ControlValue → ControlValue) (key : Key) (count : ℕ) (bytes : List ℕ) (q : Refusal) (b : Bool) (a : Answer) (ws′ : List ℕ)
-        → answerIn (command.Controls c) bytes (decode ws bs) 0 ≡ threeChecks NoNode (not (known n (decode ws bs))) q b (noControls key count bytes n (decode ws bs))
+        → answerIn (command.Controls c) bytes (decode ws bs) 0 ≡ fourChecks NoNode (not (known n (decode ws bs))) q b (noControls key count bytes n (decode ws bs)) (pastName key count bytes n (decode ws bs))
         → controlEffect c bytes (decode ws bs) ≡ changed f n key count bytes (decode ws bs)
         → changeOf h ≡ f → b ≡ false → Changed h key count bytes at ws bs a ws′ → Steps c bytes ws bs a ws′
     ran c h f key count bytes q b a ws′ e does same fine changes = record {
       answers =
           changes .answers
-          ∙ sym (ap (λ (x : Bool). pick x (Refused NoControl) Done) (missing key count bytes))
-          ∙ sym (third NoNode (not (known n (decode ws bs))) q b (noControls key count bytes n (decode ws bs)) (ap not (named-known n ws bs at named live)) fine)
+          ∙ sym (ap answerTo (asked-here key count bytes))
+          ∙ sym (last-two NoNode (not (known n (decode ws bs))) q b (noControls key count bytes n (decode ws bs)) (pastName key count bytes n (decode ws bs)) (ap not (named-known n ws bs at named live)) fine)
           ∙ sym e;
       words =
           changes .words
@@ -129,25 +152,35 @@ module _ (n : NodeArgument) (ws bs : List ℕ) (at : ℕ) (named : Named n ws at
           ∙ sym (after c bytes ws bs));
     }
 
--- the rows of the table
+-- the rows of the table. `/n_set` and `/n_map` ask for one control, which is never past the width
 module _ (n : NodeArgument) (key : Key) (bytes ws bs : List ℕ) where
   pub fill-row : (count : ℕ) (value : Value)
       → answerIn (command.Controls (controls.Fill n key count value)) bytes (decode ws bs) 0
-      ≡ threeChecks NoNode (not (known n (decode ws bs))) BadValue (not (inBounds value)) (noControls key count bytes n (decode ws bs))
-  unfolding answerIn threeChecks
+      ≡ fourChecks NoNode (not (known n (decode ws bs))) BadValue (not (inBounds value)) (noControls key count bytes n (decode ws bs)) (pastName key count bytes n (decode ws bs))
+  unfolding answerIn fourChecks
   fill-row count value = refl
+
+  pub set-row : (value : Value)
+      → answerIn (command.Controls (controls.Set n key value)) bytes (decode ws bs) 0 ≡ answerIn (command.Controls (controls.Fill n key 1 value)) bytes (decode ws bs) 0
+  unfolding answerIn
+  set-row value =
+      three-checks NoNode (not (known n (decode ws bs))) BadValue (not (inBounds value)) (noControls key 1 bytes n (decode ws bs)) (pastName key 1 bytes n (decode ws bs))
+      (one-there key bytes (decode ws bs .slots) (node n (decode ws bs)))
+      ∙ sym (fill-row 1 value)
 
   pub map-row : (bus : ℕ)
       → answerIn (command.Controls (controls.Map n key bus)) bytes (decode ws bs) 0
-      ≡ threeChecks NoNode (not (known n (decode ws bs))) NoBus (not (either (eqb bus minusOne) (isBus bus))) (noControls key 1 bytes n (decode ws bs))
-  unfolding answerIn threeChecks
-  map-row bus = refl
+      ≡ fourChecks NoNode (not (known n (decode ws bs))) NoBus (not (either (eqb bus minusOne) (isBus bus))) (noControls key 1 bytes n (decode ws bs)) (pastName key 1 bytes n (decode ws bs))
+  unfolding answerIn
+  map-row bus =
+      three-checks NoNode (not (known n (decode ws bs))) NoBus (not (either (eqb bus minusOne) (isBus bus))) (noControls key 1 bytes n (decode ws bs)) (pastName key 1 bytes n (decode ws bs))
+      (one-there key bytes (decode ws bs .slots) (node n (decode ws bs)))
 
 -- `/n_set` is `/n_fill` with a count of one
 pub set-filled : (n : NodeArgument) (key : Key) (value : Value) (bytes ws bs : List ℕ) (a : Answer) (ws′ : List ℕ)
     → Steps (controls.Fill n key 1 value) bytes ws bs a ws′ → Steps (controls.Set n key value) bytes ws bs a ws′
-unfolding answerIn wordsAfter effect
-set-filled n key value bytes ws bs a ws′ s = record { answers = s .answers; words = s .words }
+unfolding wordsAfter effect
+set-filled n key value bytes ws bs a ws′ s = record { answers = s .answers ∙ sym (set-row n key bytes ws bs value); words = s .words }
 
 -- what each command comes to once its node is found and its value or bus is one
 module _ (n : NodeArgument) (key : Key) (bytes ws bs : List ℕ) (at : ℕ) (named : Named n ws at) (live : at < countIn ws) (a : Answer) (ws′ : List ℕ) where

@@ -3,9 +3,10 @@ mod buses;
 
 pub use buses::bus_step;
 
+use controls::Asked;
 use controls::Change;
 use controls::change_all;
-use controls::controls_missing;
+use controls::controls_asked;
 use controls::is_bus;
 use layout::COUNT;
 use layout::NODES;
@@ -32,7 +33,7 @@ ghost use Rattle.model.specs.Meaning.{minusOne, isBus, mappingTo};
 ghost use Rattle.state.specs.Known.{Known};
 ghost use Rattle.controlcommands.specs.Steps.{Steps, Changed};
 
-// Refusal 21, or the controls of the node at a place and of all below it changed.
+// Refusal 21, refusal 28, or the controls of the node at a place and of all below it changed.
 fn change_run(
     words: &mut [u32],
     arena: &[u8],
@@ -45,13 +46,16 @@ fn change_run(
     requires { ⌜ Known (now words) (now arena) × (at < countIn (now words)) ⌝ }
     ensures { λ r. ⌜ Changed change key count (now (bytes .entry)) at (now (words .entry)) (now (arena .entry)) r (now (words .exit)) ⌝ }
 {
-    if controls_missing(words, arena, at, key, bytes, count) {
-        return Answer::Refused(Refusal::NoControl);
+    match controls_asked(words, arena, at, key, bytes, count) {
+        Asked::There => {
+            let many = wide(words[COUNT]);
+            let end = subtree_end(&words[NODES..NODES_END], many, at);
+            change_all(words, arena, at, end, key, bytes, count, change);
+            Answer::Done
+        }
+        Asked::Missing => Answer::Refused(Refusal::NoControl),
+        Asked::PastWidth => Answer::Refused(Refusal::PastWidth),
     }
-    let many = wide(words[COUNT]);
-    let end = subtree_end(&words[NODES..NODES_END], many, at);
-    change_all(words, arena, at, end, key, bytes, count, change);
-    Answer::Done
 }
 
 // /n_fill; /n_set is the same with a count of one

@@ -3,12 +3,15 @@ use Prim.Native.Nat.{ℕ, suc, _+_, _-_, _*_, _≤_, _<_}
 use mathlib.Core.Bool.{Bool, true, false}
 use mathlib.Core.Path.{_≡_, refl, sym, ap, ap₂, _∙_, subst}
 use mathlib.Core.List.{List, [], _∷_, _++_}
+use mathlib.Core.Option.{Option}
 use native.Mathlib.Omega.{arith}
 use lib.ListN.{length, take, drop, getD, length-append, length-take, length-drop}
 use lib.Seq.{drop-drop}
 use Rattle.words.specs.Choice.{pick}
 use Rattle.words.specs.Parts.{region, put, region-length, region-put, past-put, before-put}
-use Rattle.format.specs.Definition.{Front}
+use Rattle.format.specs.Names.{Covered}
+use Rattle.readable.specs.declared.cover.Cover.{Cover}
+use Rattle.readable.specs.Lookup.{coverAt}
 use Rattle.readable.specs.Readable.{Readable, whole-readable}
 use Rattle.nodes.specs.declared.Node.{Node}
 use Rattle.nodes.specs.Table.{width, rows, nodeFrom, row-from}
@@ -20,16 +23,15 @@ use Rattle.values.specs.declared.Key.{Key}
 use Rattle.values.specs.Controls.{ControlValue}
 use Rattle.model.specs.Layout.{slotCount, lengthsPlace, slotRoom, nodesPlace, nodesWords, controlsPlace, controlsWords, wordsLength, countIn, nodesIn, controlsIn, putControls}
 use Rattle.model.specs.Engine.{Slot, decode, definitionOf}
-use Rattle.model.specs.Meaning.{startOf}
-use Rattle.model.specs.Effects.{changeRow, changeStart, changeAll}
+use Rattle.model.specs.Meaning.{coverOf}
+use Rattle.model.specs.Effects.{changeCovered, changeAll}
 use Rattle.state.specs.Regions.{region-before, word-before}
 use Rattle.state.specs.Decoded.{controls-size}
-use Rattle.controls.specs.Encoded.{frontIn, frontOnly, start-front}
+use Rattle.controls.specs.Encoded.{frontIn, frontOnly, cover-front}
 use Rattle.slots.specs.Slots.{slotBytes}
 use Rattle.controls.specs.Ready.{Ready, nodeIn, synth-ready}
 use Rattle.controls.specs.Synth.{changeSynth, changeNode, Bounds, same-controls}
-use Rattle.controls.specs.Reach.{reachIn, reach-same}
-use Rattle.controls.specs.declared.reach.Reach.{Reach}
+use Rattle.controls.specs.Cover.{coverOn}
 
 -- a part put over another put at the same place
 pub put-put : (a k : ℕ) (xs ys ws : List ℕ) → a ≤ length ws → length xs ≡ k → put a k ys (put a k xs ws) ≡ put a k ys ws
@@ -40,7 +42,7 @@ put-put a k xs ys ws h e =
 -- what a change does to the controls of one node
 abbrev pub changeOne : (ControlValue → ControlValue) → Key → List ℕ → ℕ → List Slot → Node → List ℕ → List ℕ
 changeOne f key name count slots r cs =
-    pick (isGroup r) cs (changeStart f (startOf key name (definitionOf slots r)) (r .row) count (length (definitionOf slots r .front .values)) cs)
+    pick (isGroup r) cs (changeCovered f (coverOf key name (definitionOf slots r)) (r .row) count cs)
 
 -- the words with other controls: their nodes and slots
 module _ (cs ws : List ℕ) (size : length ws ≡ wordsLength) (many : length cs ≡ controlsWords) where
@@ -79,15 +81,14 @@ module _ (cs ws : List ℕ) (size : length ws ≡ wordsLength) (many : length cs
       where
         go : (b : Bool) → isGroup (nodeIn ws i) ≡ b
             → pick b xs (changeSynth f key name count (nodeIn ws i .row) (slotBytes (putControls cs ws) arena (nodeIn ws i .slot)) xs)
-            ≡ pick b xs (changeStart f (startOf key name (definitionOf (decode ws arena .slots) (nodeIn ws i))) (nodeIn ws i .row) count (length (definitionOf (decode ws arena .slots) (nodeIn ws i) .front .values)) xs)
+            ≡ pick b xs (changeCovered f (coverOf key name (definitionOf (decode ws arena .slots) (nodeIn ws i))) (nodeIn ws i .row) count xs)
         go true e = refl
         go false e =
             let s = synth-ready ws arena ready i few e in
             let d = definitionOf (decode ws arena .slots) (nodeIn ws i) in
             let bytes = slotBytes (putControls cs ws) arena (nodeIn ws i .slot) in
             let front : frontIn bytes ≡ d .front = ap frontIn (bytes-kept arena (nodeIn ws i .slot) (s .slot)) ∙ sym (s .front) in
-            ap (λ (n : ℕ). changeStart f (startOf key name (frontOnly bytes)) (nodeIn ws i .row) count n xs) (ap (λ (x : Front). length (x .values)) front)
-            ∙ rw (start-front key name (frontOnly bytes) d front)
+            ap (λ (o : Option Covered). changeCovered f o (nodeIn ws i .row) count xs) (cover-front key name (frontOnly bytes) d front)
 
 -- a run of the table: one node more, and the end
 module _ (f : ControlValue → ControlValue) (key : Key) (name : List ℕ) (count : ℕ) (slots : List Slot) (ws : List ℕ) where
@@ -182,13 +183,12 @@ synth-lent ws₀ arena ws i ready size rest few single =
       kept = ap (λ (us : List ℕ). slotBytes us arena (nodeIn ws i .slot)) rest ∙ bytes-kept (controlsIn ws) ws₀ (ready .size) many arena (nodeIn ws i .slot) (b .slot single);
     }
 
--- its change, by what a key reaches; and no change of a group
+-- its change, by what a key covers; and no change of a group
 module _ (f : ControlValue → ControlValue) (key : Key) (name : List ℕ) (count : ℕ) (ws arena : List ℕ) (i : ℕ) where
-  pub reach-change : isGroup (nodeIn ws i) ≡ false → (r : Reach) → r ≡ reachIn key name (slotBytes ws arena (nodeIn ws i .slot))
-      → changeRow f (nodeIn ws i .row) (r .start) count (r .controls) (controlsIn ws) ≡ changeNode f key name count ws arena i (controlsIn ws)
-  reach-change single r e =
-      ap (λ (x : Reach). changeRow f (nodeIn ws i .row) (x .start) count (x .controls) (controlsIn ws)) e
-      ∙ reach-same key name (slotBytes ws arena (nodeIn ws i .slot)) f count (nodeIn ws i .row) (controlsIn ws)
+  pub cover-change : isGroup (nodeIn ws i) ≡ false → (c : Cover) → coverAt c ≡ coverOn key name ws arena (nodeIn ws i .slot)
+      → changeCovered f (coverAt c) (nodeIn ws i .row) count (controlsIn ws) ≡ changeNode f key name count ws arena i (controlsIn ws)
+  cover-change single c e =
+      ap (λ (o : Option Covered). changeCovered f o (nodeIn ws i .row) count (controlsIn ws)) e
       ∙ sym (ap (λ (b : Bool). pick b (controlsIn ws) (changeSynth f key name count (nodeIn ws i .row) (slotBytes ws arena (nodeIn ws i .slot)) (controlsIn ws))) single)
 
   pub no-change : isGroup (nodeIn ws i) ≡ true → ws ≡ putControls (changeNode f key name count ws arena i (controlsIn ws)) ws

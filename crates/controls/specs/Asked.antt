@@ -1,24 +1,31 @@
 -- What is asked of a node's controls: whether they are there, and what reading one gives.
 use Prim.Native.Nat.{ℕ, zero, suc, _+_, _*_, _≤_, _<_}
-use mathlib.Core.Bool.{Bool, false, not}
-use mathlib.Core.Path.{_≡_, refl, ap, ap₂, _∙_}
+use mathlib.Core.Bool.{Bool, true, false, not}
+use mathlib.Core.Path.{_≡_, refl, sym, ap, ap₂, _∙_}
 use mathlib.Core.List.{List}
 use mathlib.Core.Option.{Option, none, some}
 use native.Mathlib.Omega.{arith}
+use borrow.Author.Tests.{not-false}
 use lib.ListN.{length, drop, getD}
 use lib.Dec.{leb}
 use lib.Seq.{getD-drop}
-use Rattle.words.specs.Choice.{pick, either}
+use Rattle.words.specs.Choice.{pick, either, either-false}
 use Rattle.format.specs.Definition.{Front, Definition}
+use Rattle.format.specs.Names.{Covered}
 use Rattle.nodes.specs.declared.Node.{Node}
 use Rattle.nodes.specs.Place.{isGroup}
 use Rattle.values.specs.declared.Key.{Key}
 use Rattle.values.specs.Controls.{ControlValue, controlAt, shownBy}
 use Rattle.model.specs.Layout.{rowWords, countIn, controlsIn, busesIn}
 use Rattle.model.specs.Engine.{Slot, decode, definitionOf, controlsFrom, controlsOf}
-use Rattle.model.specs.Meaning.{isNegative, negativeKey, startOf, hasControls}
+use Rattle.model.specs.Meaning.{isNegative, negativeKey, coverOf, hasControls, pastWidth}
 use Rattle.model.specs.Replies.{noControl, readAt}
-use Rattle.controls.specs.Encoded.{frontIn, frontOnly, start-front}
+use Rattle.readable.specs.declared.cover.Cover.{Cover}
+use Rattle.readable.specs.Lookup.{coverAt}
+use Rattle.controls.specs.declared.definition.Asked.{Asked}
+use Rattle.controls.specs.declared.definition.Asked.the-variants.{There, Missing, PastWidth}
+use Rattle.controls.specs.Encoded.{frontIn, frontOnly, cover-front}
+use Rattle.controls.specs.Cover.{askedBy, askedIn, Bounded, bounded, one-covered, cover-there}
 use Rattle.slots.specs.Slots.{slotBytes}
 use Rattle.controls.specs.Ready.{Ready, nodeIn, synth-ready}
 
@@ -26,7 +33,37 @@ use Rattle.controls.specs.Ready.{Ready, nodeIn, synth-ready}
 abbrev pub controlsMissing : Key → ℕ → List ℕ → List Slot → Node → Bool
 controlsMissing key count name slots r =
     either (either (negativeKey key) (isNegative count))
-    (pick (isGroup r) false (not (hasControls (startOf key name (definitionOf slots r)) count (definitionOf slots r))))
+    (pick (isGroup r) false (not (hasControls (coverOf key name (definitionOf slots r)) count (definitionOf slots r))))
+
+-- refusal 28's
+abbrev pub controlsPast : Key → ℕ → List ℕ → List Slot → Node → Bool
+controlsPast key count name slots r = pick (isGroup r) false (pastWidth (coverOf key name (definitionOf slots r)) count)
+
+-- the one behind the other
+abbrev pub controlsAsked : Key → ℕ → List ℕ → List Slot → Node → Asked
+controlsAsked key count name slots r = askedBy (controlsMissing key count name slots r) (controlsPast key count name slots r)
+
+-- one control that is there is not past the width
+pub one-there : (key : Key) (name : List ℕ) (slots : List Slot) (r : Node) → controlsMissing key 1 name slots r ≡ false → controlsPast key 1 name slots r ≡ false
+one-there key name slots r h = go (isGroup r) (either-false (either (negativeKey key) (isNegative 1)) _ h .1)
+  where
+    d : Definition
+    d = definitionOf slots r
+
+    go : (b : Bool) → pick b false (not (hasControls (coverOf key name d) 1 d)) ≡ false → pick b false (pastWidth (coverOf key name d) 1) ≡ false
+    go true k = refl
+    go false k = one-covered key name d (not-false (hasControls (coverOf key name d) 1 d) k)
+
+-- the test of 21 alone
+abbrev pub isMissing : Asked → Bool
+isMissing There = false
+isMissing Missing = true
+isMissing PastWidth = false
+
+pub missing-asked : (missing past : Bool) → isMissing (askedBy missing past) ≡ missing
+missing-asked true past = refl
+missing-asked false true = refl
+missing-asked false false = refl
 
 -- the control of a row at an index
 abbrev pub controlIn : List ℕ → ℕ → ℕ → ControlValue
@@ -60,41 +97,48 @@ module _ (ws arena : List ℕ) (ready : Ready ws arena) (i : ℕ) (few : i < cou
   front : definitionOf (decode ws arena .slots) (nodeIn ws i) .front ≡ frontIn (slotBytes ws arena (nodeIn ws i .slot))
   front = synth-ready ws arena ready i few single .front
 
-  pub synth-start : (key : Key) (name : List ℕ)
-      → startOf key name (definitionOf (decode ws arena .slots) (nodeIn ws i)) ≡ startOf key name (frontOnly (slotBytes ws arena (nodeIn ws i .slot)))
-  synth-start key name = start-front key name (definitionOf (decode ws arena .slots) (nodeIn ws i)) (frontOnly (slotBytes ws arena (nodeIn ws i .slot))) front
+  pub synth-cover : (key : Key) (name : List ℕ)
+      → coverOf key name (definitionOf (decode ws arena .slots) (nodeIn ws i)) ≡ coverOf key name (frontOnly (slotBytes ws arena (nodeIn ws i .slot)))
+  synth-cover key name = cover-front key name (definitionOf (decode ws arena .slots) (nodeIn ws i)) (frontOnly (slotBytes ws arena (nodeIn ws i .slot))) front
 
   pub synth-many : length (definitionOf (decode ws arena .slots) (nodeIn ws i) .front .values) ≡ length (frontIn (slotBytes ws arena (nodeIn ws i .slot)) .values)
   synth-many = ap (λ (f : Front). length (f .values)) front
 
-  has-front : (o : Option ℕ) (count : ℕ) (d e : Definition) → d .front ≡ e .front → hasControls o count d ≡ hasControls o count e
+  has-front : (o : Option Covered) (count : ℕ) (d e : Definition) → d .front ≡ e .front → hasControls o count d ≡ hasControls o count e
   has-front none count d e h = refl
-  has-front (some start) count d e h = ap (λ (f : Front). leb (start + count) (length (f .values))) h
+  has-front (some c) count d e h = ap (λ (f : Front). leb (c .index + count) (length (f .values))) h
 
-  pub synth-has : (key : Key) (name : List ℕ) (count : ℕ)
-      → hasControls (startOf key name (definitionOf (decode ws arena .slots) (nodeIn ws i))) count (definitionOf (decode ws arena .slots) (nodeIn ws i))
-      ≡ hasControls (startOf key name (frontOnly (slotBytes ws arena (nodeIn ws i .slot)))) count (frontOnly (slotBytes ws arena (nodeIn ws i .slot)))
-  synth-has key name count =
+  pub synth-asked : (key : Key) (name : List ℕ) (count : ℕ)
+      → askedIn (coverOf key name (definitionOf (decode ws arena .slots) (nodeIn ws i))) count (definitionOf (decode ws arena .slots) (nodeIn ws i))
+      ≡ askedIn (coverOf key name (frontOnly (slotBytes ws arena (nodeIn ws i .slot)))) count (frontOnly (slotBytes ws arena (nodeIn ws i .slot)))
+  synth-asked key name count =
       let d = definitionOf (decode ws arena .slots) (nodeIn ws i) in
       let e = frontOnly (slotBytes ws arena (nodeIn ws i .slot)) in
-      ap (λ (o : Option ℕ). hasControls o count d) (synth-start key name) ∙ has-front (startOf key name e) count d e front
+      ap (λ (o : Option Covered). askedIn o count d) (synth-cover key name)
+      ∙ ap (λ (b : Bool). askedBy (not b) (pastWidth (coverOf key name e) count)) (has-front (coverOf key name e) count d e front)
 
-  -- what reading a control gives
-  pub read-none : (key : Key) (name : List ℕ) → startOf key name (frontOnly (slotBytes ws arena (nodeIn ws i .slot))) ≡ none
-      → readAt (busesIn ws) (controlsOf (decode ws arena .slots) (controlsIn ws) (nodeIn ws i)) (startOf key name (definitionOf (decode ws arena .slots) (nodeIn ws i))) ≡ 0
-  read-none key name e = rw (synth-start key name ∙ e)
+  -- what reading a control gives, by the lookup's answer
+  module _ (key : Key) (name : List ℕ) (c : Cover) (said : coverAt c ≡ coverOf key name (frontOnly (slotBytes ws arena (nodeIn ws i .slot)))) where
+    abbrev reading : ℕ
+    reading = readAt (busesIn ws) (controlsOf (decode ws arena .slots) (controlsIn ws) (nodeIn ws i)) (coverOf key name (definitionOf (decode ws arena .slots) (nodeIn ws i)))
 
-  pub read-past : (key : Key) (name : List ℕ) (start : ℕ) → startOf key name (frontOnly (slotBytes ws arena (nodeIn ws i .slot))) ≡ some start
-      → length (frontIn (slotBytes ws arena (nodeIn ws i .slot)) .values) ≤ start
-      → readAt (busesIn ws) (controlsOf (decode ws arena .slots) (controlsIn ws) (nodeIn ws i)) (startOf key name (definitionOf (decode ws arena .slots) (nodeIn ws i))) ≡ 0
-  read-past key name start e h =
-      rw (synth-start key name ∙ e)
-      (ap (shownBy (busesIn ws)) (control-past (length (definitionOf (decode ws arena .slots) (nodeIn ws i) .front .values)) (drop (rowWords * nodeIn ws i .row) (controlsIn ws)) start (rw synth-many h)))
+    same : reading ≡ readAt (busesIn ws) (controlsOf (decode ws arena .slots) (controlsIn ws) (nodeIn ws i)) (coverAt c)
+    same = ap (readAt (busesIn ws) (controlsOf (decode ws arena .slots) (controlsIn ws) (nodeIn ws i))) (synth-cover key name ∙ sym said)
 
-  pub read-there : (key : Key) (name : List ℕ) (start : ℕ) → startOf key name (frontOnly (slotBytes ws arena (nodeIn ws i .slot))) ≡ some start
-      → start < length (frontIn (slotBytes ws arena (nodeIn ws i .slot)) .values)
-      → readAt (busesIn ws) (controlsOf (decode ws arena .slots) (controlsIn ws) (nodeIn ws i)) (startOf key name (definitionOf (decode ws arena .slots) (nodeIn ws i)))
-      ≡ shownBy (busesIn ws) (controlIn (controlsIn ws) (nodeIn ws i .row) start)
-  read-there key name start e h =
-      rw (synth-start key name ∙ e)
-      (ap (shownBy (busesIn ws)) (control-in (length (definitionOf (decode ws arena .slots) (nodeIn ws i) .front .values)) (controlsIn ws) (nodeIn ws i .row) start (rw synth-many h)))
+    there : c .found ≡ true → Bounded (length (definitionOf (decode ws arena .slots) (nodeIn ws i) .front .values)) (record { index = c .index; width = c .width })
+    there found = rw synth-many (bounded key name (frontOnly (slotBytes ws arena (nodeIn ws i .slot))) (record { index = c .index; width = c .width }) (sym said ∙ cover-there c found))
+
+    pub read-none : c .found ≡ false → reading ≡ 0
+    read-none e = same ∙ rw e
+
+    pub read-past : c .found ≡ true → c .width ≡ 0 → reading ≡ 0
+    read-past found e =
+        same
+        ∙ rw found
+        (ap (shownBy (busesIn ws)) (control-past (length (definitionOf (decode ws arena .slots) (nodeIn ws i) .front .values)) (drop (rowWords * nodeIn ws i .row) (controlsIn ws)) (c .index) (there found .past e)))
+
+    pub read-there : c .found ≡ true → 0 < c .width → reading ≡ shownBy (busesIn ws) (controlIn (controlsIn ws) (nodeIn ws i .row) (c .index))
+    read-there found h =
+        same
+        ∙ rw found
+        (ap (shownBy (busesIn ws)) (control-in (length (definitionOf (decode ws arena .slots) (nodeIn ws i) .front .values)) (controlsIn ws) (nodeIn ws i .row) (c .index) (omega (arith, there found .ends h))))

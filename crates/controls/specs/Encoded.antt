@@ -1,18 +1,17 @@
 -- What a definition in its encoded bytes tells of its controls: by its front, which the lookups read.
-use Prim.Native.Nat.{ℕ, _+_, _-_, _≤_, _<_}
-use mathlib.Core.Bool.{Bool, true, false}
+use Prim.Native.Nat.{ℕ, _-_, _≤_}
 use mathlib.Core.Path.{_≡_, refl, sym, ap, _∙_}
 use mathlib.Core.List.{List, []}
-use mathlib.Core.Option.{none}
+use mathlib.Core.Option.{none, some}
 use native.Mathlib.Omega.{arith}
-use borrow.Author.Tests.{leb-true, leb-false, le-leb, lt-leb}
+use borrow.Author.Tests.{leb-true}
 use lib.ListN.{length}
 use lib.Dec.{leb}
 use Rattle.readable.specs.declared.found.Found.{Found}
 use Rattle.readable.specs.declared.found.Found.the-variants as found
 use Rattle.format.specs.declared.Width.the-variants.{Long}
 use Rattle.format.specs.Read.{onRead, Read, got, bad, repeat}
-use Rattle.readable.specs.Lookup.{parametersIn, indexIn}
+use Rattle.readable.specs.Lookup.{parametersIn, coverIn}
 use Rattle.format.specs.Fields.{integer, float32, definitionName, count, countTo, highest16, shortCountTo}
 use Rattle.format.specs.FieldLaws.{checked-got}
 use Rattle.format.specs.RepeatLaws.{went-on, repeat-length}
@@ -21,9 +20,9 @@ use Rattle.format.specs.Reader.{mostParameters, parameterName, frontBy, readFro
 use Rattle.faults.specs.declared.Fault.the-variants.{BadCount}
 use Rattle.values.specs.declared.Key.{Key}
 use Rattle.values.specs.declared.Key.the-variants.{Index, Name}
-use Rattle.format.specs.Names.{firstIndex}
+use Rattle.format.specs.Names.{firstIndex, coveredBy}
 use Rattle.model.specs.Engine.{valueOr}
-use Rattle.model.specs.Meaning.{startOf}
+use Rattle.model.specs.Meaning.{coverOf}
 
 -- a front with nothing in it, for bytes that have none
 abbrev pub noFront : Front
@@ -76,10 +75,10 @@ pub values-few : (s : List ℕ) → length (frontIn s .values) ≤ mostParameter
 unfolding frontIn
 values-few s = few-or (readFront s 0) (λ f p e. few-read s e)
 
--- where a key starts, by the front alone
-pub start-front : (key : Key) (name : List ℕ) (d e : Definition) → d .front ≡ e .front → startOf key name d ≡ startOf key name e
-start-front (Index i) name d e h = refl
-start-front Name name d e h = ap (λ (f : Front). firstIndex name (f .names)) h
+-- what a key covers, by the front alone
+pub cover-front : (key : Key) (name : List ℕ) (d e : Definition) → d .front ≡ e .front → coverOf key name d ≡ coverOf key name e
+cover-front (Index i) name d e h = ap (λ (f : Front). some (record { index = i; width = length (f .values) - i })) h
+cover-front Name name d e h = ap (λ (f : Front). coveredBy name (length (f .values)) (f .names)) h
 
 -- P, as the lookup tells it
 count-of : (r : Read Front) → numberOr (onRead r found.Nothing (λ f next. found.At (length (f .values)))) ≡ length (valueOr noFront r .values)
@@ -90,23 +89,12 @@ pub parameters-fact : (s : List ℕ) → numberOr (parametersIn s) ≡ length (f
 unfolding frontIn
 parameters-fact s = count-of (readFront s 0)
 
--- the first entry of a name
-index-of : (name : List ℕ) (r : Read Front) → onRead r none (λ f next. firstIndex name (f .names)) ≡ firstIndex name (valueOr noFront r .names)
+-- what a name covers, as the lookup tells it
+cover-of : (name : List ℕ) (r : Read Front) → onRead r none (λ f next. coveredBy name (length (f .values)) (f .names)) ≡ coveredBy name (length (valueOr noFront r .values)) (valueOr noFront r .names)
 unfolding firstIndex
-index-of name (got f p) = refl
-index-of name (bad q place) = refl
+cover-of name (got f p) = refl
+cover-of name (bad q place) = refl
 
-pub index-fact : (name s : List ℕ) → indexIn name s ≡ firstIndex name (frontIn s .names)
+pub cover-fact : (name s : List ℕ) → coverIn name s ≡ coveredBy name (length (frontIn s .values)) (frontIn s .names)
 unfolding frontIn
-index-fact name s = index-of name (readFront s 0)
-
--- the test of a start and a count, without a sum
-pub has-past : (start count p : ℕ) → p < start → leb (start + count) p ≡ false
-has-past start count p h = lt-leb (start + count) p (omega arith)
-
-pub has-within : (start count p : ℕ) → start ≤ p → leb (start + count) p ≡ leb count (p - start)
-has-within start count p h = go (leb count (p - start)) refl
-  where
-    go : (b : Bool) → leb count (p - start) ≡ b → leb (start + count) p ≡ b
-    go true e = let low : count ≤ p - start = leb-true count (p - start) e in le-leb (start + count) p (omega arith)
-    go false e = let high : p - start < count = leb-false count (p - start) e in lt-leb (start + count) p (omega arith)
+cover-fact name s = cover-of name (readFront s 0)

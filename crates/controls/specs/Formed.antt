@@ -19,7 +19,7 @@ use Rattle.controls.specs.Encoded.{frontIn, values-few}
 use Rattle.slots.specs.Slots.{slotBytes}
 use Rattle.controls.specs.Ready.{Ready, nodeIn, synth-ready}
 use Rattle.controls.specs.Synth.{Bounds}
-use Rattle.controls.specs.Reach.{controlsOn}
+use Rattle.controls.specs.Cover.{controlsOn}
 
 -- a row's mapping words, by a definition's bytes
 abbrev pub rowFormed : List ℕ → ℕ → List ℕ → Bool

@@ -5,7 +5,7 @@ pub mod Initial
 pub mod Ready
 pub mod Synth
 pub mod Noted
-pub mod Reach
+pub mod Cover
 pub mod All
 pub mod Formed
 pub mod Asked

@@ -15,16 +15,16 @@ use Rattle.nodes.specs.Formed.{mostNodes, mostRows}
 use Rattle.values.specs.declared.Key.{Key}
 use Rattle.values.specs.Controls.{ControlValue}
 use Rattle.model.specs.Layout.{slotCount, busCount, nodesPlace, nodesWords, controlsPlace, controlsWords, controlsIn, putControls, wordsLength, arenaLength}
-use Rattle.model.specs.Meaning.{startOf}
+use Rattle.model.specs.Meaning.{coverOf}
 use Rattle.model.specs.Formed.{mappingsFormed}
-use Rattle.model.specs.Effects.{changeStart}
-use Rattle.controls.specs.Encoded.{frontIn, frontOnly}
+use Rattle.model.specs.Effects.{changeCovered}
+use Rattle.controls.specs.Encoded.{frontOnly}
 use Rattle.slots.specs.Slots.{slotBytes, part-word}
 use Rattle.controls.specs.Ready.{nodeIn}
 
 -- the controls of the row, by a definition's bytes
 abbrev pub changeSynth : (ControlValue → ControlValue) → Key → List ℕ → ℕ → ℕ → List ℕ → List ℕ → List ℕ
-changeSynth f key name count row s cs = changeStart f (startOf key name (frontOnly s)) row count (length (frontIn s .values)) cs
+changeSynth f key name count row s cs = changeCovered f (coverOf key name (frontOnly s)) row count cs
 
 -- of the node at a place of the table
 abbrev pub changeNode : (ControlValue → ControlValue) → Key → List ℕ → ℕ → List ℕ → List ℕ → ℕ → List ℕ → List ℕ

@@ -1,12 +1,11 @@
 // What is asked of a node's controls: whether they are there, and what reading one gives.
-use crate::definition::control_start;
-use crate::definition::has_controls;
-use crate::definition::parameter_count;
+use crate::definition::Asked;
+use crate::definition::asked_of;
+use crate::definition::key_cover;
 use crate::node::node_definition;
 use crate::node::node_is_group;
 use crate::node::node_row;
 use crate::synth::read_at;
-use readable::Found;
 use layout::BUSES;
 use layout::BUSES_END;
 use layout::CONTROLS;
@@ -24,10 +23,10 @@ ghost use Rattle.nodes.specs.Place.{isGroup};
 ghost use Rattle.values.specs.Controls.{shownBy};
 ghost use Rattle.model.specs.Layout.{wordsLength, countIn, controlsIn, busesIn};
 ghost use Rattle.model.specs.Engine.{decode, definitionOf, controlsOf};
-ghost use Rattle.model.specs.Meaning.{negativeKey, startOf};
+ghost use Rattle.model.specs.Meaning.{negativeKey, coverOf};
 ghost use Rattle.model.specs.Replies.{readAt};
 ghost use Rattle.controls.specs.Ready.{Ready, nodeIn};
-ghost use Rattle.controls.specs.Asked.{controlsMissing, controlIn};
+ghost use Rattle.controls.specs.Asked.{controlsMissing, controlsAsked, controlIn};
 
 // "Negative indices are always refused."
 fn negative_key(key: Key) -> bool
@@ -39,7 +38,32 @@ fn negative_key(key: Key) -> bool
     }
 }
 
-// Refusal 21's test on the node at a place: a negative index or count always; on a synth, controls that it lacks; on a group no more.
+// The tests of refusals 21 and 28 on the node at a place, by one lookup. 21: a negative index or count always; on a synth, controls that it lacks; on a group no more.
+// 28: on a synth more controls than the key covers.
+pub fn controls_asked(
+    words: &[u32],
+    arena: &[u8],
+    place: usize,
+    key: Key,
+    name: &[u8],
+    count: u32,
+) -> Asked
+    requires { ⌜ (Ready (now words) (now arena)) × (place < countIn (now words)) ⌝ }
+    ensures { λ r. ⌜ r ≡ controlsAsked key count (now (name .entry)) (decode (now (words .entry)) (now (arena .entry)) .slots) (nodeIn (now (words .entry)) place) ⌝ }
+{
+    if negative_key(key) {
+        return Asked::Missing;
+    }
+    if 2147483648 <= count {
+        return Asked::Missing;
+    }
+    if node_is_group(words, place) {
+        return Asked::There;
+    }
+    asked_of(node_definition(words, arena, place), key, name, count)
+}
+
+// Refusal 21's test alone.
 pub fn controls_missing(
     words: &[u32],
     arena: &[u8],
@@ -51,16 +75,11 @@ pub fn controls_missing(
     requires { ⌜ (Ready (now words) (now arena)) × (place < countIn (now words)) ⌝ }
     ensures { λ r. ⌜ r ≡ controlsMissing key count (now (name .entry)) (decode (now (words .entry)) (now (arena .entry)) .slots) (nodeIn (now (words .entry)) place) ⌝ }
 {
-    if negative_key(key) {
-        return true;
+    match controls_asked(words, arena, place, key, name, count) {
+        Asked::Missing => true,
+        Asked::There => false,
+        Asked::PastWidth => false,
     }
-    if 2147483648 <= count {
-        return true;
-    }
-    if node_is_group(words, place) {
-        return false;
-    }
-    !has_controls(node_definition(words, arena, place), key, name, count)
 }
 
 // What reading a control of a row gives: the bus where it is mapped, otherwise its own float.
@@ -75,16 +94,14 @@ pub fn read_control(words: &[u32], row: u32, index: u32) -> u32
 // What reading the control that a key names gives, of the synth at a place; 0 where it lacks it.
 pub fn read_key(words: &[u32], arena: &[u8], place: usize, key: Key, name: &[u8]) -> u32
     requires { ⌜ (Ready (now words) (now arena)) × (place < countIn (now words)) × (isGroup (nodeIn (now words) place) ≡ false) ⌝ }
-    ensures { λ r. ⌜ r ≡ readAt (busesIn (now (words .entry))) (controlsOf (decode (now (words .entry)) (now (arena .entry)) .slots) (controlsIn (now (words .entry))) (nodeIn (now (words .entry)) place)) (startOf key (now (name .entry)) (definitionOf (decode (now (words .entry)) (now (arena .entry)) .slots) (nodeIn (now (words .entry)) place))) ⌝ }
+    ensures { λ r. ⌜ r ≡ readAt (busesIn (now (words .entry))) (controlsOf (decode (now (words .entry)) (now (arena .entry)) .slots) (controlsIn (now (words .entry))) (nodeIn (now (words .entry)) place)) (coverOf key (now (name .entry)) (definitionOf (decode (now (words .entry)) (now (arena .entry)) .slots) (nodeIn (now (words .entry)) place))) ⌝ }
 {
-    let definition = node_definition(words, arena, place);
-    match control_start(definition, key, name) {
-        Found::At(start) => {
-            if parameter_count(definition) <= start {
-                return 0;
-            }
-            read_control(words, node_row(words, place), start)
-        }
-        Found::Nothing => 0,
+    let cover = key_cover(node_definition(words, arena, place), key, name);
+    if !cover.found {
+        return 0;
     }
+    if cover.width == 0 {
+        return 0;
+    }
+    read_control(words, node_row(words, place), cover.index)
 }

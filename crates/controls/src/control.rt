@@ -3,7 +3,7 @@ use layout::ROW_WORDS;
 use values::Control;
 use values::Mapping;
 use words::wide;
-ghost use Prim.Native.Nat.{_+_, _-_, _*_, _≤_, min};
+ghost use Prim.Native.Nat.{_+_, _*_, _≤_};
 ghost use mathlib.Core.Path.{_≡_};
 ghost use lib.ListN.{length, getD};
 ghost use Rattle.nodes.specs.Table.{over};
@@ -41,28 +41,11 @@ fn change_one(controls: &mut [u32], at: usize, change: Change)
     controls[at + 1] = mapping;
 }
 
-// How many controls a count from start on reaches, of p.
-fn reached(start: u32, count: u32, p: u32) -> u32
-    ensures { λ r. ⌜ r ≡ min count (p - start) ⌝ }
+// The controls of a row from start on, so many.
+pub fn change_row(controls: &mut [u32], row: u32, start: u32, many: u32, change: Change)
+    requires { ⌜ rowWords * row + 2 * (start + many) ≤ length (now controls) ⌝ }
+    ensures { λ r. ⌜ now (controls .exit) ≡ changeRow (changeOf change) row start many (now (controls .entry)) ⌝ }
 {
-    if p <= start {
-        return 0;
-    }
-    if count <= p - start {
-        return count;
-    }
-    p - start
-}
-
-// The controls of a row from start on, count of them or as many as there are among p.
-pub fn change_row(controls: &mut [u32], row: u32, start: u32, count: u32, p: u32, change: Change)
-    requires { ⌜ rowWords * row + 2 * p ≤ length (now controls) ⌝ }
-    ensures { λ r. ⌜ now (controls .exit) ≡ changeRow (changeOf change) row start count p (now (controls .entry)) ⌝ }
-{
-    let many = reached(start, count, p);
-    if many == 0 {
-        return;
-    }
     let mut at = ROW_WORDS * wide(row) + 2 * wide(start);
     let mut i = 0;
     while i < many {

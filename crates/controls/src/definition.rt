@@ -1,12 +1,13 @@
 // What a definition, in its encoded bytes, tells of its controls. Its front is known to be readable.
 use fields::Cursor;
-use readable::Found;
 use fields::Number;
-use readable::ValuesFound;
 use layout::ROW_WORDS;
+use readable::Cover;
+use readable::ValuesFound;
 use values::Key;
 use words::wide;
-ghost use Prim.Native.Nat.{_+_, _*_, _≤_};
+ghost use Prim.Native.Nat.{_+_, _-_, _*_, _≤_};
+ghost use mathlib.Core.Option.{some};
 ghost use mathlib.Core.Path.{_≡_};
 ghost use lib.ListN.{length};
 ghost use Rattle.nodes.specs.Table.{over};
@@ -14,11 +15,19 @@ ghost use Rattle.format.specs.Fields.{float32};
 ghost use Rattle.readable.specs.Readable.{Readable};
 ghost use Rattle.model.specs.Layout.{rowWords};
 ghost use Rattle.model.specs.Engine.{valueOr};
-ghost use Rattle.model.specs.Meaning.{startOf, hasControls};
+ghost use Rattle.model.specs.Meaning.{coverOf};
 ghost use Rattle.model.specs.Effects.{initialWords};
-ghost use Rattle.readable.specs.Lookup.{foundAt};
+ghost use Rattle.readable.specs.Lookup.{coverAt};
 ghost use Rattle.controls.specs.Encoded.{frontIn, frontOnly};
+ghost use Rattle.controls.specs.Cover.{askedIn};
 ghost use Rattle.controls.specs.Initial.{floatsFrom};
+
+// Controls that are asked for: they are there, or some are not, or they are more than the key covers.
+pub enum Asked {
+    There,
+    Missing,
+    PastWidth,
+}
 
 // P, the number of controls.
 pub fn parameter_count(definition: &[u8]) -> u32
@@ -28,32 +37,60 @@ pub fn parameter_count(definition: &[u8]) -> u32
     readable::parameters(definition)
 }
 
-// The control where a key starts: an index as it stands, a name by its first entry.
-pub fn control_start(definition: &[u8], key: Key, name: &[u8]) -> Found
-    requires { ⌜ Readable (now definition) ⌝ }
-    ensures { λ r. ⌜ foundAt r ≡ startOf key (now (name .entry)) (frontOnly (now (definition .entry))) ⌝ }
+// The controls from an index on, of so many.
+fn index_cover(index: u32, many: u32) -> Cover
+    ensures { λ r. ⌜ coverAt r ≡ some (record { index = index; width = many - index }) ⌝ }
 {
-    match key {
-        Key::Index(i) => Found::At(i),
-        Key::Name => readable::index_of(definition, name),
+    if many <= index {
+        return Cover {
+            found: true,
+            index: index,
+            width: 0,
+        };
+    }
+    Cover {
+        found: true,
+        index: index,
+        width: many - index,
     }
 }
 
-// The controls that are asked for are there.
-pub fn has_controls(definition: &[u8], key: Key, name: &[u8], count: u32) -> bool
+// What a key covers: an index all controls from there on, a name those up to its width.
+pub fn key_cover(definition: &[u8], key: Key, name: &[u8]) -> Cover
     requires { ⌜ Readable (now definition) ⌝ }
-    ensures { λ r. ⌜ r ≡ hasControls (startOf key (now (name .entry)) (frontOnly (now (definition .entry)))) count (frontOnly (now (definition .entry))) ⌝ }
+    ensures { λ r. ⌜ coverAt r ≡ coverOf key (now (name .entry)) (frontOnly (now (definition .entry))) ⌝ }
 {
-    match control_start(definition, key, name) {
-        Found::At(start) => {
-            let p = parameter_count(definition);
-            if p < start {
-                return false;
-            }
-            count <= p - start
-        }
-        Found::Nothing => false,
+    match key {
+        Key::Index(i) => index_cover(i, parameter_count(definition)),
+        Key::Name => readable::name_cover(definition, name),
     }
+}
+
+// Whether the controls that are asked for are there, and whether the key covers them. Those that it covers are there.
+pub fn asked_of(definition: &[u8], key: Key, name: &[u8], count: u32) -> Asked
+    requires { ⌜ Readable (now definition) ⌝ }
+    ensures { λ r. ⌜ r ≡ askedIn (coverOf key (now (name .entry)) (frontOnly (now (definition .entry)))) count (frontOnly (now (definition .entry))) ⌝ }
+{
+    let cover = key_cover(definition, key, name);
+    if !cover.found {
+        return Asked::Missing;
+    }
+    if 0 < cover.width {
+        if count <= cover.width {
+            return Asked::There;
+        }
+    }
+    let p = parameter_count(definition);
+    if p < cover.index {
+        return Asked::Missing;
+    }
+    if p - cover.index < count {
+        return Asked::Missing;
+    }
+    if cover.width < count {
+        return Asked::PastWidth;
+    }
+    Asked::There
 }
 
 // The pattern of the float at a place, 0 where it is not whole.

@@ -2,12 +2,13 @@
 mod asked;
 mod buses;
 mod control;
+mod cover;
 mod definition;
 mod node;
-mod reach;
 mod synth;
 mod table;
 
+pub use asked::controls_asked;
 pub use asked::controls_missing;
 pub use asked::read_control;
 pub use asked::read_key;
@@ -18,9 +19,10 @@ pub use buses::read_bus;
 pub use buses::set_bus;
 pub use control::Change;
 pub use control::change_row;
-pub use definition::control_start;
-pub use definition::has_controls;
+pub use definition::Asked;
+pub use definition::asked_of;
 pub use definition::initial_row;
+pub use definition::key_cover;
 pub use definition::parameter_count;
 pub use node::node_definition;
 pub use node::node_is_group;

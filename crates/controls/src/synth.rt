@@ -2,39 +2,51 @@
 use crate::control::Change;
 use crate::control::change_row;
 use crate::node::node_row;
-use crate::reach::Reach;
 use layout::CONTROLS;
 use layout::CONTROLS_END;
 use layout::MOST_BUSES;
 use layout::ROW_WORDS;
+use readable::Cover;
 use values::Control;
 use words::wide;
 ghost use Prim.Native.Nat.{_+_, _*_, _≤_, _<_};
 ghost use mathlib.Core.Path.{_≡_};
 ghost use lib.ListN.{length, drop, getD};
-ghost use Rattle.format.specs.Reader.{mostParameters};
 ghost use Rattle.nodes.specs.Formed.{mostNodes, mostRows};
 ghost use Rattle.values.specs.Controls.{controlAt, shownBy};
 ghost use Rattle.model.specs.Formed.{mappingsFormed};
 ghost use Rattle.model.specs.Layout.{rowWords, wordsLength, putControls, controlsIn};
-ghost use Rattle.model.specs.Effects.{changeRow};
+ghost use Rattle.model.specs.Effects.{changeCovered};
+ghost use Rattle.readable.specs.Lookup.{coverAt};
 ghost use Rattle.controls.specs.Change.{changeOf};
+ghost use Rattle.controls.specs.Cover.{Inside, reachedBy};
 ghost use Rattle.controls.specs.Ready.{nodeIn};
 
-// The controls of the synth at a place of the table changed, as far as they are reached.
-pub(crate) fn change_node(words: &mut [u32], place: usize, reach: Reach, count: u32, change: Change)
-    requires { ⌜ (length (now words) ≡ wordsLength) × (place < mostNodes) × (nodeIn (now words) place .row < mostRows) × (reach .controls ≤ mostParameters) ⌝ }
-    ensures { λ r. ⌜ now (words .exit) ≡ putControls (changeRow (changeOf change) (nodeIn (now (words .entry)) place .row) (reach .start) count (reach .controls) (controlsIn (now (words .entry)))) (now (words .entry)) ⌝ }
+// How many of the controls that are covered a count reaches.
+fn reached(cover: Cover, count: u32) -> u32
+    ensures { λ r. ⌜ r ≡ reachedBy cover count ⌝ }
 {
+    if !cover.found {
+        return 0;
+    }
+    if count <= cover.width {
+        return count;
+    }
+    cover.width
+}
+
+// The controls of the synth at a place of the table changed, as far as they are covered.
+pub(crate) fn change_node(words: &mut [u32], place: usize, cover: Cover, count: u32, change: Change)
+    requires { ⌜ (length (now words) ≡ wordsLength) × (place < mostNodes) × (nodeIn (now words) place .row < mostRows) × Inside cover ⌝ }
+    ensures { λ r. ⌜ now (words .exit) ≡ putControls (changeCovered (changeOf change) (coverAt cover) (nodeIn (now (words .entry)) place .row) count (controlsIn (now (words .entry)))) (now (words .entry)) ⌝ }
+{
+    let many = reached(cover, count);
+    if many == 0 {
+        return;
+    }
     let row = node_row(words, place);
-    change_row(
-        &mut words[CONTROLS..CONTROLS_END],
-        row,
-        reach.start,
-        count,
-        reach.controls,
-        change,
-    );
+    let start = cover.index;
+    change_row(&mut words[CONTROLS..CONTROLS_END], row, start, many, change);
 }
 
 // The mapping words of a row's first controls, so many: each at most 4,096.

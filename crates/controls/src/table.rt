@@ -1,18 +1,18 @@
 // The controls of the synths of the node table.
 use crate::control::Change;
+use crate::cover::UNKNOWN;
+use crate::cover::slot_controls;
+use crate::cover::slot_cover;
 use crate::node::node_is_group;
 use crate::node::node_row;
 use crate::node::node_slot;
-use crate::reach::Reach;
-use crate::reach::UNKNOWN;
-use crate::reach::slot_controls;
-use crate::reach::slot_reach;
 use crate::synth::change_node;
 use crate::synth::row_formed;
 use layout::CONTROLS;
 use layout::CONTROLS_END;
 use layout::COUNT;
 use layout::SLOTS;
+use readable::Cover;
 use values::Key;
 use words::wide;
 ghost use Prim.Native.Nat.{_-_, _≤_};
@@ -39,17 +39,18 @@ pub fn change_all(
     requires { ⌜ (Ready (now words) (now arena)) × (to ≤ countIn (now words)) ⌝ }
     ensures { λ r. ⌜ now (words .exit) ≡ putControls (changeAll (changeOf change) key (now (name .entry)) count (decode (now (words .entry)) (now (arena .entry)) .slots) (take (to - from) (drop from (nodesIn (now (words .entry))))) (controlsIn (now (words .entry)))) (now (words .entry)) ⌝ }
 {
-    let mut reaches = [Reach {
-        start: 0,
-        controls: UNKNOWN,
+    let mut covers = [Cover {
+        found: false,
+        index: 0,
+        width: UNKNOWN,
     }; SLOTS];
     let mut i = from;
     while i < to {
         if !node_is_group(words, i) {
             let slot = node_slot(words, i);
-            let reach = slot_reach(words, arena, slot, key, name, reaches[slot]);
-            reaches[slot] = reach;
-            change_node(words, i, reach, count, change);
+            let cover = slot_cover(words, arena, slot, key, name, covers[slot]);
+            covers[slot] = cover;
+            change_node(words, i, cover, count, change);
         }
         i += 1;
     }

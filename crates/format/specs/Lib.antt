@@ -10,6 +10,7 @@ pub mod Reader
 pub mod HeaderLaws
 pub mod Names
 pub mod Bounds
+pub mod Widths
 pub mod Endings
 pub mod Sizes
 pub mod Worked

@@ -1,9 +1,9 @@
 -- What a definition's parameter names mean.
-use Prim.Native.Nat.{ℕ}
+use Prim.Native.Nat.{ℕ, _-_}
 use mathlib.Core.List.{List, [], _∷_}
 use mathlib.Core.Option.{Option, none, some}
-use lib.Dec.{eqb}
-use Rattle.words.specs.Choice.{pick}
+use lib.Dec.{ltb, eqb}
+use Rattle.words.specs.Choice.{pick, both}
 use Rattle.format.specs.Definition.{ParameterName}
 use Rattle.format.specs.Reader.{sameName}
 
@@ -11,6 +11,24 @@ use Rattle.format.specs.Reader.{sameName}
 unfoldable pub firstIndex : List ℕ → List ParameterName → Option ℕ
 firstIndex name [] = none
 firstIndex name (p ∷ more) = pick (sameName (p .name) name) (some (p .index)) (firstIndex name more)
+
+-- paper 02, 6/14: "Looking up a control name should answer its index and its width"
+pub record Covered : Type 0 where
+  pub index : ℕ
+  pub width : ℕ
+
+-- "up to the next larger index that has a name, else up to P": the lowest of `end` and the entries' indices that are larger than i, wherever they stand
+unfoldable pub nextIndex : ℕ → ℕ → List ParameterName → ℕ
+nextIndex i end [] = end
+nextIndex i end (q ∷ more) = nextIndex i (pick (both (ltb i (q .index)) (ltb (q .index) end)) (q .index) end) more
+
+abbrev pub coverFrom : Option ℕ → ℕ → List ParameterName → Option Covered
+coverFrom none p names = none
+coverFrom (some i) p names = some (record { index = i; width = nextIndex i p names - i })
+
+-- what a name covers among P controls
+abbrev pub coveredBy : List ℕ → ℕ → List ParameterName → Option Covered
+coveredBy name p names = coverFrom (firstIndex name names) p names
 
 -- the first name of an index
 unfoldable pub firstName : ℕ → List ParameterName → Option (List ℕ)

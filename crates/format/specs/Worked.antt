@@ -2,15 +2,17 @@
 use mathlib.Core.Path.{_≡_, refl}
 use Prim.Native.Nat.{ℕ}
 use mathlib.Core.List.{List, [], _∷_, _++_}
+use mathlib.Core.Option.{Option, none, some}
 use lib.ListN.{length}
 use Rattle.words.specs.Bytes.{bytes16, bytes32}
 use Rattle.faults.specs.declared.Fault.the-variants.{BadVersion}
 use Rattle.format.specs.Read.{got, bad, repeat}
 use Rattle.format.specs.Fields.{nameBytes}
-use Rattle.format.specs.Definition.{Definition}
+use Rattle.format.specs.Definition.{ParameterName, Definition}
+use Rattle.format.specs.Names.{Covered, firstIndex, nextIndex, coveredBy}
 use Rattle.format.specs.declared.Width.the-variants.{Short}
 use Rattle.format.specs.Fields.{integerBy, minusOne}
-use Rattle.format.specs.Reader.{frontBy, unitsBy, definitionBy, readDefinitions, readFile, among}
+use Rattle.format.specs.Reader.{frontBy, unitsBy, definitionBy, readDefinitions, readFile, sameName, among}
 use Rattle.format.specs.Writer.{writeAll, writeDefinitionBy, writeFile, fileType, firstVersion}
 
 abbrev ping : Definition
@@ -64,3 +66,44 @@ other-version = refl
 none-narrow : readFile (bytes32 fileType ++ (bytes32 firstVersion ++ bytes16 0)) ≡ got [] 10
 unfolding readDefinitions readFile
 none-narrow = refl
+
+-- paper 02, 6/14: "A name covers the controls from its index up to the next larger index that has a name, else up to P": what the names a, b and c cover among P controls
+abbrev a : ℕ → ParameterName
+a i = record { name = 97 ∷ []; index = i }
+
+abbrev b : ℕ → ParameterName
+b i = record { name = 98 ∷ []; index = i }
+
+abbrev c : ℕ → ParameterName
+c i = record { name = 99 ∷ []; index = i }
+
+abbrev covers : ℕ → List ParameterName → List (Option Covered)
+covers p names = coveredBy (97 ∷ []) p names ∷ (coveredBy (98 ∷ []) p names ∷ (coveredBy (99 ∷ []) p names ∷ []))
+
+abbrev at : ℕ → ℕ → Option Covered
+at i w = some (record { index = i; width = w })
+
+-- names out of order: the next index counts, not the next entry
+out-of-order : covers 8 (c 6 ∷ (a 0 ∷ (b 2 ∷ []))) ≡ at 0 2 ∷ (at 2 4 ∷ (at 6 2 ∷ []))
+unfolding firstIndex nextIndex sameName
+out-of-order = refl
+
+-- a name that stands twice means its first entry, and its second ends a width too
+repeated : covers 8 (a 1 ∷ (b 6 ∷ (a 4 ∷ []))) ≡ at 1 3 ∷ (at 6 2 ∷ (none ∷ []))
+unfolding firstIndex nextIndex sameName
+repeated = refl
+
+-- two names of one index have one width
+together : covers 8 (b 1 ∷ (c 3 ∷ (a 1 ∷ []))) ≡ at 1 2 ∷ (at 1 2 ∷ (at 3 5 ∷ []))
+unfolding firstIndex nextIndex sameName
+together = refl
+
+-- a gap is covered by the name before it, and controls before the first name by none
+gap : covers 8 (b 7 ∷ (a 2 ∷ [])) ≡ at 2 5 ∷ (at 7 1 ∷ (none ∷ []))
+unfolding firstIndex nextIndex sameName
+gap = refl
+
+-- no names
+nameless : covers 8 [] ≡ none ∷ (none ∷ (none ∷ []))
+unfolding firstIndex
+nameless = refl

@@ -125,7 +125,7 @@ module _ (bytes sizes : List ℕ) (e : Engine) (k : Sound sizes e) where
   control-step : (c : ControlCommand) → ControlAccepted c bytes e
       → entriesLeft (touched true (command.Controls c) e) (e .nodes) (view e) ≡ entriesLeft (touched true (command.Controls c) e) (controlEffect c bytes e .nodes) (view (controlEffect c bytes e))
   control-step (controls.Set n key value) h = change-step h
-  control-step (controls.Fill n key count value) h = change-step h
+  control-step (controls.Fill n key count value) h = change-step (h .change)
   control-step (controls.Map n key bus) h = change-step h
 
 pub untouched-step : (c : Command) (bytes ws bs : List ℕ) (room : ℕ) → AreBytes bytes → formed ws bs ≡ true → isAccepted (answerIn c bytes (decode ws bs) room) ≡ true

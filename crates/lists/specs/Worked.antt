@@ -23,7 +23,7 @@ use Rattle.format.specs.Fields.{nameBytes}
 use Rattle.format.specs.Writer.{writeAll, writeDefinitionBy, writeFile}
 use Rattle.nodes.specs.Formed.{rowTaken, freeRowFrom}
 use Rattle.osc.specs.Message.{tags, arguments}
-use Rattle.format.specs.Names.{firstIndex}
+use Rattle.format.specs.Names.{firstIndex, nextIndex}
 use Rattle.model.specs.View.{viewRows}
 use Rattle.model.specs.Replies.{plainNamed, replyTo}
 use Rattle.model.specs.Script.{Example, example, agrees}
@@ -87,7 +87,7 @@ rowsFrom e =
     ∷ []
 
 computed : agrees (rowsFrom freshParts) ≡ true
-unfolding repeat nameBytes frontBy unitBy unitsBy definitionBy readDefinitions readFile sameName among writeAll writeDefinitionBy writeFile lives lift sink takeDeeper dropDeeper onlyGroups runOf editRows orderFrom rowTaken tags arguments targetOf inBounds pattern held residentFrom controlsFrom firstIndex viewRows nodeNamed firstOf namesOf staying retired freeFrom loaded freeRowFrom initialWords changeWords changeAll effect plainNamed replyTo queryAnswer answerIn agrees commandOf itemsFrom zeros every verdict linesIn endingOn times
+unfolding repeat nameBytes frontBy unitBy unitsBy definitionBy readDefinitions readFile sameName among writeAll writeDefinitionBy writeFile lives lift sink takeDeeper dropDeeper onlyGroups runOf editRows orderFrom rowTaken tags arguments targetOf inBounds pattern held residentFrom controlsFrom firstIndex nextIndex viewRows nodeNamed firstOf namesOf staying retired freeFrom loaded freeRowFrom initialWords changeWords changeAll effect plainNamed replyTo queryAnswer answerIn agrees commandOf itemsFrom zeros every verdict linesIn endingOn times
 computed = refl
 
 abbrev pub table : List Example

@@ -6,7 +6,7 @@ use lib.ListN.{length}
 use lib.Dec.{ltb, leb, eqb}
 use Rattle.words.specs.Choice.{pick, both, either}
 use Rattle.refusals.specs.declared.Refusal.{Refusal}
-use Rattle.refusals.specs.declared.Refusal.the-variants.{NoSlot, BadFlag, BadNumber, NumberLive, NoDefinition, NoNode, WrongKind, InsideItself, NodesFull, NoControl, NoBus, BadValue, NoRoom, NoNumber}
+use Rattle.refusals.specs.declared.Refusal.the-variants.{NoSlot, BadFlag, BadNumber, NumberLive, NoDefinition, NoNode, WrongKind, InsideItself, NodesFull, NoControl, NoBus, BadValue, NoRoom, NoNumber, PastWidth}
 use Rattle.format.specs.Read.{Read, got, bad}
 use Rattle.format.specs.Definition.{Definition}
 use Rattle.format.specs.Reader.{readFile, among}
@@ -31,7 +31,7 @@ use Rattle.model.specs.declared.Answer.{Answer}
 use Rattle.model.specs.declared.Answer.the-variants.{Done, Refused, RefusedAt}
 use Rattle.model.specs.Layout.{slotCount}
 use Rattle.model.specs.Engine.{Slot, Engine, held, nameIn, definitionOf, residentOf}
-use Rattle.model.specs.Meaning.{minusOne, isNegative, meant, known, node, startOf, hasControls, negativeKey, isBus, isBusRange}
+use Rattle.model.specs.Meaning.{minusOne, isNegative, meant, known, node, coverOf, hasControls, pastWidth, negativeKey, isBus, isBusRange}
 
 pub record Check : Type 0 where
   pub fires : Bool
@@ -94,7 +94,12 @@ full action e = both (not (eqb action 4)) (leb mostNodes (length (e .nodes)))
 abbrev pub noControls : Key → ℕ → List ℕ → NodeArgument → Engine → Bool
 noControls key count bytes target e =
     either (either (negativeKey key) (isNegative count))
-    (pick (isGroup (node target e)) false (not (hasControls (startOf key bytes (definitionOf (e .slots) (node target e))) count (definitionOf (e .slots) (node target e)))))
+    (pick (isGroup (node target e)) false (not (hasControls (coverOf key bytes (definitionOf (e .slots) (node target e))) count (definitionOf (e .slots) (node target e)))))
+
+-- paper 02, 6/14: "`/n_fill` by name past that width on a synth is refused with 28, after 21": by index 21 comes first, and nothing more is asked; nor is it on a group
+abbrev pub pastName : Key → ℕ → List ℕ → NodeArgument → Engine → Bool
+pastName key count bytes target e =
+    pick (isGroup (node target e)) false (pastWidth (coverOf key bytes (definitionOf (e .slots) (node target e))) count)
 
 -- "`/d_recv`: as under The file": the file's own faults, then 12. "The rest: ascending."
 abbrev pub definitionChecks : DefinitionCommand → List ℕ → Engine → List Check
@@ -158,7 +163,7 @@ treeChecks (tree.Tail g a) bytes e =
     ∷ []))))
 treeChecks (tree.Run n flag) bytes e = check BadFlag (ltb 1 flag) ∷ (check NoNode (not (known n e)) ∷ [])
 
--- "`/n_set`, `/n_fill`: 17, 23, 21. `/n_map`: 17, 22, 21."
+-- "`/n_set`, `/n_fill`: 17, 23, 21. `/n_map`: 17, 22, 21." With paper 02, 6/14, `/n_fill`: 17, 23, 21, 28.
 abbrev pub controlChecks : ControlCommand → List ℕ → Engine → List Check
 controlChecks (controls.Set n key value) bytes e =
     check NoNode (not (known n e))
@@ -169,7 +174,8 @@ controlChecks (controls.Fill n key count value) bytes e =
     check NoNode (not (known n e))
     ∷ (check BadValue (not (inBounds value))
     ∷ (check NoControl (noControls key count bytes n e)
-    ∷ []))
+    ∷ (check PastWidth (pastName key count bytes n e)
+    ∷ [])))
 controlChecks (controls.Map n key bus) bytes e =
     check NoNode (not (known n e))
     ∷ (check NoBus (not (either (eqb bus minusOne) (isBus bus)))

@@ -3,11 +3,12 @@ use Prim.Native.Nat.{ℕ, zero, suc, _+_, _-_, _*_, min}
 use mathlib.Core.Bool.{true, false, not}
 use mathlib.Core.List.{List, [], _∷_, _++_}
 use mathlib.Core.Option.{Option, none, some}
-use lib.ListN.{length, take, drop, getD, set, replicate}
+use lib.ListN.{take, drop, getD, set, replicate}
 use lib.Dec.{eqb}
 use Rattle.words.specs.Choice.{pick, both}
 use Rattle.words.specs.Parts.{put}
 use Rattle.format.specs.Definition.{Definition}
+use Rattle.format.specs.Names.{Covered}
 use Rattle.format.specs.Reader.{readFile, among}
 use Rattle.format.specs.Writer.{writeDefinition}
 use Rattle.nodes.specs.declared.Node.{Node}
@@ -32,7 +33,7 @@ use Rattle.model.specs.declared.Command.{Command}
 use Rattle.model.specs.declared.Command.the-variants as command
 use Rattle.model.specs.Layout.{rowWords}
 use Rattle.model.specs.Engine.{Slot, Engine, slotTaken, nameIn, definitionOf, residentOf, slotAt}
-use Rattle.model.specs.Meaning.{minusOne, meant, startOf, mappingTo}
+use Rattle.model.specs.Meaning.{minusOne, meant, coverOf, mappingTo}
 use Rattle.model.specs.Checks.{definitionsOf, namesOf}
 
 -- "A load first retires residents whose names are in the file"
@@ -131,14 +132,14 @@ unfoldable pub changeWords : (ControlValue → ControlValue) → ℕ → List �
 changeWords f zero us = us
 changeWords f (suc n) us = controlWords (f (controlAt (getD us 0 0) (getD us 1 0))) ++ changeWords f n (drop 2 us)
 
--- the controls of one row from start on, count of them or as many as there are among p
-abbrev pub changeRow : (ControlValue → ControlValue) → ℕ → ℕ → ℕ → ℕ → List ℕ → List ℕ
-changeRow f row start count p cs =
-    take (rowWords * row + 2 * start) cs ++ changeWords f (min count (p - start)) (drop (rowWords * row + 2 * start) cs)
+-- the controls of one row from start on, so many
+abbrev pub changeRow : (ControlValue → ControlValue) → ℕ → ℕ → ℕ → List ℕ → List ℕ
+changeRow f row start many cs = take (rowWords * row + 2 * start) cs ++ changeWords f many (drop (rowWords * row + 2 * start) cs)
 
-abbrev pub changeStart : (ControlValue → ControlValue) → Option ℕ → ℕ → ℕ → ℕ → List ℕ → List ℕ
-changeStart f none row count p cs = cs
-changeStart f (some start) row count p cs = changeRow f row start count p cs
+-- the controls of one row that are covered, count of them or as many as there are; paper 02, 6/14: "on a group that synth is filled to the width only"
+abbrev pub changeCovered : (ControlValue → ControlValue) → Option Covered → ℕ → ℕ → List ℕ → List ℕ
+changeCovered f none row count cs = cs
+changeCovered f (some c) row count cs = changeRow f row (c .index) (min count (c .width)) cs
 
 -- "On a group these reach every synth at any depth that has the control, and skip the others."
 unfoldable pub changeAll : (ControlValue → ControlValue) → Key → List ℕ → ℕ → List Slot → List Node → List ℕ → List ℕ
@@ -146,7 +147,7 @@ changeAll f key bytes count slots [] cs = cs
 changeAll f key bytes count slots (r ∷ l) cs =
     changeAll f key bytes count slots l
     (pick (isGroup r) cs
-    (changeStart f (startOf key bytes (definitionOf slots r)) (r .row) count (length (definitionOf slots r .front .values)) cs))
+    (changeCovered f (coverOf key bytes (definitionOf slots r)) (r .row) count cs))
 
 abbrev pub withControls : List ℕ → Engine → Engine
 withControls cs e = record { slots = e .slots; nodes = e .nodes; order = e .order; controls = cs; buses = e .buses; next = e .next; latest = e .latest }

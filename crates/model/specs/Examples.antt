@@ -23,7 +23,7 @@ use Rattle.model.specs.declared.ControlCommand.the-variants.{Set, Map}
 use Rattle.model.specs.declared.BusCommand.the-variants as buses
 use Rattle.model.specs.declared.Query.the-variants as query
 use Rattle.model.specs.declared.Command.the-variants.{Definitions, Tree, Controls, Buses, Query}
-use Rattle.format.specs.Names.{firstIndex}
+use Rattle.format.specs.Names.{firstIndex, nextIndex}
 use Rattle.model.specs.Engine.{Engine, held, residentFrom, controlsFrom}
 use Rattle.model.specs.View.{viewRows}
 use Rattle.model.specs.Meaning.{minusOne, nodeNamed}
@@ -132,7 +132,7 @@ rowsFrom e =
     ∷ []
 
 computed : agrees (rowsFrom freshParts) ≡ true
-unfolding repeat nameBytes frontBy unitBy unitsBy definitionBy readDefinitions readFile sameName among writeAll writeDefinitionBy writeFile lives lift sink takeDeeper dropDeeper onlyGroups runOf editRows orderFrom rowTaken tags arguments targetOf inBounds pattern held residentFrom controlsFrom firstIndex viewRows nodeNamed firstOf namesOf staying retired freeFrom loaded freeRowFrom initialWords changeWords changeAll effect plainNamed replyTo queryAnswer answerIn played answersOf agrees
+unfolding repeat nameBytes frontBy unitBy unitsBy definitionBy readDefinitions readFile sameName among writeAll writeDefinitionBy writeFile lives lift sink takeDeeper dropDeeper onlyGroups runOf editRows orderFrom rowTaken tags arguments targetOf inBounds pattern held residentFrom controlsFrom firstIndex nextIndex viewRows nodeNamed firstOf namesOf staying retired freeFrom loaded freeRowFrom initialWords changeWords changeAll effect plainNamed replyTo queryAnswer answerIn played answersOf agrees
 computed = refl
 
 -- the table, played from a fresh engine

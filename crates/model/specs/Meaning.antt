@@ -1,5 +1,5 @@
 -- What a command's arguments mean in the engine: the node, the control, the bus, the value.
-use Prim.Native.Nat.{ℕ, _+_}
+use Prim.Native.Nat.{ℕ, _+_, _-_}
 use mathlib.Core.Bool.{Bool, false, not}
 use mathlib.Core.List.{List, [], _∷_}
 use mathlib.Core.Option.{Option, none, some}
@@ -18,7 +18,7 @@ use Rattle.values.specs.declared.Mapping.{Mapping}
 use Rattle.values.specs.declared.Mapping.the-variants.{Unmapped, Bus}
 use Rattle.values.specs.Targets.{targetOf}
 use Rattle.model.specs.Layout.{busCount}
-use Rattle.format.specs.Names.{firstIndex}
+use Rattle.format.specs.Names.{Covered, coveredBy}
 use Rattle.model.specs.Engine.{Engine}
 
 -- the pattern of -1, and the first that is negative
@@ -60,15 +60,20 @@ nodeNamed n (r ∷ l) = pick (eqb (r .number) n) r (nodeNamed n l)
 abbrev pub node : NodeArgument → Engine → Node
 node a e = nodeNamed (meant a e) (e .nodes)
 
--- the control where a key starts, in a definition: an index as it stands, a name by its first entry
-abbrev pub startOf : Key → List ℕ → Definition → Option ℕ
-startOf (Index i) name d = some i
-startOf Name name d = firstIndex name (d .front .names)
+-- the controls that a key covers, in a definition: an index all from there on, a name those from its index up to its width
+abbrev pub coverOf : Key → List ℕ → Definition → Option Covered
+coverOf (Index i) name d = some (record { index = i; width = length (d .front .values) - i })
+coverOf Name name d = coveredBy name (length (d .front .values)) (d .front .names)
 
 -- "`/n_fill` start, count needs both at least 0 and, on a synth, start plus count at most P": the controls that are asked for are there
-abbrev pub hasControls : Option ℕ → ℕ → Definition → Bool
+abbrev pub hasControls : Option Covered → ℕ → Definition → Bool
 hasControls none count d = false
-hasControls (some start) count d = leb (start + count) (length (d .front .values))
+hasControls (some c) count d = leb (c .index + count) (length (d .front .values))
+
+-- paper 02, 6/14: "`/n_fill` by name past that width": more controls are asked for than the key covers
+abbrev pub pastWidth : Option Covered → ℕ → Bool
+pastWidth none count = false
+pastWidth (some c) count = ltb (c .width) count
 
 -- "Negative indices are always refused."
 abbrev pub negativeKey : Key → Bool

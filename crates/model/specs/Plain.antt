@@ -1,12 +1,12 @@
 -- The plain tree of paper 01, section "The plain tree". "It is fed each command with its arguments, a file as its bytes, and whether the command was accepted; nothing
 -- from the engine's state." What arguments mean is stated here by itself: none is an `Option`, and a command on none changes nothing. docs/TRACE.md lists what is shared with the engine.
-use Prim.Native.Nat.{ℕ, zero, suc, _+_, _-_}
-use mathlib.Core.Bool.{Bool}
+use Prim.Native.Nat.{ℕ, zero, suc, _+_, _-_, min}
+use mathlib.Core.Bool.{Bool, false}
 use mathlib.Core.List.{List, [], _∷_, _++_, map}
 use mathlib.Core.Option.{Option, none, some}
-use lib.ListN.{take, drop, replicate}
+use lib.ListN.{length, take, drop, replicate}
 use lib.Dec.{ltb, eqb}
-use Rattle.words.specs.Choice.{pick}
+use Rattle.words.specs.Choice.{pick, either}
 use Rattle.format.specs.Read.{Read, got, bad}
 use Rattle.format.specs.Definition.{ParameterName, Definition}
 use Rattle.format.specs.Reader.{readFile, sameName}
@@ -169,16 +169,32 @@ abbrev pub askedFor : Key → List ℕ → Definition → Option ℕ
 askedFor (Index i) name d = some i
 askedFor Name name d = firstIn (indicesOf name (d .front .names))
 
+-- paper 02, 6/14: "up to the next larger index that has a name, else up to P": whether an index has a name
+unfoldable pub isNamed : ℕ → List ParameterName → Bool
+isNamed i [] = false
+isNamed i (q ∷ more) = either (eqb (q .index) i) (isNamed i more)
+
+-- how many of so many controls, from i on, come before the first that has a name
+unfoldable pub unnamedFrom : ℕ → ℕ → List ParameterName → ℕ
+unnamedFrom i zero names = 0
+unnamedFrom i (suc left) names = pick (isNamed i names) 0 (suc (unnamedFrom (i + 1) left names))
+
+-- the control itself, and those behind it
+abbrev pub widthAt : ℕ → Definition → ℕ
+widthAt i d = suc (unnamedFrom (i + 1) (length (d .front .values) - (i + 1)) (d .front .names))
+
+-- "on a group that synth is filled to the width only, in the plain tree too .. By index nothing changes."
+abbrev pub upToWidth : Key → ℕ → ℕ → Definition → ℕ
+upToWidth (Index i) start count d = count
+upToWidth Name start count d = min count (widthAt start d)
+
 -- the items from start on, count of them or as many as there are, each changed by f
 abbrev pub changeFrom : {A : Type 0} → (A → A) → ℕ → ℕ → List A → List A
 changeFrom f start count l = take start l ++ (map f (take count (drop start l)) ++ drop count (drop start l))
 
-abbrev pub changeAt : (ControlValue → ControlValue) → Option ℕ → ℕ → List ControlValue → List ControlValue
-changeAt f start count cs = ifSome start (λ i. changeFrom f i count cs) cs
-
 abbrev pub changeKind : (ControlValue → ControlValue) → Key → List ℕ → ℕ → Kind → Kind
 changeKind f key bytes count group = group
-changeKind f key bytes count (synth d cs) = synth d (changeAt f (askedFor key bytes d) count cs)
+changeKind f key bytes count (synth d cs) = synth d (ifSome (askedFor key bytes d) (λ i. changeFrom f i (upToWidth key i count d) cs) cs)
 
 abbrev pub changeNode : (ControlValue → ControlValue) → Key → List ℕ → ℕ → PlainNode → PlainNode
 changeNode f key bytes count x = record { number = x .number; run = x .run; kind = changeKind f key bytes count (x .kind) }

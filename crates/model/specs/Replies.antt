@@ -18,10 +18,10 @@ use Rattle.values.specs.declared.Mapping.the-variants.{Unmapped, Bus}
 use Rattle.values.specs.Controls.{ControlValue, shownBy}
 use Rattle.model.specs.declared.Query.{Query}
 use Rattle.model.specs.declared.Query.the-variants as query
-use Rattle.format.specs.Names.{firstName}
+use Rattle.format.specs.Names.{Covered, firstName}
 use Rattle.model.specs.Engine.{Slot, Engine, definitionIn, residents}
 use Rattle.model.specs.View.{Kind, group, synth, PlainNode, Row, isGroupKind, shape, view}
-use Rattle.model.specs.Meaning.{meant, startOf}
+use Rattle.model.specs.Meaning.{meant, coverOf}
 
 -- the addresses, byte by byte
 -- "/n_info"
@@ -75,13 +75,13 @@ keyArgument Name name = text name
 abbrev pub noControl : ControlValue
 noControl = record { own = 0; mapping = Unmapped }
 
-abbrev pub readAt : List ℕ → List ControlValue → Option ℕ → ℕ
+abbrev pub readAt : List ℕ → List ControlValue → Option Covered → ℕ
 readAt buses cs none = 0
-readAt buses cs (some i) = shownBy buses (getD cs i noControl)
+readAt buses cs (some c) = shownBy buses (getD cs (c .index) noControl)
 
 abbrev pub readControl : List ℕ → Key → List ℕ → Kind → ℕ
 readControl buses key name group = 0
-readControl buses key name (synth d cs) = readAt buses cs (startOf key name d)
+readControl buses key name (synth d cs) = readAt buses cs (coverOf key name d)
 
 abbrev pub controlReply : ℕ → Key → List ℕ → List Row → List ℕ → List ℕ
 controlReply n key name rows buses =

@@ -26,7 +26,7 @@ use Rattle.model.specs.declared.BusCommand.the-variants as buses
 use Rattle.model.specs.declared.Query.the-variants as query
 use Rattle.model.specs.declared.Command.the-variants.{Definitions, Tree, Controls, Buses, Query}
 use Rattle.nodes.specs.Structure.{firstOr, lastOr, atDepth, depthOf, lastAbove, lastBeside, firstBeside, nextOf}
-use Rattle.format.specs.Names.{firstIndex, firstName}
+use Rattle.format.specs.Names.{firstIndex, nextIndex, firstName}
 use Rattle.model.specs.Engine.{Engine, held, residents, residentFrom, controlsFrom}
 use Rattle.model.specs.View.{viewRows, shape}
 use Rattle.model.specs.Meaning.{minusOne, nodeNamed}
@@ -305,6 +305,61 @@ controlsAndBuses e =
     ∷ example (value e (one ++ (line (Controls (Map (argument 1000) (Index 0) 7)) [] ∷ line (Controls (Set (argument 1000) (Index 0) (Integer 1))) [] ∷ [])) 1000 0) (63 ∷ 128 ∷ 0 ∷ 0 ∷ [])
     ∷ []
 
+-- one parameter name and its index
+abbrev entry : List ℕ → ℕ → List ℕ
+entry name i = length name ∷ (name ++ int i)
+
+abbrev ampsName : List ℕ
+ampsName = 97 ∷ 109 ∷ 112 ∷ 115 ∷ []
+
+-- paper 02, 6/14: "Students fill "amps" and run into "pan"": `amps` is 0 to 3, `pan` is 4
+abbrev choir : List ℕ
+choir = fileOf 5 (int 2 ++ entry ampsName 0 ++ entry panName 4) (int 0)
+
+-- six controls, their names out of order: 0 has none, `amps` is 1 and 2, since its second entry names 3
+abbrev scattered : List ℕ
+scattered = fileOf 6 (int 3 ++ entry panName 4 ++ entry ampsName 1 ++ entry ampsName 3) (int 0)
+
+-- two names on one control
+abbrev shared : List ℕ
+shared = fileOf 3 (int 3 ++ entry ampsName 0 ++ entry panName 0 ++ entry aName 2) (int 0)
+
+-- the synth 1000 of a file's "a", in group 1
+abbrev sung : List ℕ → List Line
+sung file = load file ∷ group 1 1 0 ∷ line (Tree (NewSynth 1000 1 (argument 1))) aName ∷ []
+
+-- `/n_fill` by name with 1.0
+abbrev fill : ℕ → List ℕ → ℕ → Line
+fill n name count = line (Controls (Fill (argument n) Name count (Integer 1))) name
+
+-- how `/n_fill` of so many by name is answered on the synth
+abbrev filled : Engine → List ℕ → List ℕ → ℕ → List ℕ
+filled e file name count = last e (sung file ++ (fill 1000 name count ∷ []))
+
+-- five of `amps` asked for on the group
+abbrev onGroup : List Line
+onGroup = sung choir ++ (fill 1 ampsName 5 ∷ [])
+
+abbrev widths : Engine → List Example
+widths e =
+    -- "amps" 0 to 3 and "pan" 4: filling 4 is accepted, 5 refused with 28; past P it is 21, "after 21"; a count of 0
+    example (filled e choir ampsName 4 ++ filled e choir ampsName 5 ++ filled e choir ampsName 6 ++ filled e choir ampsName 0) (0 ∷ 28 ∷ 21 ∷ 0 ∷ [])
+    -- the last name covers up to P
+    ∷ example (filled e choir panName 1 ++ filled e choir panName 2) (0 ∷ 21 ∷ [])
+    -- 23 before 28
+    ∷ example (last e (sung choir ++ (line (Controls (Fill (argument 1000) Name 5 (Integer 16777217))) ampsName ∷ []))) (23 ∷ [])
+    -- "By index nothing changes."
+    ∷ example (last e (sung choir ++ (line (Controls (Fill (argument 1000) (Index 0) 5 (Integer 1))) [] ∷ []))) (0 ∷ [])
+    -- "on a group that synth is filled to the width only": it is accepted, the last of `amps` is set, and `pan` is as it was
+    ∷ example (last e onGroup ++ value e onGroup 1000 3 ++ value e onGroup 1000 4) (0 ∷ 63 ∷ 128 ∷ 0 ∷ 0 ∷ 0 ∷ 0 ∷ 0 ∷ 0 ∷ [])
+    -- .. by index it is filled to P
+    ∷ example (value e (sung choir ++ (line (Controls (Fill (argument 1) (Index 0) 9 (Integer 1))) [] ∷ [])) 1000 4) (63 ∷ 128 ∷ 0 ∷ 0 ∷ [])
+    -- a repeated name ends the width, though it means its first entry alone
+    ∷ example (filled e scattered ampsName 2 ++ filled e scattered ampsName 3) (0 ∷ 28 ∷ [])
+    -- another name of the same index does not
+    ∷ example (filled e shared ampsName 2 ++ filled e shared ampsName 3 ++ filled e shared panName 2) (0 ∷ 28 ∷ 0 ∷ [])
+    ∷ []
+
 abbrev oldShapes : Engine → List Example
 oldShapes e =
     -- 22 before 21 in `/n_map`
@@ -328,6 +383,9 @@ oldShapes e =
     -- "255 new nodes fit; one more is 20, but by action 4 it goes in."
     ∷ example (drop 255 (answersOf e (groups 255 1 ++ (group 256 1 0 ∷ group 256 4 255 ∷ [])))) (20 ∷ 0 ∷ [])
     ∷ []
+
+abbrev namesAndShapes : Engine → List Example
+namesAndShapes e = widths e ++ oldShapes e
 
 abbrev shownAndRefused : Engine → List Example
 shownAndRefused e =
@@ -354,27 +412,27 @@ shownAndRefused e =
     ∷ []
 
 filesAndReplies-agrees : agrees (filesAndReplies freshParts) ≡ true
-unfolding toBits ofInt groups residents definitionsIn firstName firstOr lastOr atDepth depthOf lastAbove lastBeside firstBeside nextOf shape subtreeRows rowsBelow rowsAt treeArguments controlArguments unitCount groupCount synthCount repeat nameBytes frontBy unitBy unitsBy definitionBy readDefinitions readFile sameName among writeAll writeDefinitionBy writeFile lives lift sink takeDeeper dropDeeper onlyGroups runOf editRows orderFrom rowTaken tags arguments targetOf inBounds pattern held residentFrom controlsFrom firstIndex viewRows nodeNamed firstOf namesOf staying retired freeFrom loaded freeRowFrom initialWords changeWords changeAll effect plainNamed replyTo queryAnswer answerIn played answersOf agrees shortNames
+unfolding toBits ofInt groups residents definitionsIn firstName firstOr lastOr atDepth depthOf lastAbove lastBeside firstBeside nextOf shape subtreeRows rowsBelow rowsAt treeArguments controlArguments unitCount groupCount synthCount repeat nameBytes frontBy unitBy unitsBy definitionBy readDefinitions readFile sameName among writeAll writeDefinitionBy writeFile lives lift sink takeDeeper dropDeeper onlyGroups runOf editRows orderFrom rowTaken tags arguments targetOf inBounds pattern held residentFrom controlsFrom firstIndex nextIndex viewRows nodeNamed firstOf namesOf staying retired freeFrom loaded freeRowFrom initialWords changeWords changeAll effect plainNamed replyTo queryAnswer answerIn played answersOf agrees shortNames
 filesAndReplies-agrees = refl
 
 making-agrees : agrees (making freshParts) ≡ true
-unfolding toBits ofInt groups residents definitionsIn firstName firstOr lastOr atDepth depthOf lastAbove lastBeside firstBeside nextOf shape subtreeRows rowsBelow rowsAt treeArguments controlArguments unitCount groupCount synthCount repeat nameBytes frontBy unitBy unitsBy definitionBy readDefinitions readFile sameName among writeAll writeDefinitionBy writeFile lives lift sink takeDeeper dropDeeper onlyGroups runOf editRows orderFrom rowTaken tags arguments targetOf inBounds pattern held residentFrom controlsFrom firstIndex viewRows nodeNamed firstOf namesOf staying retired freeFrom loaded freeRowFrom initialWords changeWords changeAll effect plainNamed replyTo queryAnswer answerIn played answersOf agrees
+unfolding toBits ofInt groups residents definitionsIn firstName firstOr lastOr atDepth depthOf lastAbove lastBeside firstBeside nextOf shape subtreeRows rowsBelow rowsAt treeArguments controlArguments unitCount groupCount synthCount repeat nameBytes frontBy unitBy unitsBy definitionBy readDefinitions readFile sameName among writeAll writeDefinitionBy writeFile lives lift sink takeDeeper dropDeeper onlyGroups runOf editRows orderFrom rowTaken tags arguments targetOf inBounds pattern held residentFrom controlsFrom firstIndex nextIndex viewRows nodeNamed firstOf namesOf staying retired freeFrom loaded freeRowFrom initialWords changeWords changeAll effect plainNamed replyTo queryAnswer answerIn played answersOf agrees
 making-agrees = refl
 
 numbersAndMoves-agrees : agrees (numbersAndMoves freshParts) ≡ true
-unfolding toBits ofInt groups residents definitionsIn firstName firstOr lastOr atDepth depthOf lastAbove lastBeside firstBeside nextOf shape subtreeRows rowsBelow rowsAt treeArguments controlArguments unitCount groupCount synthCount repeat nameBytes frontBy unitBy unitsBy definitionBy readDefinitions readFile sameName among writeAll writeDefinitionBy writeFile lives lift sink takeDeeper dropDeeper onlyGroups runOf editRows orderFrom rowTaken tags arguments targetOf inBounds pattern held residentFrom controlsFrom firstIndex viewRows nodeNamed firstOf namesOf staying retired freeFrom loaded freeRowFrom initialWords changeWords changeAll effect plainNamed replyTo queryAnswer answerIn played answersOf agrees
+unfolding toBits ofInt groups residents definitionsIn firstName firstOr lastOr atDepth depthOf lastAbove lastBeside firstBeside nextOf shape subtreeRows rowsBelow rowsAt treeArguments controlArguments unitCount groupCount synthCount repeat nameBytes frontBy unitBy unitsBy definitionBy readDefinitions readFile sameName among writeAll writeDefinitionBy writeFile lives lift sink takeDeeper dropDeeper onlyGroups runOf editRows orderFrom rowTaken tags arguments targetOf inBounds pattern held residentFrom controlsFrom firstIndex nextIndex viewRows nodeNamed firstOf namesOf staying retired freeFrom loaded freeRowFrom initialWords changeWords changeAll effect plainNamed replyTo queryAnswer answerIn played answersOf agrees
 numbersAndMoves-agrees = refl
 
 controlsAndBuses-agrees : agrees (controlsAndBuses freshParts) ≡ true
-unfolding toBits ofInt groups residents definitionsIn firstName firstOr lastOr atDepth depthOf lastAbove lastBeside firstBeside nextOf shape subtreeRows rowsBelow rowsAt treeArguments controlArguments unitCount groupCount synthCount repeat nameBytes frontBy unitBy unitsBy definitionBy readDefinitions readFile sameName among writeAll writeDefinitionBy writeFile lives lift sink takeDeeper dropDeeper onlyGroups runOf editRows orderFrom rowTaken tags arguments targetOf inBounds pattern held residentFrom controlsFrom firstIndex viewRows nodeNamed firstOf namesOf staying retired freeFrom loaded freeRowFrom initialWords changeWords changeAll effect plainNamed replyTo queryAnswer answerIn played answersOf agrees
+unfolding toBits ofInt groups residents definitionsIn firstName firstOr lastOr atDepth depthOf lastAbove lastBeside firstBeside nextOf shape subtreeRows rowsBelow rowsAt treeArguments controlArguments unitCount groupCount synthCount repeat nameBytes frontBy unitBy unitsBy definitionBy readDefinitions readFile sameName among writeAll writeDefinitionBy writeFile lives lift sink takeDeeper dropDeeper onlyGroups runOf editRows orderFrom rowTaken tags arguments targetOf inBounds pattern held residentFrom controlsFrom firstIndex nextIndex viewRows nodeNamed firstOf namesOf staying retired freeFrom loaded freeRowFrom initialWords changeWords changeAll effect plainNamed replyTo queryAnswer answerIn played answersOf agrees
 controlsAndBuses-agrees = refl
 
-oldShapes-agrees : agrees (oldShapes freshParts) ≡ true
-unfolding toBits ofInt groups residents definitionsIn firstName firstOr lastOr atDepth depthOf lastAbove lastBeside firstBeside nextOf shape subtreeRows rowsBelow rowsAt treeArguments controlArguments unitCount groupCount synthCount repeat nameBytes frontBy unitBy unitsBy definitionBy readDefinitions readFile sameName among writeAll writeDefinitionBy writeFile lives lift sink takeDeeper dropDeeper onlyGroups runOf editRows orderFrom rowTaken tags arguments targetOf inBounds pattern held residentFrom controlsFrom firstIndex viewRows nodeNamed firstOf namesOf staying retired freeFrom loaded freeRowFrom initialWords changeWords changeAll effect plainNamed replyTo queryAnswer answerIn played answersOf agrees
-oldShapes-agrees = refl
+namesAndShapes-agrees : agrees (namesAndShapes freshParts) ≡ true
+unfolding toBits ofInt groups residents definitionsIn firstName firstOr lastOr atDepth depthOf lastAbove lastBeside firstBeside nextOf shape subtreeRows rowsBelow rowsAt treeArguments controlArguments unitCount groupCount synthCount repeat nameBytes frontBy unitBy unitsBy definitionBy readDefinitions readFile sameName among writeAll writeDefinitionBy writeFile lives lift sink takeDeeper dropDeeper onlyGroups runOf editRows orderFrom rowTaken tags arguments targetOf inBounds pattern held residentFrom controlsFrom firstIndex nextIndex viewRows nodeNamed firstOf namesOf staying retired freeFrom loaded freeRowFrom initialWords changeWords changeAll effect plainNamed replyTo queryAnswer answerIn played answersOf agrees
+namesAndShapes-agrees = refl
 
 shownAndRefused-agrees : agrees (shownAndRefused freshParts) ≡ true
-unfolding toBits ofInt groups bodies residents definitionsIn firstName firstOr lastOr atDepth depthOf lastAbove lastBeside firstBeside nextOf shape subtreeRows rowsBelow rowsAt treeArguments controlArguments unitCount groupCount synthCount repeat nameBytes frontBy unitBy unitsBy definitionBy readDefinitions readFile sameName among writeAll writeDefinitionBy writeFile lives lift sink takeDeeper dropDeeper onlyGroups runOf editRows orderFrom rowTaken tags arguments targetOf inBounds pattern held residentFrom controlsFrom firstIndex viewRows nodeNamed firstOf namesOf staying retired freeFrom loaded freeRowFrom initialWords changeWords changeAll effect plainNamed replyTo queryAnswer answerIn played answersOf agrees
+unfolding toBits ofInt groups bodies residents definitionsIn firstName firstOr lastOr atDepth depthOf lastAbove lastBeside firstBeside nextOf shape subtreeRows rowsBelow rowsAt treeArguments controlArguments unitCount groupCount synthCount repeat nameBytes frontBy unitBy unitsBy definitionBy readDefinitions readFile sameName among writeAll writeDefinitionBy writeFile lives lift sink takeDeeper dropDeeper onlyGroups runOf editRows orderFrom rowTaken tags arguments targetOf inBounds pattern held residentFrom controlsFrom firstIndex nextIndex viewRows nodeNamed firstOf namesOf staying retired freeFrom loaded freeRowFrom initialWords changeWords changeAll effect plainNamed replyTo queryAnswer answerIn played answersOf agrees
 shownAndRefused-agrees = refl
 
 agrees-append : (a b : List Example) → agrees a ≡ true → agrees b ≡ true → agrees (a ++ b) ≡ true
@@ -388,7 +446,7 @@ agrees-append (x ∷ a) b p q = go (sameName (x .found) (x .wanted)) p (λ k. ag
 
 -- the rows, played from an engine
 abbrev rowsFrom : Engine → List Example
-rowsFrom e = filesAndReplies e ++ (making e ++ (numbersAndMoves e ++ (controlsAndBuses e ++ (oldShapes e ++ shownAndRefused e))))
+rowsFrom e = filesAndReplies e ++ (making e ++ (numbersAndMoves e ++ (controlsAndBuses e ++ (namesAndShapes e ++ shownAndRefused e))))
 
 computed : agrees (rowsFrom freshParts) ≡ true
 computed =
@@ -396,7 +454,7 @@ computed =
     (agrees-append (making freshParts) _ making-agrees
     (agrees-append (numbersAndMoves freshParts) _ numbersAndMoves-agrees
     (agrees-append (controlsAndBuses freshParts) _ controlsAndBuses-agrees
-    (agrees-append (oldShapes freshParts) (shownAndRefused freshParts) oldShapes-agrees shownAndRefused-agrees))))
+    (agrees-append (namesAndShapes freshParts) (shownAndRefused freshParts) namesAndShapes-agrees shownAndRefused-agrees))))
 
 -- one table, played from a fresh engine, one statement
 abbrev pub table : List Example

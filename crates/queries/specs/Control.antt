@@ -17,7 +17,7 @@ use Rattle.model.specs.declared.Answer.the-variants.{Refused}
 use Rattle.model.specs.Layout.{countIn, nodesIn, controlsIn, busesIn}
 use Rattle.model.specs.Engine.{decode, definitionOf, controlsOf}
 use Rattle.model.specs.View.{PlainNode, synth}
-use Rattle.model.specs.Meaning.{meant, startOf}
+use Rattle.model.specs.Meaning.{meant, coverOf}
 use Rattle.model.specs.Checks.{firstOf, queryChecks}
 use Rattle.model.specs.Replies.{reply, replyTo, setAddress, keyArgument, readAt, readControl, plainNamed}
 use Rattle.replies.specs.Words.{wordBytes}
@@ -54,7 +54,7 @@ module _ (argument : NodeArgument) (key : Key) (bytes ws bs : List ℕ) (at : �
       abbrev d : Definition
       d = definitionOf (decode ws bs .slots) (nodeIn ws at)
 
-      pub control-reply : (value : ℕ) → value ≡ readAt (busesIn ws) (controlsOf (decode ws bs .slots) (controlsIn ws) (nodeIn ws at)) (startOf key bytes d)
+      pub control-reply : (value : ℕ) → value ≡ readAt (busesIn ws) (controlsOf (decode ws bs .slots) (controlsIn ws) (nodeIn ws at)) (coverOf key bytes d)
           → message setAddress (int (nodeIn ws at .number) ∷ (keyArgument key bytes ∷ (float value ∷ []))) ≡ reply (query.Control argument key) bytes (decode ws bs)
       unfolding replyTo decode
       control-reply value v =

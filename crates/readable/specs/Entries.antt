@@ -1,14 +1,14 @@
 -- Parameter names by their shape: where each stands and ends, from its bytes alone.
 use Prim.Native.Nat.{ℕ, zero, suc, _+_, _-_, _≤_, _<_}
 use mathlib.Core.Bool.{Bool, true, false}
-use mathlib.Core.Path.{_≡_, refl, sym, ap, ap₂, _∙_}
+use mathlib.Core.Path.{_≡_, refl, sym, ap, ap₂, _∙_, subst}
 use mathlib.Core.List.{List, [], _∷_}
-use mathlib.Core.Option.{Option, none, some}
+use mathlib.Core.Option.{Option, none, some, Option·none-ne-some, Option·some-injective}
 use native.Mathlib.Omega.{arith}
 use borrow.Author.Tests.{ltb-true}
 use lib.ListN.{length, getD}
 use lib.Dec.{ltb}
-use Rattle.words.specs.Choice.{pick}
+use Rattle.words.specs.Choice.{pick, both}
 use Rattle.words.specs.Parts.{region}
 use Rattle.faults.specs.declared.Fault.the-variants.{BadIndex}
 use Rattle.format.specs.Read.{got, repeat}
@@ -18,7 +18,7 @@ use Rattle.format.specs.RepeatLaws.{went-on, got-value, got-place}
 use Rattle.format.specs.Endings.{field-got}
 use Rattle.format.specs.Sizes.{name-got}
 use Rattle.format.specs.Definition.{ParameterName}
-use Rattle.format.specs.Names.{firstIndex}
+use Rattle.format.specs.Names.{firstIndex, nextIndex}
 use Rattle.format.specs.Reader.{mostParameters, parameterName, sameName}
 
 -- "N parameter names (pstring, int32 index)": the place of an entry's index, and the place past the entry
@@ -138,6 +138,28 @@ named-turn s name n i at t = ap (firstIndex name) (t .first)
 pub named-none : (s name : List ℕ) (n i at : ℕ) → n ≤ i → firstIndex name (entriesFrom s (n - i) at) ≡ none
 unfolding firstIndex
 named-none s name n i at h = ap (firstIndex name) (entries-none s n i at h)
+
+-- a name means an index below the bound
+pub named-below : (s name : List ℕ) (p n at i : ℕ) → Entries s p n at → firstIndex name (entriesFrom s n at) ≡ some i → i < p
+unfolding Entries entriesFrom firstIndex
+named-below s name p zero at i l e = absurd (Option·none-ne-some i e)
+named-below s name p (suc n) at i l e = go (sameName (stringAt s at) name) (named-below s name p n (entryEnd s at) i (l .2)) e
+  where
+    go : (b : Bool) → (firstIndex name (entriesFrom s n (entryEnd s at)) ≡ some i → i < p)
+        → pick b (some (word s (indexPlace s at))) (firstIndex name (entriesFrom s n (entryEnd s at))) ≡ some i → i < p
+    go true later e = subst (λ (k : ℕ). k < p) (Option·some-injective _ _ e) (l .0)
+    go false later e = later e
+
+-- the next larger index, by one entry and those behind it
+pub next-turn : (s : List ℕ) (n k at i end : ℕ) → Turn s mostParameters n k at
+    → nextIndex i end (entriesFrom s (n - k) at)
+    ≡ nextIndex i (pick (both (ltb i (word s (indexPlace s at))) (ltb (word s (indexPlace s at)) end)) (word s (indexPlace s at)) end) (entriesFrom s (n - (k + 1)) (entryEnd s at))
+unfolding nextIndex
+next-turn s n k at i end t = ap (nextIndex i end) (t .first)
+
+pub next-none : (s : List ℕ) (n k at i end : ℕ) → n ≤ k → nextIndex i end (entriesFrom s (n - k) at) ≡ end
+unfolding nextIndex
+next-none s n k at i end h = ap (nextIndex i end) (entries-none s n k at h)
 
 -- by a test of its bytes
 module _ (s name : List ℕ) (n i at : ℕ) (t : Turn s mostParameters n i at) {same : Bool} (said : same ≡ sameName (region (at + 1) (at + 1 + getD s at 0 - (at + 1)) s) name) where

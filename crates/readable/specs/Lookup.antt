@@ -3,6 +3,8 @@ use Prim.Native.Nat.{ℕ}
 use mathlib.Core.List.{List, []}
 use mathlib.Core.Option.{Option, none, some}
 use lib.ListN.{length}
+use Rattle.words.specs.Choice.{pick}
+use Rattle.readable.specs.declared.cover.Cover.{Cover}
 use Rattle.readable.specs.declared.found.Found.{Found}
 use Rattle.readable.specs.declared.found.Found.the-variants as found
 use Rattle.readable.specs.declared.found.ValuesFound.{ValuesFound}
@@ -11,7 +13,7 @@ use Rattle.format.specs.declared.Width.the-variants.{Long}
 use Rattle.format.specs.Read.{onRead}
 use Rattle.format.specs.Fields.{count}
 use Rattle.format.specs.Reader.{readFront}
-use Rattle.format.specs.Names.{firstIndex, firstName}
+use Rattle.format.specs.Names.{Covered, coveredBy, firstName}
 use Rattle.front.specs.Front.{valuesAt}
 
 -- a number that was found, or none
@@ -38,9 +40,13 @@ unitsIn s = onRead (readFront s 0) found.Nothing (λ f next. onRead (count s nex
 abbrev pub valuesIn : List ℕ → ValuesFound
 valuesIn s = onRead (readFront s 0) values.Nothing (λ f next. values.At (valuesAt Long 0 f) (length (f .values)))
 
--- the index of a name
-abbrev pub indexIn : List ℕ → List ℕ → Option ℕ
-indexIn n s = onRead (readFront s 0) none (λ f next. firstIndex n (f .names))
+-- what a name was found to cover, or nothing
+abbrev pub coverAt : Cover → Option Covered
+coverAt c = pick (c .found) (some (record { index = c .index; width = c .width })) none
+
+-- what a name covers
+abbrev pub coverIn : List ℕ → List ℕ → Option Covered
+coverIn n s = onRead (readFront s 0) none (λ f next. coveredBy n (length (f .values)) (f .names))
 
 -- the first name of an index
 abbrev pub nameOfIn : ℕ → List ℕ → Option (List ℕ)

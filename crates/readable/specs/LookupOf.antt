@@ -9,10 +9,10 @@ use Rattle.format.specs.declared.Width.the-variants.{Long}
 use Rattle.format.specs.Read.{got, repeat}
 use Rattle.format.specs.Fields.{count, shortCountTo, highest16}
 use Rattle.format.specs.Definition.{UnitSpec, Definition}
-use Rattle.format.specs.Names.{firstIndex, firstName}
+use Rattle.format.specs.Names.{coveredBy, firstName}
 use Rattle.format.specs.Reader.{readFront, unitBy, unitsBy, definitionBy, readDefinition, variant}
 use Rattle.front.specs.Front.{valuesAt}
-use Rattle.readable.specs.Lookup.{nameIn, parametersIn, unitsIn, valuesIn, indexIn, nameOfIn}
+use Rattle.readable.specs.Lookup.{nameIn, parametersIn, unitsIn, valuesIn, coverIn, nameOfIn}
 use Rattle.format.specs.RepeatLaws.{got-value, went-on}
 
 -- as many units are read as were asked for
@@ -49,8 +49,8 @@ module _ (s : List ℕ) {d : Definition} {end : ℕ} (e : readDefinition s 0 ≡
   pub values-of : valuesIn s ≡ values.At (valuesAt Long 0 (d .front)) (length (d .front .values))
   values-of = definition-on s 0 e (λ p q f u. rw f)
 
-  pub index-of : (n : List ℕ) → indexIn n s ≡ firstIndex n (d .front .names)
-  index-of n = definition-on s 0 e (λ p q f u. rw f)
+  pub cover-of : (n : List ℕ) → coverIn n s ≡ coveredBy n (length (d .front .values)) (d .front .names)
+  cover-of n = definition-on s 0 e (λ p q f u. rw f)
 
   pub first-name-of : (i : ℕ) → nameOfIn i s ≡ firstName i (d .front .names)
   first-name-of i = definition-on s 0 e (λ p q f u. rw f)

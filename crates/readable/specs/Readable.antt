@@ -1,7 +1,8 @@
 -- A definition whose front is known to be readable: where its parts stand.
-use Prim.Native.Nat.{ℕ, _+_, _*_, _≤_}
+use Prim.Native.Nat.{ℕ, _+_, _-_, _*_, _≤_, _<_}
 use mathlib.Core.Path.{_≡_, sym, ap, _∙_}
 use mathlib.Core.List.{List}
+use mathlib.Core.Option.{Option, none, some}
 use native.Mathlib.Omega.{arith}
 use borrow.Author.Tests.{leb-true}
 use lib.ListN.{length, getD}
@@ -16,11 +17,13 @@ use Rattle.format.specs.RepeatLaws.{went-on, repeat-length, floats-end, got-val
 use Rattle.format.specs.Endings.{field-got}
 use Rattle.format.specs.Sizes.{string-got}
 use Rattle.format.specs.Definition.{Front, Definition}
+use Rattle.format.specs.Names.{firstIndex, nextIndex, coverFrom, coveredBy}
+use Rattle.format.specs.Widths.{next-above}
 use Rattle.format.specs.Reader.{mostParameters, sizeLimit, parameterName, frontBy, readFront, definitionBy, readDefinition}
 use Rattle.front.specs.Front.{nameEnd, valuesAt, namesAt, countsOf}
-use Rattle.readable.specs.Lookup.{atNumber, nameIn, unitsIn}
+use Rattle.readable.specs.Lookup.{atNumber, nameIn, unitsIn, coverIn}
 use Rattle.front.specs.FrontLaws.{front-got}
-use Rattle.readable.specs.Entries.{entriesFrom, entriesEnd, Entries, entries-got, entries-below}
+use Rattle.readable.specs.Entries.{entriesFrom, entriesEnd, Entries, entries-got, entries-below, named-below}
 
 -- bytes whose front is readable. A definition has at most 2,048 bytes.
 pub record Readable (s : List ℕ) : Type 0 where
@@ -134,6 +137,27 @@ pub front-entries : (s : List ℕ) (k : Readable s) → Entries s mostParameters
 front-entries s k =
     let w = parts s (k .reads) in
     entries-below s (length (k .front .values)) mostParameters (length (k .front .names)) (namesAt Long 0 (k .front)) (w .few) (w .known)
+
+-- what a name covers, by what is found along the entries
+module _ (s name : List ℕ) (k : Readable s) (p n at : ℕ) (few : p ≡ length (k .front .values)) (many : n ≡ length (k .front .names)) (here : at ≡ namesAt Long 0 (k .front)) where
+  by-entries : coverIn name s ≡ coverFrom (firstIndex name (entriesFrom s n at)) p (entriesFrom s n at)
+  by-entries = rw (few, many, here, k .reads) (ap (coveredBy name (length (k .front .values))) (parts s (k .reads) .names))
+
+  pub cover-none : none ≡ firstIndex name (entriesFrom s n at) → none ≡ coverIn name s
+  cover-none e = sym (by-entries ∙ ap (λ (o : Option ℕ). coverFrom o p (entriesFrom s n at)) (sym e))
+
+  module _ (i next : ℕ) (first : some i ≡ firstIndex name (entriesFrom s n at)) (e : next ≡ nextIndex i p (entriesFrom s n at)) where
+    -- its index is below P, and so the next one is past it
+    pub next-past : i < next
+    next-past =
+        rw e
+        (next-above i p (entriesFrom s n at)
+        (named-below s name p n at i (rw (few, many, here) (parts s (k .reads) .known)) (sym first)))
+
+    pub cover-some : some (record { index = i; width = next - i }) ≡ coverIn name s
+    cover-some =
+        ap (λ (m : ℕ). some (record { index = i; width = m - i })) e
+        ∙ sym (by-entries ∙ ap (λ (o : Option ℕ). coverFrom o p (entriesFrom s n at)) (sym first))
 
 -- where the count of units stands, and what the lookup tells of it
 pub record UnitsAt (s : List ℕ) : Type 0 where

@@ -3,7 +3,9 @@ use crate::found::Found;
 use fields::same_name;
 use fields::word_at;
 ghost use mathlib.Core.Path.{_≡_};
-ghost use Rattle.format.specs.Names.{firstIndex};
+ghost use lib.Dec.{ltb};
+ghost use Rattle.words.specs.Choice.{pick, both};
+ghost use Rattle.format.specs.Names.{firstIndex, nextIndex};
 ghost use Rattle.readable.specs.Lookup.{foundAt};
 ghost use Rattle.format.specs.Reader.{mostParameters};
 ghost use Rattle.readable.specs.Entries.{Entries, entriesFrom, entriesEnd};
@@ -28,6 +30,38 @@ pub(crate) fn find_entry(s: &[u8], first: usize, count: u32, name: &[u8]) -> Fou
         }
     }
     found
+}
+
+// The lower of two indices, where the first is larger than i; else the second.
+fn lower(i: u32, index: u32, end: u32) -> u32
+    ensures { λ r. ⌜ r ≡ pick (both (ltb i index) (ltb index end)) index end ⌝ }
+{
+    if index <= i {
+        return end;
+    }
+    if end <= index {
+        return end;
+    }
+    index
+}
+
+// The next index larger than i that so many entries have, else the end.
+pub(crate) fn next_index(s: &[u8], first: usize, count: u32, i: u32, end: u32) -> u32
+    requires { ⌜ Entries (now s) mostParameters count first ⌝ }
+    ensures { λ r. ⌜ r ≡ nextIndex i end (entriesFrom (now (s .entry)) count first) ⌝ }
+{
+    let mut next = end;
+    let mut at = first;
+    let mut k = 0;
+    while k < count {
+        let size = s[at] as usize;
+        let place = at + 1 + size;
+        let index = word_at(s, place);
+        next = lower(i, index, next);
+        at = place + 4;
+        k += 1;
+    }
+    next
 }
 
 // The place past so many entries.

@@ -1,5 +1,7 @@
 // The lookups.
+use crate::cover::Cover;
 use crate::entries::find_entry;
+use crate::entries::next_index;
 use crate::entries::skip_entries;
 use crate::found::Found;
 use crate::found::ValuesFound;
@@ -7,7 +9,7 @@ use crate::places::counts;
 use fields::name_at;
 use fields::word_at;
 ghost use mathlib.Core.Path.{_≡_};
-ghost use Rattle.readable.specs.Lookup.{atNumber, foundAt, nameIn, parametersIn, unitsIn, valuesIn, indexIn};
+ghost use Rattle.readable.specs.Lookup.{atNumber, coverAt, nameIn, parametersIn, unitsIn, valuesIn, coverIn};
 ghost use Rattle.readable.specs.Readable.{Readable, ReadableWhole};
 
 // P, the number of parameters.
@@ -36,13 +38,27 @@ pub fn name(s: &[u8]) -> &[u8]
     name_at(s, 0)
 }
 
-// The index of a parameter name: a name means its first entry.
-pub fn index_of(s: &[u8], name: &[u8]) -> Found
+// What a control name covers: it means its first entry, and its width ends at the next larger index that has a name.
+pub fn name_cover(s: &[u8], name: &[u8]) -> Cover
     requires { ⌜ Readable (now s) ⌝ }
-    ensures { λ r. ⌜ foundAt r ≡ indexIn (now (name .entry)) (now (s .entry)) ⌝ }
+    ensures { λ r. ⌜ coverAt r ≡ coverIn (now (name .entry)) (now (s .entry)) ⌝ }
 {
     let places = counts(s);
-    find_entry(s, places.first, places.names, name)
+    match find_entry(s, places.first, places.names, name) {
+        Found::At(index) => {
+            let next = next_index(s, places.first, places.names, index, places.parameters);
+            Cover {
+                found: true,
+                index: index,
+                width: next - index,
+            }
+        }
+        Found::Nothing => Cover {
+            found: false,
+            index: 0,
+            width: 0,
+        },
+    }
 }
 
 // U, the number of units, which stands behind the names.

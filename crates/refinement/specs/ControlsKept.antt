@@ -62,7 +62,7 @@ changed-right c bytes e a rows size = go c a
 
     go : (c : ControlCommand) → ControlAccepted c bytes e → (length (controlEffect c bytes e .controls) ≡ controlsWords) × Mild (controlEffect c bytes e .controls) (e .controls)
     go (controls.Set n key value) a = by a
-    go (controls.Fill n key count value) a = by a
+    go (controls.Fill n key count value) a = by (a .change)
     go (controls.Map n key bus) a = by a
 
 -- no command of controls changes anything else

@@ -1,6 +1,6 @@
 -- `/n_set`, `/n_fill` and `/n_map`: the engine and the plain tree after them are the same again.
 use Prim.{Unit, tt}
-use Prim.Native.Nat.{ℕ, _+_, _*_, _≤_, _<_}
+use Prim.Native.Nat.{ℕ, _+_, _*_, _≤_, _<_, min}
 use mathlib.Core.Bool.{Bool, true, false, not}
 use mathlib.Core.Path.{_≡_, refl, sym, ap, ap₂, _∙_}
 use mathlib.Core.List.{List, [], _∷_, _++_}
@@ -12,6 +12,7 @@ use lib.Dec.{ltb, leb, eqb}
 use Rattle.words.specs.Choice.{pick, either, both-true, either-false}
 use Rattle.words.specs.Parts.{region}
 use Rattle.format.specs.Definition.{Definition}
+use Rattle.format.specs.Names.{Covered}
 use Rattle.nodes.specs.declared.Node.{Node}
 use Rattle.nodes.specs.Place.{groupSlot, isGroup, lives}
 use Rattle.nodes.specs.Edit.{level, runOf}
@@ -28,14 +29,14 @@ use Rattle.values.specs.Controls.{ControlValue}
 use Rattle.model.specs.Layout.{rowWords, controlsWords}
 use Rattle.model.specs.Engine.{Slot, Engine, definitionOf, slotAt, controlsFrom, controlsOf}
 use Rattle.model.specs.View.{Kind, group, synth, PlainNode, kindIn, viewOf}
-use Rattle.model.specs.Meaning.{startOf}
-use Rattle.model.specs.Effects.{changeStart, changeAll, withControls}
-use Rattle.model.specs.Plain.{Plain, numberIn, changeAt, changeKind, changeNode, changeBelow}
+use Rattle.model.specs.Meaning.{coverOf}
+use Rattle.model.specs.Effects.{changeCovered, changeAll, withControls}
+use Rattle.model.specs.Plain.{Plain, numberIn, changeKind, changeNode, changeBelow}
 use Rattle.refinement.specs.Kept.{Kept, seenTree}
-use Rattle.refinement.specs.RowReplies.{same-start}
 use Rattle.refinement.specs.DefinitionsReplay.{each-more}
 use Rattle.refinement.specs.SynthReplay.{controls-front}
-use Rattle.refinement.specs.RowChange.{FitsWord, row-length, row-other, row-own}
+use Rattle.refinement.specs.RowChange.{FitsWord, controls-many, row-length, row-other, row-own}
+use Rattle.refinement.specs.Widths.{Inside, cover-inside, changeIn, same-change}
 
 -- of each record of a list
 unfoldable pub AllOf : (Node → Type 0) → List Node → Type 0
@@ -56,47 +57,56 @@ module _ (f : ControlValue → ControlValue) (fits-word : FitsWord f) (name : Ke
   abbrev params : Node → ℕ
   params r = length (definitionOf slots r .front .values)
 
+  abbrev cover : Node → Option Covered
+  cover r = coverOf name bytes (definitionOf slots r)
+
+  ends : (r : Node) → Inside (params r) (cover r)
+  ends r = cover-inside name bytes (definitionOf slots r)
+
   abbrev step : Node → List ℕ → List ℕ
-  step r cs = pick (isGroup r) cs (changeStart f (startOf name bytes (definitionOf slots r)) (r .row) count (params r) cs)
+  step r cs = pick (isGroup r) cs (changeCovered f (cover r) (r .row) count cs)
 
   narrow : (r : Node) → params r + params r ≤ rowWords
   narrow r = omega (arith, few-parameters (slotAt slots (r .slot)))
 
   step-length : (r : Node) (cs : List ℕ) → length cs ≡ controlsWords → rowFormed r ≡ true → length (step r cs) ≡ controlsWords
-  step-length r cs size low = go (isGroup r) low (startOf name bytes (definitionOf slots r))
+  step-length r cs size low = go (isGroup r) low (cover r) (ends r)
     where
-      go : (g : Bool) → pick g true (ltb (r .row) mostRows) ≡ true → (o : Option ℕ) → length (pick g cs (changeStart f o (r .row) count (params r) cs)) ≡ controlsWords
-      go true l o = size
-      go false l none = size
-      go false l (some start) = row-length f fits-word (r .row) start count (params r) cs size (ltb-true (r .row) mostRows l) (narrow r)
+      go : (g : Bool) → pick g true (ltb (r .row) mostRows) ≡ true → (o : Option Covered) → Inside (params r) o → length (pick g cs (changeCovered f o (r .row) count cs)) ≡ controlsWords
+      go true l o i = size
+      go false l none i = size
+      go false l (some c) i = row-length f fits-word (r .row) (c .index) (min count (c .width)) (params r) cs size (ltb-true (r .row) mostRows l) (narrow r) (omega arith)
 
   -- another row
   step-other : (r : Node) (cs : List ℕ) → length cs ≡ controlsWords → rowFormed r ≡ true → (k : ℕ) → k < mostRows → pick (isGroup r) false (eqb (r .row) k) ≡ false
       → region (rowWords * k) rowWords (step r cs) ≡ region (rowWords * k) rowWords cs
-  step-other r cs size low k h free = go (isGroup r) low free (startOf name bytes (definitionOf slots r))
+  step-other r cs size low k h free = go (isGroup r) low free (cover r) (ends r)
     where
-      go : (g : Bool) → pick g true (ltb (r .row) mostRows) ≡ true → pick g false (eqb (r .row) k) ≡ false → (o : Option ℕ)
-          → region (rowWords * k) rowWords (pick g cs (changeStart f o (r .row) count (params r) cs)) ≡ region (rowWords * k) rowWords cs
-      go true l v o = refl
-      go false l v none = refl
-      go false l v (some start) = row-other f fits-word (r .row) start count (params r) cs size (ltb-true (r .row) mostRows l) (narrow r) k h (λ e. eqb-false (r .row) k v (sym e))
+      go : (g : Bool) → pick g true (ltb (r .row) mostRows) ≡ true → pick g false (eqb (r .row) k) ≡ false → (o : Option Covered) → Inside (params r) o
+          → region (rowWords * k) rowWords (pick g cs (changeCovered f o (r .row) count cs)) ≡ region (rowWords * k) rowWords cs
+      go true l v o i = refl
+      go false l v none i = refl
+      go false l v (some c) i =
+          row-other f fits-word (r .row) (c .index) (min count (c .width)) (params r) cs size (ltb-true (r .row) mostRows l) (narrow r) (omega arith) k h (λ e. eqb-false (r .row) k v (sym e))
 
   -- the synth's own controls
-  push : (d : Definition) (cs : List ControlValue) (g : Bool)
-      → changeKind f name bytes count (pick g group (synth d cs)) ≡ pick g group (synth d (changeAt f (startOf name bytes d) count cs))
-  push d cs true = refl
-  push d cs false = ap (λ (o : Option ℕ). synth d (changeAt f o count cs)) (same-start name bytes d)
+  push : (d : Definition) (cs : List ControlValue) → length cs ≡ length (d .front .values) → (g : Bool)
+      → changeKind f name bytes count (pick g group (synth d cs)) ≡ pick g group (synth d (changeIn f (coverOf name bytes d) count cs))
+  push d cs many true = refl
+  push d cs many false = ap (λ (c : List ControlValue). synth d c) (same-change f name bytes count d cs many)
 
   step-own : (r : Node) (cs : List ℕ) → length cs ≡ controlsWords → rowFormed r ≡ true → kindIn slots (step r cs) r ≡ changeKind f name bytes count (kindIn slots cs r)
   step-own r cs size low =
-      go (isGroup r) low (startOf name bytes (definitionOf slots r)) ∙ sym (push (definitionOf slots r) (controlsOf slots cs r) (isGroup r))
+      go (isGroup r) low (cover r) (ends r) ∙ sym (push (definitionOf slots r) (controlsOf slots cs r) (controls-many (params r) (drop (rowWords * r .row) cs)) (isGroup r))
     where
-      go : (g : Bool) → pick g true (ltb (r .row) mostRows) ≡ true → (o : Option ℕ)
-          → pick g group (synth (definitionOf slots r) (controlsFrom (params r) (drop (rowWords * r .row) (pick g cs (changeStart f o (r .row) count (params r) cs)))))
-          ≡ pick g group (synth (definitionOf slots r) (changeAt f o count (controlsFrom (params r) (drop (rowWords * r .row) cs))))
-      go true l o = refl
-      go false l none = refl
-      go false l (some start) = ap (λ (c : List ControlValue). synth (definitionOf slots r) c) (row-own f fits-word (r .row) start count (params r) cs size (ltb-true (r .row) mostRows l) (narrow r))
+      go : (g : Bool) → pick g true (ltb (r .row) mostRows) ≡ true → (o : Option Covered) → Inside (params r) o
+          → pick g group (synth (definitionOf slots r) (controlsFrom (params r) (drop (rowWords * r .row) (pick g cs (changeCovered f o (r .row) count cs)))))
+          ≡ pick g group (synth (definitionOf slots r) (changeIn f o count (controlsFrom (params r) (drop (rowWords * r .row) cs))))
+      go true l o i = refl
+      go false l none i = refl
+      go false l (some c) i =
+          ap (λ (c : List ControlValue). synth (definitionOf slots r) c)
+          (row-own f fits-word (r .row) (c .index) (min count (c .width)) (params r) cs size (ltb-true (r .row) mostRows l) (narrow r) (omega arith))
 
   -- a synth whose row's words are the same is seen alike
   pub kind-same : (y : Node) (a b : List ℕ) → (isGroup y ≡ false → region (rowWords * y .row) rowWords a ≡ region (rowWords * y .row) rowWords b) → kindIn slots a y ≡ kindIn slots b y

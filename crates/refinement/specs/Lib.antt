@@ -8,6 +8,7 @@ pub mod Load
 pub mod DefinitionsReplay
 pub mod SynthReplay
 pub mod RowChange
+pub mod Widths
 pub mod ControlsReplay
 pub mod Replay
 pub mod SynthDefinitions

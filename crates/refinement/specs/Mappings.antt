@@ -11,6 +11,7 @@ use lib.Dec.{ltb, leb}
 use borrow.Author.Tests.{ltb-true, ltb-false, le-leb, leb-true}
 use Rattle.words.specs.Choice.{pick, both, both-true}
 use Rattle.format.specs.Bounds.{every}
+use Rattle.format.specs.Names.{Covered}
 use Rattle.nodes.specs.declared.Node.{Node}
 use Rattle.nodes.specs.Place.{isGroup}
 use Rattle.nodes.specs.Formed.{mostRows, rowFormed}
@@ -18,10 +19,11 @@ use Rattle.values.specs.declared.Key.{Key}
 use Rattle.values.specs.Controls.{ControlValue, controlAt, mappingWord}
 use Rattle.model.specs.Layout.{rowWords, busCount, controlsWords}
 use Rattle.model.specs.Engine.{Slot, slotAt, definitionOf}
-use Rattle.model.specs.Meaning.{startOf}
+use Rattle.model.specs.Meaning.{coverOf}
 use Rattle.model.specs.Formed.{mappingsFormed, controlsFormed}
-use Rattle.model.specs.Effects.{changeWords, changeRow, changeStart, changeAll}
+use Rattle.model.specs.Effects.{changeWords, changeRow, changeCovered, changeAll}
 use Rattle.preservation.specs.Parameters.{few-parameters}
+use Rattle.refinement.specs.Widths.{Inside, cover-inside}
 
 -- every second word that was at most 4,096 is so after
 pub record Mild (after before : List ℕ) : Type 0 where
@@ -111,28 +113,27 @@ module _ (f : ControlValue → ControlValue) (right : Right f) where
           rw next (ih .low j g)
 
   -- one row: its number is one of 256, and it has at most 32 controls
-  module _ (row start count p : ℕ) (cs : List ℕ) (low : row < mostRows) (few : p ≤ 32) (size : length cs ≡ controlsWords) where
-    row-changed : (length (changeRow f row start count p cs) ≡ controlsWords) × Mild (changeRow f row start count p cs) cs
+  module _ (row start many p : ℕ) (cs : List ℕ) (low : row < mostRows) (few : p ≤ 32) (inside : many ≤ p - start) (size : length cs ≡ controlsWords) where
+    row-changed : (length (changeRow f row start many cs) ≡ controlsWords) × Mild (changeRow f row start many cs) cs
     unfolding changeWords
     row-changed = go (ltb start p) refl
       where
-        go : (b : Bool) → ltb start p ≡ b → (length (changeRow f row start count p cs) ≡ controlsWords) × Mild (changeRow f row start count p cs) cs
+        go : (b : Bool) → ltb start p ≡ b → (length (changeRow f row start many cs) ≡ controlsWords) × Mild (changeRow f row start many cs) cs
         go true e =
             let l : start < p = ltb-true start p e in
             let even : rowWords * row + 2 * start ≡ 2 * (32 * row + start) = omega arith in
             let us : List ℕ = drop (2 * (32 * row + start)) cs in
-            let most : min count (p - start) ≤ p - start = omega arith in
             let rest : length us ≡ length cs - 2 * (32 * row + start) = length-drop (2 * (32 * row + start)) cs in
             let front : length (take (2 * (32 * row + start)) cs) ≡ 2 * (32 * row + start) = length-take-le (2 * (32 * row + start)) cs (omega arith) in
-            let many : length (changeWords f (min count (p - start)) us) ≡ length us = change-length (min count (p - start)) us (omega arith) in (
-              rw even (length-append (take (2 * (32 * row + start)) cs) (changeWords f (min count (p - start)) us) ∙ omega arith),
-              rw even (mild-behind (32 * row + start) cs (changeWords f (min count (p - start)) us) (omega arith) (change-mild (min count (p - start)) us)),
+            let long : length (changeWords f many us) ≡ length us = change-length many us (omega arith) in (
+              rw even (length-append (take (2 * (32 * row + start)) cs) (changeWords f many us) ∙ omega arith),
+              rw even (mild-behind (32 * row + start) cs (changeWords f many us) (omega arith) (change-mild many us)),
             )
         go false e =
             let l : p ≤ start = ltb-false start p e in
-            let none : min count (p - start) ≡ 0 = omega arith in
-            let same : changeRow f row start count p cs ≡ cs =
-            ap (λ (n : ℕ). take (rowWords * row + 2 * start) cs ++ changeWords f n (drop (rowWords * row + 2 * start) cs)) none ∙ unchanged in
+            let none-left : many ≡ 0 = omega arith in
+            let same : changeRow f row start many cs ≡ cs =
+            ap (λ (n : ℕ). take (rowWords * row + 2 * start) cs ++ changeWords f n (drop (rowWords * row + 2 * start) cs)) none-left ∙ unchanged in
             (ap length same ∙ size, mild-same same)
           where
             unchanged : take (rowWords * row + 2 * start) cs ++ changeWords f 0 (drop (rowWords * row + 2 * start) cs) ≡ cs
@@ -145,14 +146,13 @@ module _ (f : ControlValue → ControlValue) (right : Right f) where
   all-changed key bytes count slots [] h cs size = (size, mild-same refl)
   all-changed key bytes count slots (r ∷ l) h cs size =
       let w = both-true (rowFormed r) (every rowFormed l) h in
-      let first = go (isGroup r) (w .0) (startOf key bytes (definitionOf slots r)) in
+      let first = go (isGroup r) (w .0) (coverOf key bytes (definitionOf slots r)) (cover-inside key bytes (definitionOf slots r)) in
       let rest = all-changed key bytes count slots l (w .1) _ (first .0) in
       (rest .0, mild-then (rest .1) (first .1))
     where
-      go : (g : Bool) → pick g true (ltb (r .row) mostRows) ≡ true → (s : Option ℕ)
-          → (length (pick g cs (changeStart f s (r .row) count (length (definitionOf slots r .front .values)) cs)) ≡ controlsWords)
-          × Mild (pick g cs (changeStart f s (r .row) count (length (definitionOf slots r .front .values)) cs)) cs
-      go true q s = (size, mild-same refl)
-      go false q none = (size, mild-same refl)
-      go false q (some start) =
-          row-changed (r .row) start count (length (definitionOf slots r .front .values)) cs (ltb-true (r .row) mostRows q) (few-parameters (slotAt slots (r .slot))) size
+      go : (g : Bool) → pick g true (ltb (r .row) mostRows) ≡ true → (o : Option Covered) → Inside (length (definitionOf slots r .front .values)) o
+          → (length (pick g cs (changeCovered f o (r .row) count cs)) ≡ controlsWords) × Mild (pick g cs (changeCovered f o (r .row) count cs)) cs
+      go true q o i = (size, mild-same refl)
+      go false q none i = (size, mild-same refl)
+      go false q (some c) i =
+          row-changed (r .row) (c .index) (min count (c .width)) (length (definitionOf slots r .front .values)) cs (ltb-true (r .row) mostRows q) (few-parameters (slotAt slots (r .slot))) (omega arith) size

@@ -144,7 +144,7 @@ module _ (bytes sizes : List ℕ) (e : Engine) (p : Plain) (s : Sound sizes e) (
 
   pub controls-replayed : (c : ControlCommand) → ControlAccepted c bytes e → Kept (controlEffect c bytes e) (growControls c bytes p)
   controls-replayed (controls.Set n key value) h = change-replayed h
-  controls-replayed (controls.Fill n key count value) h = change-replayed h
+  controls-replayed (controls.Fill n key count value) h = change-replayed (h .change)
   controls-replayed (controls.Map n key bus) h = change-replayed h
 
 -- commands of buses: one float, or a run of them

@@ -76,7 +76,7 @@ part-changed f fits-word (suc s) n (suc p) (u ∷ (v ∷ us)) h l =
     let more : suc s + suc s ≡ suc (suc (s + s)) = omega arith in
     rw more (ap (λ (m : List ControlValue). controlAt u v ∷ m) (part-changed f fits-word s n p us (omega arith) (omega arith)))
 
-controls-many : (p : ℕ) (us : List ℕ) → length (controlsFrom p us) ≡ p
+pub controls-many : (p : ℕ) (us : List ℕ) → length (controlsFrom p us) ≡ p
 unfolding controlsFrom
 controls-many zero us = refl
 controls-many (suc p) us = ap suc (controls-many p (drop 2 us))
@@ -102,84 +102,86 @@ drop-within n m l h = go (leb n m) refl
         let z : min n m ≡ m = omega arith in
         rw z (drop-of-length-le l {i = n} (omega arith) ∙ sym (drop-of-length-le l {i = m} h))
 
--- the change of one row of p controls
-module _ (f : ControlValue → ControlValue) (fits-word : FitsWord f) (row start count p : ℕ) (cs : List ℕ) (size : length cs ≡ controlsWords) (low : row < mostRows) (few : p + p ≤ rowWords) where
-  abbrev reached : ℕ
-  reached = min count (p - start)
+-- .. and so does a change
+pub change-clipped : (f : ControlValue → ControlValue) (start count p : ℕ) (l : List ControlValue) → length l ≡ p → changeFrom f start count l ≡ changeFrom f start (min count (p - start)) l
+change-clipped f start count p l many =
+    ap₂ (λ (x y : List ControlValue). take start l ++ (map f x ++ y)) (take-within count (p - start) (drop start l) (omega (arith, rest))) (drop-within count (p - start) (drop start l) (omega (arith, rest)))
+  where
+    rest : length (drop start l) ≡ p - start
+    rest = length-drop start l ∙ ap (λ (k : ℕ). k - start) many
 
+-- the change of one row of p controls, which ends by p
+module _ (f : ControlValue → ControlValue) (fits-word : FitsWord f) (row start many p : ℕ) (cs : List ℕ) (size : length cs ≡ controlsWords) (low : row < mostRows) (few : p + p ≤ rowWords)
+    (inside : many ≤ p - start) where
   abbrev at : ℕ
   at = rowWords * row + 2 * start
 
   -- a change that starts past the last control changes nothing
-  past-same : p < start → changeRow f row start count p cs ≡ cs
+  past-same : p < start → changeRow f row start many cs ≡ cs
   unfolding changeWords
   past-same h =
-      let none-left : min count (p - start) ≡ 0 = omega arith in
+      let none-left : many ≡ 0 = omega arith in
       ap (λ (k : ℕ). take at cs ++ changeWords f k (drop at cs)) none-left ∙ take-append-drop at cs
 
-  within : start ≤ p → at + (reached + reached) ≤ rowWords * row + rowWords
+  within : start ≤ p → at + (many + many) ≤ rowWords * row + rowWords
   within h = omega arith
 
-  pub row-length : length (changeRow f row start count p cs) ≡ controlsWords
+  pub row-length : length (changeRow f row start many cs) ≡ controlsWords
   row-length = go (ltb p start) refl
     where
-      go : (b : Bool) → ltb p start ≡ b → length (changeRow f row start count p cs) ≡ controlsWords
+      go : (b : Bool) → ltb p start ≡ b → length (changeRow f row start many cs) ≡ controlsWords
       go true e = ap length (past-same (ltb-true p start e)) ∙ size
       go false e =
           let w = within (ltb-false p start e) in
-          ap length (change-put f at reached cs (omega arith)) ∙ put-size at (reached + reached) (changedPart f at reached cs (omega arith)) cs (omega arith) (part-length f at reached cs (omega arith)) ∙ size
+          ap length (change-put f at many cs (omega arith)) ∙ put-size at (many + many) (changedPart f at many cs (omega arith)) cs (omega arith) (part-length f at many cs (omega arith)) ∙ size
 
   -- another row
-  pub row-other : (k : ℕ) → k < mostRows → (k ≡ row → ⊥) → region (rowWords * k) rowWords (changeRow f row start count p cs) ≡ region (rowWords * k) rowWords cs
+  pub row-other : (k : ℕ) → k < mostRows → (k ≡ row → ⊥) → region (rowWords * k) rowWords (changeRow f row start many cs) ≡ region (rowWords * k) rowWords cs
   row-other k h ne = go (ltb p start) refl (ltb k row) refl
     where
-      go : (b : Bool) → ltb p start ≡ b → (c : Bool) → ltb k row ≡ c → region (rowWords * k) rowWords (changeRow f row start count p cs) ≡ region (rowWords * k) rowWords cs
+      go : (b : Bool) → ltb p start ≡ b → (c : Bool) → ltb k row ≡ c → region (rowWords * k) rowWords (changeRow f row start many cs) ≡ region (rowWords * k) rowWords cs
       go true e c g = ap (λ (l : List ℕ). region (rowWords * k) rowWords l) (past-same (ltb-true p start e))
       go false e true g =
           let w = within (ltb-false p start e) in
           let less : k < row = ltb-true k row g in
-          ap (λ (l : List ℕ). region (rowWords * k) rowWords l) (change-put f at reached cs (omega arith))
-          ∙ region-before at (reached + reached) (changedPart f at reached cs (omega arith)) cs (omega arith) (part-length f at reached cs (omega arith)) (rowWords * k) rowWords (omega arith)
+          ap (λ (l : List ℕ). region (rowWords * k) rowWords l) (change-put f at many cs (omega arith))
+          ∙ region-before at (many + many) (changedPart f at many cs (omega arith)) cs (omega arith) (part-length f at many cs (omega arith)) (rowWords * k) rowWords (omega arith)
       go false e false g =
           let w = within (ltb-false p start e) in
           let more : row ≤ k = ltb-false k row g in
           let most : row < k = omega arith in
-          ap (λ (l : List ℕ). region (rowWords * k) rowWords l) (change-put f at reached cs (omega arith))
-          ∙ region-past at (reached + reached) (changedPart f at reached cs (omega arith)) cs (omega arith) (part-length f at reached cs (omega arith)) (rowWords * k) rowWords (omega arith)
+          ap (λ (l : List ℕ). region (rowWords * k) rowWords l) (change-put f at many cs (omega arith))
+          ∙ region-past at (many + many) (changedPart f at many cs (omega arith)) cs (omega arith) (part-length f at many cs (omega arith)) (rowWords * k) rowWords (omega arith)
 
   -- the row's words after the change
-  split-row : drop (rowWords * row) (changeRow f row start count p cs) ≡ take (start + start) (drop (rowWords * row) cs) ++ changeWords f reached (drop (start + start) (drop (rowWords * row) cs))
+  split-row : drop (rowWords * row) (changeRow f row start many cs) ≡ take (start + start) (drop (rowWords * row) cs) ++ changeWords f many (drop (start + start) (drop (rowWords * row) cs))
   split-row =
       let two : rowWords * row + 2 * start ≡ rowWords * row + (start + start) = omega arith in
       let front : length (take (rowWords * row) cs) ≡ rowWords * row = length-take-le (rowWords * row) cs (omega arith) in
-      ap (λ (k : ℕ). drop (rowWords * row) (take k cs ++ changeWords f reached (drop k cs))) two
-      ∙ ap₂ (λ (x y : List ℕ). drop (rowWords * row) (x ++ changeWords f reached y)) (take-add (rowWords * row) (start + start) cs) (sym (drop-drop (start + start) (rowWords * row) cs))
-      ∙ ap (λ (l : List ℕ). drop (rowWords * row) l) (append-assoc (take (rowWords * row) cs) (take (start + start) (drop (rowWords * row) cs)) (changeWords f reached (drop (start + start) (drop (rowWords * row) cs))))
-      ∙ drop-at (take (rowWords * row) cs) (take (start + start) (drop (rowWords * row) cs) ++ changeWords f reached (drop (start + start) (drop (rowWords * row) cs))) (rowWords * row) front
+      ap (λ (k : ℕ). drop (rowWords * row) (take k cs ++ changeWords f many (drop k cs))) two
+      ∙ ap₂ (λ (x y : List ℕ). drop (rowWords * row) (x ++ changeWords f many y)) (take-add (rowWords * row) (start + start) cs) (sym (drop-drop (start + start) (rowWords * row) cs))
+      ∙ ap (λ (l : List ℕ). drop (rowWords * row) l) (append-assoc (take (rowWords * row) cs) (take (start + start) (drop (rowWords * row) cs)) (changeWords f many (drop (start + start) (drop (rowWords * row) cs))))
+      ∙ drop-at (take (rowWords * row) cs) (take (start + start) (drop (rowWords * row) cs) ++ changeWords f many (drop (start + start) (drop (rowWords * row) cs))) (rowWords * row) front
 
   -- its own controls
-  pub row-own : controlsFrom p (drop (rowWords * row) (changeRow f row start count p cs)) ≡ changeFrom f start count (controlsFrom p (drop (rowWords * row) cs))
+  abbrev before : List ControlValue
+  before = controlsFrom p (drop (rowWords * row) cs)
+
+  pub row-own : controlsFrom p (drop (rowWords * row) (changeRow f row start many cs)) ≡ changeFrom f start many (controlsFrom p (drop (rowWords * row) cs))
   row-own = go (ltb p start) refl
     where
-      many : length (controlsFrom p (drop (rowWords * row) cs)) ≡ p
-      many = controls-many p (drop (rowWords * row) cs)
+      all : length before ≡ p
+      all = controls-many p (drop (rowWords * row) cs)
 
-      rest : length (drop start (controlsFrom p (drop (rowWords * row) cs))) ≡ p - start
-      rest = length-drop start (controlsFrom p (drop (rowWords * row) cs)) ∙ ap (λ (k : ℕ). k - start) many
-
-      go : (b : Bool) → ltb p start ≡ b → controlsFrom p (drop (rowWords * row) (changeRow f row start count p cs)) ≡ changeFrom f start count (controlsFrom p (drop (rowWords * row) cs))
+      go : (b : Bool) → ltb p start ≡ b → controlsFrom p (drop (rowWords * row) (changeRow f row start many cs)) ≡ changeFrom f start many before
       go true e =
           let w : p < start = ltb-true p start e in
-          let c = controlsFrom p (drop (rowWords * row) cs) in
-          let gone : drop start c ≡ [] = drop-of-length-le c {i = start} (omega (arith, many)) in
-          let nothing : map f (take count (drop start c)) ++ drop count (drop start c) ≡ [] =
-          ap₂ (λ (x y : List ControlValue). map f (take count x) ++ drop count y) gone gone ∙ ap₂ (λ (x y : List ControlValue). map f x ++ y) (take-nil count) (drop-nil count) in
+          let gone : drop start before ≡ [] = drop-of-length-le before {i = start} (omega (arith, all)) in
+          let nothing : map f (take many (drop start before)) ++ drop many (drop start before) ≡ [] =
+          ap₂ (λ (x y : List ControlValue). map f (take many x) ++ drop many y) gone gone ∙ ap₂ (λ (x y : List ControlValue). map f x ++ y) (take-nil many) (drop-nil many) in
           ap (λ (l : List ℕ). controlsFrom p (drop (rowWords * row) l)) (past-same w)
-          ∙ sym (ap₂ (λ (x y : List ControlValue). x ++ y) (take-all start c (omega (arith, many))) nothing ∙ append-nil c)
+          ∙ sym (ap₂ (λ (x y : List ControlValue). x ++ y) (take-all start before (omega (arith, all))) nothing ∙ append-nil before)
       go false e =
           let w : start ≤ p = ltb-false p start e in
-          let c = controlsFrom p (drop (rowWords * row) cs) in
-          let split : drop (rowWords * row) (changeRow f row start count p cs) ≡ take (start + start) (drop (rowWords * row) cs) ++ changeWords f reached (drop (start + start) (drop (rowWords * row) cs)) = split-row in
-          ap (λ (l : List ℕ). controlsFrom p l) split
-          ∙ part-changed f fits-word start reached p (drop (rowWords * row) cs) (omega arith) (rw (length-drop (rowWords * row) cs) (omega arith))
-          ∙ ap₂ (λ (x y : List ControlValue). take start c ++ (map f x ++ y)) (sym (take-within count (p - start) (drop start c) (omega (arith, rest)))) (sym (drop-within count (p - start) (drop start c) (omega (arith, rest))))
+          ap (λ (l : List ℕ). controlsFrom p l) split-row
+          ∙ part-changed f fits-word start many p (drop (rowWords * row) cs) (omega arith) (rw (length-drop (rowWords * row) cs) (omega arith))

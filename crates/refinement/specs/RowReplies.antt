@@ -12,8 +12,7 @@ use lib.ListN.{length, getD}
 use lib.Dec.{eqb}
 use Rattle.words.specs.Choice.{pick}
 use Rattle.format.specs.Definition.{ParameterName, Definition}
-use Rattle.format.specs.Reader.{sameName}
-use Rattle.format.specs.Names.{firstIndex, firstName}
+use Rattle.format.specs.Names.{firstName}
 use Rattle.nodes.specs.declared.Node.{Node}
 use Rattle.nodes.specs.Forest.{Forest, node, flatten, mapForest, has, below}
 use Rattle.nodes.specs.Forest as forest
@@ -30,9 +29,8 @@ use Rattle.values.specs.declared.Mapping.{Mapping}
 use Rattle.values.specs.declared.Mapping.the-variants.{Unmapped, Bus}
 use Rattle.values.specs.Controls.{ControlValue, shown}
 use Rattle.model.specs.View.{Kind, group, synth, PlainNode, Row, isGroupKind, slotOfKind, shapeOf, shape}
-use Rattle.model.specs.Meaning.{startOf}
 use Rattle.model.specs.Replies.{infoAddress, setAddress, busAddress, treeAddress, statusAddress, plainNamed, infoKind, infoReply, keyArgument, noControl, mappingArgument, labelArgument, controlArguments, flagged, kindArguments, rowsBelow, rowsAt, treeArguments, subtreeRows, flagNumber, treeReply, unitsOf, unitCount, groupCount, synthCount}
-use Rattle.model.specs.Plain.{ifSome, numberIn, indicesOf, firstIn, askedFor, plainRows}
+use Rattle.model.specs.Plain.{ifSome, numberIn, plainRows}
 use Rattle.model.specs.PlainReplies.{bytesOf, nodeIn, groupInfo, nodeInfo, floatRead, controlIn, keyShown, namesAt, labelShown, mappingShown, controlsShown, included, kindShown, nodesShown, sumOver, unitsIn, oneSynth, oneGroup}
 
 -- the addresses
@@ -153,20 +151,7 @@ node-past n d (node x b a) rest h =
 pub node-rows : (n : ℕ) (f : Forest PlainNode) → has numberIn n f ≡ true → nodeIn n f ≡ some (plainNamed n (plainRows 0 f))
 node-rows n f h = node-past n 0 f [] h ∙ ap (λ (l : List Row). some (plainNamed n l)) (append-nil (plainRows 0 f))
 
--- controls: what a key asks for, what is read, and how it is shown
-first-index : (name : List ℕ) (names : List ParameterName) → firstIn (indicesOf name names) ≡ firstIndex name names
-unfolding indicesOf firstIndex
-first-index name [] = refl
-first-index name (q ∷ more) = go (sameName (q .name) name) (first-index name more)
-  where
-    go : (b : Bool) → firstIn (indicesOf name more) ≡ firstIndex name more → firstIn (pick b (q .index ∷ indicesOf name more) (indicesOf name more)) ≡ pick b (some (q .index)) (firstIndex name more)
-    go true ih = refl
-    go false ih = ih
-
-pub same-start : (key : Key) (name : List ℕ) (d : Definition) → askedFor key name d ≡ startOf key name d
-same-start (Index i) name d = refl
-same-start Name name d = first-index name (d .front .names)
-
+-- controls: what is read, and how it is shown
 pub same-read : (buses : List ℕ) (m : Mapping) (own : ℕ) → floatRead buses m own ≡ shown buses m own
 same-read buses Unmapped own = refl
 same-read buses (Bus b) own = refl

@@ -10,6 +10,7 @@ use lib.ListN.{length, drop, getD}
 use lib.Dec.{eqb}
 use Rattle.words.specs.Choice.{pick, either, either-false}
 use Rattle.format.specs.Definition.{Definition}
+use Rattle.format.specs.Names.{Covered}
 use Rattle.nodes.specs.declared.Node.{Node}
 use Rattle.nodes.specs.Place.{isGroup, lives}
 use Rattle.nodes.specs.Forest.{Forest, has, below}
@@ -29,9 +30,9 @@ use Rattle.model.specs.declared.Query.{Query}
 use Rattle.model.specs.declared.Query.the-variants as query
 use Rattle.model.specs.declared.Command.the-variants as command
 use Rattle.model.specs.Layout.{rowWords}
-use Rattle.model.specs.Engine.{Slot, Engine, definitionOf, controlsFrom, controlsOf, residents}
+use Rattle.model.specs.Engine.{Slot, Engine, definitionOf, controlsOf, residents}
 use Rattle.model.specs.View.{group, synth, PlainNode, Row, viewOf, viewRows, view}
-use Rattle.model.specs.Meaning.{meant, known, nodeNamed, node as nodeOf, startOf, hasControls, negativeKey, isNegative}
+use Rattle.model.specs.Meaning.{meant, known, nodeNamed, node as nodeOf, coverOf, hasControls, negativeKey, isNegative}
 use Rattle.model.specs.Checks.{notGroup, noControls}
 use Rattle.model.specs.Replies.{infoAddress, setAddress, statusAddress, plainNamed, infoReply, keyArgument, noControl, readAt, readControl, controlReply, treeReply, flagNumber, unitCount, synthCount, statusReply, replyTo, reply}
 use Rattle.model.specs.Apply.{queryAnswer, answerIn, isAccepted}
@@ -39,7 +40,9 @@ use Rattle.model.specs.Plain.{Plain, ifSome, numberIn, isGroupNode, isOnNode, p
 use Rattle.model.specs.PlainReplies.{bytesOf, nodeIn, aboutNode, nodeInfo, floatRead, controlIn, keyShown, controlShown, flagShown, included, nodesShown, treeShown, sumOver, unitsIn, oneSynth, oneGroup, plainReply, isExport}
 use Rattle.model.specs.Demands.{Same}
 use Rattle.refinement.specs.Kept.{Kept, view-tree, group-kind, same-meant}
-use Rattle.refinement.specs.RowReplies.{info-address, set-address, bus-address, tree-address, status-address, info-rows, node-rows, same-start, same-read, same-key, control-in, tree-rows, units-rows, groups-rows, synths-rows}
+use Rattle.refinement.specs.RowReplies.{info-address, set-address, bus-address, tree-address, status-address, info-rows, node-rows, same-read, same-key, control-in, tree-rows, units-rows, groups-rows, synths-rows}
+use Rattle.refinement.specs.RowChange.{controls-many}
+use Rattle.refinement.specs.Widths.{indexIn, same-start}
 
 -- a node that lives is found, and is seen as it lies in the table
 named-number : (n : ℕ) (t : List Node) → lives n t ≡ true → nodeNamed n t .number ≡ n
@@ -60,11 +63,6 @@ named-view slots controls n (r ∷ l) h = go (eqb (r .number) n) h (named-view s
         → pick b (viewOf slots controls r) (plainNamed n (viewRows slots controls l)) ≡ viewOf slots controls (pick b r (nodeNamed n l))
     go true u ih = refl
     go false u ih = ih u
-
-controls-many : (n : ℕ) (us : List ℕ) → length (controlsFrom n us) ≡ n
-unfolding controlsFrom
-controls-many zero us = refl
-controls-many (suc n) us = ap suc (controls-many n (drop 2 us))
 
 -- "Any nonzero flag is 1."
 same-included : (flag : ℕ) (l : List Argument) → pick (not (eqb flag 0)) l [] ≡ included flag l
@@ -137,19 +135,20 @@ module _ (e : Engine) (p : Plain) (k : Kept e p) where
       own address o =
           ifSome o (λ i. ifSome (controlIn i cs) (λ c. some (message address (int n ∷ (keyShown key bytes ∷ (float (floatRead (p .buses) (c .mapping) (c .own)) ∷ []))))) none) none
 
-      fits : hasControls (startOf key bytes d) 1 d ≡ true
+      fits : hasControls (coverOf key bytes d) 1 d ≡ true
       fits =
           let w = either-false (either (negativeKey key) (isNegative 1)) _ has-control in
-          not-false (hasControls (startOf key bytes d) 1 d) (sym (ap (λ (g : Bool). pick g false (not (hasControls (startOf key bytes d) 1 d))) single) ∙ w .1)
+          not-false (hasControls (coverOf key bytes d) 1 d) (sym (ap (λ (g : Bool). pick g false (not (hasControls (coverOf key bytes d) 1 d))) single) ∙ w .1)
 
-      sent : controlReply n key bytes (view e) (e .buses) ≡ replied (keyArgument key bytes) (readAt (e .buses) cs (startOf key bytes d))
+      sent : controlReply n key bytes (view e) (e .buses) ≡ replied (keyArgument key bytes) (readAt (e .buses) cs (coverOf key bytes d))
       sent =
           ap (λ (y : PlainNode). replied (keyArgument key bytes) (readControl (e .buses) key bytes (y .kind))) seen
           ∙ ap (λ (g : Bool). replied (keyArgument key bytes) (readControl (e .buses) key bytes (pick g group (synth d cs)))) single
 
-      read : (o : Option ℕ) → hasControls o 1 d ≡ true → own setAddress o ≡ some (replied (keyArgument key bytes) (readAt (e .buses) cs o))
+      read : (o : Option Covered) → hasControls o 1 d ≡ true → own setAddress (indexIn o) ≡ some (replied (keyArgument key bytes) (readAt (e .buses) cs o))
       read none h = let z : _≡_ {A = Bool} false true = h in cc
-      read (some i) h =
+      read (some v) h =
+          let i = v .index in
           let low : i + 1 ≤ length (d .front .values) = leb-true (i + 1) (length (d .front .values)) h in
           let many : length cs ≡ length (d .front .values) = controls-many (length (d .front .values)) (drop (rowWords * nodeOf a e .row) (e .controls)) in
           let c = getD cs i noControl in
@@ -162,7 +161,7 @@ module _ (e : Engine) (p : Plain) (k : Kept e p) where
           about (λ y. controlShown key bytes (p .buses) (y .number) (y .kind))
           ∙ ap₂ (λ (m : ℕ) (g : Bool). controlShown key bytes (p .buses) m (pick g group (synth d cs))) number single
           ∙ ap₂ (λ (address : List ℕ) (o : Option ℕ). own address o) set-address (same-start key bytes d)
-          ∙ read (startOf key bytes d) fits
+          ∙ read (coverOf key bytes d) fits
           ∙ ap (λ (bs : List ℕ). some bs) (sym sent)
 
     tree : (flag : ℕ) → notGroup a e ≡ false → plainReply (query.Tree a flag) [] p ≡ some (treeReply n (not (eqb flag 0)) (view e))

@@ -1,7 +1,7 @@
 -- The refusals' numbers: paper 01, "Refusal numbers", and from 26 on paper 02. Those of a file, 2 to 11, are in `faults`.
 use Prim.Native.Nat.{ℕ}
 use Rattle.refusals.specs.declared.Refusal.{Refusal}
-use Rattle.refusals.specs.declared.Refusal.the-variants.{BadState, NoSlot, BadFlag, BadNumber, NumberLive, NoDefinition, NoNode, WrongKind, InsideItself, NodesFull, NoControl, NoBus, BadValue, NoRoom, NoNumber, Malformed, UnknownMessage, ListUnfit}
+use Rattle.refusals.specs.declared.Refusal.the-variants.{BadState, NoSlot, BadFlag, BadNumber, NumberLive, NoDefinition, NoNode, WrongKind, InsideItself, NodesFull, NoControl, NoBus, BadValue, NoRoom, NoNumber, Malformed, UnknownMessage, PastWidth, ListUnfit}
 
 abbrev pub numberOf : Refusal → ℕ
 -- "a state buffer has the wrong size, or a rule .. doesn't hold"
@@ -38,5 +38,7 @@ numberOf NoNumber = 25
 numberOf Malformed = 26
 -- "unknown address, or tags that don't fit it"
 numberOf UnknownMessage = 27
+-- paper 02, 6/14: "`/n_fill` by name past that width on a synth is refused with 28"
+numberOf PastWidth = 28
 -- paper 02, 5/14: "A longer list, or one that holds a query or an export, is refused whole with 34"
 numberOf ListUnfit = 34

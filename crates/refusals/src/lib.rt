@@ -20,6 +20,7 @@ pub enum Refusal {
     NoNumber,
     Malformed,
     UnknownMessage,
+    PastWidth,
     ListUnfit,
 }
 
@@ -45,6 +46,7 @@ pub fn refusal_number(refusal: Refusal) -> u32
         Refusal::NoNumber => 25,
         Refusal::Malformed => 26,
         Refusal::UnknownMessage => 27,
+        Refusal::PastWidth => 28,
         Refusal::ListUnfit => 34,
     }
 }

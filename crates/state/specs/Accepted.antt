@@ -39,7 +39,7 @@ use Rattle.model.specs.declared.Answer.the-variants.{Done}
 use Rattle.model.specs.Layout.{busCount}
 use Rattle.model.specs.Engine.{Engine}
 use Rattle.model.specs.Meaning.{minusOne, isNegative, meantBy, knownBy, meant, known, node, isBus, mappingTo}
-use Rattle.model.specs.Checks.{faultOf, definitionsOf, noSlot, noResident, badAction, isRoot, notGroup, badTarget, full, noControls, definitionChecks, inside, treeChecks, controlChecks, busChecks, queryChecks}
+use Rattle.model.specs.Checks.{faultOf, definitionsOf, noSlot, noResident, badAction, isRoot, notGroup, badTarget, full, noControls, pastName, definitionChecks, inside, treeChecks, controlChecks, busChecks, queryChecks}
 use Rattle.model.specs.Apply.{queryAnswer, answerIn, isAccepted}
 use Rattle.state.specs.Refusing.{Passed, all-passed}
 
@@ -98,9 +98,14 @@ pub record ChangeAccepted (f : ControlValue → ControlValue) (n : NodeArgument)
   pub busLow : (v : ControlValue) → mappingWord (f v .mapping) ≤ busCount
   pub controls : noControls key count bytes n e ≡ false
 
+-- /n_fill: by name on a synth, of no more controls than the name covers
+pub record FillAccepted (n : NodeArgument) (key : Key) (count : ℕ) (value : Value) (bytes : List ℕ) (e : Engine) : Type 0 where
+  pub change : ChangeAccepted (setTo (pattern value)) n key count (not (inBounds value)) bytes e
+  pub inWidth : pastName key count bytes n e ≡ false
+
 abbrev pub ControlAccepted : ControlCommand → List ℕ → Engine → Type 0
 ControlAccepted (controls.Set n key value) bytes e = ChangeAccepted (setTo (pattern value)) n key 1 (not (inBounds value)) bytes e
-ControlAccepted (controls.Fill n key count value) bytes e = ChangeAccepted (setTo (pattern value)) n key count (not (inBounds value)) bytes e
+ControlAccepted (controls.Fill n key count value) bytes e = FillAccepted n key count value bytes e
 ControlAccepted (controls.Map n key bus) bytes e = ChangeAccepted (mapTo (mappingTo bus)) n key 1 (not (either (eqb bus minusOne) (isBus bus))) bytes e
 
 -- /c_set, of one bus, and /c_fill
@@ -163,7 +168,8 @@ module _ (bytes : List ℕ) (e : Engine) where
   control-facts : (c : ControlCommand) → Passed (controlChecks c bytes e) → ControlAccepted c bytes e
   unfolding Passed
   control-facts (controls.Set n key value) (k, (v, (c, end))) = record { nodeKnown = not-false _ k; goodValue = v; busLow = λ x. omega arith; controls = c }
-  control-facts (controls.Fill n key count value) (k, (v, (c, end))) = record { nodeKnown = not-false _ k; goodValue = v; busLow = λ x. omega arith; controls = c }
+  control-facts (controls.Fill n key count value) (k, (v, (c, (w, end)))) =
+      record { change = record { nodeKnown = not-false _ k; goodValue = v; busLow = λ x. omega arith; controls = c }; inWidth = w }
   control-facts (controls.Map n key bus) (k, (v, (c, end))) = record { nodeKnown = not-false _ k; goodValue = v; busLow = λ x. low (eqb bus minusOne) (not-false _ v); controls = c }
     where
       low : (b : Bool) → either b (isBus bus) ≡ true → mappingWord (pick b Unmapped (Bus bus)) ≤ busCount

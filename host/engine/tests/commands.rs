@@ -10,15 +10,18 @@ use common::{say, seed, spread};
 use independent::engine::{Commands, Theme, MOST_NODES};
 use independent::layout::NEXT;
 use independent::{layout, Call, Engine, Random};
+use std::collections::BTreeMap;
 
 const SEQUENCES: usize = 270;
 const LONGEST: usize = 2000;
 
+const UNKNOWN: u32 = engine::UNKNOWN as u32;
+
 /// What came how often.
 #[derive(Default)]
 struct Tally {
-    /// Each answer. No command is refused with 26, whose place stands for the unknown.
-    answers: [usize; 27],
+    /// How often each answer came.
+    answers: BTreeMap<u32, usize>,
     /// New nodes by action 4 where 256 live.
     replaced_when_full: usize,
     /// Controls set by name in a synth whose definition's name means another one by now.
@@ -27,7 +30,7 @@ struct Tally {
 
 impl Tally {
     fn count(&mut self, call: &Call, nodes: usize, old_synth: bool, answer: u32) {
-        self.answers[(answer as usize).min(26)] += 1;
+        *self.answers.entry(answer).or_default() += 1;
         if answer == 0 {
             let replaces = matches!(call.op, 3 | 4) && call.numbers[1] == 4;
             self.replaced_when_full += usize::from(replaces && nodes == MOST_NODES);
@@ -37,8 +40,8 @@ impl Tally {
     }
 
     fn add(&mut self, other: &Tally) {
-        for (total, count) in self.answers.iter_mut().zip(other.answers) {
-            *total += count;
+        for (answer, count) in &other.answers {
+            *self.answers.entry(*answer).or_default() += count;
         }
         self.replaced_when_full += other.replaced_when_full;
         self.old_synths_set += other.old_synths_set;
@@ -52,12 +55,12 @@ fn both_engines_agree() {
     for own in spread(SEQUENCES, |place| sequence(seed, place)) {
         tally.add(&own);
     }
-    let answers = tally.answers;
-    let total: usize = answers.iter().sum();
-    say(&format!("{total} commands, {} accepted", answers[0]));
-    for (number, count) in answers.iter().enumerate().skip(2) {
+    let total: usize = tally.answers.values().sum();
+    let accepted = tally.answers[&0];
+    say(&format!("{total} commands, {accepted} accepted"));
+    for (number, count) in tally.answers.iter().skip(1) {
         match number {
-            26 => say(&format!("unknown: {count} commands")),
+            &UNKNOWN => say(&format!("unknown: {count} commands")),
             _ => say(&format!("refusal {number}: {count} commands")),
         }
     }
@@ -66,14 +69,12 @@ fn both_engines_agree() {
     say(&format!("old synths set by name: {old} commands"));
     assert!(total >= 300_000, "only {total} commands");
     assert!(full >= 100 && old >= 300, "{full} and {old} only");
-    assert!(answers[0] >= total * 2 / 5, "only {} accepted", answers[0]);
-    assert!(
-        answers[0] <= total * 3 / 4,
-        "as many as {} accepted",
-        answers[0]
-    );
-    assert_eq!(answers[1], 0);
-    for (number, &count) in answers.iter().enumerate().skip(12) {
+    assert!(accepted >= total * 2 / 5, "only {accepted} accepted");
+    assert!(accepted <= total * 3 / 4, "as many as {accepted} accepted");
+    let count = |number: u32| tally.answers.get(&number).copied().unwrap_or(0);
+    assert_eq!(count(1), 0);
+    for number in (12..=25).chain([28, UNKNOWN]) {
+        let count = count(number);
         assert!(count >= 300, "refusal {number} of {count} commands only");
     }
 }

@@ -8,6 +8,7 @@ mod common;
 use common::desk::{definition, float, Desk};
 use common::pair::Pair;
 use common::sequences;
+use common::shapes::{covered, numbered, shaped, sized, NAMES};
 use common::tally::{check, Tally};
 use independent::engine::BUSES;
 use independent::{write, Call, Definition, Random, MOST_PARAMETERS};
@@ -32,25 +33,6 @@ const ENDS: [i32; 16] = [
     i32::MAX,
 ];
 
-/// The names `c0`, `c1` and so on.
-fn numbered(count: usize) -> Vec<String> {
-    (0..count).map(|index| format!("c{index}")).collect()
-}
-
-/// A definition of so many controls, whose values are 100, 101 and so on.
-fn sized(name: &str, controls: usize) -> Definition {
-    let names = numbered(controls);
-    let names: Vec<&str> = names.iter().map(String::as_str).collect();
-    let values: Vec<u32> = (0..controls as u32).map(|index| 100 + index).collect();
-    definition(name, &names, &values)
-}
-
-fn read_all(desk: &mut Desk, node: i32, controls: usize) -> Vec<u32> {
-    (0..controls as i32)
-        .map(|index| desk.read(node, index))
-        .collect()
-}
-
 #[test]
 fn fills_across_the_ends_of_a_synth() {
     for controls in [0, 1, 3, 31, 32] {
@@ -63,8 +45,12 @@ fn fills_across_the_ends_of_a_synth() {
                 let numbers = |node| [node, start, count, 0, 7];
                 // By name, from each end.
                 if let Some(name) = numbered(controls).get(start.max(0) as usize) {
-                    if start >= 0 && count >= 0 && end <= controls as i64 {
+                    let fits = start >= 0 && count >= 0 && end <= controls as i64;
+                    if fits && count <= 1 {
                         desk.done(16, numbers(1000), name.as_bytes());
+                    } else if fits {
+                        // Each name covers one.
+                        desk.refused(28, 16, numbers(1000), name.as_bytes());
                     } else if start >= 0 {
                         desk.refused(21, 16, numbers(1000), name.as_bytes());
                     }
@@ -91,7 +77,7 @@ fn fills_across_the_ends_of_a_synth() {
                         false => 100 + index as u32,
                     })
                     .collect();
-                let values = read_all(&mut desk, 1000, controls);
+                let values = desk.read_all(1000, controls);
                 assert_eq!(values, expected, "{controls} {start} {count}");
                 desk.done(5, [1000, 0, 0, 0, 0], b"");
             }
@@ -153,15 +139,15 @@ fn a_group_of_mixed_definitions() {
     desk.done(12, [2, 0, 0, 0, 0], b"");
     desk.synth("two", 15, 0);
     let all =
-        |desk: &mut Desk| [(11, 1), (12, 3), (14, 2), (15, 3)].map(|(n, p)| read_all(desk, n, p));
+        |desk: &mut Desk| [(11, 1), (12, 3), (14, 2), (15, 3)].map(|(n, p)| desk.read_all(n, p));
     desk.set(1, "amp", 5);
     let expected = [vec![10], vec![20, 21, 5], vec![5, 2], vec![20, 21, 22]];
     assert_eq!(all(&mut desk), expected);
     desk.set(2, "freq", 6);
-    // A fill by name goes on from there, as far as each has controls.
+    // A fill by name goes on from there, up to the next that has a name.
     desk.done(16, [1, 0, 2, 0, 7], b"pan");
     desk.done(13, [0, 2, 0, 0, 8], b"");
-    let expected = [vec![10], vec![7, 7, 8], vec![5, 6], vec![20, 21, 8]];
+    let expected = [vec![10], vec![7, 21, 8], vec![5, 6], vec![20, 21, 8]];
     assert_eq!(all(&mut desk), expected);
     desk.done(19, [9, 0, 0, 0, 99], b"");
     desk.done(17, [1, 1, 9, 0, 0], b"");
@@ -185,7 +171,7 @@ fn a_group_of_mixed_definitions() {
 fn maps_and_unmaps() {
     let mut desk = Desk::with(&[definition("pair", &["a", "b"], &[1, 2])]);
     desk.synth("pair", 1000, 0);
-    let read = |desk: &mut Desk| read_all(desk, 1000, 2);
+    let read = |desk: &mut Desk| desk.read_all(1000, 2);
     desk.done(18, [1000, 0, 4095, 0, 0], b"b");
     assert_eq!(read(&mut desk), [1, 0], "a bus starts at 0.0");
     desk.done(20, [4000, 0, 96, 0, 50], b"");
@@ -236,8 +222,6 @@ fn integers_become_equal_floats() {
 const SEQUENCES: usize = 50;
 const LENGTH: usize = 2300;
 
-/// Names of controls. The definitions share them, at other indices.
-const NAMES: [&[u8]; 6] = [b"amp", b"fade", b"freq", b"", b"pan", b"gate"];
 const GROUPS: [i32; 5] = [0, 901, 902, 903, 904];
 
 #[test]
@@ -249,6 +233,8 @@ fn controls_agree() {
             ("operations", 100_000),
             ("fills to a synth's last control", 1000),
             ("fills one past it", 1000),
+            ("fills of all that a name covers", 500),
+            ("fills of one more", 250),
             ("sums past 31 bits", 500),
             ("sums of patterns past 32 bits", 1000),
             ("negative numbers", 1000),
@@ -467,17 +453,19 @@ impl Stage {
         let (node, named) = self.node();
         let controls = self.controls(named);
         let name = self.random.one_of(&NAMES);
-        // The first control, if the node has one of that name.
+        // The first control, if the node has one of that name, and how many may follow.
         let first = match named {
-            _ if op == by_index => Some(self.index(controls)),
-            Named::Synth(definition) => index_of(&self.definitions[definition], name),
-            _ => Some(0),
+            _ if op == by_index => Some((self.index(controls), i32::MAX)),
+            Named::Synth(definition) => covered(&self.definitions[definition], name),
+            _ => Some((0, i32::MAX)),
         };
-        let start = first.unwrap_or(0);
-        let count = if fills {
-            self.count(start, controls)
-        } else {
-            1
+        let (start, width) = first.unwrap_or((0, i32::MAX));
+        let count = match first {
+            _ if !fills => 1,
+            Some((_, width)) if width < i32::MAX && self.random.below(2) == 0 => {
+                width - 1 + self.random.below(3) as i32
+            }
+            _ => self.count(start, controls),
         };
         let end = i64::from(start) + i64::from(count);
         let bus = self.bus();
@@ -491,6 +479,7 @@ impl Stage {
             _ if maps && !(-1..BUSES as i32).contains(&bus) => 22,
             _ if !maps && !is_value => 23,
             _ if start < 0 || count < 0 || !within => 21,
+            _ if count > width => 28,
             _ => 0,
         };
         let third = if maps { bus } else { count };
@@ -506,6 +495,11 @@ impl Stage {
         tally.count("fills to a synth's last control", filled && answer == 0);
         let past = fills && synth && end == controls as i64 + 1;
         tally.count("fills one past it", past && answer == 21);
+        let by_name = fills && width < i32::MAX;
+        let all = by_name && count == width && answer == 0;
+        tally.count("fills of all that a name covers", all);
+        let more = by_name && count == width + 1 && answer == 28;
+        tally.count("fills of one more", more);
         tally.count("changes of groups", answer == 0 && !synth);
         tally.count("maps", answer == 0 && maps && bus >= 0);
         tally.count("unmaps", answer == 0 && maps && bus < 0);
@@ -578,26 +572,4 @@ impl Stage {
         let answer = self.pair.send(&call, &mut self.random);
         answer.map(drop).map_err(|what| format!("{what}: {call:?}"))
     }
-}
-
-/// A name's first entry.
-fn index_of(definition: &Definition, name: &[u8]) -> Option<i32> {
-    let mut entries = definition.parameters.iter();
-    let entry = entries.find(|(entry, _)| entry == name);
-    entry.map(|(_, index)| *index)
-}
-
-/// A definition of some number of controls, with names that others have too.
-fn shaped(random: &mut Random, at: usize) -> Definition {
-    let controls = random.one_of(&[0, 1, 2, 5, 8, 31, 32]);
-    let mut definition = sized(&format!("shape {at}"), controls);
-    definition.parameters.clear();
-    if controls > 0 {
-        for _ in 0..random.below(10) {
-            let name = random.one_of(&NAMES).to_vec();
-            let index = random.up_to(controls - 1) as i32;
-            definition.parameters.push((name, index));
-        }
-    }
-    definition
 }

@@ -8,7 +8,7 @@ mod tree;
 mod view;
 
 use crate::{read_versioned, write, Command, Fault, Key, Value, Version};
-use slots::{Kept, Slots};
+use slots::{Covered, Kept, Slots};
 use tree::{Kind, Place, Synth, Tree, ROOT};
 
 pub use commands::{Commands, Theme, EDGES};
@@ -298,47 +298,40 @@ impl Engine {
         Ok(())
     }
 
-    /// Changes some controls of a synth, or of every synth below a group. `which` tells a synth's
-    /// range of controls, or none where it has to be refused or skipped.
+    /// Changes so many controls from the one that is named on, of a synth or of every synth below a group
+    /// that has it. A synth must have them all, and a name must cover them; below a group a synth's are
+    /// changed as far as that goes.
     fn change(
         &mut self,
         place: usize,
-        which: impl Fn(&Kept) -> Option<(usize, usize)>,
+        first: First,
+        count: usize,
         change: impl Fn(&mut Control),
     ) -> Result<(), Fault> {
         if let Some(synth) = self.tree.synth(place) {
-            let range = which(self.slots.kept(synth.slot));
-            need(
-                range.is_some_and(|(_, end)| end <= synth.controls.len()),
-                21,
-            )?;
+            let Some(covered) = first.lookup(self.slots.kept(synth.slot)) else {
+                return refuse(21);
+            };
+            need(covered.index + count <= synth.controls.len(), 21)?;
+            need(count <= covered.width, 28)?;
         }
         let slots = &self.slots;
         self.tree.each_synth(place, &mut |synth| {
-            if let Some((start, end)) = which(slots.kept(synth.slot)) {
-                let end = end.min(synth.controls.len());
-                if start < end {
-                    synth.controls[start..end].iter_mut().for_each(&change);
+            if let Some(Covered { index, width }) = first.lookup(slots.kept(synth.slot)) {
+                let end = index + count.min(width);
+                if let Some(controls) = synth.controls.get_mut(index..end) {
+                    controls.iter_mut().for_each(&change);
                 }
             }
         });
         Ok(())
     }
 
-    fn change_one(
-        &mut self,
-        place: usize,
-        key: Key,
-        change: impl Fn(&mut Control),
-    ) -> Result<(), Fault> {
-        let start = key.first()?;
-        self.change(place, |kept| start.range(kept, 1), change)
-    }
-
     fn set(&mut self, node: i32, key: Key, value: Value) -> Result<(), Fault> {
         let place = self.find(node)?;
         let own = pattern(value)?;
-        self.change_one(place, key, |control| *control = Control { own, bus: None })
+        let set = |control: &mut Control| *control = Control { own, bus: None };
+        self.change(place, key.first()?, 1, set)
     }
 
     fn fill(&mut self, node: i32, key: Key, count: i32, value: Value) -> Result<(), Fault> {
@@ -348,11 +341,8 @@ impl Engine {
         let Ok(count) = usize::try_from(count) else {
             return refuse(21);
         };
-        self.change(
-            place,
-            |kept| start.range(kept, count),
-            |control| *control = Control { own, bus: None },
-        )
+        let set = |control: &mut Control| *control = Control { own, bus: None };
+        self.change(place, start, count, set)
     }
 
     fn map(&mut self, node: i32, key: Key, bus: i32) -> Result<(), Fault> {
@@ -361,7 +351,7 @@ impl Engine {
             -1 => None,
             _ => Some(bus_index(bus)?),
         };
-        self.change_one(place, key, |control| control.bus = bus)
+        self.change(place, key.first()?, 1, |control| control.bus = bus)
     }
 
     fn fill_buses(&mut self, start: i32, count: i32, value: Value) -> Result<(), Fault> {
@@ -445,15 +435,14 @@ impl<'a> Key<'a> {
 }
 
 impl First<'_> {
-    fn index(self, kept: &Kept) -> Option<usize> {
+    /// Where it stands among a synth's controls, and how far it goes: an index goes up to the last.
+    fn lookup(self, kept: &Kept) -> Option<Covered> {
         match self {
-            First::Index(index) => Some(index),
-            First::Name(name) => kept.index(name),
+            First::Index(index) => Some(Covered {
+                index,
+                width: kept.definition.initial.len().saturating_sub(index),
+            }),
+            First::Name(name) => kept.lookup(name),
         }
-    }
-
-    /// From the first control to before the end of so many.
-    fn range(self, kept: &Kept, count: usize) -> Option<(usize, usize)> {
-        self.index(kept).map(|start| (start, start + count))
     }
 }

@@ -555,10 +555,12 @@ fn fills() {
         count,
         value: Value::Float(7f32.to_bits()),
     };
+    // Each name covers one control.
     desk.done(by_name(0, b"d", 2));
     assert_eq!(values(&desk, 1), [1.0, 5.0, 5.0, 7.0]);
-    assert_eq!(values(&desk, 2), [7.0, 7.0]);
+    assert_eq!(values(&desk, 2), [7.0, 5.0]);
     desk.refused(21, by_name(1, b"d", 2));
+    desk.refused(28, by_name(2, b"d", 2));
     desk.refused(21, by_name(3, b"d", 0));
     desk.done(by_name(0, b"nobody", 2));
     desk.refused(21, by_name(0, b"nobody", -1));

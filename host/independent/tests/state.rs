@@ -10,7 +10,7 @@ use independent::{leave, well_formed, write, Call, Definition, Engine, Random, M
 #[test]
 fn states_are_well_formed_and_read_back() {
     let mut reply = vec![0; 1 << 20];
-    let mut answers = [0; 26];
+    let mut answers = [0; 29];
     for (seed, theme) in (1..=40).zip(Theme::ALL.into_iter().cycle()) {
         let mut engine = Engine::new();
         let (mut words, mut arena) = layout::state(&engine.view());

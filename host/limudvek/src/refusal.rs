@@ -30,6 +30,7 @@ pub fn reason(number: u32) -> &'static str {
         25 => "no generated number is left",
         26 => "this is no OSC message: it is cut or malformed, or bytes are left over",
         27 => "no command has this address, or not with these arguments",
+        28 => "the name covers fewer controls than that",
         34 => "a list has at most 512 commands, and none of them replies",
         _ => "the reason has no words yet",
     }

@@ -125,6 +125,10 @@ pub fn commands(nodes: usize) -> Vec<(&'static str, Vec<Call>)> {
         ),
         ("/n_fill", vec![Call::new(15, [last, 0, 8, 1, 5], b"")]),
         (
+            "/n_fill by name",
+            vec![Call::new(16, [last, 0, 1, 1, 5], b"control6")],
+        ),
+        (
             "/n_fill of the root",
             vec![Call::new(15, [0, 0, 8, 1, 5], b"")],
         ),

@@ -520,8 +520,8 @@ impl Fast {
     ) -> Option<()> {
         let place = self.meant(node)?;
         if self.nodes[place as usize].slot != GROUP {
-            let start = self.start(place, key)?;
-            if start + count > self.controls(place as usize) {
+            let (start, width) = self.covered(place, key)?;
+            if start + count > self.controls(place as usize) || count > width {
                 return None;
             }
             let row = &mut self.rows[place as usize];
@@ -542,8 +542,8 @@ impl Fast {
             child = after;
             if slot == GROUP {
                 self.change(number, key, count, change)?;
-            } else if let Some(start) = self.start(place, key) {
-                let end = (start + count).min(self.controls(place as usize));
+            } else if let Some((start, width)) = self.covered(place, key) {
+                let end = start + count.min(width);
                 let row = &mut self.rows[place as usize];
                 (start..end).for_each(|at| change(row, at));
             }
@@ -551,15 +551,26 @@ impl Fast {
         Some(())
     }
 
-    /// The first control that is meant.
-    fn start(&self, place: u16, key: Key) -> Option<usize> {
+    /// The first control that is meant, and how many there are from it on: of a name up to the next larger
+    /// index that has one.
+    fn covered(&self, place: u16, key: Key) -> Option<(usize, usize)> {
+        let controls = self.controls(place as usize);
         match key {
-            Key::Index(index) => usize::try_from(index).ok(),
+            Key::Index(index) => {
+                let index = usize::try_from(index).ok()?;
+                Some((index, controls.saturating_sub(index)))
+            }
             Key::Name(name) => {
                 let slot = &self.slots[self.nodes[place as usize].slot as usize];
                 let entries = &slot.definition.as_ref()?.parameters;
                 let (_, index) = entries.iter().find(|(entry, _)| entry == name)?;
-                Some(*index as usize)
+                let mut end = controls as i32;
+                for (_, other) in entries {
+                    if (index + 1..end).contains(other) {
+                        end = *other;
+                    }
+                }
+                Some((*index as usize, (end - index) as usize))
             }
         }
     }

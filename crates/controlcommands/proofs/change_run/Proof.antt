@@ -1,30 +1,20 @@
--- `controlcommands::change_run` meets its contract: refusal 21, or the run changed.
-use mathlib.Core.Bool.{Bool}
-use mathlib.Core.Path.{refl, sym, ap, _∙_}
-
+-- `controlcommands::change_run` meets its contract: refusal 21 or 28, or the run changed.
+use mathlib.Core.Path.{_≡_, refl, sym, ap, _∙_}
 use borrow.Author.Needs.{needs}
-use Rattle.words.specs.Choice.{pick}
-use Rattle.refusals.specs.declared.Refusal.the-variants.{NoControl}
-use Rattle.model.specs.declared.Answer.the-variants.{Done, Refused}
-
-
-
+use Rattle.controls.specs.declared.definition.Asked.the-variants.{There, Missing, PastWidth}
 use Rattle.controls.specs.Ready.{ready-known}
-use Rattle.controlcommands.specs.Steps.{run-inside, run-changed}
+use Rattle.controlcommands.specs.Steps.{answerTo, run-inside, run-changed}
 use Rattle.controlcommands.proofs.change_run.Statement.{statement}
 use Rattle.controlcommands.proofs.change_run.Tie as tie
 
-controls-missing-requires : tie.Need-controls-missing-requires
-controls-missing-requires c κs =
+controls-asked-requires : tie.Need-controls-asked-requires
+controls-asked-requires c κs =
     let a = c .before .before .before .before .args in
     let p = c .before .before .before .before .pre in
     (ready-known (a .words .now) (a .arena .now) (p .0), p .1)
 
-same-length : tie.Need-same-length
-same-length c = search needs
-
-returns : tie.Need-returns
-returns c = record { answers = ap (λ (x : Bool). pick x (Refused NoControl) Done) (sym (c .if1 .taken) ∙ c .before .controls-missing .ensures); words = refl }
+enum-told : tie.Need-enum-told
+enum-told c = search needs
 
 slice-read-wide : tie.Need-slice-read-wide
 slice-read-wide c = search needs
@@ -46,26 +36,52 @@ subtree-end-requires c κs = search needs
 
 change-all-requires : tie.Need-change-all-requires
 change-all-requires c κs =
-    let a = c .before .before .before .before .before .before .before .before .before .before .before .before .args in
-    let p = c .before .before .before .before .before .before .before .before .before .before .before .before .pre in
-    (ready-known (a .words .now) (a .arena .now) (p .0), run-inside (a .words .now) (a .at) (c .before .before .before .before .wide .result) (c .before .subtree-end .result) (p .1) (c .before .before .before .before .wide .ensures) (c .before .subtree-end .ensures))
+    let a = c .before .before .before .before .before .before .before .before .before .before .before .before .before .args in
+    let p = c .before .before .before .before .before .before .before .before .before .before .before .before .before .pre in
+    let many = c .before .before .before .before .wide in
+    let end = c .before .subtree-end in
+    (ready-known (a .words .now) (a .arena .now) (p .0), run-inside (a .words .now) (a .at) (many .result) (end .result) (p .1) (many .ensures) (end .ensures))
+
+enum-told-2 : tie.Need-enum-told-2
+enum-told-2 c = search needs
+
+enum-told-3 : tie.Need-enum-told-3
+enum-told-3 c = search needs
+
+same-length : tie.Need-same-length
+same-length c = search needs
+
+returns : tie.Need-returns
+returns c =
+    let a = c .before .before .before .before .before .before .before .before .before .before .before .before .before .before .before .before .args in
+    let many = c .before .before .before .before .before .before .before .wide in
+    let end = c .before .before .before .before .subtree-end in
+    let told : c .before .before .before .before .before .before .before .before .before .before .before .controls-asked .result ≡ There = c .before .before .before .before .before .before .before .before .before .enum-told .given .1 in
+    run-changed (a .change) (a .key) (a .count) (a .bytes .now) (a .at) (a .words .now) (a .arena .now) (many .result) (end .result) (c .before .before .change-all .last .0)
+    (sym told ∙ c .before .before .before .before .before .before .before .before .before .before .before .controls-asked .ensures) (many .ensures) (end .ensures) (c .before .before .change-all .ensures)
 
 same-length-2 : tie.Need-same-length-2
 same-length-2 c = search needs
 
 returns-2 : tie.Need-returns-2
 returns-2 c =
-    let a = c .before .before .before .before .before .before .before .before .before .before .before .before .before .before .before .args in
-    run-changed (a .change) (a .key) (a .count) (a .bytes .now) (a .at) (a .words .now) (a .arena .now) (c .before .before .before .before .before .before .before .wide .result) (c .before .before .before .before .subtree-end .result) (c .before .before .change-all .last .0)
-    (sym (c .before .before .before .before .before .before .before .before .before .before .controls-missing .ensures) ∙ c .before .before .before .before .before .before .before .before .before .if1 .left) (c .before .before .before .before .before .before .before .wide .ensures) (c .before .before .before .before .subtree-end .ensures) (c .before .before .change-all .ensures)
+    let told : c .before .before .controls-asked .result ≡ Missing = c .enum-told2 .given .1 in
+    record { answers = ap answerTo (sym told ∙ c .before .before .controls-asked .ensures); words = refl }
+
+same-length-3 : tie.Need-same-length-3
+same-length-3 c = search needs
+
+returns-3 : tie.Need-returns-3
+returns-3 c =
+    let told : c .before .before .controls-asked .result ≡ PastWidth = c .enum-told3 .given .1 in
+    record { answers = ap answerTo (sym told ∙ c .before .before .controls-asked .ensures); words = refl }
 
 pub change-run-spec : {M : Type 1} → statement M
 change-run-spec =
     tie.close
     (tie.spec
-    controls-missing-requires
-    same-length
-    returns
+    controls-asked-requires
+    enum-told
     slice-read-wide
     wide-requires
     sub-subtree-end
@@ -73,5 +89,11 @@ change-run-spec =
     part-subtree-end-end
     subtree-end-requires
     change-all-requires
+    enum-told-2
+    enum-told-3
+    same-length
+    returns
     same-length-2
-    returns-2)
+    returns-2
+    same-length-3
+    returns-3)

@@ -29,7 +29,7 @@ same-length c = search needs
 returns : tie.Need-returns
 returns c =
     let a = c .before .before .before .before .before .before .before .before .args in
-    no-node (a .node) (a .words .now) (a .arena .now) (c .before .before .before .node-place .result) (c .before .before .before .node-place .ensures) (controls.Fill (a .node) (a .key) (a .count) (a .value)) (a .bytes .now) _ _ _
+    no-node (a .node) (a .words .now) (a .arena .now) (c .before .before .before .node-place .result) (c .before .before .before .node-place .ensures) (controls.Fill (a .node) (a .key) (a .count) (a .value)) (a .bytes .now) _ _ _ _
     (fill-row (a .node) (a .key) (a .bytes .now) (a .words .now) (a .arena .now) (a .count) (a .value)) (omega arith)
 
 value-pattern-requires : tie.Need-value-pattern-requires
@@ -59,7 +59,7 @@ same-length-3 c = search needs
 returns-3 : tie.Need-returns-3
 returns-3 c =
     let a = c .before .before .before .before .before .before .before .before .before .before .before .args in
-    second (a .node) (a .words .now) (a .arena .now) (c .before .before .before .before .before .before .node-place .result) (c .before .before .before .before .before .before .node-place .ensures) (omega arith) (controls.Fill (a .node) (a .key) (a .count) (a .value)) (a .bytes .now) _ _ _
+    second (a .node) (a .words .now) (a .arena .now) (c .before .before .before .before .before .before .node-place .result) (c .before .before .before .before .before .before .node-place .ensures) (omega arith) (controls.Fill (a .node) (a .key) (a .count) (a .value)) (a .bytes .now) _ _ _ _
     (fill-row (a .node) (a .key) (a .bytes .now) (a .words .now) (a .arena .now) (a .count) (a .value)) (ap not (bounds-fact (a .value) (sym (c .before .before .value-pattern .ensures) ∙ c .enum-told .given .1)))
 
 pub fill-controls-spec : {M : Type 1} → statement M

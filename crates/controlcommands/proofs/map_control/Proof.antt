@@ -29,7 +29,7 @@ same-length c = search needs
 returns : tie.Need-returns
 returns c =
     let a = c .before .before .before .before .before .before .before .before .args in
-    no-node (a .node) (a .words .now) (a .arena .now) (c .before .before .before .node-place .result) (c .before .before .before .node-place .ensures) (controls.Map (a .node) (a .key) (a .bus)) (a .bytes .now) _ _ _
+    no-node (a .node) (a .words .now) (a .arena .now) (c .before .before .before .node-place .result) (c .before .before .before .node-place .ensures) (controls.Map (a .node) (a .key) (a .bus)) (a .bytes .now) _ _ _ _
     (map-row (a .node) (a .key) (a .bytes .now) (a .words .now) (a .arena .now) (a .bus)) (omega arith)
 
 can-map-requires : tie.Need-can-map-requires
@@ -41,7 +41,7 @@ same-length-2 c = search needs
 returns-2 : tie.Need-returns-2
 returns-2 c =
     let a = c .before .before .before .before .before .before .before .before .before .before .args in
-    second (a .node) (a .words .now) (a .arena .now) (c .before .before .before .before .before .node-place .result) (c .before .before .before .before .before .node-place .ensures) (omega arith) (controls.Map (a .node) (a .key) (a .bus)) (a .bytes .now) _ _ _
+    second (a .node) (a .words .now) (a .arena .now) (c .before .before .before .before .before .node-place .result) (c .before .before .before .before .before .node-place .ensures) (omega arith) (controls.Map (a .node) (a .key) (a .bus)) (a .bytes .now) _ _ _ _
     (map-row (a .node) (a .key) (a .bytes .now) (a .words .now) (a .arena .now) (a .bus)) (ap not (sym (c .before .can-map .ensures)) ∙ c .if2 .taken)
 
 mapping-to-requires : tie.Need-mapping-to-requires

@@ -79,6 +79,13 @@ impl Desk {
         float(&self.reply(21, [node, index, 0, 0, 0], b""))
     }
 
+    /// What a synth's first controls read.
+    pub fn read_all(&mut self, node: i32, controls: usize) -> Vec<u32> {
+        (0..controls as i32)
+            .map(|index| self.read(node, index))
+            .collect()
+    }
+
     /// What a control of a synth reads, by its name.
     pub fn read_named(&mut self, node: i32, name: &str) -> u32 {
         float(&self.reply(22, [node, 0, 0, 0, 0], name.as_bytes()))

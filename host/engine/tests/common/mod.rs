@@ -6,6 +6,7 @@ pub mod desk;
 pub mod lent;
 pub mod osc;
 pub mod pair;
+pub mod shapes;
 pub mod shuffle;
 pub mod tally;
 

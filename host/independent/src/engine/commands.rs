@@ -1,5 +1,6 @@
 //! Random commands, most of them plausible for the engine that they are meant for.
 
+use super::slots::Covered;
 use super::tree::{Kind, ROOT};
 use super::{Engine, BUSES, MOST_NODES};
 use crate::{write_as, Call, Definition, Random, Shape, Version, MOST_BYTES};
@@ -76,7 +77,7 @@ impl Theme {
         // 0, definitions, new, free, moves, run, set, fill, map, buses, get, the other queries
         match self {
             Theme::Mixed => [
-                1, 6, 3, 16, 8, 4, 1, 1, 4, 4, 4, 4, 6, 4, 4, 3, 3, 4, 4, 3, 3, 3, 3, 3, 5, 4, 2, 2,
+                1, 6, 3, 16, 8, 4, 1, 1, 4, 4, 4, 4, 6, 4, 4, 3, 6, 4, 4, 3, 3, 3, 3, 3, 5, 4, 2, 2,
             ],
             Theme::Crowd => [
                 1, 1, 0, 40, 14, 2, 0, 0, 6, 6, 6, 6, 6, 1, 1, 1, 1, 1, 1, 1, 1, 1, 1, 1, 6, 2, 2,
@@ -87,11 +88,11 @@ impl Theme {
                 2, 1,
             ],
             Theme::Library => [
-                1, 24, 12, 24, 3, 10, 1, 1, 1, 1, 1, 1, 1, 1, 6, 1, 4, 1, 4, 1, 1, 1, 3, 1, 1, 3,
+                1, 24, 12, 24, 3, 10, 1, 1, 1, 1, 1, 1, 1, 1, 6, 1, 8, 1, 4, 1, 1, 1, 3, 1, 1, 3,
                 4, 6,
             ],
             Theme::Controls => [
-                1, 3, 2, 8, 3, 2, 0, 0, 1, 1, 1, 1, 2, 12, 12, 12, 12, 12, 12, 10, 10, 8, 8, 8, 1,
+                1, 3, 2, 8, 3, 2, 0, 0, 1, 1, 1, 1, 2, 12, 12, 12, 24, 12, 12, 10, 10, 8, 8, 8, 1,
                 6, 1, 1,
             ],
         }
@@ -219,10 +220,12 @@ impl Commands {
                     14 | 16 | 18 | 22 => call.bytes = self.control_name(slot, engine),
                     _ => numbers[1] = self.index(slot, engine),
                 }
-                match op {
-                    15 | 16 => numbers[2] = self.count(),
-                    _ => numbers[2] = self.bus(true),
-                }
+                let kept = slot.map(|slot| engine.slots.kept(slot));
+                numbers[2] = match op {
+                    15 => self.count(None),
+                    16 => self.count(kept.and_then(|kept| kept.lookup(&call.bytes))),
+                    _ => self.bus(true),
+                };
                 (numbers[3], numbers[4]) = self.value();
             }
             19 | 20 | 23 => {
@@ -231,7 +234,7 @@ impl Commands {
                     let room = BUSES as i32 - numbers[0].clamp(0, BUSES as i32);
                     numbers[2] = self.random.up_to(room as usize + 1) as i32;
                 } else if op == 20 {
-                    numbers[2] = self.count();
+                    numbers[2] = self.count(None);
                 }
                 (numbers[3], numbers[4]) = self.value();
             }
@@ -349,11 +352,13 @@ impl Commands {
         }
     }
 
-    fn count(&mut self) -> i32 {
-        match self.random.below(20) {
-            0..=3 => 0,
-            4..=15 => self.random.below(6) as i32,
-            16..=17 => self.random.one_of(&[31, 32, 33]),
+    /// How many controls or buses. For a name mostly about as many as it covers.
+    fn count(&mut self, covered: Option<Covered>) -> i32 {
+        match (self.random.below(20), covered) {
+            (0..=15, Some(covered)) => (covered.width + self.random.below(4)) as i32 - 1,
+            (0..=3, _) => 0,
+            (4..=15, _) => self.random.below(6) as i32,
+            (16..=17, _) => self.random.one_of(&[31, 32, 33]),
             _ => self.any(),
         }
     }
@@ -416,7 +421,7 @@ impl Commands {
             0 => self.random.one_of(&Shape::ALL),
             1 => Shape::EMPTY,
             _ => Shape {
-                initial: 7,
+                initial: 10,
                 parameters: 9,
                 ..Shape::SMALL
             },

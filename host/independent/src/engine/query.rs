@@ -16,8 +16,8 @@ impl Engine {
         let Some(synth) = self.tree.synth(place) else {
             return refuse(18);
         };
-        let index = key.first()?.index(self.slots.kept(synth.slot));
-        let Some(&control) = index.and_then(|index| synth.controls.get(index)) else {
+        let covered = key.first()?.lookup(self.slots.kept(synth.slot));
+        let Some(&control) = covered.and_then(|covered| synth.controls.get(covered.index)) else {
             return refuse(21);
         };
         let mut message = Message::new();

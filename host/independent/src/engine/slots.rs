@@ -16,6 +16,13 @@ pub struct Kept {
     entries: Vec<Option<usize>>,
 }
 
+/// The controls that a name covers: from an index on, so many.
+#[derive(Clone, Copy, Debug, PartialEq, Eq)]
+pub struct Covered {
+    pub index: usize,
+    pub width: usize,
+}
+
 impl Kept {
     pub fn new(definition: Definition, bytes: Vec<u8>) -> Kept {
         let mut entries = vec![None; definition.initial.len()];
@@ -29,11 +36,17 @@ impl Kept {
         }
     }
 
-    /// What a control's name means: its first entry.
-    pub fn index(&self, name: &[u8]) -> Option<usize> {
-        let mut entries = self.definition.parameters.iter();
-        let (_, index) = entries.find(|(entry, _)| entry == name)?;
-        Some(*index as usize)
+    /// What a control's name means: its first entry, and the controls from there up to the next larger
+    /// index that has a name, whichever, else up to the last.
+    pub fn lookup(&self, name: &[u8]) -> Option<Covered> {
+        let named = &self.definition.parameters;
+        let (_, index) = named.iter().find(|(entry, _)| entry == name)?;
+        let index = *index as usize;
+        let next = (index + 1..self.entries.len()).find(|&next| self.entries[next].is_some());
+        Some(Covered {
+            index,
+            width: next.unwrap_or(self.entries.len()) - index,
+        })
     }
 
     /// A control's first name.

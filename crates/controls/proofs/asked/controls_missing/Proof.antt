@@ -1,80 +1,59 @@
-use Prim.Native.Nat.{ℕ}
-use mathlib.Core.Bool.{true, false, not}
 use mathlib.Core.Path.{_≡_, sym, ap, _∙_}
-use mathlib.Core.List.{List}
-use native.Mathlib.Omega.{arith}
+use Rattle.model.specs.Engine.{decode}
+use Rattle.controls.specs.declared.definition.Asked.the-variants.{There, Missing, PastWidth}
+use Rattle.controls.specs.Ready.{nodeIn}
+use Rattle.controls.specs.Asked.{controlsMissing, controlsPast, isMissing, missing-asked}
 use borrow.Author.Needs.{needs}
-use borrow.Author.Tests.{le-leb, lt-leb}
-use Rattle.nodes.specs.Place.{isGroup}
-use Rattle.model.specs.Engine.{decode, definitionOf}
-use Rattle.model.specs.Meaning.{isNegative, negativeKey, startOf, hasControls}
-use Rattle.controls.specs.Encoded.{frontOnly}
-use Rattle.controls.specs.Ready.{nodeIn, synth-ready, synth-readable}
-use Rattle.controls.specs.Asked.{synth-has}
 use Rattle.controls.proofs.asked.controls_missing.Statement.{statement}
 use Rattle.controls.proofs.asked.controls_missing.Tie as tie
 
-negative-key-requires : tie.Need-negative-key-requires
-negative-key-requires c κs = search needs
+controls-asked-requires : tie.Need-controls-asked-requires
+controls-asked-requires c κs = search needs
+
+enum-told : tie.Need-enum-told
+enum-told c = search needs
+
+enum-told-2 : tie.Need-enum-told-2
+enum-told-2 c = search needs
+
+enum-told-3 : tie.Need-enum-told-3
+enum-told-3 c = search needs
 
 returns : tie.Need-returns
-returns c = search needs
+returns c =
+    let a = c .before .before .before .before .before .before .args in
+    let slots = decode (a .words .now) (a .arena .now) .slots in
+    let r = nodeIn (a .words .now) (a .place) in
+    let told : c .before .before .controls-asked .result ≡ Missing = cc in
+    ap isMissing (sym told ∙ c .before .before .controls-asked .ensures)
+    ∙ missing-asked (controlsMissing (a .key) (a .count) (a .name .now) slots r) (controlsPast (a .key) (a .count) (a .name .now) slots r)
 
 returns-2 : tie.Need-returns-2
 returns-2 c =
     let a = c .before .before .before .before .before .before .args in
-    let key : negativeKey (a .key) ≡ false = sym (c .before .before .negative-key .ensures) ∙ c .before .if1 .left in
-    let count : isNegative (a .count) ≡ true = le-leb 2147483648 (a .count) (c .if2 .taken) in
-    rw (key, count)
-
-node-is-group-requires : tie.Need-node-is-group-requires
-node-is-group-requires c κs = search needs
+    let slots = decode (a .words .now) (a .arena .now) .slots in
+    let r = nodeIn (a .words .now) (a .place) in
+    let told : c .before .before .controls-asked .result ≡ There = cc in
+    ap isMissing (sym told ∙ c .before .before .controls-asked .ensures)
+    ∙ missing-asked (controlsMissing (a .key) (a .count) (a .name .now) slots r) (controlsPast (a .key) (a .count) (a .name .now) slots r)
 
 returns-3 : tie.Need-returns-3
 returns-3 c =
-    let a = c .before .before .before .before .before .before .before .before .args in
-    let key : negativeKey (a .key) ≡ false = sym (c .before .before .before .before .negative-key .ensures) ∙ c .before .before .before .if1 .left in
-    let count : isNegative (a .count) ≡ false = lt-leb 2147483648 (a .count) (omega arith) in
-    let group : isGroup (nodeIn (a .words .now) (a .place)) ≡ true = sym (c .before .node-is-group .ensures) ∙ c .if3 .taken in
-    rw (key, count, group)
-
-node-definition-requires : tie.Need-node-definition-requires
-node-definition-requires c κs =
-    let a = c .before .before .before .before .before .before .before .before .args in
-    let p = c .before .before .before .before .before .before .before .before .pre in
-    let single : isGroup (nodeIn (a .words .now) (a .place)) ≡ false = sym (c .before .node-is-group .ensures) ∙ c .if3 .left in
-    (p .0 .size, omega (arith, p .0 .few, p .1), synth-ready (a .words .now) (a .arena .now) (p .0) (a .place) (p .1) single .slot)
-
-has-controls-requires : tie.Need-has-controls-requires
-has-controls-requires c κs =
-    let a = c .before .before .before .before .before .before .before .before .before .args in
-    let p = c .before .before .before .before .before .before .before .before .before .pre in
-    let single : isGroup (nodeIn (a .words .now) (a .place)) ≡ false = sym (c .before .before .node-is-group .ensures) ∙ c .before .if3 .left in
-    synth-readable (a .words .now) (a .arena .now) (p .0) (a .place) (p .1) single (c .node-definition .ensures)
-
-returns-4 : tie.Need-returns-4
-returns-4 c =
-    let a = c .before .before .before .before .before .before .before .before .before .before .args in
-    let p = c .before .before .before .before .before .before .before .before .before .before .pre in
-    let ws = a .words .now in
-    let key : negativeKey (a .key) ≡ false = sym (c .before .before .before .before .before .before .negative-key .ensures) ∙ c .before .before .before .before .before .if1 .left in
-    let count : isNegative (a .count) ≡ false = lt-leb 2147483648 (a .count) (omega arith) in
-    let single : isGroup (nodeIn ws (a .place)) ≡ false = sym (c .before .before .before .node-is-group .ensures) ∙ c .before .before .if3 .left in
-    let has : c .has-controls .result ≡ hasControls (startOf (a .key) (a .name .now) (definitionOf (decode ws (a .arena .now) .slots) (nodeIn ws (a .place)))) (a .count) (definitionOf (decode ws (a .arena .now) .slots) (nodeIn ws (a .place))) =
-    c .has-controls .ensures
-    ∙ ap (λ (s : List ℕ). hasControls (startOf (a .key) (a .name .now) (frontOnly s)) (a .count) (frontOnly s)) (c .before .node-definition .ensures)
-    ∙ sym (synth-has ws (a .arena .now) (p .0) (a .place) (p .1) single (a .key) (a .name .now) (a .count)) in
-    ap not has ∙ sym (rw (key, count, single))
+    let a = c .before .before .before .before .before .before .args in
+    let slots = decode (a .words .now) (a .arena .now) .slots in
+    let r = nodeIn (a .words .now) (a .place) in
+    let told : c .before .before .controls-asked .result ≡ PastWidth = cc in
+    ap isMissing (sym told ∙ c .before .before .controls-asked .ensures)
+    ∙ missing-asked (controlsMissing (a .key) (a .count) (a .name .now) slots r) (controlsPast (a .key) (a .count) (a .name .now) slots r)
 
 pub controls-missing-spec : {M : Type 1} → statement M
 controls-missing-spec =
     tie.close
     (tie.spec
-    negative-key-requires
+    controls-asked-requires
+    enum-told
+    enum-told-2
+    enum-told-3
     returns
     returns-2
-    node-is-group-requires
-    returns-3
-    node-definition-requires
-    has-controls-requires
-    returns-4)
+    returns-3)

@@ -1,19 +1,16 @@
-use Prim.Native.Nat.{ℕ}
-use mathlib.Core.Path.{_≡_, sym, ap, _∙_}
+use Prim.Native.Nat.{ℕ, _<_}
+use mathlib.Core.Path.{sym, ap, _∙_}
 use mathlib.Core.List.{List}
 use native.Mathlib.Omega.{arith}
-use borrow.Author.Needs.{needs}
-use lib.ListN.{length}
-use mathlib.Core.Option.{none, some}
-use Rattle.readable.specs.declared.found.Found.the-variants as found
+use borrow.Author.Tests.{not-true, not-false}
 use Rattle.values.specs.Controls.{shownBy}
 use Rattle.model.specs.Layout.{controlsIn, busesIn}
-use Rattle.model.specs.Meaning.{startOf}
-use Rattle.readable.specs.Lookup.{foundAt}
-use Rattle.slots.specs.Slots.{slotBytes}
-use Rattle.controls.specs.Encoded.{frontIn, frontOnly, values-few}
-use Rattle.controls.specs.Ready.{nodeIn, synth-ready, synth-readable}
+use Rattle.model.specs.Meaning.{coverOf}
+use Rattle.controls.specs.Encoded.{frontOnly}
+use Rattle.controls.specs.Ready.{synth-ready, synth-readable}
+use Rattle.controls.specs.Cover.{cover-inside}
 use Rattle.controls.specs.Asked.{controlIn, read-none, read-past, read-there}
+use borrow.Author.Needs.{needs}
 use Rattle.controls.proofs.asked.read_key.Statement.{statement}
 use Rattle.controls.proofs.asked.read_key.Tie as tie
 
@@ -23,91 +20,59 @@ node-definition-requires c κs =
     let p = c .before .before .before .pre in
     (p .0 .size, omega (arith, p .0 .few, p .1), synth-ready (a .words .now) (a .arena .now) (p .0) (a .place) (p .1) (p .2) .slot)
 
-control-start-requires : tie.Need-control-start-requires
-control-start-requires c κs =
+key-cover-requires : tie.Need-key-cover-requires
+key-cover-requires c κs =
     let a = c .before .before .before .before .args in
     let p = c .before .before .before .before .pre in
     synth-readable (a .words .now) (a .arena .now) (p .0) (a .place) (p .1) (p .2) (c .node-definition .ensures)
 
-enum-known-start : tie.Need-enum-known-start
-enum-known-start c = search needs
-
-parameter-count-requires : tie.Need-parameter-count-requires
-parameter-count-requires c κs =
-    let a = c .before .before .before .before .before .before .before .before .args in
-    let p = c .before .before .before .before .before .before .before .before .pre in
-    synth-readable (a .words .now) (a .arena .now) (p .0) (a .place) (p .1) (p .2) (c .before .before .before .before .node-definition .ensures)
-
 returns : tie.Need-returns
 returns c =
-    let a = c .before .before .before .before .before .before .before .before .before .before .args in
-    let p = c .before .before .before .before .before .before .before .before .before .before .pre in
-    let ws = a .words .now in
-    let s = slotBytes ws (a .arena .now) (nodeIn ws (a .place) .slot) in
-    let start = c .before .before .before .start .given .0 .0 in
-    let bytes = c .before .before .before .before .before .before .node-definition .ensures in
-    let at : startOf (a .key) (a .name .now) (frontOnly s) ≡ some start =
-    ap (λ (l : List ℕ). startOf (a .key) (a .name .now) (frontOnly l)) (sym bytes)
-    ∙ sym (c .before .before .before .before .before .control-start .ensures)
-    ∙ ap foundAt (c .before .before .before .start .given .1) in
-    let many : c .before .parameter-count .result ≡ length (frontIn s .values) = c .before .parameter-count .ensures ∙ ap (λ (l : List ℕ). length (frontIn l .values)) bytes in
-    sym (read-past ws (a .arena .now) (p .0) (a .place) (p .1) (p .2) (a .key) (a .name .now) start at (omega (arith, many, c .if1 .taken)))
+    let a = c .before .before .before .before .before .before .before .args in
+    let p = c .before .before .before .before .before .before .before .pre in
+    let k = c .before .before .key-cover in
+    let said = k .ensures ∙ ap (λ (s : List ℕ). coverOf (a .key) (a .name .now) (frontOnly s)) (c .before .before .before .node-definition .ensures) in
+    sym (read-none (a .words .now) (a .arena .now) (p .0) (a .place) (p .1) (p .2) (a .key) (a .name .now) (k .result) said (not-true (k .result .found) (c .if1 .taken)))
+
+returns-2 : tie.Need-returns-2
+returns-2 c =
+    let a = c .before .before .before .before .before .before .before .before .before .args in
+    let p = c .before .before .before .before .before .before .before .before .before .pre in
+    let k = c .before .before .before .before .key-cover in
+    let said = k .ensures ∙ ap (λ (s : List ℕ). coverOf (a .key) (a .name .now) (frontOnly s)) (c .before .before .before .before .before .node-definition .ensures) in
+    sym (read-past (a .words .now) (a .arena .now) (p .0) (a .place) (p .1) (p .2) (a .key) (a .name .now) (k .result) said (not-false (k .result .found) (c .before .before .if1 .left)) (c .if2 .taken))
 
 node-row-requires : tie.Need-node-row-requires
 node-row-requires c κs = search needs
 
 read-control-requires : tie.Need-read-control-requires
 read-control-requires c κs =
-    let a = c .before .before .before .before .before .before .before .before .before .before .before .args in
-    let p = c .before .before .before .before .before .before .before .before .before .before .before .pre in
-    let few = values-few (c .before .before .before .before .before .before .before .node-definition .result .now) in
+    let a = c .before .before .before .before .before .before .before .before .before .before .args in
+    let p = c .before .before .before .before .before .before .before .before .before .before .pre in
+    let k = c .before .before .before .before .before .key-cover in
     let row = synth-ready (a .words .now) (a .arena .now) (p .0) (a .place) (p .1) (p .2) .row in
-    (p .0 .size, rw (c .node-row .ensures) row, omega (arith, few, c .before .before .parameter-count .ensures, c .before .if1 .left))
-
-enum-told : tie.Need-enum-told
-enum-told c = search needs
-
-returns-2 : tie.Need-returns-2
-returns-2 c =
-    let a = c .before .before .before .before .before .before .before .before .before .before .before .before .args in
-    let p = c .before .before .before .before .before .before .before .before .before .before .before .before .pre in
-    let ws = a .words .now in
-    let s = slotBytes ws (a .arena .now) (nodeIn ws (a .place) .slot) in
-    let start = c .before .before .before .before .before .start .given .0 .0 in
-    let bytes = c .before .before .before .before .before .before .before .before .node-definition .ensures in
-    let at : startOf (a .key) (a .name .now) (frontOnly s) ≡ some start =
-    ap (λ (l : List ℕ). startOf (a .key) (a .name .now) (frontOnly l)) (sym bytes)
-    ∙ sym (c .before .before .before .before .before .before .before .control-start .ensures)
-    ∙ ap foundAt (c .before .before .before .before .before .start .given .1) in
-    let many : c .before .before .before .parameter-count .result ≡ length (frontIn s .values) =
-    c .before .before .before .parameter-count .ensures ∙ ap (λ (l : List ℕ). length (frontIn l .values)) bytes in
-    c .read-control .ensures
-    ∙ ap (λ (row : ℕ). shownBy (busesIn ws) (controlIn (controlsIn ws) row start)) (c .before .node-row .ensures)
-    ∙ sym (read-there ws (a .arena .now) (p .0) (a .place) (p .1) (p .2) (a .key) (a .name .now) start at (omega (arith, many, c .before .before .if1 .left)))
+    let covered : 0 < k .result .width = omega (arith, c .before .if2 .left) in
+    let inside = cover-inside (a .key) (a .name .now) (c .before .before .before .before .before .before .node-definition .result .now) (k .result) (k .ensures) (not-false (k .result .found) (c .before .before .before .if1 .left)) covered in
+    (p .0 .size, rw (c .node-row .ensures) row, omega (arith, inside, covered))
 
 returns-3 : tie.Need-returns-3
 returns-3 c =
-    let a = c .before .before .before .before .before .before .before .args in
-    let p = c .before .before .before .before .before .before .before .pre in
-    let ws = a .words .now in
-    let s = slotBytes ws (a .arena .now) (nodeIn ws (a .place) .slot) in
-    let bytes = c .before .before .before .node-definition .ensures in
-    let nothing : c .before .before .control-start .result ≡ found.Nothing = cc in
-    let none-there : startOf (a .key) (a .name .now) (frontOnly s) ≡ none =
-    ap (λ (l : List ℕ). startOf (a .key) (a .name .now) (frontOnly l)) (sym bytes) ∙ sym (c .before .before .control-start .ensures) ∙ ap foundAt nothing in
-    sym (read-none ws (a .arena .now) (p .0) (a .place) (p .1) (p .2) (a .key) (a .name .now) none-there)
+    let a = c .before .before .before .before .before .before .before .before .before .before .before .args in
+    let p = c .before .before .before .before .before .before .before .before .before .before .before .pre in
+    let k = c .before .before .before .before .before .before .key-cover in
+    let said = k .ensures ∙ ap (λ (s : List ℕ). coverOf (a .key) (a .name .now) (frontOnly s)) (c .before .before .before .before .before .before .before .node-definition .ensures) in
+    c .read-control .ensures
+    ∙ ap (λ (row : ℕ). shownBy (busesIn (a .words .now)) (controlIn (controlsIn (a .words .now)) row (k .result .index))) (c .before .node-row .ensures)
+    ∙ sym (read-there (a .words .now) (a .arena .now) (p .0) (a .place) (p .1) (p .2) (a .key) (a .name .now) (k .result) said (not-false (k .result .found) (c .before .before .before .before .if1 .left)) (omega (arith, c .before .before .if2 .left)))
 
 pub read-key-spec : {M : Type 1} → statement M
 read-key-spec =
     tie.close
     (tie.spec
     node-definition-requires
-    control-start-requires
-    enum-known-start
-    parameter-count-requires
+    key-cover-requires
     returns
+    returns-2
     node-row-requires
     read-control-requires
-    enum-told
-    returns-2
     returns-3)

@@ -1,4 +1,4 @@
-use Prim.Native.Nat.{ℕ, suc, _+_, _*_, _-_, _≤_, min}
+use Prim.Native.Nat.{ℕ, suc, _+_, _*_, _-_, _≤_}
 use mathlib.Core.Path.{_≡_, refl, sym, ap, ap₂, _∙_}
 use native.Mathlib.Omega.{arith}
 use borrow.Author.Needs.{needs}
@@ -9,22 +9,12 @@ use Rattle.controls.proofs.control.change_row.Statement.{statement}
 use Rattle.controls.proofs.control.change_row.Tie as tie
 
 abbrev Inv-loop : tie.InvT-loop
-Inv-loop controls₀ row start count p change many at₀ i₀ controls at i =
+Inv-loop controls₀ row start many change at₀ i₀ controls at i =
     (i ≤ many) × (at ≡ 64 * row + 2 * start + 2 * i) × (length controls ≡ length controls₀)
-    × (changeFromPlace (changeOf change) at (many - i) controls ≡ changeRow (changeOf change) row start count p controls₀)
+    × (changeFromPlace (changeOf change) at (many - i) controls ≡ changeRow (changeOf change) row start many controls₀)
 
 abbrev μ-loop : tie.MeasureT-loop
-μ-loop controls₀ row start count p change many at₀ i₀ controls at i = many - i
-
-reached-requires : tie.Need-reached-requires Inv-loop μ-loop
-reached-requires c κs = tt
-
-returns : tie.Need-returns Inv-loop μ-loop
-returns c =
-    let a = c .before .before .before .args in
-    let none : min (a .count) (a .p - a .start) ≡ 0 = omega arith in
-    sym (ap (λ (n : ℕ). changeFromPlace (changeOf (a .change)) (64 * a .row + 2 * a .start) n (a .controls .now)) none
-    ∙ change-none (changeOf (a .change)) (a .controls .now) (64 * a .row + 2 * a .start))
+μ-loop controls₀ row start many change at₀ i₀ controls at i = many - i
 
 wide-requires : tie.Need-wide-requires Inv-loop μ-loop
 wide-requires c κs = tt
@@ -43,9 +33,9 @@ add-at c = omega arith
 
 loop-holds : tie.Need-loop-holds Inv-loop μ-loop
 loop-holds c =
-    let a = c .before .before .before .before .before .args in
+    let a = c .before .before .before .args in
     let place : 64 * c .before .wide .result + 2 * c .wide2 .result ≡ 64 * a .row + 2 * a .start = omega arith in
-    let all : c .before .before .before .reached .result - 0 ≡ min (a .count) (a .p - a .start) = omega arith in (
+    let all : a .many - 0 ≡ a .many = omega arith in (
       omega arith,
       omega arith,
       refl,
@@ -66,9 +56,9 @@ loop-less c = omega arith
 
 loop-again : tie.Need-loop-again Inv-loop μ-loop
 loop-again c =
-    let a = c .before .before .before .before .before .before .before .before .before .before .before .args in
+    let a = c .before .before .before .before .before .before .before .before .before .args in
     let l = c .before .before .before .before .before .loop in
-    let m = c .before .before .before .before .before .before .before .before .before .reached .result in
+    let m = a .many in
     let f = changeOf (a .change) in
     let fact : c .before .before .change-one .last .0 ≡ changedAt f (l .at) (l .controls) = c .before .before .change-one .ensures in
     let room : l .at + 2 ≤ length (l .controls) = omega arith in
@@ -85,11 +75,11 @@ loop-again c =
 same-length : tie.Need-same-length Inv-loop μ-loop
 same-length c = search needs
 
-returns-2 : tie.Need-returns-2 Inv-loop μ-loop
-returns-2 c =
-    let a = c .before .before .before .before .before .before .before .args in
+returns : tie.Need-returns Inv-loop μ-loop
+returns c =
+    let a = c .before .before .before .before .before .args in
     let l = c .before .loop in
-    let done : c .before .before .before .before .before .reached .result - l .i ≡ 0 = omega arith in
+    let done : a .many - l .i ≡ 0 = omega arith in
     sym (change-none (changeOf (a .change)) (l .controls) (l .at))
     ∙ ap (λ (n : ℕ). changeFromPlace (changeOf (a .change)) (l .at) n (l .controls)) (sym done)
     ∙ l .inv .3
@@ -100,8 +90,6 @@ change-row-spec =
     (tie.spec
     Inv-loop
     μ-loop
-    reached-requires
-    returns
     wide-requires
     mul-at
     wide-requires-2
@@ -114,4 +102,4 @@ change-row-spec =
     loop-less
     loop-again
     same-length
-    returns-2)
+    returns)

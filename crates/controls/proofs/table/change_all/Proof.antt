@@ -1,4 +1,5 @@
 use mathlib.Core.Logic.{⊎-elim}
+use mathlib.Core.Bool.{false}
 use Prim.Native.Nat.{ℕ, _-_, _<_}
 use mathlib.Core.Path.{_≡_, refl, sym, ap, _∙_}
 use mathlib.Core.List.{List}
@@ -10,30 +11,32 @@ use Rattle.model.specs.Layout.{wordsLength, countIn, nodesIn, controlsIn, putCo
 use Rattle.model.specs.Engine.{decode}
 use Rattle.model.specs.Effects.{changeAll}
 use Rattle.controls.specs.Change.{changeOf}
+use Rattle.model.specs.Meaning.{coverOf}
+use Rattle.controls.specs.Encoded.{frontOnly}
 use Rattle.controls.specs.Synth.{same-controls}
-use Rattle.controls.specs.All.{synth-lent, reach-change, no-change, turned, all-none}
+use Rattle.controls.specs.All.{synth-lent, cover-change, no-change, turned, all-none}
 use Rattle.slots.specs.Slots.{slotBytes}
 use Rattle.controls.specs.Ready.{nodeIn}
 use Rattle.controls.specs.Noted.{noted-none, noted-more}
-use Rattle.controls.specs.Reach.{reachIn, reach-few, Reached, noReach}
+use Rattle.controls.specs.Cover.{coverOn, cover-inside, CoversNoted, noCover}
 use Rattle.controls.proofs.table.change_all.Statement.{statement}
 use Rattle.controls.proofs.table.change_all.Tie as tie
 
 abbrev Inv-loop : tie.InvT-loop
-Inv-loop words₀ arena from to key name count change reaches₀ i₀ words reaches i =
+Inv-loop words₀ arena from to key name count change covers₀ i₀ words covers i =
     (length words ≡ wordsLength) × (words ≡ putControls (controlsIn words) words₀)
     × (changeAll (changeOf change) key name count (decode words₀ arena .slots) (take (to - i) (drop i (nodesIn words₀))) (controlsIn words)
     ≡ changeAll (changeOf change) key name count (decode words₀ arena .slots) (take (to - from) (drop from (nodesIn words₀))) (controlsIn words₀))
-    × Reached key name words₀ arena reaches
+    × CoversNoted key name words₀ arena covers
 
 abbrev μ-loop : tie.MeasureT-loop
-μ-loop words₀ arena from to key name count change reaches₀ i₀ words reaches i = to - i
+μ-loop words₀ arena from to key name count change covers₀ i₀ words covers i = to - i
 
 loop-holds : tie.Need-loop-holds Inv-loop μ-loop
 loop-holds c =
     let s = c .before .before .before in
     let a = s .args in
-    (s .pre .0 .size, sym (same-controls (a .words .now)), refl, noted-none _ _ noReach refl)
+    (s .pre .0 .size, sym (same-controls (a .words .now)), refl, noted-none _ _ noCover refl)
 
 node-is-group-requires : tie.Need-node-is-group-requires Inv-loop μ-loop
 node-is-group-requires c κs =
@@ -47,8 +50,8 @@ node-slot-requires c κs =
     let l = c .before .before .before .before .before .loop in
     (l .inv .0, omega (arith, s .pre .1, s .pre .0 .few))
 
-mul-slot-reach : tie.Need-mul-slot-reach Inv-loop μ-loop
-mul-slot-reach c =
+mul-slot-cover : tie.Need-mul-slot-cover Inv-loop μ-loop
+mul-slot-cover c =
     let s = c .before .before .before .before .before .before .before .before .before .before .before in
     let a = s .args in
     let l = c .before .before .before .before .before .before .before .loop in
@@ -56,8 +59,8 @@ mul-slot-reach c =
     let w = synth-lent (a .words .now) (a .arena .now) (l .words) (l .i) (s .pre .0) (l .inv .0) (l .inv .1) (omega (arith, s .pre .1)) single in
     omega (arith, w .slot, c .before .node-slot .ensures)
 
-array-copy-out-slot-reach : tie.Need-array-copy-out-slot-reach Inv-loop μ-loop
-array-copy-out-slot-reach c =
+array-copy-out-slot-cover : tie.Need-array-copy-out-slot-cover Inv-loop μ-loop
+array-copy-out-slot-cover c =
     let s = c .before .before .before .before .before .before .before .before .before .before .before in
     let a = s .args in
     let l = c .before .before .before .before .before .before .before .loop in
@@ -65,8 +68,8 @@ array-copy-out-slot-reach c =
     let w = synth-lent (a .words .now) (a .arena .now) (l .words) (l .i) (s .pre .0) (l .inv .0) (l .inv .1) (omega (arith, s .pre .1)) single in
     omega (arith, w .slot, c .before .node-slot .ensures)
 
-slot-reach-requires : tie.Need-slot-reach-requires Inv-loop μ-loop
-slot-reach-requires c κs =
+slot-cover-requires : tie.Need-slot-cover-requires Inv-loop μ-loop
+slot-cover-requires c κs =
     let s = c .before .before .before .before .before .before .before .before .before .before .before .before in
     let a = s .args in
     let l = c .before .before .before .before .before .before .before .before .loop in
@@ -78,12 +81,12 @@ slot-reach-requires c κs =
       rw here (w .slot),
       rw here (w .readable),
       λ other.
-          l .inv .3 .same (record { start = 0; controls = 0 }) slot (rw here (w .slot)) other
-          ∙ ap (reachIn (a .key) (a .name .now)) (ap (slotBytes (a .words .now) (a .arena .now)) here ∙ sym (w .kept) ∙ ap (slotBytes (l .words) (a .arena .now)) (sym here)),
+          l .inv .3 .same (record { found = false; index = 0; width = 0 }) slot (rw here (w .slot)) other
+          ∙ ap (λ (d : List ℕ). coverOf (a .key) (a .name .now) (frontOnly d)) (ap (slotBytes (a .words .now) (a .arena .now)) here ∙ sym (w .kept) ∙ ap (slotBytes (l .words) (a .arena .now)) (sym here)),
     )
 
-mul-reaches : tie.Need-mul-reaches Inv-loop μ-loop
-mul-reaches c =
+mul-covers : tie.Need-mul-covers Inv-loop μ-loop
+mul-covers c =
     let s = c .before .before .before .before .before .before .before .before .before .before .before .before .before in
     let a = s .args in
     let l = c .before .before .before .before .before .before .before .before .before .loop in
@@ -91,8 +94,8 @@ mul-reaches c =
     let w = synth-lent (a .words .now) (a .arena .now) (l .words) (l .i) (s .pre .0) (l .inv .0) (l .inv .1) (omega (arith, s .pre .1)) single in
     omega (arith, w .slot, c .before .before .before .node-slot .ensures)
 
-array-set-from-reaches : tie.Need-array-set-from-reaches Inv-loop μ-loop
-array-set-from-reaches c =
+array-set-from-covers : tie.Need-array-set-from-covers Inv-loop μ-loop
+array-set-from-covers c =
     let s = c .before .before .before .before .before .before .before .before .before .before .before .before .before in
     let a = s .args in
     let l = c .before .before .before .before .before .before .before .before .before .loop in
@@ -107,7 +110,7 @@ change-node-requires c κs =
     let l = c .before .before .before .before .before .before .before .before .before .before .loop in
     let single = sym (c .before .before .before .before .before .before .before .node-is-group .ensures) ∙ not-true (c .before .before .before .before .before .before .before .node-is-group .result) (c .before .before .before .before .before .before .if1 .taken) in
     let w = synth-lent (a .words .now) (a .arena .now) (l .words) (l .i) (s .pre .0) (l .inv .0) (l .inv .1) (omega (arith, s .pre .1)) single in
-    (l .inv .0, w .place, w .row, rw (c .before .slot-reach .ensures) (reach-few (a .key) (a .name .now) (slotBytes (l .words) (a .arena .now) (c .before .before .before .before .node-slot .result))))
+    (l .inv .0, w .place, w .row, cover-inside (a .key) (a .name .now) (slotBytes (l .words) (a .arena .now) (c .before .before .before .before .node-slot .result)) (c .before .slot-cover .result) (c .before .slot-cover .ensures))
 
 add-i : tie.Need-add-i Inv-loop μ-loop
 add-i c = omega arith
@@ -129,13 +132,13 @@ loop-again c =
     let e = synth-lent (a .words .now) (a .arena .now) (l .words) (l .i) (s .pre .0) (l .inv .0) (l .inv .1) live single in
     let slot = w .2 .result in
     let here : slot ≡ nodeIn (l .words) (l .i) .slot = w .2 .ensures in
-    let reach = w .5 .ensures ∙ ap (λ (k : ℕ). reachIn (a .key) (a .name .now) (slotBytes (l .words) (a .arena .now) k)) here in
-    let fact = w .7 .ensures ∙ ap (λ (cs : List ℕ). putControls cs (l .words)) (reach-change f (a .key) (a .name .now) (a .count) (l .words) (a .arena .now) (l .i) single (w .5 .result) reach) in
+    let cover = w .5 .ensures ∙ ap (coverOn (a .key) (a .name .now) (l .words) (a .arena .now)) here in
+    let fact = w .7 .ensures ∙ ap (λ (cs : List ℕ). putControls cs (l .words)) (cover-change f (a .key) (a .name .now) (a .count) (l .words) (a .arena .now) (l .i) single (w .5 .result) cover) in
     let t =
     turned f (a .key) (a .name .now) (a .count) (a .words .now) (a .arena .now) (a .to) (l .i) (l .words) (w .7 .last .0)
     (s .pre .0) (omega arith) (s .pre .1) (l .inv .0) (l .inv .1) (w .7 .kept .0) fact in
-    let noted = reach ∙ ap (reachIn (a .key) (a .name .now)) (e .kept ∙ ap (slotBytes (a .words .now) (a .arena .now)) (sym here)) in
-    let more = noted-more _ _ (l .reaches) (l .inv .3) slot (w .5 .result) (rw here (e .slot)) noted in
+    let noted = cover ∙ ap (λ (d : List ℕ). coverOf (a .key) (a .name .now) (frontOnly d)) (e .kept ∙ ap (slotBytes (a .words .now) (a .arena .now)) (sym here)) in
+    let more = noted-more _ _ (l .covers) (l .inv .3) slot (w .5 .result) (rw here (e .slot)) noted in
     (rw (w .10) (t .size), rw (w .10) (t .rest), rw (w .10) (t .left ∙ l .inv .2), rw (w .11) more))
     (λ w.
     let whole = sym (group .ensures) ∙ not-false (group .result) (w .0 .left) in
@@ -166,11 +169,11 @@ change-all-spec =
     loop-holds
     node-is-group-requires
     node-slot-requires
-    mul-slot-reach
-    array-copy-out-slot-reach
-    slot-reach-requires
-    mul-reaches
-    array-set-from-reaches
+    mul-slot-cover
+    array-copy-out-slot-cover
+    slot-cover-requires
+    mul-covers
+    array-set-from-covers
     change-node-requires
     add-i
     loop-less

@@ -16,7 +16,7 @@ use Rattle.controls.specs.Formed.{nodeFormed, formed-turn, formed-end, s
 use Rattle.controls.specs.Ready.{nodeIn}
 use Rattle.words.specs.Parts.{region, region-length}
 use Rattle.controls.specs.Noted.{noted-none, noted-more}
-use Rattle.controls.specs.Reach.{unknown, controlsOn, Counted}
+use Rattle.controls.specs.Cover.{unknown, controlsOn, Counted}
 use Rattle.controls.proofs.table.controls_formed.Statement.{statement}
 use Rattle.controls.proofs.table.controls_formed.Tie as tie
 

@@ -5,8 +5,8 @@ use borrow.Author.Needs.{needs}
 use lib.ListN.{length}
 use Rattle.readable.specs.Readable.{Readable}
 use Rattle.controls.specs.Encoded.{frontIn}
-use Rattle.controls.proofs.reach.slot_controls.Statement.{statement}
-use Rattle.controls.proofs.reach.slot_controls.Tie as tie
+use Rattle.controls.proofs.cover.slot_controls.Statement.{statement}
+use Rattle.controls.proofs.cover.slot_controls.Tie as tie
 
 returns : tie.Need-returns
 returns c =

@@ -1,0 +1,22 @@
+use Prim.Native.Nat.{ℕ, _-_}
+use mathlib.Core.Option.{some}
+use mathlib.Core.Path.{_≡_, ap}
+use native.Mathlib.Omega.{arith}
+use borrow.Author.Needs.{needs}
+use Rattle.controls.proofs.definition.index_cover.Statement.{statement}
+use Rattle.controls.proofs.definition.index_cover.Tie as tie
+
+returns : tie.Need-returns
+returns c =
+    let a = c .before .args in
+    let none-left : 0 ≡ a .many - a .index = omega arith in
+    ap (λ (w : ℕ). some (record { index = a .index; width = w })) none-left
+
+sub-t4 : tie.Need-sub-t4
+sub-t4 c = search needs
+
+returns-2 : tie.Need-returns-2
+returns-2 c = search needs
+
+pub index-cover-spec : {M : Type 1} → statement M
+index-cover-spec = tie.close (tie.spec returns sub-t4 returns-2)

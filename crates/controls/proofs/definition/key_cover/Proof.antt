@@ -1,0 +1,53 @@
+use Prim.Native.Nat.{ℕ, _-_}
+use mathlib.Core.Option.{some}
+use mathlib.Core.Path.{_≡_, sym, ap, _∙_}
+use borrow.Author.Needs.{needs}
+use Rattle.values.specs.declared.Key.{Key}
+use Rattle.values.specs.declared.Key.the-variants.{Name}
+use Rattle.model.specs.Meaning.{coverOf}
+use Rattle.controls.specs.Encoded.{frontOnly, cover-fact}
+use Rattle.controls.proofs.definition.key_cover.Statement.{statement}
+use Rattle.controls.proofs.definition.key_cover.Tie as tie
+
+enum-known-key : tie.Need-enum-known-key
+enum-known-key c = search needs
+
+parameter-count-requires : tie.Need-parameter-count-requires
+parameter-count-requires c κs = search needs
+
+index-cover-requires : tie.Need-index-cover-requires
+index-cover-requires c κs = search needs
+
+enum-told : tie.Need-enum-told
+enum-told c = search needs
+
+name-cover-requires : tie.Need-name-cover-requires
+name-cover-requires c κs = search needs
+
+returns : tie.Need-returns
+returns c =
+    let a = c .before .before .before .before .before .before .before .args in
+    let i = c .before .before .before .key .given .0 .0 in
+    c .index-cover .ensures
+    ∙ ap (λ (p : ℕ). some (record { index = i; width = p - i })) (c .before .parameter-count .ensures)
+    ∙ sym (ap (λ (k : Key). coverOf k (a .name .now) (frontOnly (a .definition .now))) (c .before .before .before .key .given .1))
+
+returns-2 : tie.Need-returns-2
+returns-2 c =
+    let a = c .before .before .before .before .before .args in
+    let named : a .key ≡ Name = cc in
+    c .name-cover .ensures
+    ∙ cover-fact (a .name .now) (a .definition .now)
+    ∙ sym (ap (λ (k : Key). coverOf k (a .name .now) (frontOnly (a .definition .now))) named)
+
+pub key-cover-spec : {M : Type 1} → statement M
+key-cover-spec =
+    tie.close
+    (tie.spec
+    enum-known-key
+    parameter-count-requires
+    index-cover-requires
+    enum-told
+    name-cover-requires
+    returns
+    returns-2)
