@@ -1,13 +1,14 @@
 -- The same of the table: the rows before a node's own, walked from the last to the first.
-use Prim.Native.Nat.{ℕ, zero, suc, _+_, _*_, _≤_}
+use Prim.Native.Nat.{ℕ, zero, suc, _+_, _*_, _≤_, _<_}
 use mathlib.Core.Bool.{true}
 use mathlib.Core.Path.{_≡_}
 use mathlib.Core.List.{List, [], _∷_}
-use lib.ListN.{length}
+use lib.ListN.{length, getD}
 use lib.Dec.{ltb, eqb}
 use Rattle.words.specs.Choice.{pick}
 use Rattle.nodes.specs.declared.Node.{Node}
 use Rattle.nodes.specs.Table.{width, nodeFrom}
+use Rattle.nodes.specs.Sizes.{depthAt}
 use Rattle.nodes.specs.Order.{isOn, order}
 use Rattle.nodes.specs.Formed.{rooted, apart}
 use Rattle.index.specs.Index.{indexed}
@@ -33,10 +34,12 @@ unfoldable pub before : ℕ → List ℕ → ℕ
 before n [] = 0
 before n (m ∷ l) = pick (eqb m n) 0 (suc (before n l))
 
--- a row in the words
-pub record RowFits (us : List ℕ) (at : ℕ) : Type 0 where
+-- a row in the words, below a root that is on
+pub record BelowRoot (us : List ℕ) (at : ℕ) : Type 0 where
   pub room : width * at + width ≤ length us
   pub few : at ≤ 256
+  pub rootOn : eqb (getD us 2 0) 1 ≡ true
+  pub deep : (i : ℕ) → 0 < i → i < at → 0 < depthAt us i
 
 -- what the reason of a node asks of the words
 pub record Settled (ws : List ℕ) : Type 0 where

@@ -1,10 +1,9 @@
 -- Worked examples, by computation: the reasons in a plain tree with groups off at several depths.
 use Prim.Native.Nat.{ℕ}
-use mathlib.Core.Bool.{Bool}
 use mathlib.Core.Path.{_≡_, refl}
 use mathlib.Core.List.{List, [], _∷_}
 use mathlib.Core.Option.{none, some}
-use Rattle.nodes.specs.Forest.{Forest, node, has}
+use Rattle.nodes.specs.Forest.{node, has}
 use Rattle.nodes.specs.Forest as forest
 use Rattle.nodes.specs.Order.{orderTree}
 use Rattle.model.specs.Engine.{noDefinition}

@@ -5,7 +5,7 @@ ghost use lib.ListN.{length, take};
 ghost use lib.Dec.{eqb};
 ghost use Rattle.words.specs.Choice.{pick};
 ghost use Rattle.nodes.specs.Sizes.{depthAt};
-ghost use Rattle.why.specs.Rows.{climb, lastFirst, before, RowFits};
+ghost use Rattle.why.specs.Rows.{climb, lastFirst, before, BelowRoot};
 
 // The number of an ancestor that is off, or else the one named below it.
 fn named_by(run: u32, number: u32, named: u32) -> u32
@@ -17,9 +17,9 @@ fn named_by(run: u32, number: u32, named: u32) -> u32
     number
 }
 
-// The number of the ancestor nearest the root that is off, of the node in the row `at`; 0 where none is.
+// The number of the ancestor nearest the root that is off, of the node in the row `at`, where the root is on; 0 where none is. Above depth 1 there is the root alone.
 pub fn off_above(nodes: &[u32], at: usize) -> u32
-    requires { ⌜ RowFits (now nodes) at ⌝ }
+    requires { ⌜ BelowRoot (now nodes) at ⌝ }
     ensures { λ r. ⌜ r ≡ climb (depthAt (now (nodes .entry)) at) 0 (lastFirst (now (nodes .entry)) at) ⌝ }
 {
     let mut depth = nodes[5 * at + 1];
@@ -31,6 +31,9 @@ pub fn off_above(nodes: &[u32], at: usize) -> u32
         if up < depth {
             depth = up;
             named = named_by(nodes[5 * i + 2], nodes[5 * i], named);
+            if up < 2 {
+                return named;
+            }
         }
     }
     named

@@ -1,5 +1,6 @@
 // Why a node is silent: the state check, and then the reason of the node that a number names.
 mod climb;
+mod number;
 mod reasons;
 
 use refusals::Refusal;
@@ -19,4 +20,5 @@ pub enum Told {
     Because(Reason),
 }
 
+pub use number::told_number;
 pub use reasons::why;

@@ -46,6 +46,9 @@ fn reason_of(words: &[u32], number: u32) -> Reason
     if before < many {
         return Reason::Running(before as u32 + 1);
     }
+    if words[NODES + 2] != 1 {
+        return Reason::AncestorOff(0);
+    }
     Reason::AncestorOff(off_above(&words[NODES..NODES_END], at))
 }
 
