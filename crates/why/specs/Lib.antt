@@ -10,3 +10,5 @@ pub mod Search
 pub mod Settle
 pub mod Returns
 pub mod Mapped
+pub mod Exactly
+pub mod Rebuilt
