@@ -11,4 +11,6 @@ pub mod Settle
 pub mod Returns
 pub mod Mapped
 pub mod Exactly
+pub mod Ancestors
+pub mod Facts
 pub mod Rebuilt

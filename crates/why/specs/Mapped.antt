@@ -1,5 +1,5 @@
 -- A reason looks at a node's number, its kind and its run flag alone: it is the same in the tree of the table and in that tree as the plain tree knows it.
-use Prim.Native.Nat.{ℕ}
+use Prim.Native.Nat.{ℕ, _+_}
 use mathlib.Core.Bool.{Bool, true, false}
 use mathlib.Core.Path.{_≡_, refl, sym, ap, ap₂, _∙_}
 use mathlib.Core.List.{List, [], _∷_, map}
@@ -12,6 +12,7 @@ use Rattle.nodes.specs.Forest.{Forest, node, mapForest, has}
 use Rattle.nodes.specs.Forest as forest
 use Rattle.nodes.specs.Order.{isOn, order, orderTree}
 use Rattle.order.specs.Same.{same-true}
+use Rattle.treerefinement.specs.Tally.{one}
 use Rattle.treerefinement.specs.Flatten.{key}
 use Rattle.treerefinement.specs.Shape.{build}
 use Rattle.treerefinement.specs.MapForest.{map-has, map-order}
@@ -29,6 +30,7 @@ use Rattle.why.specs.Reasons.{nodeOf, ancestors, firstOff, placeFrom1, f
 use Rattle.why.specs.Held.{heldTree, heldWhy, whyTold}
 use Rattle.why.specs.Rows.{Settled}
 use Rattle.why.specs.Table.{tableReason}
+use Rattle.why.specs.Runs.{times}
 
 module _ {A B : Type 0} (g : A → B) (look : A → ℕ) (see : B → ℕ) (same : (x : A) → see (g x) ≡ look x) where
   abbrev seen : Option A → Option B
@@ -59,6 +61,13 @@ module _ {A B : Type 0} (g : A → B) (look : A → ℕ) (see : B → ℕ) (same
       go true q = refl
       go false true = refl
       go false false = refl
+
+  pub map-times : (n : ℕ) (f : Forest A) → times see n (mapForest g f) ≡ times look n f
+  unfolding times mapForest
+  map-times n forest.none = refl
+  map-times n (node x b a) =
+      ap (λ (k : ℕ). one (eqb k n) + (times see n (mapForest g b) + times see n (mapForest g a))) (same x)
+      ∙ ap₂ (λ (u v : ℕ). one (eqb (look x) n) + (u + v)) (map-times n b) (map-times n a)
 
   module _ (group on : A → Bool) (group′ on′ : B → Bool) (sameKind : (x : A) → group′ (g x) ≡ group x) (sameOn : (x : A) → on′ (g x) ≡ on x) where
     map-off : (l : List A) → firstOff see on′ (map g l) ≡ firstOff look on l
