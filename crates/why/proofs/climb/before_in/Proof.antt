@@ -1,7 +1,7 @@
+-- `why::climb::before_in` meets its contract. The invariant: what was passed and what stands before the number from here on make what stands before it in all.
 use Prim.Native.Nat.{ℕ, suc, _+_, _-_, _≤_}
 use mathlib.Core.Path.{_≡_, ap, _∙_}
 use native.Mathlib.Omega.{arith}
-
 use borrow.Author.Tests.{eq-eqb, ne-eqb}
 use lib.ListN.{take, drop, getD}
 use Rattle.why.specs.Rows.{before}

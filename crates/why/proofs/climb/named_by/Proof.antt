@@ -1,9 +1,4 @@
-
-
-
-
-
-
+-- `why::climb::named_by` meets its contract.
 use borrow.Author.Tests.{eq-eqb, ne-eqb}
 use Rattle.why.proofs.climb.named_by.Statement.{statement}
 use Rattle.why.proofs.climb.named_by.Tie as tie

@@ -1,8 +1,8 @@
+-- `why::climb::off_above` meets its contract. The invariant: the walk from here names what the whole walk names.
 use Prim.Native.Nat.{ℕ, _-_, _≤_}
 use mathlib.Core.Path.{_≡_, refl, sym, ap, _∙_}
 use native.Mathlib.Omega.{arith}
 use borrow.Author.Needs.{needs}
-
 use Rattle.nodes.specs.Sizes.{depthAt}
 use Rattle.why.specs.Rows.{climb, lastFirst}
 use Rattle.why.specs.Climb.{climb-up, climb-by, climb-end, climb-top}
@@ -91,8 +91,8 @@ loop-again c =
     let up = depthAt us (l .i - 1) in (
       omega (arith, l .inv .0),
       ap (λ (k : ℕ). climb up k (lastFirst us (l .i - 1))) (c .before .named-by .ensures)
-      ∙ climb-up us (l .i) (l .depth) (l .named) (omega arith) (omega arith)
-      ∙ l .inv .1,
+          ∙ climb-up us (l .i) (l .depth) (l .named) (omega arith) (omega arith)
+          ∙ l .inv .1,
     )
 
 loop-less-2 : tie.Need-loop-less-2 Inv-loop μ-loop

@@ -1,9 +1,6 @@
+-- `why::number::told_number` meets its contract.
 use Prim.Native.Nat.{ℕ, _+_, _*_}
 use mathlib.Core.Path.{sym, ap, ap₂, _∙_}
-
-
-use borrow.Author.Needs.{needs}
-
 use borrow.Author.Needs.{needs}
 use Rattle.why.specs.Numbers.{toldNumber}
 use Rattle.why.proofs.number.told_number.Statement.{statement}

@@ -1,12 +1,7 @@
-
-
-
-
-
+-- `why::reasons::reason_for` meets its contract.
 use borrow.Author.Needs.{needs}
 use borrow.Author.Tests.{eq-eqb, ne-eqb}
 use lib.ListN.{getD}
-use borrow.Author.Needs.{needs}
 use Rattle.why.proofs.reasons.reason_for.Statement.{statement}
 use Rattle.why.proofs.reasons.reason_for.Tie as tie
 

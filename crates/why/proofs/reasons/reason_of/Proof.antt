@@ -1,9 +1,9 @@
+-- `why::reasons::reason_of` meets its contract: a law for each return.
 use Prim.Native.Nat.{ℕ}
 use mathlib.Core.Path.{ap, _∙_}
 use native.Mathlib.Omega.{arith}
 use borrow.Author.Needs.{needs}
 use lib.ListN.{take}
-use borrow.Author.Needs.{needs}
 use Rattle.words.specs.Parts.{region}
 use Rattle.model.specs.Layout.{orderPlace, orderWords}
 use Rattle.why.specs.Rows.{before}

@@ -1,9 +1,5 @@
-
+-- `why::reasons::why` meets its contract: the check, and then the reason.
 use mathlib.Core.Path.{sym, _∙_}
-
-
-use borrow.Author.Needs.{needs}
-
 use borrow.Author.Needs.{needs}
 use borrow.Author.Tests.{not-true, not-false}
 use Rattle.state.specs.Known.{known}
