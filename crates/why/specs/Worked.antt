@@ -8,10 +8,11 @@ use Rattle.nodes.specs.Forest as forest
 use Rattle.nodes.specs.Order.{orderTree}
 use Rattle.model.specs.Engine.{noDefinition}
 use Rattle.model.specs.View.{group, synth, PlainNode}
-use Rattle.model.specs.Plain.{Plain, plainOrder}
+use Rattle.values.specs.Targets.{argument}
+use Rattle.model.specs.Plain.{Plain, ifSome, minusOne, meantIn, plainOrder}
 use Rattle.why.specs.declared.Reason.{Reason}
 use Rattle.why.specs.declared.Reason.the-variants.{NoNode, Group, Off, AncestorOff, Running}
-use Rattle.why.specs.Reasons.{nodeOf, ancestors, firstOff, placeFrom1, plainWhy}
+use Rattle.why.specs.Reasons.{nodeOf, ancestors, firstOff, placeFrom1, plainReason, plainWhy}
 
 -- a group and a synth with a number and a run flag
 abbrev grouped : ℕ → ℕ → PlainNode
@@ -83,3 +84,7 @@ dead = refl
 root-off : asked (0 ∷ 1 ∷ 1000 ∷ 1002 ∷ 1003 ∷ 4294967288 ∷ []) (sample 0) ≡ Group ∷ Group ∷ AncestorOff 0 ∷ AncestorOff 0 ∷ Off ∷ AncestorOff 0 ∷ []
 unfolding asked nodeOf ancestors firstOff has orderTree placeFrom1
 root-off = refl
+
+-- "-1 means what it means in a command": the node that a command's argument -1 means, where it means one
+as-in-a-command : (p : Plain) → plainWhy minusOne p ≡ ifSome (meantIn (argument minusOne) p) (λ n. plainReason n (p .tree)) NoNode
+as-in-a-command p = refl
