@@ -64,7 +64,7 @@ fn a_script_as_messages() {
 #[test]
 fn lines_that_are_no_message_are_named_and_the_rest_is_written() {
     let script = b"/status\nexport\ntree\nhelp\n/quit\n/d_free \"a\\x80\"\n/n_free five\n\
-                   /d_recv nofile\nlist\n/n_free 5\nend\n";
+                   /d_recv nofile\nlist\n/n_free 5\nend\nwhy  -8 # no\n";
     let (out, named, all) = written(script);
     assert_eq!(
         out,
@@ -94,6 +94,7 @@ fn lines_that_are_no_message_are_named_and_the_rest_is_written() {
         [
             "limudvek: line 9: list: it has no address",
             "limudvek: line 11: end: it has no address",
+            "limudvek: line 12: why -8: it has no address",
         ]
     );
 }
@@ -189,7 +190,10 @@ fn answers(text: &str) -> Vec<&str> {
 fn a_script_and_its_messages_go_the_same_way() {
     let show = fs::read_to_string(examples().join("show.txt")).expect("the script");
     for script in [EVERY, &show] {
-        let no_message = |line: &str| matches!(line, "tree" | "export" | "list" | "end");
+        let no_message = |line: &str| {
+            let word = line.split(' ').next().unwrap_or("");
+            matches!(word, "tree" | "export" | "list" | "end" | "why")
+        };
         let lines = script.lines().filter(|line| !no_message(line));
         let script = lines.collect::<Vec<_>>().join("\n");
         let (file, named, all) = written(script.as_bytes());

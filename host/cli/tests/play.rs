@@ -105,6 +105,9 @@ fn lines_that_cannot_be_read() {
     unread("/n_free five", "five is no integer of 32 bits");
     unread("/n_free 1.0", "1.0 is no integer of 32 bits");
     unread("/n_free \"5\"", "5 is no integer of 32 bits");
+    unread("why", "why takes 1 argument, not 0");
+    unread("why not", "not is no integer of 32 bits");
+    unread("why -2147483649", "-2147483649 is no integer of 32 bits");
     unread("/n_free 2147483648", "2147483648 is no integer of 32 bits");
     unread("/c_set 0 4294967296", "4294967296 is no integer of 32 bits");
     unread("/c_set 0 loud", "loud is no number");
@@ -190,6 +193,7 @@ fn a_list_with_a_line_that_cannot_be_read_is_not_sent() {
         ("tree", "between list and end stand commands only"),
         ("help", "between list and end stand commands only"),
         ("list", "between list and end stand commands only"),
+        ("why 1", "between list and end stand commands only"),
         ("end now", "end takes 0 arguments, not 1"),
     ] {
         let script = format!("list\n{group}{line}\n{line}\n/g_new 2 1 0\nend\n{group}");
@@ -249,7 +253,11 @@ fn every_command_has_its_kind() {
     let (text, read) = played(script.as_bytes());
     assert!(read && !text.contains("refused"), "{text}");
     let commands: Vec<&str> = text.lines().filter(|line| !line.starts_with(' ')).collect();
-    let expected: Vec<String> = script.lines().map(|line| format!("{line}: ok")).collect();
+    let answer = |line| match line {
+        "why 10" => "10 runs, 1st of 1".to_string(),
+        _ => format!("{line}: ok"),
+    };
+    let expected: Vec<String> = script.lines().map(answer).collect();
     assert_eq!(commands, expected);
     for replies in [
         "/c_get 8: ok\n  /c_set 8 0.25\n/s_get 11 0: ok\n  /n_set 11 0 0.5\n\

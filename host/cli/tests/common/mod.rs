@@ -1,8 +1,9 @@
 //! What the tests of scripts and of messages share.
 
 use cli::play::Applies;
-use engine::{List, ListRefused, Refused};
+use engine::{List, ListRefused, Reason, Refused};
 use independent::engine::packed;
+use independent::Reason as Plain;
 use independent::{layout, read_list, read_message, write_message, Call, Engine};
 use std::path::{Path, PathBuf};
 
@@ -56,6 +57,16 @@ impl Applies for Independent {
         }
     }
 
+    fn why(&self, number: i32) -> Result<Reason, Refused> {
+        Ok(match self.engine.why(number) {
+            Plain::NoSuchNode => Reason::NoSuchNode,
+            Plain::Group => Reason::Group,
+            Plain::Off => Reason::Off,
+            Plain::AncestorOff(number) => Reason::AncestorOff(number),
+            Plain::Running(place) => Reason::Running(place as u32),
+        })
+    }
+
     fn write(op: u32, numbers: [u32; 5], bytes: &[u8], out: &mut [u8]) -> u64 {
         let call = Call {
             op,
@@ -75,11 +86,11 @@ pub fn examples() -> PathBuf {
     Path::new(env!("CARGO_MANIFEST_DIR")).join("../../examples")
 }
 
-/// A line for every command, each accepted.
+/// A line for every command, each accepted, and a question.
 pub const EVERY: &str = "/d_recv ping.scsyndef\n/g_new 1 0 0\n/g_new 2 1 0\n/s_new ping 10 0 1\n\
     /s_new ping 11 1 1\n/n_before 11 10\n/n_after 11 10\n/g_head 2 11\n/g_tail 2 10\n\
     /n_run 11 0\n/n_set 10 0 1\n/n_set 10 freq 2\n/n_fill 10 0 1 3\n\
     /n_fill 10 freq 1 4\n/n_map 11 0 5\n/n_map 11 freq 6\n/c_set 6 0.5\n\
     /c_fill 7 2 0.25\n/c_get 8\n/s_get 11 0\n/s_get 11 freq\n/n_query 2\n\
-    /g_queryTree 2 1\n/g_queryTree 2 0\ntree\nexport\n/n_free 10\n/g_deepFree 0\n/g_freeAll 0\n\
+    /g_queryTree 2 1\n/g_queryTree 2 0\ntree\nwhy 10\nexport\n/n_free 10\n/g_deepFree 0\n/g_freeAll 0\n\
     /d_free ping\n/status\ntree\n";
