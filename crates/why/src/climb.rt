@@ -1,4 +1,7 @@
 // The rows above a node's own, and the numbers of the kept order.
+use layout::DEPTH;
+use layout::RECORD;
+use layout::RUN;
 ghost use Prim.Native.Nat.{_≤_};
 ghost use mathlib.Core.Path.{_≡_};
 ghost use lib.ListN.{length, take};
@@ -22,15 +25,15 @@ pub fn off_above(nodes: &[u32], at: usize) -> u32
     requires { ⌜ BelowRoot (now nodes) at ⌝ }
     ensures { λ r. ⌜ r ≡ climb (depthAt (now (nodes .entry)) at) 0 (lastFirst (now (nodes .entry)) at) ⌝ }
 {
-    let mut depth = nodes[5 * at + 1];
+    let mut depth = nodes[RECORD * at + DEPTH];
     let mut named = 0;
     let mut i = at;
     while 0 < i {
         i -= 1;
-        let up = nodes[5 * i + 1];
+        let up = nodes[RECORD * i + DEPTH];
         if up < depth {
             depth = up;
-            named = named_by(nodes[5 * i + 2], nodes[5 * i], named);
+            named = named_by(nodes[RECORD * i + RUN], nodes[RECORD * i], named);
             if up < 2 {
                 return named;
             }

@@ -4,12 +4,16 @@ use crate::Told;
 use crate::climb::before_in;
 use crate::climb::off_above;
 use layout::COUNT;
+use layout::GROUP;
 use layout::LATEST;
 use layout::NODES;
 use layout::NODES_END;
 use layout::ORDER;
 use layout::ORDER_END;
 use layout::ORDER_LENGTH;
+use layout::RECORD;
+use layout::RUN;
+use layout::SLOT;
 use names::place_of;
 use refusals::Refusal;
 use statecheck::well_formed;
@@ -35,10 +39,10 @@ fn reason_of(words: &[u32], number: u32) -> Reason
     if count <= at {
         return Reason::NoNode;
     }
-    if words[NODES + 5 * at + 3] == 32 {
+    if words[NODES + RECORD * at + SLOT] == GROUP {
         return Reason::Group;
     }
-    if words[NODES + 5 * at + 2] != 1 {
+    if words[NODES + RECORD * at + RUN] != 1 {
         return Reason::Off;
     }
     let many = wide(words[ORDER_LENGTH]);
@@ -46,7 +50,7 @@ fn reason_of(words: &[u32], number: u32) -> Reason
     if before < many {
         return Reason::Running(before as u32 + 1);
     }
-    if words[NODES + 2] != 1 {
+    if words[NODES + RUN] != 1 {
         return Reason::AncestorOff(0);
     }
     Reason::AncestorOff(off_above(&words[NODES..NODES_END], at))
