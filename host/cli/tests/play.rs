@@ -3,15 +3,13 @@
 mod common;
 
 use cli::play::{play, prompt};
-use common::{examples, Independent, EVERY};
+use common::{examples, program_on, Independent, EVERY, PROGRAM};
 use std::cell::RefCell;
 use std::collections::BTreeSet;
 use std::fs;
 use std::io::{self, BufReader, BufWriter, Read, Write};
 use std::path::Path;
-use std::process::{Command, Stdio};
-
-const PROGRAM: &str = env!("CARGO_BIN_EXE_limudvek");
+use std::process::Command;
 
 /// Plays a script beside the examples. Answers what is printed, and whether each line could be read.
 fn played(script: &[u8]) -> (String, bool) {
@@ -414,31 +412,19 @@ fn the_program_says_what_it_cannot_read() {
     }
 }
 
-/// Runs the program in the examples' folder on standard input. Answers the exit status and both outputs.
-fn from_input(script: &[u8]) -> (Option<i32>, String, Vec<u8>) {
-    let mut child = Command::new(PROGRAM)
-        .args(["play", "-"])
-        .current_dir(examples())
-        .stdin(Stdio::piped())
-        .stdout(Stdio::piped())
-        .stderr(Stdio::piped())
-        .spawn()
-        .expect("the program runs");
-    let mut input = child.stdin.take().expect("it has one");
-    input.write_all(script).expect("it reads");
-    drop(input);
-    let output = child.wait_with_output().expect("the program ends");
-    let out = String::from_utf8(output.stdout).expect("it prints text");
-    (output.status.code(), out, output.stderr)
+/// Plays a script from standard input. Answers the exit status and both outputs.
+fn from_input(script: &[u8]) -> (i32, String, String) {
+    let (status, out, err) = program_on(&["play", "-"], script);
+    (status, String::from_utf8(out).expect("it prints text"), err)
 }
 
 #[test]
 fn the_program_plays_standard_input() {
     let kept = fs::read_to_string(examples().join("show.out")).expect("its output");
     let script = fs::read(examples().join("show.txt")).expect("the script");
-    assert_eq!(from_input(&script), (Some(0), kept, Vec::new()));
+    assert_eq!(from_input(&script), (0, kept, String::new()));
     let (status, out, _) = from_input(b"/quit\n");
-    assert_eq!((status, &*out), (Some(1), "line 1: /quit is no command\n"));
+    assert_eq!((status, &*out), (1, "line 1: /quit is no command\n"));
 }
 
 #[test]
@@ -458,5 +444,5 @@ fn a_version_1_file_plays_as_its_twin() {
     let (text, _) = played(original.as_bytes());
     assert_eq!(text.replace("-original", ""), twin);
     let (status, text, _) = from_input(original.as_bytes());
-    assert_eq!((status, text.replace("-original", "")), (Some(0), twin));
+    assert_eq!((status, text.replace("-original", "")), (0, twin));
 }

@@ -4,11 +4,7 @@
 mod common;
 
 use cli::play::play;
-use common::{examples, Independent};
-use std::io::Write;
-use std::process::{Command, Stdio};
-
-const PROGRAM: &str = env!("CARGO_BIN_EXE_limudvek");
+use common::{examples, program_on, Independent};
 
 /// What both engines print for a script whose lines can be read.
 fn played(script: &str) -> String {
@@ -20,21 +16,10 @@ fn played(script: &str) -> String {
         &mut out,
     );
     assert!(matches!(read, Ok(true)));
-    let mut program = Command::new(PROGRAM)
-        .args(["play", "-"])
-        .current_dir(examples())
-        .stdin(Stdio::piped())
-        .stdout(Stdio::piped())
-        .spawn()
-        .expect("the program runs");
-    let mut input = program.stdin.take().expect("a pipe");
-    input.write_all(script.as_bytes()).expect("it reads");
-    drop(input);
-    let output = program.wait_with_output().expect("the program ends");
-    let text = |bytes| String::from_utf8(bytes).expect("it prints text");
-    let (out, by_program) = (text(out), text(output.stdout));
-    assert_eq!(out, by_program);
-    out
+    let (status, by_program, _) = program_on(&["play", "-"], script.as_bytes());
+    assert_eq!(status, 0);
+    assert!(out == by_program);
+    String::from_utf8(out).expect("it prints text")
 }
 
 /// The lines of an answer that are none to a command.

@@ -104,11 +104,9 @@ impl Stage {
         let file = write(&[definition("rain", &["amp"], &[7])]).bytes;
         let load = Call::new(1, [0; 5], &file);
         pair.expect(0, &load, &mut random).expect("it is accepted");
+        let theme = random.one_of(&Theme::ALL);
         Stage {
-            commands: {
-                let theme = random.one_of(&Theme::ALL);
-                Commands::new(Random::new(random.bits()), theme)
-            },
+            commands: Commands::new(Random::new(random.bits()), theme),
             most: random.one_of(&[6, 12, 12, 25, 25, 60]),
             gone: Vec::new(),
             latest: 0,

@@ -1,11 +1,16 @@
-//! What the tests of scripts and of messages share.
+//! What the tests of scripts and of messages share. Each takes what it needs of it.
+#![allow(dead_code)]
 
 use cli::play::Applies;
 use engine::{List, ListRefused, Reason, Refused};
 use independent::engine::packed;
 use independent::Reason as Plain;
 use independent::{layout, read_list, read_message, write_message, Call, Engine};
+use std::io::Write;
 use std::path::{Path, PathBuf};
+use std::process::{Command, Stdio};
+
+pub const PROGRAM: &str = env!("CARGO_BIN_EXE_limudvek");
 
 /// The independent engine, with its state as words.
 pub struct Independent {
@@ -84,6 +89,28 @@ impl Applies for Independent {
 
 pub fn examples() -> PathBuf {
     Path::new(env!("CARGO_MANIFEST_DIR")).join("../../examples")
+}
+
+/// Runs the program beside the examples, with some standard input. Answers the exit status and both
+/// outputs.
+pub fn program_on(words: &[&str], input: &[u8]) -> (i32, Vec<u8>, String) {
+    let mut child = Command::new(PROGRAM)
+        .args(words)
+        .current_dir(examples())
+        .stdin(Stdio::piped())
+        .stdout(Stdio::piped())
+        .stderr(Stdio::piped())
+        .spawn()
+        .expect("the program runs");
+    let mut to = child.stdin.take().expect("it has one");
+    to.write_all(input).expect("it reads");
+    drop(to);
+    let output = child.wait_with_output().expect("the program ends");
+    (
+        output.status.code().expect("the program exits"),
+        output.stdout,
+        String::from_utf8(output.stderr).expect("it prints text"),
+    )
 }
 
 /// A line for every command, each accepted, and a question.
