@@ -71,14 +71,14 @@ fn every_number_after_every_command() {
             ("no such node", 800_000),
             ("groups", 300_000),
             ("off by their own flag", 50_000),
-            ("off below an off group", 10_000),
+            ("off below an off group", 5_000),
             ("an ancestor off", 80_000),
-            ("two ancestors off or more", 10_000),
-            ("the root off", 8_000),
+            ("two ancestors off or more", 1_000),
+            ("the root off", 4_000),
             ("running", 300_000),
-            ("running at place 10 or later", 80_000),
+            ("running at place 10 or later", 20_000),
             ("the latest synth", 40_000),
-            ("no latest synth, but its number lives", 100),
+            ("no latest synth, but its number lives", 20),
             ("generated numbers that live", 100_000),
         ],
     );
@@ -210,6 +210,27 @@ impl Stage {
     }
 }
 
+/// The parent of the synth that lies deepest, and its parent.
+fn above_the_deepest(view: &View) -> impl Iterator<Item = i32> {
+    let synths = view
+        .nodes
+        .iter()
+        .enumerate()
+        .filter(|(_, node)| node.synth.is_some());
+    let (place, deepest) = synths
+        .max_by_key(|(_, node)| node.depth)
+        .expect("there is a synth");
+    let above = |depth: usize| {
+        let before = view.nodes[..place].iter().rev();
+        before
+            .filter(move |node| node.depth == depth)
+            .map(|node| node.number)
+            .next()
+    };
+    let numbers = [1, 2].map(|up| above(deepest.depth.saturating_sub(up)));
+    numbers.into_iter().flatten()
+}
+
 /// As many nodes as there can be, in groups within groups.
 #[test]
 fn every_number_of_full_trees() {
@@ -227,6 +248,12 @@ fn every_number_of_full_trees() {
             let sent = stage.pair.send(&call, &mut stage.random);
             sent.unwrap_or_else(|what| panic!("LIMUDVEK_SEED={seed}, {what}: {call:?}"));
         }
+        // In every other tree the two groups above the synth that lies deepest are off at first.
+        for number in above_the_deepest(&stage.pair.model.view()).filter(|_| place % 2 == 0) {
+            let call = Call::new(12, [number, 0, 0, 0, 0], b"");
+            let sent = stage.pair.send(&call, &mut stage.random);
+            sent.unwrap_or_else(|what| panic!("LIMUDVEK_SEED={seed}, {what}: {call:?}"));
+        }
         for _ in 0..100 {
             if let Err(what) = stage.turn() {
                 panic!("LIMUDVEK_SEED={seed}, tree {place}: {what}");
@@ -238,8 +265,8 @@ fn every_number_of_full_trees() {
         &tallies,
         &[
             ("commands", 1_000),
-            ("two ancestors off or more", 1_000),
-            ("running", 3_000),
+            ("two ancestors off or more", 20),
+            ("running", 1_000),
         ],
     );
 }
