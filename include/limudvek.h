@@ -122,6 +122,21 @@ uint64_t engine_list(const uint32_t *items, size_t items_length,
                      uint32_t *words, size_t words_length,
                      uint8_t *arena, size_t arena_length);
 
+/* Why a node is silent. It is a question and no command: nothing changes, and a generated number, which no
+ * command can name, means its own node. -1 means the latest synth while it lives. Answers 1 where the state is
+ * refused, and nothing else then; or 256 times the reason, plus 65,536 times its value. Of these reasons it is
+ * the first that is true, for every number:
+ *
+ *   1 no such node
+ *   2 it is a group
+ *   3 it is off by its own flag
+ *   4 it is on, and a group above it is off; the value is the number of the one nearest the root
+ *   5 it runs; the value is its place in the running order, from 1
+ */
+uint64_t engine_why(uint32_t number,
+                    const uint32_t *words, size_t words_length,
+                    const uint8_t *arena, size_t arena_length);
+
 /* Writes a command, given as engine_apply takes it, as the OSC message that is read as that command,
  * from the first byte of out on; bytes past it stay. What the command does not take is not looked at.
  * Answers 256 times the message's length; or a refusal's number, and then nothing is written: 255 as

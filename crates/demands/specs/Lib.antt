@@ -4,3 +4,4 @@ pub mod Session
 pub mod SessionTheorem
 pub mod Played
 pub mod WorkedLists
+pub mod Why

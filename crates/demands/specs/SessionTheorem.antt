@@ -185,14 +185,14 @@ stands (one m) s p =
 stands (list m) s p = record { chain = p .chain; left = list-left m s p }
 
 -- the commands that a session stands for are a chain, and leave what it leaves
-chained : (ms : List Made) (s : State) → Session ms s → Chain (commandsOf ms s) s
+pub chained : (ms : List Made) (s : State) → Session ms s → Chain (commandsOf ms s) s
 unfolding Session commandsOf Chain
 chained [] s p = tt
 chained (m ∷ ms) s p =
     let v = stands m s (p .0) in
     chain-append (callsOf m s) s (v .chain) (commandsOf ms (leftOf m)) (subst (λ (t : State). Chain (commandsOf ms (leftOf m)) t) (sym (v .left)) (chained ms (leftOf m) (p .1)))
 
-same-left : (ms : List Made) (s : State) → Session ms s → leftBy (commandsOf ms s) s ≡ leftAfter ms s
+pub same-left : (ms : List Made) (s : State) → Session ms s → leftBy (commandsOf ms s) s ≡ leftAfter ms s
 unfolding Session commandsOf leftAfter leftBy
 same-left [] s p = refl
 same-left (m ∷ ms) s p =

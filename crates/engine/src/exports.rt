@@ -11,9 +11,13 @@ use lists::list;
 use lists::list_number;
 use messages::Numbers;
 use messagewrite::write;
+use why::told_number;
+use why::why;
 ghost use mathlib.Core.Path.{_≡_};
 ghost use Rattle.model.specs.Layout.{wordsLength, arenaLength};
 ghost use Rattle.calls.specs.Ops.{commandOf};
+ghost use Rattle.why.specs.Held.{whyTold};
+ghost use Rattle.why.specs.Numbers.{toldNumber};
 ghost use Rattle.engine.specs.Calls.{Made, Called, Sent, Listed, Wrote};
 
 // The length of the words.
@@ -86,6 +90,14 @@ pub extern "C" fn engine_list(
     ensures { λ r. ⌜ Listed (now (items .entry)) (now (bytes .entry)) (now (words .entry)) (now (arena .entry)) r (now (words .exit)) (now (arena .exit)) ⌝ }
 {
     list_number(list(items, bytes, words, arena))
+}
+
+// Why the node that a number names is silent, or where it runs.
+#[no_mangle]
+pub extern "C" fn engine_why(number: u32, words: &[u32], arena: &[u8]) -> u64
+    ensures { λ r. ⌜ r ≡ toldNumber (whyTold number (now (words .entry)) (now (arena .entry))) ⌝ }
+{
+    told_number(why(number, words, arena))
 }
 
 // The command of `op` with its numbers as a message in the lent buffer.

@@ -10,6 +10,7 @@ pub use exports::engine_arena;
 pub use exports::engine_fresh;
 pub use exports::engine_list;
 pub use exports::engine_message;
+pub use exports::engine_why;
 pub use exports::engine_words;
 pub use exports::message_write;
 pub use sent::message;

@@ -163,10 +163,14 @@ fresh-going : (s : State) → Fresh s → Going s atFirst (λ n. none)
 fresh-going s f =
     subst (λ (x : State). Going x atFirst (λ n. none)) (sym (fresh-state s f)) (record { whole = fresh-formed; same = fresh-kept; synths = fresh-synths })
 
+-- what is kept at the end of every chain from a fresh engine
+pub going-on : (s : State) → Fresh s → (cs : List Call) → Chain cs s → Going (leftBy cs s) (replay cs atFirst) (λ n. made cs s n none)
+going-on s f cs a = at-end cs s a atFirst (λ n. none) (fresh-going s f) .going
+
 -- Demand 3: one claim about every chain of loads and commands from a fresh engine
 pub demand3 : (s : State) → Fresh s → (cs : List Call) → Chain cs s → Demand3 cs s
 demand3 s f cs a =
-    let g = at-end cs s a atFirst (λ n. none) (fresh-going s f) .going in
+    let g = going-on s f cs a in
     record {
       each = each-holds cs s a atFirst (λ n. none) (fresh-going s f);
       same = kept-same (engineIn (leftBy cs s)) (replay cs atFirst) (g .same);

@@ -125,7 +125,9 @@ fn play(
         (Line::End, Some(open)) => open.shown(),
         (Line::Help | Line::List | Line::End, _) => String::new(),
         (Line::Tree, _) => "tree".to_string(),
-        (Line::Load { text, .. } | Line::Call { text, .. }, _) => text.clone(),
+        (Line::Load { text, .. } | Line::Call { text, .. } | Line::Why { text, .. }, _) => {
+            text.clone()
+        }
     };
     let mut out = Vec::new();
     if let Some(why) = player.line(line, number, folder, &mut out)? {

@@ -6,8 +6,9 @@ mod list;
 pub(crate) mod message;
 pub mod messages;
 pub(crate) mod tree;
+mod why;
 
-use engine::{List, ListRefused};
+use engine::{List, ListRefused, Reason, Refused};
 use limudvek::{refusal, show};
 use line::{Call, Line};
 use list::Open;
@@ -49,6 +50,9 @@ pub trait Applies {
     /// Does the commands of a list, up to the first that is refused, as `engine_list`.
     fn list(&mut self, list: &List) -> Result<usize, ListRefused>;
 
+    /// Why a node is silent, or where it runs, as `engine_why`.
+    fn why(&self, number: i32) -> Result<Reason, Refused>;
+
     /// Writes a command as a message, and answers as `message_write`.
     fn write(op: u32, numbers: [u32; 5], bytes: &[u8], out: &mut [u8]) -> u64;
 
@@ -69,6 +73,10 @@ impl Applies for engine::Engine {
         self.list(list)
     }
 
+    fn why(&self, number: i32) -> Result<Reason, Refused> {
+        self.why(number)
+    }
+
     fn write(op: u32, numbers: [u32; 5], bytes: &[u8], out: &mut [u8]) -> u64 {
         engine::write_message(op, numbers, bytes, out)
     }
@@ -78,7 +86,7 @@ impl Applies for engine::Engine {
     }
 }
 
-fn packed(answer: Result<usize, engine::Refused>) -> u64 {
+fn packed(answer: Result<usize, Refused>) -> u64 {
     match answer {
         Ok(length) => 256 * length as u64,
         Err(refused) => u64::from(refused.number) + 256 * refused.place,
@@ -295,7 +303,7 @@ impl<D: Applies> Player<'_, D> {
                 Err(why) => return Ok(Some(self.unread(place, why))),
             },
             Line::Call { text, call } => (text, call),
-            Line::Help | Line::Tree | Line::List if self.list.is_some() => {
+            Line::Help | Line::Tree | Line::List | Line::Why { .. } if self.list.is_some() => {
                 let why = "between list and end stand commands only".to_string();
                 return Ok(Some(self.unread(place, why)));
             }
@@ -311,6 +319,16 @@ impl<D: Applies> Player<'_, D> {
             Line::Tree => {
                 writeln!(out, "tree: ok")?;
                 self.tree(out)?;
+                return Ok(None);
+            }
+            Line::Why { text, number } => {
+                match self.engine.why(number) {
+                    Ok(reason) => {
+                        let words = self.engine.words();
+                        writeln!(out, "{}", why::sentence(number, reason, words))?;
+                    }
+                    Err(refused) => verdict(&text, refused.number, 0, out)?,
+                }
                 return Ok(None);
             }
         };

@@ -6,12 +6,8 @@ mod common;
 use cli::messages::messages;
 use cli::play::messages::play;
 use cli::play::{play as play_script, Applies};
-use common::{examples, Independent, EVERY};
+use common::{examples, program_on, Independent, EVERY};
 use std::fs;
-use std::io::Write;
-use std::process::{Command, Stdio};
-
-const PROGRAM: &str = env!("CARGO_BIN_EXE_limudvek");
 
 /// The messages of a script beside the examples, what is said of lines that are none, and whether all
 /// are some.
@@ -64,7 +60,7 @@ fn a_script_as_messages() {
 #[test]
 fn lines_that_are_no_message_are_named_and_the_rest_is_written() {
     let script = b"/status\nexport\ntree\nhelp\n/quit\n/d_free \"a\\x80\"\n/n_free five\n\
-                   /d_recv nofile\nlist\n/n_free 5\nend\n";
+                   /d_recv nofile\nlist\n/n_free 5\nend\nwhy  -8 # no\n";
     let (out, named, all) = written(script);
     assert_eq!(
         out,
@@ -94,6 +90,7 @@ fn lines_that_are_no_message_are_named_and_the_rest_is_written() {
         [
             "limudvek: line 9: list: it has no address",
             "limudvek: line 11: end: it has no address",
+            "limudvek: line 12: why -8: it has no address",
         ]
     );
 }
@@ -189,7 +186,10 @@ fn answers(text: &str) -> Vec<&str> {
 fn a_script_and_its_messages_go_the_same_way() {
     let show = fs::read_to_string(examples().join("show.txt")).expect("the script");
     for script in [EVERY, &show] {
-        let no_message = |line: &str| matches!(line, "tree" | "export" | "list" | "end");
+        let no_message = |line: &str| {
+            let word = line.split(' ').next().unwrap_or("");
+            matches!(word, "tree" | "export" | "list" | "end" | "why")
+        };
         let lines = script.lines().filter(|line| !no_message(line));
         let script = lines.collect::<Vec<_>>().join("\n");
         let (file, named, all) = written(script.as_bytes());
@@ -207,46 +207,24 @@ fn a_script_and_its_messages_go_the_same_way() {
     }
 }
 
-/// Runs the program beside the examples, with some standard input. Answers the exit status and both
-/// outputs.
-fn program(words: &[&str], input: &[u8]) -> (i32, Vec<u8>, String) {
-    let mut child = Command::new(PROGRAM)
-        .args(words)
-        .current_dir(examples())
-        .stdin(Stdio::piped())
-        .stdout(Stdio::piped())
-        .stderr(Stdio::piped())
-        .spawn()
-        .expect("the program runs");
-    let mut to = child.stdin.take().expect("it has one");
-    to.write_all(input).expect("it reads");
-    drop(to);
-    let output = child.wait_with_output().expect("the program ends");
-    (
-        output.status.code().expect("the program exits"),
-        output.stdout,
-        String::from_utf8(output.stderr).expect("it prints text"),
-    )
-}
-
 #[test]
 fn the_program_writes_messages_and_plays_them() {
     let show = fs::read(examples().join("show.txt")).expect("the script");
     let (expected, named, all) = written(&show);
     assert!(!all && named.contains("export"));
-    let (status, file, err) = program(&["messages", "show.txt"], b"");
+    let (status, file, err) = program_on(&["messages", "show.txt"], b"");
     assert_eq!((status, &file, &err), (1, &expected, &named));
-    assert_eq!(program(&["messages", "-"], &show), (1, expected, named));
+    assert_eq!(program_on(&["messages", "-"], &show), (1, expected, named));
     let (text, whole) = played(&file);
     assert!(whole);
-    let (status, out, err) = program(&["play", "--messages", "-"], &file);
+    let (status, out, err) = program_on(&["play", "--messages", "-"], &file);
     assert_eq!(String::from_utf8(out).as_deref(), Ok(&*text));
     assert_eq!((status, &*err), (0, ""));
     let folder = std::path::Path::new(env!("CARGO_TARGET_TMPDIR"));
     let name = folder.join(format!("show-{}.osc", std::process::id()));
     fs::write(&name, &file[..file.len() - 1]).expect("a file");
     let path = name.to_str().expect("its name is text");
-    let (status, out, err) = program(&["play", "--messages", path], b"");
+    let (status, out, err) = program_on(&["play", "--messages", path], b"");
     fs::remove_file(&name).expect("it is there");
     let out = String::from_utf8(out).expect("it prints text");
     let last = out.lines().last().expect("it says something");
@@ -256,7 +234,7 @@ fn the_program_writes_messages_and_plays_them() {
     );
     assert_eq!((status, &*err), (1, ""));
     assert_eq!(
-        program(&["messages", "-"], b"/status\n"),
+        program_on(&["messages", "-"], b"/status\n"),
         (0, framed(&[b"/status\0,\0\0\0"]), String::new())
     );
 }
@@ -267,7 +245,7 @@ fn the_program_says_what_it_cannot_read() {
         &["messages", "no such"][..],
         &["play", "--messages", "no such"],
     ] {
-        let (status, out, err) = program(words, b"");
+        let (status, out, err) = program_on(words, b"");
         assert_eq!((status, &out[..]), (2, &b""[..]));
         assert!(err.starts_with("limudvek: no such: "), "{err}");
     }
@@ -278,7 +256,7 @@ fn the_program_says_what_it_cannot_read() {
         &["play", "--messages", "one", "two"],
         &["page", "--messages", "one"],
     ] {
-        let (status, out, err) = program(words, b"");
+        let (status, out, err) = program_on(words, b"");
         assert_eq!((status, &out[..]), (2, &b""[..]));
         assert!(err.starts_with("usage: "), "{err}");
     }

@@ -3,15 +3,13 @@
 mod common;
 
 use cli::play::{play, prompt};
-use common::{examples, Independent, EVERY};
+use common::{examples, program_on, Independent, EVERY, PROGRAM};
 use std::cell::RefCell;
 use std::collections::BTreeSet;
 use std::fs;
 use std::io::{self, BufReader, BufWriter, Read, Write};
 use std::path::Path;
-use std::process::{Command, Stdio};
-
-const PROGRAM: &str = env!("CARGO_BIN_EXE_limudvek");
+use std::process::Command;
 
 /// Plays a script beside the examples. Answers what is printed, and whether each line could be read.
 fn played(script: &[u8]) -> (String, bool) {
@@ -105,6 +103,9 @@ fn lines_that_cannot_be_read() {
     unread("/n_free five", "five is no integer of 32 bits");
     unread("/n_free 1.0", "1.0 is no integer of 32 bits");
     unread("/n_free \"5\"", "5 is no integer of 32 bits");
+    unread("why", "why takes 1 argument, not 0");
+    unread("why not", "not is no integer of 32 bits");
+    unread("why -2147483649", "-2147483649 is no integer of 32 bits");
     unread("/n_free 2147483648", "2147483648 is no integer of 32 bits");
     unread("/c_set 0 4294967296", "4294967296 is no integer of 32 bits");
     unread("/c_set 0 loud", "loud is no number");
@@ -190,6 +191,7 @@ fn a_list_with_a_line_that_cannot_be_read_is_not_sent() {
         ("tree", "between list and end stand commands only"),
         ("help", "between list and end stand commands only"),
         ("list", "between list and end stand commands only"),
+        ("why 1", "between list and end stand commands only"),
         ("end now", "end takes 0 arguments, not 1"),
     ] {
         let script = format!("list\n{group}{line}\n{line}\n/g_new 2 1 0\nend\n{group}");
@@ -249,7 +251,11 @@ fn every_command_has_its_kind() {
     let (text, read) = played(script.as_bytes());
     assert!(read && !text.contains("refused"), "{text}");
     let commands: Vec<&str> = text.lines().filter(|line| !line.starts_with(' ')).collect();
-    let expected: Vec<String> = script.lines().map(|line| format!("{line}: ok")).collect();
+    let answer = |line| match line {
+        "why 10" => "10 runs, 1st of 1".to_string(),
+        _ => format!("{line}: ok"),
+    };
+    let expected: Vec<String> = script.lines().map(answer).collect();
     assert_eq!(commands, expected);
     for replies in [
         "/c_get 8: ok\n  /c_set 8 0.25\n/s_get 11 0: ok\n  /n_set 11 0 0.5\n\
@@ -406,31 +412,19 @@ fn the_program_says_what_it_cannot_read() {
     }
 }
 
-/// Runs the program in the examples' folder on standard input. Answers the exit status and both outputs.
-fn from_input(script: &[u8]) -> (Option<i32>, String, Vec<u8>) {
-    let mut child = Command::new(PROGRAM)
-        .args(["play", "-"])
-        .current_dir(examples())
-        .stdin(Stdio::piped())
-        .stdout(Stdio::piped())
-        .stderr(Stdio::piped())
-        .spawn()
-        .expect("the program runs");
-    let mut input = child.stdin.take().expect("it has one");
-    input.write_all(script).expect("it reads");
-    drop(input);
-    let output = child.wait_with_output().expect("the program ends");
-    let out = String::from_utf8(output.stdout).expect("it prints text");
-    (output.status.code(), out, output.stderr)
+/// Plays a script from standard input. Answers the exit status and both outputs.
+fn from_input(script: &[u8]) -> (i32, String, String) {
+    let (status, out, err) = program_on(&["play", "-"], script);
+    (status, String::from_utf8(out).expect("it prints text"), err)
 }
 
 #[test]
 fn the_program_plays_standard_input() {
     let kept = fs::read_to_string(examples().join("show.out")).expect("its output");
     let script = fs::read(examples().join("show.txt")).expect("the script");
-    assert_eq!(from_input(&script), (Some(0), kept, Vec::new()));
+    assert_eq!(from_input(&script), (0, kept, String::new()));
     let (status, out, _) = from_input(b"/quit\n");
-    assert_eq!((status, &*out), (Some(1), "line 1: /quit is no command\n"));
+    assert_eq!((status, &*out), (1, "line 1: /quit is no command\n"));
 }
 
 #[test]
@@ -450,5 +444,5 @@ fn a_version_1_file_plays_as_its_twin() {
     let (text, _) = played(original.as_bytes());
     assert_eq!(text.replace("-original", ""), twin);
     let (status, text, _) = from_input(original.as_bytes());
-    assert_eq!((status, text.replace("-original", "")), (Some(0), twin));
+    assert_eq!((status, text.replace("-original", "")), (0, twin));
 }

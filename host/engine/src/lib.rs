@@ -1,6 +1,10 @@
 //! Safe functions over the proved engine. An engine lives in two lent runs, which docs/LAYOUT.md
 //! describes: words, and bytes called the arena.
 
+mod why;
+
+pub use why::Reason;
+
 /// The exported functions of the Rattle crate `engine`. A slice passes as pointer and length.
 mod proved {
     extern "C" {
@@ -46,6 +50,13 @@ mod proved {
             words: *mut u32,
             words_length: usize,
             arena: *mut u8,
+            arena_length: usize,
+        ) -> u64;
+        pub fn engine_why(
+            number: u32,
+            words: *const u32,
+            words_length: usize,
+            arena: *const u8,
             arena_length: usize,
         ) -> u64;
         pub fn message_write(
@@ -160,6 +171,24 @@ pub fn list(items: &[u32], bytes: &[u8], words: &mut [u32], arena: &mut [u8]) ->
             words.as_mut_ptr(),
             words.len(),
             arena.as_mut_ptr(),
+            arena.len(),
+        )
+    }
+}
+
+/// Why a node is silent, or where it runs; nothing changes. Answers 1 where the state is refused, else 256
+/// times the reason, of these the first that is true: 1 no such node, 2 a group, 3 off by its own flag, 4 an
+/// ancestor is off, 5 running; plus 2^16 times the number of the off ancestor nearest the root (4) or the
+/// place in the running order, from 1 (5). -1 means the latest synth while it lives; below -1 each number
+/// means its own node.
+pub fn why(number: u32, words: &[u32], arena: &[u8]) -> u64 {
+    // SAFETY: as above.
+    unsafe {
+        proved::engine_why(
+            number,
+            words.as_ptr(),
+            words.len(),
+            arena.as_ptr(),
             arena.len(),
         )
     }
@@ -307,6 +336,11 @@ impl Engine {
                 accepted,
             }),
         }
+    }
+
+    /// Why a node is silent, or where it runs, as the function `why`.
+    pub fn why(&self, number: i32) -> Result<Reason, Refused> {
+        why::unpacked(why(number as u32, &self.words, &self.arena))
     }
 
     pub fn words(&self) -> &[u32] {

@@ -3,13 +3,13 @@
 
 mod common;
 
-use common::damage::{damage, mend_order, reach};
+use common::damage::{hurt, reach};
 use common::pair::Pair;
 use common::tally::{self, Tally};
 use common::{say, seed, spread};
 use independent::engine::MOST_NODES;
-use independent::layout::{self, write_index, ARENA, COUNT, INDEX, WORDS};
-use independent::{well_formed, Call, Engine, Random};
+use independent::layout::{ARENA, COUNT, INDEX, WORDS};
+use independent::{Call, Random};
 
 const STATES: usize = 420;
 const DAMAGES: usize = 500;
@@ -38,15 +38,8 @@ fn damages(seed: u64, place: usize) -> [usize; 2] {
     let arena = pair.arena.clone();
     let mut counts = [0; 2];
     for at in 0..DAMAGES {
-        for _ in 0..random.one_of(&[1, 1, 1, 2, 2, 3, 4]) {
-            damage(&mut random, &mut pair.words, &mut pair.arena);
-        }
-        if random.below(4) == 0 {
-            mend_order(&mut pair.words);
-        }
-        if random.below(2) == 0 && pair.words[COUNT] <= MOST_NODES as u32 {
-            write_index(&mut pair.words);
-        }
+        let times = random.one_of(&[1, 1, 1, 2, 2, 3, 4]);
+        hurt(times, &mut random, &mut pair.words, &mut pair.arena);
         let call = match random.below(3) {
             0 => commands.next(&model),
             1 => commands.kind(25, &model),
@@ -66,10 +59,7 @@ fn damages(seed: u64, place: usize) -> [usize; 2] {
 
 /// Sends a command to a damaged state. Answers whether the state is still well formed.
 fn send(pair: &mut Pair, call: &Call, random: &mut Random) -> Result<bool, String> {
-    pair.expected_words.copy_from_slice(&pair.words);
-    pair.expected_arena.copy_from_slice(&pair.arena);
-    if well_formed(&pair.words, &pair.arena) {
-        pair.model = Engine::of(&layout::view(&pair.words, &pair.arena));
+    if pair.adopt() {
         pair.send(call, random).map(|_| true)
     } else {
         pair.refuse(call).map(|_| false)

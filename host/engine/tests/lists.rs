@@ -3,16 +3,16 @@
 
 mod common;
 
-use common::damage::{damage, mend_order, reach};
+use common::damage::{hurt, reach};
 use common::desk::{definition, Desk};
 use common::lent::{lend, spoil, SPOILT};
 use common::pair::Pair;
 use common::tally::{check, Tally};
 use common::{seed, sequences, spread};
 use engine::{List, ListRefused, Refused, UNKNOWN};
-use independent::engine::{Commands, Theme, MOST_NODES};
-use independent::layout::{self, write_index, ARENA, COUNT, WORDS};
-use independent::{lend_list, read_list, well_formed, write, Call, Engine, Random, MOST_COMMANDS};
+use independent::engine::{Commands, Theme};
+use independent::layout::{ARENA, WORDS};
+use independent::{lend_list, read_list, write, Call, Engine, Random, MOST_COMMANDS};
 
 const TOO_LONG: u64 = 34;
 
@@ -300,13 +300,7 @@ fn damaged_states() {
                 pair,
                 tally,
             } = &mut sequence;
-            damage(random, &mut pair.words, &mut pair.arena);
-            if random.below(4) == 0 {
-                mend_order(&mut pair.words);
-            }
-            if random.below(2) == 0 && pair.words[COUNT] <= MOST_NODES as u32 {
-                write_index(&mut pair.words);
-            }
+            hurt(1, random, &mut pair.words, &mut pair.arena);
             let whole = random.below(4) == 0;
             if whole {
                 calls.push(commands.kind(26, &model));
@@ -316,11 +310,8 @@ fn damaged_states() {
                 spoil(&mut items, &bytes, random);
             }
             let none = read_list(&items, &bytes).is_none();
-            pair.expected_words.copy_from_slice(&pair.words);
-            pair.expected_arena.copy_from_slice(&pair.arena);
-            let formed = well_formed(&pair.words, &pair.arena);
+            let formed = pair.adopt();
             let sent = if formed {
-                pair.model = Engine::of(&layout::view(&pair.words, &pair.arena));
                 pair.list(&items, &bytes).map(|_| ())
             } else {
                 pair.refuse_list(&items, &bytes)

@@ -6,6 +6,7 @@ mod reply;
 mod slots;
 mod tree;
 mod view;
+mod why;
 
 use crate::{read_versioned, write, Command, Fault, Key, Value, Version};
 use slots::{Covered, Kept, Slots};
@@ -15,6 +16,7 @@ pub use commands::{Commands, Theme, EDGES};
 pub use slots::SLOTS;
 pub use tree::Control;
 pub use view::{NodeView, SlotView, SynthView, View};
+pub use why::Reason;
 
 pub const MOST_NODES: usize = 256;
 pub const BUSES: usize = 4096;

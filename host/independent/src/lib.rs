@@ -20,7 +20,7 @@ mod write;
 pub use after::leave;
 pub use command::{Call, Command, Key, Value};
 pub use definition::{Definition, Input, Unit, Variant};
-pub use engine::{Answer, Engine, View};
+pub use engine::{Answer, Engine, Reason, View};
 pub use formed::{depths, nodes_formed, running, well_formed};
 pub use list::{lend_list, read_list, Listed, ITEM, MOST_COMMANDS};
 pub use message::{read_message, write_message, Argument, Message};

@@ -35,13 +35,16 @@ pub fn definitions() -> Vec<Definition> {
         .collect()
 }
 
+/// Sends a command that is accepted and does not reply.
+pub fn done(engine: &mut Engine, call: &Call) {
+    let command = call.command().expect("it is known");
+    assert_eq!(engine.apply(&command, &mut []), Ok(0), "{call:?}");
+}
+
 /// An engine of so many nodes: four groups, and synths in them by turns, from number 10 on.
 pub fn engine_of(nodes: usize, definitions: &[Definition]) -> Engine {
     let mut engine = Engine::new();
-    let mut send = |call: Call| {
-        let command = call.command().expect("it is known");
-        assert_eq!(engine.apply(&command, &mut []), Ok(0), "{call:?}");
-    };
+    let mut send = |call: Call| done(&mut engine, &call);
     send(Call::new(1, [0; 5], &write(definitions).bytes));
     for group in 1..=4 {
         send(Call::new(4, [group, 1, 0, 0, 0], b""));

@@ -4,7 +4,7 @@
 
 use super::State;
 use crate::clock::least;
-use crate::commands::definition;
+use crate::commands::{definition, done};
 use independent::engine::packed;
 use independent::{write, Call, Engine};
 use std::cell::RefCell;
@@ -59,13 +59,9 @@ pub fn measure() {
 fn engine_of(numbers: &[i32]) -> Engine {
     let mut engine = Engine::new();
     let file = write(&[definition("small".to_string(), 1)]).bytes;
-    let mut send = |call: Call| {
-        let command = call.command().expect("it is known");
-        assert_eq!(engine.apply(&command, &mut []), Ok(0), "{call:?}");
-    };
-    send(Call::new(1, [0; 5], &file));
+    done(&mut engine, &Call::new(1, [0; 5], &file));
     for &number in numbers {
-        send(Call::new(3, [number, 1, 0, 0, 0], b"small"));
+        done(&mut engine, &Call::new(3, [number, 1, 0, 0, 0], b"small"));
     }
     engine
 }

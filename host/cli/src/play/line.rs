@@ -33,6 +33,11 @@ pub enum Line {
     /// The first line of a list, and the one after its last.
     List,
     End,
+    /// The question why a node is silent.
+    Why {
+        text: String,
+        number: i32,
+    },
     Load {
         text: String,
         file: Vec<u8>,
@@ -121,6 +126,11 @@ pub fn read(text: &[u8]) -> Result<Option<Line>, String> {
     if let Some(line) = alone {
         expect(0)?;
         return Ok(Some(line));
+    }
+    if address == b"why" {
+        expect(1)?;
+        let number = arguments[0].integer()?;
+        return Ok(Some(Line::Why { text, number }));
     }
     if address == b"/d_recv" {
         expect(1)?;

@@ -7,6 +7,7 @@ use std::slice::Iter;
 
 /// Where the parts lie in the words, by docs/LAYOUT.md.
 pub(crate) const ORDER_LENGTH: usize = 1;
+pub(crate) const LATEST: usize = 3;
 pub(crate) const RESIDENT: usize = 36;
 pub(crate) const NODE: usize = 68;
 pub(crate) const ORDER: usize = 1348;

@@ -453,7 +453,7 @@ fn the_program_writes_the_page() {
     ] {
         let (status, page, err) = run(name, input);
         assert_eq!((status, err.as_str()), (Some(0), ""));
-        assert_eq!(data(&pieces(&page)).list_at("steps").len(), 64);
+        assert_eq!(data(&pieces(&page)).list_at("steps").len(), 70);
         assert!(page.contains(&format!("<title>{title}</title>")));
     }
     let (status, page, _) = run("-", b"/quit\n");

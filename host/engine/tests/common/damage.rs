@@ -2,8 +2,9 @@
 
 use super::pair::Pair;
 use independent::engine::{Commands, Theme, BUSES, MOST_NODES, SLOTS};
-use independent::layout::{record, row_words, Record, ARENA, INDEX, RECORD, RESIDENT, ROW, WORDS};
+use independent::layout::{record, row_words, write_index, Record, ARENA, INDEX, RECORD, WORDS};
 use independent::layout::{BUS, CONTROL, COUNT, LATEST, LENGTH, NEXT, NODE, ORDER, ORDER_LENGTH};
+use independent::layout::{RESIDENT, ROW};
 use independent::{running, Random, MOST_BYTES, MOST_PARAMETERS};
 
 /// Values at the edges of what words can be.
@@ -57,8 +58,22 @@ pub fn reach(random: &mut Random, place: usize) -> (Pair, Commands) {
     (pair, commands)
 }
 
+/// Changes so many words or bytes, and mends now and then what would be found at once: the running order,
+/// the index.
+pub fn hurt(times: usize, random: &mut Random, words: &mut [u32], arena: &mut [u8]) {
+    for _ in 0..times {
+        damage(random, words, arena);
+    }
+    if random.below(4) == 0 {
+        mend_order(words);
+    }
+    if random.below(2) == 0 && words[COUNT] <= MOST_NODES as u32 {
+        write_index(words);
+    }
+}
+
 /// Changes a word or a byte, mostly one that is looked at.
-pub fn damage(random: &mut Random, words: &mut [u32], arena: &mut [u8]) {
+fn damage(random: &mut Random, words: &mut [u32], arena: &mut [u8]) {
     let count = (words[COUNT] as usize).clamp(1, MOST_NODES);
     let node = random.below(count);
     let other = record(words, random.below(count));
@@ -146,7 +161,7 @@ fn new_byte(random: &mut Random, old: u8) -> u8 {
 }
 
 /// Writes the running order of the records, whatever they are.
-pub fn mend_order(words: &mut [u32]) {
+fn mend_order(words: &mut [u32]) {
     let count = (words[COUNT] as usize).min(MOST_NODES);
     let mut records: Vec<Record> = (0..count).map(|place| record(words, place)).collect();
     for record in &mut records {

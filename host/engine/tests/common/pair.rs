@@ -1,8 +1,8 @@
 //! The proved engine and the independent one side by side.
 
 use independent::engine::packed;
-use independent::{layout, leave, read_list, read_message, Call, Command, Engine, Random};
-use independent::{Fault, Listed};
+use independent::{layout, leave, read_list, read_message, well_formed};
+use independent::{Call, Command, Engine, Fault, Listed, Random, Reason};
 
 /// Longer than any reply.
 const LONGEST: usize = 1 << 20;
@@ -112,6 +112,15 @@ impl Pair {
         Ok(answer)
     }
 
+    /// Asks both why a number is silent. Answers what both answer.
+    pub fn why(&self, number: i32) -> Result<Reason, String> {
+        let reason = self.model.why(number);
+        match engine::why(number as u32, &self.words, &self.arena) {
+            answer if answer == reason.packed() => Ok(reason),
+            answer => Err(format!("why {number}: {answer:#x}, expected {reason:?}")),
+        }
+    }
+
     /// Sends a command whose answer the paper settles.
     pub fn expect(&mut self, refusal: u32, call: &Call, random: &mut Random) -> Result<(), String> {
         match self.send(call, random) {
@@ -211,6 +220,13 @@ impl Pair {
         })
     }
 
+    /// Asks why a number is silent where that must be refused by 1.
+    pub fn refuse_why(&mut self, number: i32) -> Result<(), String> {
+        self.broken(1, |words, arena, _| {
+            engine::why(number as u32, words, arena)
+        })
+    }
+
     fn broken(
         &mut self,
         expected: u64,
@@ -250,6 +266,18 @@ impl Pair {
             2 => length,
             _ => length + random.below(40),
         }
+    }
+
+    /// Takes the state as it is, where something else changed it. Answers whether it is well formed; then
+    /// the model holds what it holds.
+    pub fn adopt(&mut self) -> bool {
+        self.expected_words.copy_from_slice(&self.words);
+        self.expected_arena.copy_from_slice(&self.arena);
+        let formed = well_formed(&self.words, &self.arena);
+        if formed {
+            self.model = Engine::of(&layout::view(&self.words, &self.arena));
+        }
+        formed
     }
 
     /// What the state holds is what the model holds.

@@ -1,0 +1,82 @@
+-- Why a node is silent, of calls: paper 02, 7/14. "The reason given must be the true one": after any calls in a row from a fresh engine the answer is the plain tree's, fed the same commands.
+use Prim.Native.Nat.{ℕ, _≤_}
+use mathlib.Core.Bool.{true, not}
+use mathlib.Core.Path.{_≡_, refl, sym, ap, ap₂, _∙_, subst}
+use mathlib.Core.List.{List}
+use mathlib.Core.Option.{Option}
+use Rattle.words.specs.Choice.{both}
+use Rattle.nodes.specs.declared.Node.{Node}
+use Rattle.nodes.specs.Forest.{Forest, mapForest}
+use Rattle.nodes.specs.Formed.{apart}
+use Rattle.treerefinement.specs.Flatten.{key}
+use Rattle.treerefinement.specs.Family.{stands}
+use Rattle.treerefinement.specs.Shape.{build}
+use Rattle.model.specs.Engine.{Engine}
+use Rattle.model.specs.View.{PlainNode, viewOf}
+use Rattle.model.specs.Plain.{Plain, atFirst, numberIn, isGroupNode, isOnNode, plainOrder}
+use Rattle.model.specs.Chain.{State, engineIn, Call, Chain, leftBy, Fresh}
+use Rattle.model.specs.Demands.{replay}
+use Rattle.refinement.specs.Kept.{Kept}
+use Rattle.refinement.specs.Same.{kept-same}
+use Rattle.why.specs.declared.Reason.the-variants.{Running}
+use Rattle.why.specs.declared.Told.the-variants.{Because}
+use Rattle.why.specs.Reasons.{nodeOf, plainReason, reasonFor, plainWhy}
+use Rattle.why.specs.Held.{heldTree, heldWhy, whyTold}
+use Rattle.why.specs.Runs.{times}
+use Rattle.why.specs.Settle.{times-once}
+use Rattle.why.specs.Mapped.{map-times}
+use Rattle.why.specs.Exactly.{StandsAt}
+use Rattle.why.specs.Facts.{isOff, isSynth, Facts, facts}
+use Rattle.why.specs.Rebuilt.{rebuilt}
+use Rattle.sequence.specs.Theorem.{going-on}
+use Rattle.demands.specs.Theorems.{demand3}
+use Rattle.demands.specs.Session.{Made, Session, leftAfter, commandsOf}
+use Rattle.demands.specs.SessionTheorem.{chained, same-left}
+
+-- the tree that a state holds is the plain tree
+pub held-tree : (e : Engine) (p : Plain) → Kept e p → heldTree e ≡ p .tree
+held-tree e p k =
+    ap (λ (t : List Node). mapForest (viewOf (e .slots) (e .controls)) (build t)) (k .laid)
+    ∙ rebuilt (viewOf (e .slots) (e .controls)) (λ d x. refl) (k .forest)
+    ∙ sym (k .tree)
+
+-- so the reason is the plain tree's
+held-why : (e : Engine) (p : Plain) → Kept e p → (number : ℕ) → heldWhy number e ≡ plainWhy number p
+held-why e p k number = ap₂ (λ (latest : Option ℕ) (f : Forest PlainNode). reasonFor number latest f) (k .latest) (held-tree e p k)
+
+-- each number is of one node
+once : (e : Engine) (p : Plain) → Kept e p → apart (e .nodes) ≡ true → (m : ℕ) → times numberIn m (p .tree) ≤ 1
+once e p k h m =
+    rw (k .tree, map-times (viewOf (e .slots) (e .controls)) key numberIn (λ x. refl) m (k .forest)) (times-once m (k .forest) (ap apart (sym (k .laid)) ∙ h))
+
+-- of a state and the plain tree that was fed the same: what is told of every number is the plain tree's reason; of every node's own number exactly one reason holds, and it is that
+pub record Answers (s : State) (p : Plain) : Type 0 where
+  pub told : (number : ℕ) → whyTold number (s .words) (s .arena) ≡ Because (plainWhy number p)
+  pub facts : (n : ℕ) → Facts numberIn isGroupNode isOnNode n (p .tree)
+  -- running at k exactly if the number stands at the place k of the kept order
+  pub running : (n k : ℕ) → plainReason n (p .tree) ≡ Running k → StandsAt k n (engineIn s .order)
+  pub standing : (n k : ℕ) → StandsAt k n (engineIn s .order) → plainReason n (p .tree) ≡ Running k
+  -- off exactly if it is of a live synth that is not in the kept order
+  pub silent : (n : ℕ) → isOff (plainReason n (p .tree)) ≡ both (isSynth numberIn isGroupNode isOnNode (nodeOf numberIn n (p .tree))) (not (stands n (engineIn s .order)))
+
+-- of commands in a row
+pub why-of-commands : (s : State) → Fresh s → (cs : List Call) → Chain cs s → Answers (leftBy cs s) (replay cs atFirst)
+why-of-commands s f cs a =
+    let g = going-on s f cs a in
+    let e = engineIn (leftBy cs s) in
+    let p = replay cs atFirst in
+    let order : e .order ≡ plainOrder p = kept-same e p (g .same) .order in
+    let all : (n : ℕ) → Facts numberIn isGroupNode isOnNode n (p .tree) =
+    facts numberIn isGroupNode isOnNode (p .tree) (once e p (g .same) (demand3 s f cs a .tree .distinct)) in
+    record {
+      told = λ number. rw (g .whole) (ap Because (held-why e p (g .same) number));
+      facts = all;
+      running = λ n k h. subst (λ (l : List ℕ). StandsAt k n l) (sym order) (all n .running k h);
+      standing = λ n k h. all n .standing k (subst (λ (l : List ℕ). StandsAt k n l) order h);
+      silent = λ n. all n .silent ∙ ap (λ (l : List ℕ). both (isSynth numberIn isGroupNode isOnNode (nodeOf numberIn n (p .tree))) (not (stands n l))) (sym order);
+    }
+
+-- of commands, messages and lists in any mixture: the plain tree is fed the commands that they stand for
+pub why-of-calls : (s : State) → Fresh s → (ms : List Made) → Session ms s → Answers (leftAfter ms s) (replay (commandsOf ms s) atFirst)
+why-of-calls s f ms p =
+    subst (λ (x : State). Answers x (replay (commandsOf ms s) atFirst)) (same-left ms s p) (why-of-commands s f (commandsOf ms s) (chained ms s p))

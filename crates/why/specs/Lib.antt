@@ -1,0 +1,16 @@
+pub mod Reasons
+pub mod Held
+pub mod Numbers
+pub mod Worked
+pub mod Rows
+pub mod Table
+pub mod Runs
+pub mod Climb
+pub mod Search
+pub mod Settle
+pub mod Returns
+pub mod Mapped
+pub mod Exactly
+pub mod Ancestors
+pub mod Facts
+pub mod Rebuilt
