@@ -2,7 +2,6 @@
 use crate::name::name_bytes;
 use faults::Fault;
 use format::HIGHEST_RATE;
-use format::HIGHEST_SHORT;
 use format::Width;
 ghost use Prim.Native.Nat.{_+_, _*_, _≤_};
 ghost use mathlib.Core.Path.{_≡_};
@@ -63,15 +62,13 @@ pub fn word_at(s: &[u8], at: usize) -> u32
     number32(s[at], s[at + 1], s[at + 2], s[at + 3])
 }
 
-// A signed number of two bytes as the pattern of the same number in four: -1 stays -1.
+// A signed number of two bytes as the pattern of the same number in four: -1 stays -1. It is how far it lies above the lowest, and the
+// lowest, without a test: the compiler has one instruction for it.
 fn extend(a: u8, b: u8) -> u32
     ensures { λ r. ⌜ r ≡ extended (256 * a + b) ⌝ }
 {
-    let n = number16(a, b);
-    if n <= HIGHEST_SHORT {
-        return n;
-    }
-    n + 0xFFFF_0000
+    let above = (number16(a, b) + 0x8000) % 0x1_0000;
+    ((above as u64 + 0xFFFF_8000) % 0x1_0000_0000) as u32
 }
 
 // The number of two bytes at a place, extended.
@@ -123,10 +120,10 @@ impl Cursor {
         ensures { λ r. ⌜ numberOf r ≡ int16 (now (s .entry)) (self .at) ⌝ }
     {
         let at = self.at;
-        if s.len() <= at {
+        if s.len() < 2 {
             return Number::Bad(Fault::Truncated, at);
         }
-        if s.len() - at < 2 {
+        if s.len() - 2 < at {
             return Number::Bad(Fault::Truncated, at);
         }
         Number::Value(number16(s[at], s[at + 1]), Cursor { at: at + 2 })
@@ -136,10 +133,10 @@ impl Cursor {
         ensures { λ r. ⌜ numberOf r ≡ int32 (now (s .entry)) (self .at) ⌝ }
     {
         let at = self.at;
-        if s.len() <= at {
+        if s.len() < 4 {
             return Number::Bad(Fault::Truncated, at);
         }
-        if s.len() - at < 4 {
+        if s.len() - 4 < at {
             return Number::Bad(Fault::Truncated, at);
         }
         Number::Value(word_at(s, at), Cursor { at: at + 4 })
@@ -150,10 +147,10 @@ impl Cursor {
         ensures { λ r. ⌜ numberOf r ≡ integerBy Short (now (s .entry)) (self .at) ⌝ }
     {
         let at = self.at;
-        if s.len() <= at {
+        if s.len() < 2 {
             return Number::Bad(Fault::Truncated, at);
         }
-        if s.len() - at < 2 {
+        if s.len() - 2 < at {
             return Number::Bad(Fault::Truncated, at);
         }
         Number::Value(half_at(s, at), Cursor { at: at + 2 })

@@ -1,21 +1,38 @@
-use mathlib.Core.Path.{sym}
+use Prim.Native.Nat.{ℕ, _+_, _%_, _<_}
+use mathlib.Core.Bool.{Bool, true, false}
+use mathlib.Core.Path.{_≡_, refl}
+use native.Mathlib.Omega.{arith}
+use lib.Dec.{leb}
 use borrow.Author.Needs.{needs}
-use borrow.Author.Tests.{le-leb, lt-leb}
-use Rattle.format.specs.Fields.{highest16}
+use borrow.Author.Tests.{leb-true, leb-false}
+use Rattle.format.specs.Fields.{highest16, extended}
 use Rattle.fields.proofs.cursor.extend.Statement.{statement}
 use Rattle.fields.proofs.cursor.extend.Tie as tie
+
+-- how far a number lies above the lowest, and the lowest
+above-lowest : (n : ℕ) → n < 65536 → ((n + 32768) % 65536 + 4294934528) % 4294967296 ≡ extended n
+above-lowest n h = go (leb n highest16) refl where
+    go : (b : Bool) → leb n highest16 ≡ b → ((n + 32768) % 65536 + 4294934528) % 4294967296 ≡ extended n
+    go true e = rw e (omega (arith, leb-true n highest16 e))
+    go false e = rw e (omega (arith, leb-false n highest16 e))
 
 number16-requires : tie.Need-number16-requires
 number16-requires c κs = search needs
 
-returns : tie.Need-returns
-returns c = rw (sym (c .before .number16 .ensures), le-leb _ highest16 (c .if1 .taken))
+add-above : tie.Need-add-above
+add-above c = search needs
+
+cast-result : tie.Need-cast-result
+cast-result c = search needs
 
 add-result : tie.Need-add-result
 add-result c = search needs
 
-returns-2 : tie.Need-returns-2
-returns-2 c = rw (sym (c .before .number16 .ensures), lt-leb _ highest16 (c .if1 .left))
+cast-result-2 : tie.Need-cast-result-2
+cast-result-2 c = search needs
+
+returns : tie.Need-returns
+returns c = rw (c .number16 .ensures) (above-lowest _ (omega arith))
 
 pub extend-spec : {M : Type 1} → statement M
-extend-spec = tie.close (tie.spec number16-requires returns add-result returns-2)
+extend-spec = tie.close (tie.spec number16-requires add-above cast-result add-result cast-result-2 returns)
