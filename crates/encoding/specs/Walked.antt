@@ -10,7 +10,7 @@ use Rattle.faults.specs.declared.Fault.the-variants.{BadCount}
 use Rattle.format.specs.declared.Width.{Width}
 use Rattle.format.specs.declared.Width.the-variants.{Short, Long}
 use Rattle.format.specs.Read.{got, bad, repeat, mapRead}
-use Rattle.format.specs.Fields.{int16, name, rate, sizeOf, valueBy, integerBy, countBy, shortCountTo, highest16, highest32}
+use Rattle.format.specs.Fields.{sizeOf, valueBy, integerBy, countBy, shortCountTo, highest16, highest32}
 use Rattle.format.specs.Definition.{UnitSpec, Definition}
 use Rattle.format.specs.Reader.{frontBy, inputBy, unitBy, unitsBy, variant, definitionBy}
 use Rattle.format.specs.Endings.{field-got}
@@ -20,7 +20,7 @@ use Rattle.format.specs.Sizes.{rate-sized, count-got, name-got}
 use Rattle.front.specs.declared.Counts.{Counts}
 use Rattle.front.specs.Front.{countsOf}
 use Rattle.units.specs.Marks.{unitCounts, unitInputs, unitEnd, unitPlace}
-use Rattle.units.specs.Units.{outsFrom}
+use Rattle.units.specs.Units.{outsFrom, unit-on}
 use Rattle.units.specs.Walk.{units-behind, unit-read}
 use Rattle.encoding.specs.Encoding.{total, unitFields}
 
@@ -38,22 +38,13 @@ walked-few Long s start (suc n) = omega (arith, walked-few Long s start n)
 
 -- a unit that was read has as many inputs as its count says
 inputs-counted : (w : Width) (k : ℕ) (outs s : List ℕ) (at : ℕ) {u : UnitSpec} {end : ℕ} → unitBy w k outs s at ≡ got u end → length (u .inputs) ≡ unitInputs w s at
-unfolding unitBy unitCounts unitInputs
-inputs-counted w k outs s at {u} {end} h =
-    went-on (name s at) _ h (λ class p1 e1 r1.
-    went-on (rate s p1) _ r1 (λ r p2 e2 r2.
-    went-on (countBy w s p2) _ r2 (λ many p3 e3 r3.
-    went-on (countBy w s p3) _ r3 (λ o p4 e4 r4.
-    went-on (int16 s p4) _ r4 (λ special p5 e5 r5.
-    went-on (repeat (inputBy w k outs s) many p5) _ r5 (λ inputs p6 e6 r6.
-    went-on (repeat (rate s) o p6) _ r6 (λ outputs p7 e7 r7.
+unfolding unitCounts unitInputs
+inputs-counted w k outs s at h =
+    unit-on w k outs s at h (λ class r many o special p1 p2 p3 p4 p5 p6 e1 e2 e3 e4 e5 e6 e7.
     let a = name-got s at e1 in
     let b = rate-sized s p1 r p2 e2 in
     let place : p2 ≡ at + 2 + getD s at 0 = omega arith in
-    sym (got-value (ap (mapRead (λ (x : UnitSpec). length (x .inputs))) r7))
-    ∙ repeat-length (inputBy w k outs s) many p5 e6
-    ∙ count-got w s p2 e3 .0
-    ∙ ap (valueBy w s) place)))))))
+    repeat-length (inputBy w k outs s) many p5 e6 ∙ count-got w s p2 e3 .0 ∙ ap (valueBy w s) place)
 
 module _ (w : Width) (k : ℕ) (s : List ℕ) (n start : ℕ) {us : List UnitSpec} {end : ℕ} (h : unitsBy w k s n [] start ≡ got us end) where
   -- the units that were walked over, and those that are left

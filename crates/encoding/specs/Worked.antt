@@ -7,7 +7,7 @@ use Rattle.format.specs.Definition.{constant, Definition}
 use Rattle.format.specs.Writer.{writeAll, writeDefinitionBy, writeDefinition}
 use Rattle.encoding.specs.Encoding.{total, fieldsIn}
 
-abbrev tone : Definition
+abbrev pub tone : Definition
 tone = record {
   front = record {
     name = 97 ∷ [];

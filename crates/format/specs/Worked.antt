@@ -15,7 +15,8 @@ use Rattle.format.specs.Fields.{integerBy, minusOne}
 use Rattle.format.specs.Reader.{frontBy, unitsBy, definitionBy, readDefinitions, readFile, sameName, among}
 use Rattle.format.specs.Writer.{writeAll, writeDefinitionBy, writeFile, fileType, firstVersion}
 
-abbrev ping : Definition
+-- "ping" with one parameter "freq"
+abbrev pub ping : Definition
 ping = record {
   front = record {
     name = 112 ∷ (105 ∷ (110 ∷ (103 ∷ [])));

@@ -28,7 +28,8 @@ use Rattle.model.specs.Checks.{namesOf, staying, noSlot, noResident}
 use Rattle.model.specs.Effects.{retired, loaded, retire, withSlots}
 use Rattle.model.specs.Plain.{Plain, Named, meaning, forget, learn, withNames}
 use Rattle.preservation.specs.Slots.{resident-found}
-use Rattle.refinement.specs.Names.{same-equal, same-self, there, means, from-least, meaning-means, meaning-forget, once-forget, forget-count}
+use Rattle.model.specs.Searches.{resident-least}
+use Rattle.refinement.specs.Names.{same-equal, same-self, there, means, meaning-means, meaning-forget, once-forget, forget-count}
 use Rattle.refinement.specs.SlotNames.{means-retired, means-retire, residents-retire, meant, Differ, residents-retired}
 use Rattle.refinement.specs.Load.{known, free-staying, AllDefinitions, Loading, loaded-all, held-loaded}
 use Rattle.refinement.specs.Kept.{Kept, seenTree}
@@ -143,7 +144,7 @@ resident-name k zero name (s ∷ more) e h = go (both (s .resident) (sameName (n
   where
     go : (b : Bool) → both (s .resident) (sameName (nameIn s) name) ≡ b → pick b k (residentFrom (k + 1) name more) ≡ k + 0 → sameName (nameIn s) name ≡ true
     go true f g = both-true (s .resident) (sameName (nameIn s) name) f .1
-    go false f g = absurd (omega (arith, from-least (k + 1) name more))
+    go false f g = absurd (omega (arith, resident-least (k + 1) name more))
 resident-name k (suc j) name (s ∷ more) e h = go (both (s .resident) (sameName (nameIn s) name)) e (λ f. resident-name (k + 1) j name more f (omega arith))
   where
     go : (b : Bool) → pick b k (residentFrom (k + 1) name more) ≡ k + suc j → (residentFrom (k + 1) name more ≡ k + 1 + j → sameName (nameIn (slotAt more j)) name ≡ true) → sameName (nameIn (slotAt more j)) name ≡ true

@@ -64,15 +64,6 @@ from-most k m (s ∷ more) = go (both (s .resident) (sameName (nameIn s) m)) (fr
     go true h = omega arith
     go false h = omega arith
 
-pub from-least : (k : ℕ) (m : List ℕ) (slots : List Slot) → k ≤ residentFrom k m slots
-unfolding residentFrom
-from-least k m [] = omega arith
-from-least k m (s ∷ more) = go (both (s .resident) (sameName (nameIn s) m)) (from-least (k + 1) m more)
-  where
-    go : (b : Bool) → k + 1 ≤ residentFrom (k + 1) m more → k ≤ pick b k (residentFrom (k + 1) m more)
-    go true h = omega arith
-    go false h = omega arith
-
 from-shift : (k : ℕ) (m : List ℕ) (slots : List Slot) → residentFrom (k + 1) m slots ≡ residentFrom k m slots + 1
 unfolding residentFrom
 from-shift k m [] = refl

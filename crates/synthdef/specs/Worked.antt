@@ -5,23 +5,11 @@ use mathlib.Core.List.{List, [], _∷_, _++_}
 use lib.ListN.{length, replicate}
 use Rattle.format.specs.declared.Width.the-variants.{Short}
 use Rattle.format.specs.Read.{repeat}
-use Rattle.format.specs.Definition.{Definition}
+use Rattle.format.specs.Worked.{ping}
 use Rattle.format.specs.Fields.{nameBytes}
 use Rattle.format.specs.Reader.{frontBy, unitsBy, definitionBy, readDefinitions, readFile, among}
 use Rattle.format.specs.Writer.{writeAll, writeDefinitionBy, writeFileBy, writeFile}
 use Rattle.synthdef.specs.Twin.{acceptedVersion, twin, widenedLength, widenedBytes}
-
-abbrev ping : Definition
-ping = record {
-  front = record {
-    name = 112 ∷ (105 ∷ (110 ∷ (103 ∷ [])));
-    constants = [];
-    values = 1138491392 ∷ [];
-    names = record { name = 102 ∷ (114 ∷ (101 ∷ (113 ∷ []))); index = 0 } ∷ [];
-  };
-  units = [];
-  variants = [];
-}
 
 abbrev file : List ℕ
 file = writeFileBy Short (ping ∷ [])

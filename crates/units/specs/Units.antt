@@ -21,7 +21,7 @@ use Rattle.format.specs.Fields.{int16, name, rate, sizeOf, valueBy, integerBy, 
 use Rattle.format.specs.Definition.{constant, output, UnitSpec}
 use Rattle.format.specs.Reader.{inputBy, unitBy, unitsBy}
 use Rattle.format.specs.Endings.{then-got, then-bad, mapped-got, fact-then, fact-ending, ending-fact, ending-keeps, FixedSize, repeat-got, field-got}
-use Rattle.format.specs.RepeatLaws.{went-on}
+use Rattle.format.specs.RepeatLaws.{went-on, got-value, got-place}
 use Rattle.units.specs.Marks.{unitCounts, unitInputs, unitOutputs, inputSize, unitEnd, unitPlace, place-up, mostMarks, Marked, Marking, marking-same, marking-next}
 use Rattle.format.specs.Sizes.{index-sized, rate-sized, count-got, name-got}
 
@@ -69,17 +69,28 @@ pub record Shaped (w : Width) (s : List ℕ) (at out end : ℕ) : Type 0 where
   pub past : end ≡ unitEnd w s at
   pub within : end ≤ length s
 
-pub unit-shape : (w : Width) (k : ℕ) (outs s : List ℕ) (at : ℕ) {out end : ℕ} → mapRead (λ (u : UnitSpec). length (u .outputs)) (unitBy w k outs s at) ≡ got out end → Shaped w s at out end
-unfolding unitBy unitCounts unitInputs unitOutputs unitEnd
-unit-shape w k outs s at {out} {end} h =
-    let t = mapped-got _ (unitBy w k outs s at) h in
-    went-on (name s at) _ (t .read) (λ class p1 e1 r1.
+-- a unit that was read, field by field
+pub unit-on : {E : Type 0} (w : Width) (k : ℕ) (outs s : List ℕ) (at : ℕ) {u : UnitSpec} {end : ℕ} → unitBy w k outs s at ≡ got u end
+    → ((class : List ℕ) (r many out special p1 p2 p3 p4 p5 p6 : ℕ) → name s at ≡ got class p1 → rate s p1 ≡ got r p2 → countBy w s p2 ≡ got many p3 → countBy w s p3 ≡ got out p4
+    → int16 s p4 ≡ got special p5 → repeat (inputBy w k outs s) many p5 ≡ got (u .inputs) p6 → repeat (rate s) out p6 ≡ got (u .outputs) end → E) → E
+unfolding unitBy
+unit-on w k outs s at h go =
+    went-on (name s at) _ h (λ class p1 e1 r1.
     went-on (rate s p1) _ r1 (λ r p2 e2 r2.
     went-on (countBy w s p2) _ r2 (λ many p3 e3 r3.
-    went-on (countBy w s p3) _ r3 (λ o p4 e4 r4.
+    went-on (countBy w s p3) _ r3 (λ out p4 e4 r4.
     went-on (int16 s p4) _ r4 (λ special p5 e5 r5.
     went-on (repeat (inputBy w k outs s) many p5) _ r5 (λ inputs p6 e6 r6.
-    went-on (repeat (rate s) o p6) _ r6 (λ outputs p7 e7 r7.
+    went-on (repeat (rate s) out p6) _ r6 (λ outputs p7 e7 r7.
+    go class r many out special p1 p2 p3 p4 p5 p6 e1 e2 e3 e4 e5
+    (rw (sym (got-value r7)) e6)
+    (rw (sym (got-value r7), sym (got-place r7)) e7))))))))
+
+pub unit-shape : (w : Width) (k : ℕ) (outs s : List ℕ) (at : ℕ) {out end : ℕ} → mapRead (λ (u : UnitSpec). length (u .outputs)) (unitBy w k outs s at) ≡ got out end → Shaped w s at out end
+unfolding unitCounts unitInputs unitOutputs unitEnd
+unit-shape w k outs s at {out} {end} h =
+    let t = mapped-got _ (unitBy w k outs s at) h in
+    unit-on w k outs s at (t .read) (λ class r many o special p1 p2 p3 p4 p5 p6 e1 e2 e3 e4 e5 e6 e7.
     let a = name-got s at e1 in
     let b = rate-sized s p1 r p2 e2 in
     let c = count-got w s p2 e3 in
@@ -87,16 +98,13 @@ unit-shape w k outs s at {out} {end} h =
     let e = field-got 2 s p4 _ e5 in
     let f = repeat-got (inputBy w k outs s) (inputSize w) (length s) (input-sized w k outs s) many p5 e6 in
     let g = repeat-got (rate s) 1 (length s) (rate-sized s) o p6 e7 in
-    let l : got (length outputs) p7 ≡ got (length (t .value .outputs)) end = ap (mapRead (λ (u : UnitSpec). length (u .outputs))) r7 in
-    let m : length outputs ≡ length (t .value .outputs) = cc in
-    let n : p7 ≡ end = cc in
-    let o1 : out ≡ o = sym (t .same) ∙ sym m ∙ g .many in
+    let o1 : out ≡ o = sym (t .same) ∙ g .many in
     let q2 : p2 ≡ at + 2 + getD s at 0 = omega arith in
     let q3 : p3 ≡ at + 2 + getD s at 0 + sizeOf w = omega arith in
     let ins : many ≡ valueBy w s (at + 2 + getD s at 0) = c .0 ∙ ap (valueBy w s) q2 in
     let out1 : o ≡ valueBy w s (at + 2 + getD s at 0 + sizeOf w) = d .0 ∙ ap (valueBy w s) q3 in
     let all = ap (λ (i : ℕ). inputSize w * i) ins in
-    record { outputs = o1 ∙ out1; past = omega (arith, f .past, g .past, all); within = omega (arith, g .within (f .within (e .2))) })))))))
+    record { outputs = o1 ∙ out1; past = omega (arith, f .past, g .past, all); within = omega (arith, g .within (f .within (e .2))) })
 
 -- a unit of which the outputs are fact, field by field
 unfoldable pub skipUnit : Width → ℕ → List ℕ → List ℕ → ℕ → Read ℕ

@@ -3,8 +3,8 @@ use Prim.Native.Nat.{ℕ}
 use mathlib.Core.Path.{_≡_, refl}
 use mathlib.Core.List.{List, [], _∷_}
 use Rattle.format.specs.declared.Width.the-variants.{Short}
-use Rattle.format.specs.Definition.{constant, Definition}
 use Rattle.format.specs.Writer.{writeAll, writeDefinitionBy, writeDefinition}
+use Rattle.encoding.specs.Worked.{tone}
 use Rattle.widening.specs.Walk.{wideAll, pastAll}
 use Rattle.widening.specs.Pieces.{integerWide, inputWide, floatsPast, floatsWide, frontPast, frontWide, bodyPast, bodyWide, unitPast, unitWide, definitionWide}
 
@@ -18,18 +18,6 @@ plain = refl
 -- an input that names the constant number 7
 input : inputWide (255 ∷ (255 ∷ (0 ∷ (7 ∷ [])))) 0 ≡ 255 ∷ (255 ∷ (255 ∷ (255 ∷ (0 ∷ (0 ∷ (0 ∷ (7 ∷ [])))))))
 input = refl
-
-abbrev tone : Definition
-tone = record {
-  front = record {
-    name = 97 ∷ [];
-    constants = 0 ∷ [];
-    values = 1138491392 ∷ [];
-    names = record { name = 102 ∷ []; index = 0 } ∷ [];
-  };
-  units = record { class = 98 ∷ []; rate = 2; special = 0; inputs = constant 0 ∷ (constant 0 ∷ []); outputs = 2 ∷ [] } ∷ [];
-  variants = [];
-}
 
 abbrev file : List ℕ
 file = writeDefinitionBy Short tone
