@@ -1,18 +1,11 @@
--- A part put in after the first words, and over itself.
+-- A part put in after the first words.
 use Prim.Native.Nat.{ℕ, zero, suc, _+_, _≤_}
-use mathlib.Core.Path.{_≡_, sym, ap, ap₂, _∙_}
-use mathlib.Core.List.{List, [], _∷_, _++_}
+use mathlib.Core.Path.{_≡_, sym, ap, _∙_}
+use mathlib.Core.List.{List, [], _∷_}
 use native.Mathlib.Omega.{arith}
 use lib.ListN.{length, drop}
-use lib.Seq.{drop-drop}
-use Rattle.words.specs.Parts.{put, past-put, before-put}
+use Rattle.words.specs.Parts.{put}
 use Rattle.model.specs.Layout.{putHeader}
-
-module _ (a k : ℕ) (ys zs ws : List ℕ) (fits : a + k ≤ length ws) (size : length zs ≡ k) where
-  pub put-again : put a k ys (put a k zs ws) ≡ put a k ys ws
-  put-again =
-      ap₂ (λ (l r : List ℕ). l ++ (ys ++ r)) (before-put a k a zs ws (omega arith) (omega arith))
-      (drop-drop k a (put a k zs ws) ∙ past-put a k (a + k) zs ws (omega arith) size (omega arith) ∙ sym (drop-drop k a ws))
 
 -- what is dropped lies before the part
 drop-put : (n b m : ℕ) (zs ws : List ℕ) → n + b ≤ length ws → drop n (put (n + b) m zs ws) ≡ put b m zs (drop n ws)

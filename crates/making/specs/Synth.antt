@@ -15,13 +15,13 @@ use Rattle.format.specs.Read.{Read}
 use Rattle.format.specs.Definition.{Front, Definition}
 use Rattle.readable.specs.Readable.{Readable, whole-readable}
 use Rattle.nodes.specs.declared.Node.{Node}
-use Rattle.nodes.specs.Table.{rows, rows-length, over}
+use Rattle.nodes.specs.Table.{rows, over}
 use Rattle.nodes.specs.Place.{lives}
 use Rattle.nodes.specs.Edit.{editAt, addBy}
+use Rattle.nodes.specs.Split.{edit-first}
 use Rattle.nodes.specs.Order.{order}
 use Rattle.nodes.specs.Formed.{mostNodes, mostRows, noneLeft, firstGiven, freeRow}
 use Rattle.index.specs.Index.{indexOf}
-use Rattle.reindex.specs.Trace.{Held}
 use Rattle.values.specs.declared.NodeArgument.{NodeArgument}
 use Rattle.model.specs.declared.TreeCommand.the-variants as tree
 use Rattle.model.specs.declared.Command.the-variants as command
@@ -38,7 +38,6 @@ use Rattle.state.specs.Accepted.{accepted}
 use Rattle.state.specs.Does.{WordsStep, step-refused, step-done}
 use Rattle.state.specs.Decoded.{tree-size, tree-controls}
 use Rattle.state.specs.Regions.{put-size}
-use Rattle.preservation.specs.Nodes.{Added}
 use Rattle.preservation.specs.TreeSteps.{NewSynthComes, synth-comes}
 use Rattle.preservation.specs.TreeKept.{known-sound}
 use Rattle.tree.specs.declared.action.Action.{Action}
@@ -50,13 +49,13 @@ use Rattle.definitions.specs.Retiring.{slot-is}
 use Rattle.definitions.specs.Lent.{tableIn, formed-lent}
 use Rattle.controls.specs.Encoded.{frontIn, front-read}
 use Rattle.treecommands.specs.Ready.{ready, nodeWords, words-long}
-use Rattle.treecommands.specs.Comes.{grown-comes}
+use Rattle.treecommands.specs.Edits.{editBy, add-does}
 use Rattle.treecommands.specs.Finding.{meantIn}
-use Rattle.treecommands.specs.Settle.{Changed, settled, settled-tree, order-size, index-size, nodes-size, changed-left}
+use Rattle.treecommands.specs.Settle.{Changed, settled, settled-tree, order-size, index-size, nodes-size, changed-left, put-again}
 use Rattle.treecommands.specs.Adding.{after-few}
 use Rattle.making.specs.Checks.{Meant, Clear, Answers}
 use Rattle.making.specs.Rows.{Standing, stayingAt, staying-first}
-use Rattle.making.specs.Parts.{put-again, header-put}
+use Rattle.making.specs.Parts.{header-put}
 
 -- no check fires on the name in the bytes
 pub record Ground (number : ℕ) (action : Action) (target : NodeArgument) (at slot : ℕ) (bytes ws bs : List ℕ) : Type 0 where
@@ -157,22 +156,22 @@ module _ (number : ℕ) (action : Action) (target : NodeArgument) (at slot : ℕ
     new : newSynth given slot taken ≡ made
     new = ap₂ (λ (i j : ℕ). newSynth i slot j) (named ∙ ap (λ (j : ℕ). numberFor number j) counter) taken-row
 
+    -- the table after, by the target's place
+    table : editAt at (addHere action (made ∷ [])) (nodesIn ws) ≡ after
+    table = edit-first n at (addHere action (made ∷ [])) (nodesIn ws) (g .clear .spot .here) ∙ add-number action made n (nodesIn ws)
+
     left : Leaves (nodeWords ws) after us many
     left =
         rw (← add-number action made n (nodesIn ws), ← new) (leaves-first (addHere action (newSynth given slot taken ∷ [])) (nodeWords ws) (nodesIn ws) us many at (rw same at does) n (g .clear .spot .here))
-
-    grows : Added made after (stayingNodes (numberOf action) n (nodesIn ws)) (nodesIn ws)
-    unfolding decode
-    grows = rw (g .meant) (comes .added)
 
     new-number : lives (made .number) (nodesIn ws) ≡ false
     unfolding decode
     new-number = comes .given .new
 
-    pub synth-ready : (was : List ℕ) → Held was (rows count (nodeWords ws)) → Changed was many (put nodesPlace nodesWords us ws)
-    synth-ready was held =
-        changed-left ws (ready ws bs k) after
-        (grown-comes (omega (arith, k .few, rows-length (countIn ws) (nodeWords ws))) (k .tree .distinct) made (stayingNodes (numberOf action) n (nodesIn ws)) (grows .grown) (grows .within) new-number few) was (rw same at held) us many left
+    pub synth-ready : Changed (editBy action count (nodeWords ws) at) many (put nodesPlace nodesWords us ws)
+    synth-ready =
+        changed-left ws (ready ws bs k) after few (editBy action count (nodeWords ws) at)
+        (rw (same, ← table) (add-does (countIn ws) (nodeWords ws) at (g .clear .spot .live) action made new-number)) us many left
 
     -- the engine before the controls are written
     abbrev half : Engine

@@ -13,11 +13,11 @@ use layout::NODES_END;
 use layout::RESIDENT_END;
 use model::Answer;
 use nodes::Node;
-use reindex::numbers_of;
 use slots::slot_bytes;
 use tree::Action;
 use tree::Asked;
 use treecommands::Spot;
+use treecommands::edit_by;
 use treecommands::settle;
 use values::NodeArgument;
 use words::wide;
@@ -49,10 +49,10 @@ fn put_synth(number: u32, action: Action, at: usize, slot: u32, words: &mut [u32
         slot: slot,
         row: row,
     };
-    let was = numbers_of(&words[NODES..NODES_END], count);
+    let edit = edit_by(&words[NODES..NODES_END], count, action, at);
     let many = tree::add_node(&mut words[NODES..NODES_END], count, action, at, node);
     let after = next_after(number, next);
-    settle(words, &was, many, after, given);
+    settle(words, edit, many, after, given);
     controls::initial_row(&mut words[CONTROLS..CONTROLS_END], row, definition);
 }
 

@@ -1,122 +1,95 @@
 -- The index after an edit.
 use Prim.Native.Nat.{ℕ, _+_, _*_, _≤_, _<_}
 use mathlib.Core.Bool.{Bool, true, false}
-use mathlib.Core.Logic.{⊎-elim}
 use mathlib.Core.Path.{_≡_, refl, sym, ap, ap₂, _∙_}
-use mathlib.Core.List.{List, _++_}
+use mathlib.Core.List.{List, [], _∷_, _++_}
 use native.Mathlib.Omega.{arith}
 use borrow.Author.Tests.{ltb-true, ltb-false}
 use lib.ListN.{length, take, drop, getD, List·getD-append}
-use lib.Seq.{drop-append-add, drop-drop}
+use lib.Seq.{drop-append-add, drop-drop, getD-take, length-take-le}
 use lib.Dec.{ltb}
 use Rattle.nodes.specs.declared.Node.{Node}
 use Rattle.nodes.specs.Table.{width, rows, rows-length}
 use Rattle.nodes.specs.Place.{lives}
 use Rattle.nodes.specs.Formed.{apart}
 use Rattle.index.specs.Index.{numbers, numberAt, indexed, putIn, indexOf}
+use Rattle.index.specs.Rising.{entry}
 use Rattle.index.specs.Afresh.{put-length}
-use Rattle.index.specs.Nodes.{lives-none, apart-distinct, indexed-parts, indexed-afresh}
+use Rattle.index.specs.Nodes.{indexed-parts, indexed-apart, indexed-afresh}
 use Rattle.index.specs.Words.{number-word}
-use Rattle.index.specs.Follow.{newPlace, followed, Carries, Came, follow-below, follow-indexed, insert-indexed}
-use Rattle.index.specs.FollowWords.{Followed, followed-entries}
-use Rattle.index.specs.Spot.{Fits}
-use Rattle.reindex.specs.Trace.{numberIn, Held, Edit, From, Fresh, Traced}
+use Rattle.reindex.specs.declared.edit.Edit.{Edit}
+use Rattle.reindex.specs.declared.edit.Edit.the-variants.{Cut, Put, Swap}
+use Rattle.reindex.specs.Follow.{followed, Carries, Came, follow-below, follow-higher, follow-indexed, insert-indexed}
+use Rattle.reindex.specs.FollowWords.{Entries, Followed, followed-entries}
+use Rattle.reindex.specs.Spot.{Reads}
+use Rattle.reindex.specs.Edits.{closed, swapped, Bounded, Replaced, OneNew, Exchanged, Does, replaced-size, at-new, replaced-carries, came-front, came-back, exchanged-carries, exchanged-came}
+use Rattle.reindex.specs.Kept.{placeIn}
 
--- the entries in ws are the index of the table `old`, whose numbers `was` has; the words us hold the table after, in which at most one number is new
-pub record Edited (ws : List ℕ) (before : ℕ) (was us : List ℕ) (count : ℕ) : Type 0 where
-  pub old : List Node
-  pub size : length old ≡ before
+-- the entries in ws are the index of the table t; the words us hold the table after
+pub record Ground (ws : List ℕ) (before : ℕ) (us : List ℕ) (count : ℕ) (t : List Node) : Type 0 where
+  pub size : length t ≡ before
   pub few : before ≤ 256
-  pub held : Held was old
-  pub rule : indexed (take before ws) old ≡ true
+  pub rule : indexed (take before ws) t ≡ true
   pub entries : length ws ≡ 256
   pub room : width * count ≤ length us
   pub fewAfter : count ≤ 256
-  pub differ : apart (rows count us) ≡ true
-  pub new : ℕ
-  pub only : (i : ℕ) → i < count → lives (numberAt (numbers (rows count us)) i) old ≡ false → numberAt (numbers (rows count us)) i ≡ new
 
-module _ (ws : List ℕ) (before : ℕ) (was us : List ℕ) (count : ℕ) (e : Edited ws before was us count) where
+-- which an edit took there
+pub record Edited (ws : List ℕ) (before : ℕ) (edit : Edit) (us : List ℕ) (count : ℕ) : Type 0 where
+  pub old : List Node
+  pub ground : Ground ws before us count old
+  pub does : Does edit old (rows count us)
+
+-- or one of which these places tell where each node went, and none came
+pub record Moved (ws : List ℕ) (before : ℕ) (ps us : List ℕ) (count : ℕ) : Type 0 where
+  pub old : List Node
+  pub ground : Ground ws before us count old
+  pub carries : Carries (placeIn ps) old (rows count us)
+  pub came : (q : ℕ) → q < length (rows count us) → Came (placeIn ps) old q
+
+module _ (ws : List ℕ) (before : ℕ) (us : List ℕ) (count : ℕ) (t : List Node) (g : Ground ws before us count t) where
   abbrev s : List Node
   s = rows count us
 
   size : length s ≡ count
   size = rows-length count us
 
-  word : (i : ℕ) → i < count → numberAt (numbers s) i ≡ numberIn us i
-  word i h = number-word count us i h
-
-  -- no number stands twice
-  differ : (i j : ℕ) → i < count → j < count → numberAt (numbers s) i ≡ numberAt (numbers s) j → i ≡ j
-  differ i j h k x = go (ltb i j) refl (ltb j i) refl
-    where
-      apart : (p q : ℕ) → p < q → q < length s → numberAt (numbers s) p ≡ numberAt (numbers s) q → ⊥
-      apart = apart-distinct s (e .differ)
-
-      go : (a : Bool) → ltb i j ≡ a → (b : Bool) → ltb j i ≡ b → i ≡ j
-      go true y b z = absurd (apart i j (ltb-true i j y) (omega (arith, size)) x)
-      go false y true z = absurd (apart j i (ltb-true j i z) (omega (arith, size)) (sym x))
-      go false y false z = let p = ltb-false i j y in let q = ltb-false j i z in omega arith
-
-  pub edit-traces : Edit was before us count
-  edit-traces = record {
-    long = omega (arith, e .few, e .held .long);
-    few = e .few;
-    room = e .room;
-    fewAfter = e .fewAfter;
-    distinct = λ i j h k x. differ i j h k (word i h ∙ x ∙ sym (word j k));
+  -- the entries are places
+  pub ground-entries : Entries ws before
+  ground-entries = record {
+    many = omega (arith, g .few, g .entries);
+    below = λ i h.
+        let rising = indexed-parts (take before ws) t (g .rule) .1 in
+        let long = length-take-le before ws (omega (arith, g .few, g .entries)) in
+        omega (arith, entry rising i (omega (arith, long)) .0, getD-take before ws i 0 h, g .size, g .few);
   }
 
-  module _ (to : List ℕ) (new : ℕ) (t : Traced was before us count to new count) where
-    carries : Carries to (e .old) s
-    carries = record {
-      few = omega (arith, size, e .fewAfter);
-      live = λ p h k. let l = t .live p (omega (arith, e .size)) k in omega (arith, size);
-      same = λ p h k.
-          let low : p < before = omega (arith, e .size) in
-          word (newPlace to p) (t .live p low k) ∙ t .same p low k ∙ e .held .each p h;
-    }
-
-    came : (q : ℕ) → From to before q → Came to (e .old) q
-    came q f = record { from = f .from; live = omega (arith, e .size, f .live); here = f .here }
-
-    fresh-dead : (i : ℕ) → i < count → Fresh was before us i → lives (numberAt (numbers s) i) (e .old) ≡ false
-    fresh-dead i h f =
-        lives-none (numberAt (numbers s) i) (e .old) (λ p k x. f p (omega (arith, e .size)) (e .held .each p k ∙ x ∙ word i h)) .0
-
+  module _ (to : ℕ → ℕ) (carries : Carries to t s) where
     abbrev kept : List ℕ
     kept = followed to (take before ws)
 
-    module _ (out : List ℕ) (left : ℕ) (f : Followed to ws before out left) where
-      -- no node is new
-      module _ (none : count ≤ new) where
-        all-came : (q : ℕ) → q < length s → Came to (e .old) q
-        all-came q h = ⊎-elim (λ w. came q w) (λ w. absurd (let l = w .1 in omega arith)) (t .each q (omega (arith, size)))
+    -- no node is new
+    module _ (came : (q : ℕ) → q < length s → Came to t q) where
+      rule : indexed kept s ≡ true
+      rule = follow-indexed to t s carries (take before ws) (g .rule) came
 
-        rule : indexed kept s ≡ true
-        rule = follow-indexed to (e .old) s carries (take before ws) (e .rule) all-came
+      pub follow-apart : apart s ≡ true
+      follow-apart = indexed-apart kept s rule
 
-        pub follow-none : out ≡ indexOf s ++ drop count ws
-        follow-none =
-            let many : left ≡ count = f .size ∙ indexed-parts kept s rule .0 ∙ size in
-            f .words ∙ ap₂ (λ (ix : List ℕ) (n : ℕ). ix ++ drop n ws) (indexed-afresh kept s rule) many
+      pub follow-none : (out : List ℕ) (left : ℕ) → Followed to ws before out left → out ≡ indexOf s ++ drop count ws
+      follow-none out left f =
+          let many : left ≡ count = f .size ∙ indexed-parts kept s rule .0 ∙ size in
+          f .words ∙ ap₂ (λ (ix : List ℕ) (n : ℕ). ix ++ drop n ws) (indexed-afresh kept s rule) many
 
-      -- one is
-      module _ (one : new < count) where
-        rest-came : (q : ℕ) → q < length s → (q ≡ new → ⊥) → Came to (e .old) q
-        rest-came q h o = ⊎-elim (λ w. came q w) (λ w. absurd (o (again (w .0)))) (t .each q low)
-          where
-            low : q < count
-            low = omega (arith, size)
+    -- one is, at the place `new`
+    module _ (new : ℕ) (near : new < count) (fresh : lives (numberAt (numbers s) new) t ≡ false) (came : (q : ℕ) → q < length s → (q ≡ new → ⊥) → Came to t q) where
+      entered : indexed (putIn (numbers s) new kept) s ≡ true
+      entered = insert-indexed to t s carries (take before ws) (g .rule) new (omega (arith, size)) fresh came
 
-            again : Fresh was before us q → q ≡ new
-            again w =
-                differ q new low one
-                (e .only q low (fresh-dead q low w) ∙ sym (e .only new one (fresh-dead new one (t .fresh one .1))))
+      pub insert-apart : apart s ≡ true
+      insert-apart = indexed-apart (putIn (numbers s) new kept) s entered
 
-        entered : indexed (putIn (numbers s) new kept) s ≡ true
-        entered = insert-indexed to (e .old) s carries (take before ws) (e .rule) new (omega (arith, size)) (fresh-dead new one (t .fresh one .1)) rest-came
-
+      module _ (out : List ℕ) (left : ℕ) (f : Followed to ws before out left) where
         many : left + 1 ≡ count
         many =
             let a = put-length (numbers s) new kept in
@@ -126,19 +99,26 @@ module _ (ws : List ℕ) (before : ℕ) (was us : List ℕ) (count : ℕ) (e : E
         held : take left out ≡ kept
         held = followed-entries to ws before out left f
 
-        pub one-fits : length out ≡ length ws → Fits us out left new
-        one-fits long = record {
-          reads = record {
-            room = omega (arith, e .room, many);
-            few = omega (arith, e .fewAfter, many);
-            entries = omega (arith, e .entries, e .fewAfter, many);
-            below = λ i h.
-                let low = follow-below to (e .old) s carries (take before ws) (e .rule) i (omega (arith, f .size)) in
-                let here : getD out i 0 ≡ getD kept i 0 = ap (λ (l : List ℕ). getD l i 0) (f .words) ∙ List·getD-append kept (drop left ws) 0 i (omega (arith, f .size)) in
-                omega (arith, size, many);
-          };
-          near = omega (arith, many);
+        here : (i : ℕ) → i < left → getD out i 0 ≡ getD kept i 0
+        here i h = ap (λ (l : List ℕ). getD l i 0) (f .words) ∙ List·getD-append kept (drop left ws) 0 i (omega (arith, f .size))
+
+        low : (i : ℕ) → i < left → getD out i 0 < count
+        low i h = omega (arith, here i h, size, follow-below to t s carries (take before ws) (g .rule) i (omega (arith, f .size)))
+
+        word : (i : ℕ) → i < left → getD us (width * getD out i 0) 0 ≡ numberAt (numbers s) (getD kept i 0)
+        word i h = sym (number-word count us (getD out i 0) (low i h)) ∙ ap (λ (p : ℕ). numberAt (numbers s) p) (here i h)
+
+        pub one-reads : length out ≡ length ws → Reads us out left
+        one-reads long = record {
+          room = omega (arith, g .room, many);
+          few = omega (arith, g .fewAfter, many);
+          entries = omega (arith, g .entries, g .fewAfter, many);
+          below = λ i h. omega (arith, low i h, many);
+          rises = λ i j h k. omega (arith, word i (omega arith), word j k, follow-higher to t s carries (take before ws) (g .rule) i j h (omega (arith, f .size)));
         }
+
+        pub one-near : new ≤ left
+        one-near = omega (arith, many)
 
         pub follow-one : (last : List ℕ) → last ≡ putIn (numbers (rows (left + 1) us)) new (take left out) ++ drop (left + 1) out → last ≡ indexOf s ++ drop count ws
         follow-one last l =
@@ -148,3 +128,72 @@ module _ (ws : List ℕ) (before : ℕ) (was us : List ℕ) (count : ℕ) (e : E
             l
             ∙ ap₂ (λ (n : ℕ) (x : List ℕ). putIn (numbers (rows n us)) new x ++ drop (left + 1) out) many held
             ∙ ap₂ (λ (x y : List ℕ). x ++ y) (indexed-afresh (putIn (numbers s) new kept) s entered) past
+
+-- each kind of edit
+module _ (ws : List ℕ) (before : ℕ) (us : List ℕ) (count : ℕ) (t : List Node) (g : Ground ws before us count t) where
+  few-after : length (rows count us) ≤ 256
+  few-after = omega (arith, rows-length count us, g .fewAfter)
+
+  pub edit-bounds : (edit : Edit) → Does edit t (rows count us) → Bounded edit
+  edit-bounds (Cut from to) d = (d .order, omega (arith, d .end, g .size, g .few))
+  edit-bounds (Put from to) d = (d .replaced .order, omega (arith, d .replaced .end, g .size, g .few))
+  edit-bounds (Swap a b c) d = (d .first, (d .second, omega (arith, d .end, g .size, g .few)))
+
+  module _ (from to : ℕ) (d : Replaced from to [] t (rows count us)) where
+    cut-came : (q : ℕ) → q < length (rows count us) → Came (closed from to 0) t q
+    cut-came q h = go (ltb q from) refl
+      where
+        go : (b : Bool) → ltb q from ≡ b → Came (closed from to 0) t q
+        go true e = came-front from to [] t (rows count us) d q (ltb-true q from e)
+        go false e = came-back from to [] t (rows count us) d q h (omega (arith, ltb-false q from e))
+
+    pub cut-apart : apart (rows count us) ≡ true
+    cut-apart = follow-apart ws before us count t g (closed from to 0) (replaced-carries from to [] t (rows count us) d few-after) cut-came
+
+    pub cut-follows : (out : List ℕ) (left : ℕ) → Followed (closed from to 0) ws before out left → out ≡ indexOf (rows count us) ++ drop count ws
+    cut-follows = follow-none ws before us count t g (closed from to 0) (replaced-carries from to [] t (rows count us) d few-after) cut-came
+
+  module _ (a b c : ℕ) (d : Exchanged a b c t (rows count us)) where
+    pub swap-apart : apart (rows count us) ≡ true
+    swap-apart = follow-apart ws before us count t g (swapped a b c) (exchanged-carries a b c t (rows count us) d few-after) (exchanged-came a b c t (rows count us) d)
+
+    pub swap-follows : (out : List ℕ) (left : ℕ) → Followed (swapped a b c) ws before out left → out ≡ indexOf (rows count us) ++ drop count ws
+    swap-follows = follow-none ws before us count t g (swapped a b c) (exchanged-carries a b c t (rows count us) d few-after) (exchanged-came a b c t (rows count us) d)
+
+  module _ (from to : ℕ) (d : OneNew from to t (rows count us)) where
+    abbrev xs : List ℕ
+    xs = d .number ∷ []
+
+    put-carries : Carries (closed from to 1) t (rows count us)
+    put-carries = replaced-carries from to xs t (rows count us) (d .replaced) few-after
+
+    put-near : from < count
+    put-near = omega (arith, replaced-size from to xs t (rows count us) (d .replaced), rows-length count us)
+
+    put-fresh : lives (numberAt (numbers (rows count us)) from) t ≡ false
+    put-fresh = ap (λ (k : ℕ). lives k t) (at-new from to xs t (rows count us) (d .replaced) (omega arith)) ∙ d .fresh
+
+    put-came : (q : ℕ) → q < length (rows count us) → (q ≡ from → ⊥) → Came (closed from to 1) t q
+    put-came q h o = go (ltb q from) refl
+      where
+        go : (b : Bool) → ltb q from ≡ b → Came (closed from to 1) t q
+        go true e = came-front from to xs t (rows count us) (d .replaced) q (ltb-true q from e)
+        go false e = came-back from to xs t (rows count us) (d .replaced) q h (omega (arith, ltb-false q from e))
+
+    pub put-apart : apart (rows count us) ≡ true
+    put-apart = insert-apart ws before us count t g (closed from to 1) put-carries from put-near put-fresh put-came
+
+    module _ (out : List ℕ) (left : ℕ) (f : Followed (closed from to 1) ws before out left) where
+      pub put-reads : length out ≡ length ws → Reads us out left
+      put-reads = one-reads ws before us count t g (closed from to 1) put-carries from put-near put-fresh put-came out left f
+
+      pub put-place : from ≤ left
+      put-place = one-near ws before us count t g (closed from to 1) put-carries from put-near put-fresh put-came out left f
+
+      pub put-follows : (last : List ℕ) → last ≡ putIn (numbers (rows (left + 1) us)) from (take left out) ++ drop (left + 1) out → last ≡ indexOf (rows count us) ++ drop count ws
+      put-follows = follow-one ws before us count t g (closed from to 1) put-carries from put-near put-fresh put-came out left f
+
+  pub edit-apart : (edit : Edit) → Does edit t (rows count us) → apart (rows count us) ≡ true
+  edit-apart (Cut from to) d = cut-apart from to d
+  edit-apart (Put from to) d = put-apart from to d
+  edit-apart (Swap a b c) d = swap-apart a b c d

@@ -1,2 +1,7 @@
-pub mod Trace
+pub mod Numbers
+pub mod Follow
+pub mod FollowWords
+pub mod Spot
+pub mod Edits
+pub mod Kept
 pub mod Followed

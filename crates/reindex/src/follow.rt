@@ -1,21 +1,86 @@
-// The entries of the index after an edit.
-use crate::trace::new_places;
+// The entries of the index at their nodes' new places, in place.
+use crate::edit::Edit;
 ghost use mathlib.Core.Path.{_≡_};
-ghost use mathlib.Core.List.{_++_};
-ghost use lib.ListN.{drop};
-ghost use Rattle.nodes.specs.Table.{rows};
-ghost use Rattle.index.specs.Index.{indexOf};
-ghost use Rattle.reindex.specs.Followed.{Edited};
+ghost use Prim.Native.Nat.{_≤_, _<_};
+ghost use Rattle.reindex.specs.Follow.{gone};
+ghost use Rattle.reindex.specs.FollowWords.{Followed, Entries};
+ghost use Rattle.reindex.specs.Edits.{closed, swapped, newPlace, Bounded};
 
-// The index of the table before, whose numbers were these, becomes that of the table as it is.
-pub fn follow_edit(index: &mut [u32], before: usize, was: &[u32], nodes: &[u32], count: usize)
-    requires { ⌜ Edited (now index) before (now was) (now nodes) count ⌝ }
-    ensures { λ r. ⌜ now (index .exit) ≡ indexOf (rows count (now (nodes .entry))) ++ drop count (now (index .entry)) ⌝ }
+// From this place on, a new place says that the node is gone.
+const GONE: u32 = 256;
+
+// The new place where the nodes from one place up to another went, and so many came there.
+fn closed_place(place: u32, from: u32, to: u32, by: u32) -> u32
+    requires { ⌜ (from ≤ to) × ((by ≤ 1) × (place < gone)) ⌝ }
+    ensures { λ r. ⌜ r ≡ closed from to by place ⌝ }
 {
-    let places = new_places(was, before, nodes, count);
-    let new = places.new;
-    let left = index::follow(index, before, &places.to);
-    if new < count {
-        index::put_in(index, left, nodes, new);
+    if place < from {
+        return place;
+    }
+    if place < to {
+        return GONE;
+    }
+    place - (to - from) + by
+}
+
+// The entries at those places, in their order, without those of nodes that are gone; and how many are left.
+fn close_entries(index: &mut [u32], count: usize, from: u32, to: u32, by: u32) -> usize
+    requires { ⌜ (from ≤ to) × ((by ≤ 1) × Entries (now index) count) ⌝ }
+    ensures { λ r. ⌜ Followed (closed from to by) (now (index .entry)) count (now (index .exit)) r ⌝ }
+{
+    let mut i = 0;
+    let mut left = 0;
+    while i < count {
+        let place = closed_place(index[i], from, to, by);
+        i += 1;
+        if place < GONE {
+            index[left] = place;
+            left += 1;
+        }
+    }
+    left
+}
+
+// The new place where two runs were exchanged.
+fn swapped_place(place: u32, a: u32, b: u32, c: u32) -> u32
+    requires { ⌜ (a ≤ b) × ((b ≤ c) × ((c ≤ gone) × (place < gone))) ⌝ }
+    ensures { λ r. ⌜ r ≡ swapped a b c place ⌝ }
+{
+    if place < a {
+        return place;
+    }
+    if place < b {
+        return place + (c - b);
+    }
+    if place < c {
+        return place - (b - a);
+    }
+    place
+}
+
+// The entries at those places; all are left.
+fn swap_entries(index: &mut [u32], count: usize, a: u32, b: u32, c: u32)
+    requires { ⌜ (a ≤ b) × ((b ≤ c) × ((c ≤ gone) × Entries (now index) count)) ⌝ }
+    ensures { λ r. ⌜ Followed (swapped a b c) (now (index .entry)) count (now (index .exit)) count ⌝ }
+{
+    let mut i = 0;
+    while i < count {
+        index[i] = swapped_place(index[i], a, b, c);
+        i += 1;
+    }
+}
+
+// The entries after an edit, but for that of a new node; and how many they are.
+pub fn follow_edit(index: &mut [u32], count: usize, edit: Edit) -> usize
+    requires { ⌜ Bounded edit × Entries (now index) count ⌝ }
+    ensures { λ r. ⌜ Followed (newPlace edit) (now (index .entry)) count (now (index .exit)) r ⌝ }
+{
+    match edit {
+        Edit::Cut(from, to) => close_entries(index, count, from as u32, to as u32, 0),
+        Edit::Put(from, to) => close_entries(index, count, from as u32, to as u32, 1),
+        Edit::Swap(a, b, c) => {
+            swap_entries(index, count, a as u32, b as u32, c as u32);
+            count
+        }
     }
 }

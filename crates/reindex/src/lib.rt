@@ -1,6 +1,12 @@
-// The index after an edit of the table, whatever the edit: each node is found again by its number, and at most one is new.
+// The index after an edit of the table, in place: each entry goes where its node went, and a new node's is put in.
+mod edit;
 mod follow;
-mod trace;
+mod kept;
+mod spot;
 
+pub use edit::Edit;
 pub use follow::follow_edit;
-pub use trace::numbers_of;
+pub use kept::follow_places;
+pub use kept::kept_places;
+pub use spot::put_entry;
+pub use spot::spot_of;

@@ -1,16 +1,20 @@
 -- /g_freeAll and /g_deepFree.
-use Prim.Native.Nat.{ℕ, _≤_, _<_}
+use Prim.Native.Nat.{ℕ, _+_, _-_, _≤_, _<_}
 use mathlib.Core.Bool.{true, false, not}
 use mathlib.Core.Path.{_≡_}
 use mathlib.Core.List.{List, [], _∷_}
 use native.Mathlib.Omega.{arith}
+use lib.ListN.{length}
 use Rattle.words.specs.Parts.{put}
 use Rattle.refusals.specs.declared.Refusal.the-variants.{NoNode, WrongKind}
 use Rattle.nodes.specs.Table.{rows}
 use Rattle.nodes.specs.Place.{isGroup}
+use Rattle.nodes.specs.Sizes.{endAt}
+use Rattle.nodes.specs.Formed.{mostNodes}
 use Rattle.nodes.specs.Edit.{editAt, freeAllHere, deepFreeHere, cutBelow, deepFree}
 use Rattle.treerefinement.specs.Tally.{cutBelow-within, deepFree-within}
-use Rattle.reindex.specs.Trace.{Held}
+use Rattle.reindex.specs.declared.edit.Edit.the-variants as edit
+use Rattle.reindex.specs.Kept.{Sieved}
 use Rattle.values.specs.declared.NodeArgument.{NodeArgument}
 use Rattle.model.specs.declared.TreeCommand.the-variants as tree
 use Rattle.model.specs.declared.Command.the-variants as command
@@ -28,9 +32,9 @@ use Rattle.tree.specs.Sizes.{Leaves}
 use Rattle.names.specs.Named.{Named}
 use Rattle.treecommands.specs.Ready.{Ready, nodeWords, nodeIn}
 use Rattle.treecommands.specs.Finding.{meantIn, NodeFound, found, missing, named-here}
-use Rattle.treecommands.specs.Comes.{Comes}
-use Rattle.treecommands.specs.Settle.{Changed, renewed}
-use Rattle.treecommands.specs.Steps.{Steps, left-comes, edited-ready, edited-left}
+use Rattle.treecommands.specs.Edits.{cutBelow-does, deep-sifts}
+use Rattle.treecommands.specs.Settle.{Changed, Sifted, renewed}
+use Rattle.treecommands.specs.Steps.{Steps, left-few, edited-ready, edited-sifts, edited-left}
 
 module _ (g : NodeArgument) (ws : List ℕ) (k : Ready ws) (count : ℕ) (same : count ≡ countIn ws) (at : ℕ) (fact : Named g ws at) where
   -- the answer by their checks, which are the same
@@ -69,26 +73,26 @@ module _ (g : NodeArgument) (ws : List ℕ) (k : Ready ws) (count : ℕ) (same :
     unfolding answerIn
     deep-wrong b bytes bs = step-refused (command.Tree (tree.DeepFree g)) bytes ws bs WrongKind (group-wrong b bs)
 
-    all-comes : Comes (cutBelow (meantIn g ws) (nodesIn ws)) (nodesIn ws)
-    all-comes = left-comes ws (cutBelow (meantIn g ws) (nodesIn ws)) k (cutBelow-within (meantIn g ws) (nodesIn ws))
+    all-few : length (cutBelow (meantIn g ws) (nodesIn ws)) ≤ mostNodes
+    all-few = left-few ws (cutBelow (meantIn g ws) (nodesIn ws)) k (cutBelow-within (meantIn g ws) (nodesIn ws))
 
-    deep-comes : Comes (deepFree (meantIn g ws) (nodesIn ws)) (nodesIn ws)
-    deep-comes = left-comes ws (deepFree (meantIn g ws) (nodesIn ws)) k (deepFree-within (meantIn g ws) (nodesIn ws))
+    deep-few : length (deepFree (meantIn g ws) (nodesIn ws)) ≤ mostNodes
+    deep-few = left-few ws (deepFree (meantIn g ws) (nodesIn ws)) k (deepFree-within (meantIn g ws) (nodesIn ws))
 
     module _ (us : List ℕ) (many : ℕ) (does : Leaves (nodeWords ws) (editAt at freeAllHere (rows count (nodeWords ws))) us many) where
-      pub all-ready : (was : List ℕ) → Held was (rows count (nodeWords ws)) → Changed was many (put nodesPlace nodesWords us ws)
-      all-ready = edited-ready g ws k count same at group-at freeAllHere us many does all-comes
+      pub all-ready : Changed (edit.Cut (at + 1) (at + 1 + (count - many))) many (put nodesPlace nodesWords us ws)
+      all-ready = edited-ready g ws k count same at group-at freeAllHere us many does all-few (edit.Cut (at + 1) (at + 1 + (count - many))) (cutBelow-does count (nodeWords ws) at live many (does .size))
 
       pub all-done : (out : List ℕ) → not (isGroup (nodeIn ws at)) ≡ false → out ≡ renewed many (put nodesPlace nodesWords us ws) → Steps (tree.FreeAll g) ws Done out
       unfolding answerIn decode wordsAfter effect
       all-done out b o bytes bs =
-          step-done (command.Tree (tree.FreeAll g)) bytes ws bs out (group-right b bs) (edited-left g ws k count same at group-at freeAllHere us many does (all-comes .few) out o bs)
+          step-done (command.Tree (tree.FreeAll g)) bytes ws bs out (group-right b bs) (edited-left g ws k count same at group-at freeAllHere us many does all-few out o bs)
 
     module _ (us : List ℕ) (many : ℕ) (does : Leaves (nodeWords ws) (editAt at deepFreeHere (rows count (nodeWords ws))) us many) where
-      pub deep-ready : (was : List ℕ) → Held was (rows count (nodeWords ws)) → Changed was many (put nodesPlace nodesWords us ws)
-      deep-ready = edited-ready g ws k count same at group-at deepFreeHere us many does deep-comes
+      pub deep-ready : (end : ℕ) → end ≡ endAt count (nodeWords ws) at → (ps : List ℕ) → Sieved (at + 1) end (rows count (nodeWords ws)) ps → Sifted ps many (put nodesPlace nodesWords us ws)
+      deep-ready end ends ps sieved = edited-sifts g ws k count same at group-at deepFreeHere us many does deep-few (at + 1) end (rw ends (deep-sifts count (nodeWords ws) at live)) ps sieved
 
       pub deep-done : (out : List ℕ) → not (isGroup (nodeIn ws at)) ≡ false → out ≡ renewed many (put nodesPlace nodesWords us ws) → Steps (tree.DeepFree g) ws Done out
       unfolding answerIn decode wordsAfter effect
       deep-done out b o bytes bs =
-          step-done (command.Tree (tree.DeepFree g)) bytes ws bs out (group-right b bs) (edited-left g ws k count same at group-at deepFreeHere us many does (deep-comes .few) out o bs)
+          step-done (command.Tree (tree.DeepFree g)) bytes ws bs out (group-right b bs) (edited-left g ws k count same at group-at deepFreeHere us many does deep-few out o bs)

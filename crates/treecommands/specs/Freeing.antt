@@ -1,5 +1,5 @@
 -- /n_run and /n_free.
-use Prim.Native.Nat.{ℕ, _≤_, _<_}
+use Prim.Native.Nat.{ℕ, _+_, _-_, _≤_, _<_}
 use mathlib.Core.Bool.{Bool, true, false}
 use mathlib.Core.Path.{_≡_, refl, ap}
 use mathlib.Core.List.{List, [], _∷_}
@@ -21,7 +21,7 @@ use Rattle.model.specs.declared.TreeCommand.the-variants as tree
 use Rattle.model.specs.declared.Command.the-variants as command
 use Rattle.model.specs.declared.Answer.the-variants.{Done, Refused}
 use Rattle.index.specs.Index.{numbers}
-use Rattle.reindex.specs.Trace.{Held}
+use Rattle.reindex.specs.declared.edit.Edit.the-variants as edit
 use Rattle.model.specs.Layout.{nodesPlace, nodesWords, countIn, nodesIn}
 use Rattle.model.specs.Engine.{decode}
 use Rattle.model.specs.Meaning.{known}
@@ -35,9 +35,9 @@ use Rattle.tree.specs.Words.{run-leaves}
 use Rattle.names.specs.Named.{Named}
 use Rattle.treecommands.specs.Ready.{Ready, nodeWords}
 use Rattle.treecommands.specs.Finding.{meantIn, NodeFound, found, missing, is-root, not-root}
-use Rattle.treecommands.specs.Comes.{Comes}
+use Rattle.treecommands.specs.Edits.{cut-does}
 use Rattle.treecommands.specs.Settle.{Sorted, Changed, renewed}
-use Rattle.treecommands.specs.Steps.{Steps, left-comes, edited-ready, edited-sorted, edited-left}
+use Rattle.treecommands.specs.Steps.{Steps, left-few, edited-ready, edited-in-place, edited-left}
 
 -- a run flag changes no number
 setRun-numbers : (n flag : ℕ) (t : List Node) → numbers (setRun n flag t) ≡ numbers t
@@ -70,7 +70,7 @@ module _ (n : NodeArgument) (flag : ℕ) (ws : List ℕ) where
       -- every node is where it was
       pub run-sorted : Sorted count (put nodesPlace nodesWords us ws)
       run-sorted =
-          edited-sorted n ws k count same at run-at (setRunHere flag) us count (run-leaves (nodeWords ws) count at flag live us does) (setRun-length (meantIn n ws) flag (nodesIn ws)) (setRun-numbers (meantIn n ws) flag (nodesIn ws))
+          edited-in-place n ws k count same at run-at (setRunHere flag) us count (run-leaves (nodeWords ws) count at flag live us does) (setRun-length (meantIn n ws) flag (nodesIn ws)) (setRun-numbers (meantIn n ws) flag (nodesIn ws))
 
       pub run-done : (out : List ℕ) → out ≡ renewed count (put nodesPlace nodesWords us ws) → Steps (tree.Run n flag) ws Done out
       unfolding answerIn firstOf decode wordsAfter effect
@@ -92,13 +92,13 @@ module _ (n : NodeArgument) (ws : List ℕ) (k : Ready ws) (count : ℕ) (same :
     free-root z bytes bs = step-refused (command.Tree (tree.Free n)) bytes ws bs WrongKind (rw (free-at .known, is-root n ws at free-at k z))
 
     module _ (us : List ℕ) (many : ℕ) (does : Leaves (nodeWords ws) (editAt at freeHere (rows count (nodeWords ws))) us many) where
-      free-comes : Comes (cut (meantIn n ws) (nodesIn ws)) (nodesIn ws)
-      free-comes = left-comes ws (cut (meantIn n ws) (nodesIn ws)) k (cut-within (meantIn n ws) (nodesIn ws))
+      free-few : length (cut (meantIn n ws) (nodesIn ws)) ≤ mostNodes
+      free-few = left-few ws (cut (meantIn n ws) (nodesIn ws)) k (cut-within (meantIn n ws) (nodesIn ws))
 
-      pub free-ready : (was : List ℕ) → Held was (rows count (nodeWords ws)) → Changed was many (put nodesPlace nodesWords us ws)
-      free-ready = edited-ready n ws k count same at free-at freeHere us many does free-comes
+      pub free-ready : Changed (edit.Cut at (at + (count - many))) many (put nodesPlace nodesWords us ws)
+      free-ready = edited-ready n ws k count same at free-at freeHere us many does free-few (edit.Cut at (at + (count - many))) (cut-does count (nodeWords ws) at live many (does .size))
 
       pub free-done : (out : List ℕ) → (at ≡ 0 → ⊥) → out ≡ renewed many (put nodesPlace nodesWords us ws) → Steps (tree.Free n) ws Done out
       unfolding answerIn firstOf decode wordsAfter effect
       free-done out z o bytes bs =
-          step-done (command.Tree (tree.Free n)) bytes ws bs out (rw (free-at .known, not-root n ws at free-at k z)) (edited-left n ws k count same at free-at freeHere us many does (free-comes .few) out o bs)
+          step-done (command.Tree (tree.Free n)) bytes ws bs out (rw (free-at .known, not-root n ws at free-at k z)) (edited-left n ws k count same at free-at freeHere us many does free-few out o bs)

@@ -1,7 +1,7 @@
 -- /g_new: its checks, and the words after it.
 use Prim.Native.Nat.{ℕ, _≤_, _<_}
 use mathlib.Core.Bool.{true, false}
-use mathlib.Core.Path.{_≡_, refl, ap, _∙_}
+use mathlib.Core.Path.{_≡_, ap, _∙_}
 use mathlib.Core.List.{List, [], _∷_}
 use native.Mathlib.Omega.{arith}
 use lib.ListN.{length}
@@ -11,28 +11,24 @@ use Rattle.words.specs.Parts.{put}
 use Rattle.refusals.specs.declared.Refusal.{Refusal}
 use Rattle.refusals.specs.declared.Refusal.the-variants.{BadFlag, BadNumber, NumberLive, NoNode, WrongKind, NodesFull}
 use Rattle.nodes.specs.declared.Node.{Node}
-use Rattle.nodes.specs.Table.{rows, rows-length}
+use Rattle.nodes.specs.Table.{rows}
 use Rattle.nodes.specs.Place.{lives, place}
 use Rattle.nodes.specs.Edit.{editRows, editAt, addBy}
 use Rattle.nodes.specs.Place as nodes
 use Rattle.nodes.specs.Formed.{mostNodes}
-use Rattle.reindex.specs.Trace.{Held}
 use Rattle.values.specs.declared.NodeArgument.{NodeArgument}
 use Rattle.model.specs.declared.TreeCommand.the-variants as tree
 use Rattle.model.specs.declared.Command.the-variants as command
 use Rattle.model.specs.declared.Answer.the-variants.{Done, Refused}
-use Rattle.model.specs.Layout.{nodesPlace, nodesWords, countIn, lengthsIn, nodesIn}
+use Rattle.model.specs.Layout.{nodesPlace, nodesWords, countIn, nodesIn}
 use Rattle.model.specs.Engine.{decode}
 use Rattle.model.specs.Meaning.{firstNegative}
 use Rattle.model.specs.Checks.{firstOf, treeChecks}
-use Rattle.model.specs.Effects.{withNodes, newGroup, stayingNodes, effect}
+use Rattle.model.specs.Effects.{withNodes, newGroup, effect}
 use Rattle.model.specs.After.{putTree, wordsAfter}
 use Rattle.model.specs.Apply.{answerIn, isAccepted}
-use Rattle.state.specs.Accepted.{NewGroupAccepted, accepted}
+use Rattle.state.specs.Accepted.{accepted}
 use Rattle.state.specs.Does.{step-refused, step-done}
-use Rattle.preservation.specs.Nodes.{Added}
-use Rattle.preservation.specs.TreeSteps.{comes}
-use Rattle.preservation.specs.TreeKept.{known-sound}
 use Rattle.tree.specs.declared.action.Action.{Action}
 use Rattle.tree.specs.Sizes.{Leaves}
 use Rattle.tree.specs.Action.{numberOf, addHere, number-most, add-number}
@@ -42,7 +38,7 @@ use Rattle.treecommands.specs.declared.group.Spot.the-variants as spot
 use Rattle.names.specs.Named.{Named}
 use Rattle.treecommands.specs.Ready.{Ready, nodeWords}
 use Rattle.treecommands.specs.Finding.{meantIn, NodeFound, found, missing}
-use Rattle.treecommands.specs.Comes.{Comes, grown-comes}
+use Rattle.treecommands.specs.Edits.{editBy, add-does}
 use Rattle.treecommands.specs.Settle.{Changed, renewed}
 use Rattle.treecommands.specs.Steps.{Steps, edited-ready, edited-left}
 use Rattle.treecommands.specs.Adding.{badAt, fullAt, bad-target, is-full, room, after-few}
@@ -127,28 +123,21 @@ module _ (number : ℕ) (action : Action) (target : NodeArgument) (ws : List ℕ
     unfolding answerIn decode
     few = after-few (tree.NewGroup number (numberOf action) target) [] ws (k .arena) (k .known) (g .passed [] (k .arena))
 
-    accepts : NewGroupAccepted number (numberOf action) target (decode ws (k .arena))
-    unfolding answerIn
-    accepts = accepted [] (decode ws (k .arena)) (command.Tree (tree.NewGroup number (numberOf action) target)) 0 (ap isAccepted (g .passed [] (k .arena)))
+    free : lives number (rows count (nodeWords ws)) ≡ false
+    unfolding answerIn decode
+    free = rw same (accepted [] (decode ws (k .arena)) (command.Tree (tree.NewGroup number (numberOf action) target)) 0 (ap isAccepted (g .passed [] (k .arena))) .freeNumber)
 
-    grows : Added (newGroup number) (addBy (numberOf action) (newGroup number) (meantIn target ws) (nodesIn ws)) (stayingNodes (numberOf action) (meantIn target ws) (nodesIn ws)) (nodesIn ws)
-    unfolding decode
-    grows = comes (lengthsIn ws) (decode ws (k .arena)) (known-sound ws (k .arena) (k .known)) (numberOf action) target (accepts .place) (newGroup number) refl
+    few-there : length (editRows (meantIn target ws) (addHere action (newGroup number ∷ [])) (nodesIn ws)) ≤ mostNodes
+    few-there = rw added few
 
-    free : lives number (nodesIn ws) ≡ false
-    unfolding decode
-    free = accepts .freeNumber
-
-    new-comes : Comes (editRows (meantIn target ws) (addHere action (newGroup number ∷ [])) (nodesIn ws)) (nodesIn ws)
-    new-comes =
-        rw added (grown-comes (omega (arith, k .few, rows-length (countIn ws) (nodeWords ws))) (k .tree .distinct) (newGroup number) (stayingNodes (numberOf action) (meantIn target ws) (nodesIn ws)) (grows .grown) (grows .within) free few)
-
-    pub group-ready : (was : List ℕ) → Held was (rows count (nodeWords ws)) → Changed was many (put nodesPlace nodesWords us ws)
-    group-ready = edited-ready target ws k count same at (g .spot) (addHere action (newGroup number ∷ [])) us many does new-comes
+    pub group-ready : Changed (editBy action count (nodeWords ws) at) many (put nodesPlace nodesWords us ws)
+    group-ready =
+        edited-ready target ws k count same at (g .spot) (addHere action (newGroup number ∷ [])) us many does few-there (editBy action count (nodeWords ws) at)
+        (add-does count (nodeWords ws) at (rw same (g .spot .live)) action (newGroup number) free)
 
     pub group-done : (out : List ℕ) → out ≡ renewed many (put nodesPlace nodesWords us ws) → Steps (tree.NewGroup number (numberOf action) target) ws Done out
     unfolding answerIn decode wordsAfter effect
     group-done out o bytes bs =
         step-done (command.Tree (tree.NewGroup number (numberOf action) target)) bytes ws bs out (g .passed bytes bs)
-        (edited-left target ws k count same at (g .spot) (addHere action (newGroup number ∷ [])) us many does (new-comes .few) out o bs
+        (edited-left target ws k count same at (g .spot) (addHere action (newGroup number ∷ [])) us many does few-there out o bs
         ∙ ap (λ (t : List Node). putTree (withNodes t (decode ws bs)) ws) added)

@@ -1,7 +1,8 @@
 pub mod Ready
 pub mod Finding
-pub mod Comes
+pub mod Edits
 pub mod Settle
+pub mod Indexing
 pub mod Steps
 pub mod Freeing
 pub mod Emptying

@@ -8,12 +8,14 @@ use native.Mathlib.Omega.{arith}
 use lib.ListN.{length}
 use Rattle.words.specs.Parts.{put}
 use Rattle.nodes.specs.declared.Node.{Node}
-use Rattle.nodes.specs.Table.{rows, rows-length, fill}
+use Rattle.nodes.specs.Table.{rows-length, fill}
 use Rattle.nodes.specs.Place.{lives, found}
+use Rattle.nodes.specs.Sizes.{endAt}
 use Rattle.nodes.specs.Edit.{runOf, editRows, cut}
 use Rattle.nodes.specs.Formed.{mostNodes}
-use Rattle.treerefinement.specs.Tally.{Same, same-within, tally-length, moveHead-same, moveTail-same, moveBefore-same, moveAfter-same}
-use Rattle.reindex.specs.Trace.{Held}
+use Rattle.treerefinement.specs.Tally.{Same, tally-length, moveHead-same, moveTail-same, moveBefore-same, moveAfter-same}
+use Rattle.reindex.specs.declared.edit.Edit.{Edit}
+use Rattle.reindex.specs.Edits as edits
 use Rattle.values.specs.declared.NodeArgument.{NodeArgument}
 use Rattle.model.specs.declared.TreeCommand.{TreeCommand}
 use Rattle.model.specs.declared.TreeCommand.the-variants as tree
@@ -34,14 +36,15 @@ use Rattle.tree.specs.Sizes.{Leaves}
 use Rattle.tree.specs.Action.{putHere}
 use Rattle.tree.specs.Add.{placeBy}
 use Rattle.tree.specs.MoveRun.{movedTo}
-use Rattle.tree.specs.Ends.{Moving}
+use Rattle.tree.specs.Ends.{Moving, move-place}
 use Rattle.tree.specs.Moved.{move-first}
 use Rattle.treecommands.specs.declared.moves.Pair.{Pair}
 use Rattle.treecommands.specs.declared.moves.Pair.the-variants as pair
 use Rattle.treecommands.specs.Ready.{Ready, nodeWords}
 use Rattle.treecommands.specs.Finding.{meantIn}
+use Rattle.treecommands.specs.Edits.{moveEdit, move-does}
 use Rattle.treecommands.specs.Settle.{Changed, renewed, changed-left, renewed-left}
-use Rattle.treecommands.specs.Steps.{Steps, left-comes}
+use Rattle.treecommands.specs.Steps.{Steps}
 use Rattle.treecommands.specs.Sighting.{besideChecks, intoChecks, Clear, PairFound}
 
 same-length : {after before : List Node} → Same after before → length after ≡ length before
@@ -69,17 +72,21 @@ module _ (checks : Engine → List Check) (moved to : NodeArgument) (ws : List �
     few : length t ≤ mostNodes
     few = omega (arith, size, k .few)
 
+    table : movedTo (countIn ws) (nodeWords ws) i (placeBy p (countIn ws) (nodeWords ws) j) ≡ t
+    table = move-first (countIn ws) (nodeWords ws) (meantIn moved ws) (meantIn to ws) i j (c .first .here) (c .second .here) (c .first .live) (c .second .live) (c .moving .outside) p
+
     left : Leaves (nodeWords ws) t us count
     left = record {
-      words =
-          (rw same at does)
-          ∙ ap (λ (l : List Node). fill (nodeWords ws) l)
-          (move-first (countIn ws) (nodeWords ws) (meantIn moved ws) (meantIn to ws) i j (c .first .here) (c .second .here) (c .first .live) (c .second .live) (c .moving .outside) p);
+      words = (rw same at does) ∙ ap (λ (l : List Node). fill (nodeWords ws) l) table;
       size = same ∙ sym size;
     }
 
-    moved-ready : (was : List ℕ) → Held was (nodesIn ws) → Changed was count (put nodesPlace nodesWords us ws)
-    moved-ready was held = changed-left ws k t (left-comes ws t k (same-within all)) was held us count left
+    moved-ready : Changed (moveEdit i (endAt count (nodeWords ws) i) (placeBy p count (nodeWords ws) j .at)) count (put nodesPlace nodesWords us ws)
+    moved-ready =
+        rw same
+        (changed-left ws k t few (moveEdit i (endAt (countIn ws) (nodeWords ws) i) (placeBy p (countIn ws) (nodeWords ws) j .at))
+        (subst (λ (l : List Node). edits.Does (moveEdit i (endAt (countIn ws) (nodeWords ws) i) (placeBy p (countIn ws) (nodeWords ws) j .at)) (nodesIn ws) l) table
+        (move-does (countIn ws) (nodeWords ws) i (placeBy p (countIn ws) (nodeWords ws) j) (move-place (nodeWords ws) (countIn ws) i j (c .moving) p))) us (countIn ws) (rw same at left))
 
     moved-left : (out : List ℕ) → out ≡ renewed count (put nodesPlace nodesWords us ws) → (bs : List ℕ) → out ≡ putTree (withNodes t (decode ws bs)) ws
     moved-left out o bs = o ∙ renewed-left ws (k .size) t few bs us count left
@@ -90,7 +97,9 @@ movedWords p ws a b = put nodesPlace nodesWords (fill (nodeWords ws) (movedTo (c
 
 -- what a move asks of the places that its checks found, and what it answers and leaves
 abbrev pub Movable : Pair → Position → List ℕ → Type 0
-Movable (pair.At a b) p ws = Moving (nodeWords ws) (countIn ws) a b × ((was : List ℕ) → Held was (nodesIn ws) → Changed was (countIn ws) (movedWords p ws a b))
+Movable (pair.At a b) p ws =
+    Moving (nodeWords ws) (countIn ws) a b
+    × Changed (moveEdit a (endAt (countIn ws) (nodeWords ws) a) (placeBy p (countIn ws) (nodeWords ws) b .at)) (countIn ws) (movedWords p ws a b)
 Movable (pair.Refused r) p ws = Unit {0}
 
 abbrev pub Goes : Pair → Position → List ℕ → Answer → List ℕ → Type 0
@@ -106,11 +115,8 @@ gone a b p ws count same us moves out o =
 
 -- what that asks
 pub gone-ready : (a b : ℕ) (p : Position) (ws : List ℕ) (count : ℕ) → count ≡ countIn ws → (us : List ℕ) → us ≡ fill (nodeWords ws) (movedTo count (nodeWords ws) a (placeBy p count (nodeWords ws) b))
-    → Movable (pair.At a b) p ws → (was : List ℕ) → Held was (rows count (nodeWords ws)) → Changed was count (put nodesPlace nodesWords us ws)
-gone-ready a b p ws count same us moves m was held =
-    subst₂ (λ (n : ℕ) (l : List ℕ). Changed was n (put nodesPlace nodesWords l ws)) (sym same)
-    (sym (moves ∙ ap (λ (n : ℕ). fill (nodeWords ws) (movedTo n (nodeWords ws) a (placeBy p n (nodeWords ws) b))) same))
-    (m .1 was (subst (λ (n : ℕ). Held was (rows n (nodeWords ws))) same held))
+    → Movable (pair.At a b) p ws → (edit : Edit) → edit ≡ moveEdit a (endAt count (nodeWords ws) a) (placeBy p count (nodeWords ws) b .at) → Changed edit count (put nodesPlace nodesWords us ws)
+gone-ready a b p ws count same us moves m edit is = rw (is, moves, same) (m .1)
 
 -- one law for every move: a command that has these checks, and leaves the node at this position
 module _ (checks : Engine → List Check) (moved to : NodeArgument) (ws : List ℕ) where

@@ -4,21 +4,23 @@ use mathlib.Core.Bool.{true}
 use mathlib.Core.Path.{_≡_, refl, sym, ap, ap₂, _∙_, subst}
 use mathlib.Core.List.{List, [], _∷_, _++_}
 use native.Mathlib.Omega.{arith}
-use lib.ListN.{length, take, drop, getD, set, take-append-drop, drop-of-length-le}
-use lib.Seq.{take-at, length-take-le, paste}
+use lib.ListN.{length, take, drop, getD, set, take-append-drop}
+use lib.Seq.{take-at, drop-drop, length-take-le}
 use lib.Dec.{eqb}
 use Rattle.words.specs.Choice.{both}
-use Rattle.words.specs.Parts.{region, put, region-length, region-put}
+use Rattle.words.specs.Parts.{region, put, region-length, region-put, past-put, before-put}
 use Rattle.nodes.specs.declared.Node.{Node}
 use Rattle.nodes.specs.Table.{rows, fill, rows-length, fill-length, rows-fill}
-use Rattle.nodes.specs.Place.{lives}
 use Rattle.nodes.specs.Order.{order}
-use Rattle.nodes.specs.Formed.{mostNodes}
-use Rattle.index.specs.Index.{numbers, numberAt, rises, indexed, indexOf}
+use Rattle.nodes.specs.Formed.{mostNodes, apart}
+use Rattle.index.specs.Index.{numbers, rises, indexed, indexOf}
 use Rattle.index.specs.Words.{Keeps}
-use Rattle.index.specs.Nodes.{lives-at, indexed-afresh, afresh-indexed}
-use Rattle.reindex.specs.Trace.{Held}
-use Rattle.reindex.specs.Followed.{Edited}
+use Rattle.index.specs.Nodes.{indexed-afresh, afresh-indexed}
+use Rattle.reindex.specs.declared.edit.Edit.{Edit}
+use Rattle.reindex.specs.Follow.{Carries, Came}
+use Rattle.reindex.specs.Edits.{Does}
+use Rattle.reindex.specs.Kept.{placeIn}
+use Rattle.reindex.specs.Followed.{Ground, Edited, Moved, edit-apart, follow-apart}
 use Rattle.model.specs.Layout.{wordsLength, nodesPlace, nodesWords, orderPlace, orderWords, controlsPlace, controlsWords, indexPlace, indexWords, countIn, nextIn, latestIn, nodesIn, controlsIn, indexIn, putNodes, putOrder, orderRegion, putIndex, putControls, putHeader}
 use Rattle.model.specs.Engine.{decode}
 use Rattle.model.specs.Effects.{latestAmong, withNodes}
@@ -31,7 +33,6 @@ use Rattle.order.specs.Pad.{pad-is}
 use Rattle.order.specs.Few.{order-most}
 use Rattle.tree.specs.Sizes.{Leaves}
 use Rattle.treecommands.specs.Ready.{Ready, nodeWords, words-long}
-use Rattle.treecommands.specs.Comes.{Comes}
 
 -- the index region, for the table of so many nodes in the words
 abbrev pub indexRegion : List ℕ → List ℕ
@@ -43,10 +44,15 @@ pub record Sorted (count : ℕ) (ws : List ℕ) : Type 0 where
   pub few : count ≤ mostNodes
   pub rule : indexed (take count (indexRegion ws)) (rows count (nodeWords ws)) ≡ true
 
--- it was right for the table before, whose numbers `was` has: the first words still tell its count
-pub record Changed (was : List ℕ) (count : ℕ) (ws : List ℕ) : Type 0 where
+-- it was right for the table before the edit: the first words still tell its count
+pub record Changed (edit : Edit) (count : ℕ) (ws : List ℕ) : Type 0 where
   pub size : length ws ≡ wordsLength
-  pub edited : Edited (indexRegion ws) (countIn ws) was (nodeWords ws) count
+  pub edited : Edited (indexRegion ws) (countIn ws) edit (nodeWords ws) count
+
+-- or for the table before these were the new places of its nodes
+pub record Sifted (ps : List ℕ) (count : ℕ) (ws : List ℕ) : Type 0 where
+  pub size : length ws ≡ wordsLength
+  pub moved : Moved (indexRegion ws) (countIn ws) ps (nodeWords ws) count
 
 -- the whole order region, the index and the four first words, for the table of so many nodes in the words
 abbrev pub settled : ℕ → ℕ → ℕ → List ℕ → List ℕ
@@ -77,11 +83,6 @@ header-sets a b c d (w ∷ (x ∷ (y ∷ (z ∷ ws)))) h = refl
 -- a part put where it is
 put-own : (a k : ℕ) (ws : List ℕ) → put a k (region a k ws) ws ≡ ws
 put-own a k ws = ap (λ (l : List ℕ). take a ws ++ l) (take-append-drop k (drop a ws)) ∙ take-append-drop a ws
-
--- a run copied whole
-pub paste-whole : (d s : List ℕ) (i : ℕ) → i ≡ length s → length d ≡ length s → paste d 0 s i ≡ s
-paste-whole d s i all same =
-    ap (λ (l : List ℕ). take 0 d ++ take i s ++ l) (drop-of-length-le d {i = 0 + i} (omega arith) ∙ sym (drop-of-length-le s {i = i} (omega arith))) ∙ take-append-drop i s
 
 -- what a lookup asks
 pub sorted-keeps : (count : ℕ) (ws : List ℕ) → Sorted count ws → Keeps (nodeWords ws) (indexRegion ws) count
@@ -115,12 +116,20 @@ order-sorted count ws s w1 e =
       rule = rw (order-index o ws (s .size), order-nodes o ws (s .size)) (s .rule);
     })
 
-pub order-changed : (was : List ℕ) (count : ℕ) (ws : List ℕ) → Changed was count ws → (w1 : List ℕ) → w1 ≡ putOrder (order (rows count (nodeWords ws))) ws → Changed was count w1
-order-changed was count ws c w1 e =
+pub order-changed : (edit : Edit) (count : ℕ) (ws : List ℕ) → Changed edit count ws → (w1 : List ℕ) → w1 ≡ putOrder (order (rows count (nodeWords ws))) ws → Changed edit count w1
+order-changed edit count ws c w1 e =
     let o = order (rows count (nodeWords ws)) in
-    subst (λ (l : List ℕ). Changed was count l) (sym e) (record {
+    subst (λ (l : List ℕ). Changed edit count l) (sym e) (record {
       size = order-size o ws (c .size);
       edited = rw (order-index o ws (c .size), order-nodes o ws (c .size), order-word o ws (c .size) 0 (omega arith)) (c .edited);
+    })
+
+pub order-sifted : (ps : List ℕ) (count : ℕ) (ws : List ℕ) → Sifted ps count ws → (w1 : List ℕ) → w1 ≡ putOrder (order (rows count (nodeWords ws))) ws → Sifted ps count w1
+order-sifted ps count ws c w1 e =
+    let o = order (rows count (nodeWords ws)) in
+    subst (λ (l : List ℕ). Sifted ps count l) (sym e) (record {
+      size = order-size o ws (c .size);
+      moved = rw (order-index o ws (c .size), order-nodes o ws (c .size), order-word o ws (c .size) 0 (omega arith)) (c .moved);
     })
 
 -- the index put in
@@ -146,28 +155,46 @@ module _ (t : List Node) (few : length t ≤ mostNodes) (ws : List ℕ) (size : 
       ∙ take-at (indexOf t) (drop (length (indexOf t)) (indexRegion ws)) (length t) (index-many t)
 
 -- the index as it was followed, and written
-module _ (was : List ℕ) (count : ℕ) (ws : List ℕ) (c : Changed was count ws) where
+module _ (count : ℕ) (ws : List ℕ) (size : length ws ≡ wordsLength) (most : count ≤ mostNodes) where
   abbrev t : List Node
   t = rows count (nodeWords ws)
 
   few : length t ≤ mostNodes
-  few = omega (arith, rows-length count (nodeWords ws), c .edited .fewAfter)
+  few = omega (arith, rows-length count (nodeWords ws))
 
   pub index-by : (ix : List ℕ) → ix ≡ indexOf t ++ drop count (indexRegion ws) → put indexPlace indexWords ix ws ≡ putIndex (indexOf t) ws
   index-by ix e =
       ap (λ (l : List ℕ). put indexPlace indexWords l ws)
       (e ∙ ap (λ (n : ℕ). indexOf t ++ drop n (indexRegion ws)) (sym (index-many t ∙ rows-length count (nodeWords ws))))
 
-  pub index-sorted : (w2 : List ℕ) → w2 ≡ putIndex (indexOf t) ws → Sorted count w2
-  index-sorted w2 e = subst (λ (l : List ℕ). Sorted count l) (sym e) (record {
-    size = index-size t few ws (c .size);
-    few = c .edited .fewAfter;
+  index-sorted : apart t ≡ true → (w2 : List ℕ) → w2 ≡ putIndex (indexOf t) ws → Sorted count w2
+  index-sorted differ w2 e = subst (λ (l : List ℕ). Sorted count l) (sym e) (record {
+    size = index-size t few ws size;
+    few = most;
     rule =
-        let same : nodeWords (putIndex (indexOf t) ws) ≡ nodeWords ws = index-before t few ws (c .size) nodesPlace nodesWords (omega arith) in
+        let same : nodeWords (putIndex (indexOf t) ws) ≡ nodeWords ws = index-before t few ws size nodesPlace nodesWords (omega arith) in
         rw same
-        (afresh-indexed (take count (indexRegion (putIndex (indexOf t) ws))) t (c .edited .differ)
-        (ap (λ (n : ℕ). take n (indexRegion (putIndex (indexOf t) ws))) (sym (rows-length count (nodeWords ws))) ∙ index-back t few ws (c .size)));
+        (afresh-indexed (take count (indexRegion (putIndex (indexOf t) ws))) t differ
+        (ap (λ (n : ℕ). take n (indexRegion (putIndex (indexOf t) ws))) (sym (rows-length count (nodeWords ws))) ∙ index-back t few ws size));
   })
+
+-- by an edit, and by the new places
+pub edited-sorted : (edit : Edit) (count : ℕ) (ws : List ℕ) → Changed edit count ws → (w2 : List ℕ) → w2 ≡ putIndex (indexOf (rows count (nodeWords ws))) ws → Sorted count w2
+edited-sorted edit count ws c =
+    let e = c .edited in
+    index-sorted count ws (c .size) (e .ground .fewAfter) (edit-apart (indexRegion ws) (countIn ws) (nodeWords ws) count (e .old) (e .ground) edit (e .does))
+
+pub sifted-sorted : (ps : List ℕ) (count : ℕ) (ws : List ℕ) → Sifted ps count ws → (w2 : List ℕ) → w2 ≡ putIndex (indexOf (rows count (nodeWords ws))) ws → Sorted count w2
+sifted-sorted ps count ws c =
+    let e = c .moved in
+    index-sorted count ws (c .size) (e .ground .fewAfter) (follow-apart (indexRegion ws) (countIn ws) (nodeWords ws) count (e .old) (e .ground) (placeIn ps) (e .carries) (e .came))
+
+-- the same part put in again
+module _ (a k : ℕ) (ys zs ws : List ℕ) (fits : a + k ≤ length ws) (size : length zs ≡ k) where
+  pub put-again : put a k ys (put a k zs ws) ≡ put a k ys ws
+  put-again =
+      ap₂ (λ (l r : List ℕ). l ++ (ys ++ r)) (before-put a k a zs ws (omega arith) (omega arith))
+      (drop-drop k a (put a k zs ws) ∙ past-put a k (a + k) zs ws (omega arith) size (omega arith) ∙ sym (drop-drop k a ws))
 
 -- the index as it was, where it is right
 pub index-own : (count : ℕ) (ws : List ℕ) → Sorted count ws → putIndex (indexOf (rows count (nodeWords ws))) ws ≡ ws
@@ -264,36 +291,36 @@ module _ (ws : List ℕ) (size : length ws ≡ wordsLength) (t : List Node) (few
       ap₂ (λ (j : ℕ) (l : List ℕ). renewed j (put nodesPlace nodesWords l ws)) (h .size) (h .words) ∙ renewed-tree bs
 
 -- and what that asks: of the table as it is, in the place of the one that the words held
-module _ (ws : List ℕ) (k : Ready ws) (t : List Node) (c : Comes t (nodesIn ws)) (was : List ℕ) (held : Held was (nodesIn ws)) where
-  number-lives : (i : ℕ) → i < length t → lives (numberAt (numbers t) i) t ≡ true
-  number-lives i h = lives-at (numberAt (numbers t) i) t i h refl
-
-  edited : Edited (indexRegion ws) (countIn ws) was (fill (nodeWords ws) t) (length t)
-  edited = record {
-    old = nodesIn ws;
+module _ (ws : List ℕ) (k : Ready ws) (t : List Node) (few : length t ≤ mostNodes) where
+  ground : Ground (indexRegion ws) (countIn ws) (fill (nodeWords ws) t) (length t) (nodesIn ws)
+  ground = record {
     size = rows-length (countIn ws) (nodeWords ws);
     few = k .few;
-    held = held;
     rule = k .index;
     entries = region-length indexPlace indexWords ws (omega (arith, k .size));
-    room = omega (arith, filled ws (k .size) t (c .few), c .few);
-    fewAfter = c .few;
-    differ = rw rows-fill (c .differ);
-    new = c .new;
-    only = λ i h d. let back = rows-fill (nodeWords ws) t in rw back (c .only (numberAt (numbers t) i) (number-lives i h) (rw back at d));
+    room = omega (arith, filled ws (k .size) t few);
+    fewAfter = few;
   }
 
-  pub changed-left : (us : List ℕ) (n : ℕ) → Leaves (nodeWords ws) t us n → Changed was n (put nodesPlace nodesWords us ws)
-  changed-left us n h = rw (h .size, h .words) (record {
-    size = nodes-size ws (k .size) t (c .few);
-    edited =
-        let long = filled ws (k .size) t (c .few) in
-        rw (
-          region-past nodesPlace nodesWords (fill (nodeWords ws) t) ws (omega (arith, k .size)) long indexPlace indexWords (omega arith),
-          region-put nodesPlace nodesWords (fill (nodeWords ws) t) ws (omega (arith, k .size)) long,
-          first-word ws (k .size) t (c .few) 0 (omega arith),
-        ) edited;
-  })
+  abbrev there : List ℕ
+  there = putNodes t ws
+
+  index-there : indexRegion there ≡ indexRegion ws
+  index-there = region-past nodesPlace nodesWords (fill (nodeWords ws) t) ws (omega (arith, k .size)) (filled ws (k .size) t few) indexPlace indexWords (omega arith)
+
+  nodes-there : nodeWords there ≡ fill (nodeWords ws) t
+  nodes-there = region-put nodesPlace nodesWords (fill (nodeWords ws) t) ws (omega (arith, k .size)) (filled ws (k .size) t few)
+
+  pub changed-left : (edit : Edit) → Does edit (nodesIn ws) t → (us : List ℕ) (n : ℕ) → Leaves (nodeWords ws) t us n → Changed edit n (put nodesPlace nodesWords us ws)
+  changed-left edit d us n h =
+      let edited : Edited (indexRegion ws) (countIn ws) edit (fill (nodeWords ws) t) (length t) = record { old = nodesIn ws; ground = ground; does = rw rows-fill d } in
+      rw (h .size, h .words) (record { size = nodes-size ws (k .size) t few; edited = rw (index-there, nodes-there, first-word ws (k .size) t few 0 (omega arith)) edited })
+
+  pub sifted-left : (ps : List ℕ) → Carries (placeIn ps) (nodesIn ws) t → ((q : ℕ) → q < length t → Came (placeIn ps) (nodesIn ws) q)
+      → (us : List ℕ) (n : ℕ) → Leaves (nodeWords ws) t us n → Sifted ps n (put nodesPlace nodesWords us ws)
+  sifted-left ps carries came us n h =
+      let moved : Moved (indexRegion ws) (countIn ws) ps (fill (nodeWords ws) t) (length t) = record { old = nodesIn ws; ground = ground; carries = rw rows-fill carries; came = rw rows-fill came } in
+      rw (h .size, h .words) (record { size = nodes-size ws (k .size) t few; moved = rw (index-there, nodes-there, first-word ws (k .size) t few 0 (omega arith)) moved })
 
 -- where the numbers are where they were, the index is right as it is
 pub sorted-left : (ws : List ℕ) → Ready ws → (t : List Node) → length t ≡ length (nodesIn ws) → numbers t ≡ numbers (nodesIn ws)

@@ -1,6 +1,6 @@
 -- What each command does: its answer by the table, and the words after it. Most look neither at the arena nor at the bytes beside the command.
-use Prim.Native.Nat.{ℕ, _≤_}
-use mathlib.Core.Path.{_≡_, _∙_}
+use Prim.Native.Nat.{ℕ, _≤_, _<_}
+use mathlib.Core.Path.{_≡_, sym, ap, subst₂, _∙_}
 use mathlib.Core.List.{List}
 use native.Mathlib.Omega.{arith}
 use lib.ListN.{length}
@@ -8,14 +8,19 @@ use Rattle.words.specs.Parts.{put}
 use Rattle.nodes.specs.declared.Node.{Node}
 use Rattle.nodes.specs.Table.{rows, rows-length}
 use Rattle.nodes.specs.Edit.{editRows, editAt}
+use Rattle.nodes.specs.Split.{edit-first}
 use Rattle.nodes.specs.Formed.{mostNodes}
 use Rattle.treerefinement.specs.Tally.{Within}
+use Rattle.treerefinement.specs.Keep.{within-length}
 use Rattle.values.specs.declared.NodeArgument.{NodeArgument}
 use Rattle.model.specs.declared.TreeCommand.{TreeCommand}
 use Rattle.model.specs.declared.Command.the-variants as command
 use Rattle.model.specs.declared.Answer.{Answer}
 use Rattle.index.specs.Index.{numbers}
-use Rattle.reindex.specs.Trace.{Held}
+use Rattle.reindex.specs.declared.edit.Edit.{Edit}
+use Rattle.reindex.specs.Follow.{Carries, Came}
+use Rattle.reindex.specs.Edits.{Does}
+use Rattle.reindex.specs.Kept.{sift, placeIn, Sieved}
 use Rattle.model.specs.Layout.{nodesPlace, nodesWords, countIn, nodesIn}
 use Rattle.model.specs.Engine.{decode}
 use Rattle.model.specs.Effects.{withNodes}
@@ -24,15 +29,14 @@ use Rattle.state.specs.Does.{WordsStep}
 use Rattle.tree.specs.Sizes.{Leaves, leaves-first}
 use Rattle.treecommands.specs.Ready.{Ready, nodeWords}
 use Rattle.treecommands.specs.Finding.{meantIn, NodeFound}
-use Rattle.treecommands.specs.Comes.{Comes, within-comes}
-use Rattle.treecommands.specs.Settle.{Sorted, Changed, renewed, changed-left, sorted-left, renewed-left}
+use Rattle.treecommands.specs.Settle.{Sorted, Changed, Sifted, renewed, changed-left, sifted-left, sorted-left, renewed-left}
 
 abbrev pub Steps : TreeCommand → List ℕ → Answer → List ℕ → Type 0
 Steps c ws a ws′ = (bytes bs : List ℕ) → WordsStep (command.Tree c) bytes ws bs a ws′
 
 -- an edit that leaves no node but those that there were
-pub left-comes : (ws : List ℕ) (t : List Node) → Ready ws → Within t (nodesIn ws) → Comes t (nodesIn ws)
-left-comes ws t k w = within-comes (omega (arith, k .few, rows-length (countIn ws) (nodeWords ws))) (k .tree .distinct) w
+pub left-few : (ws : List ℕ) (t : List Node) → Ready ws → Within t (nodesIn ws) → length t ≤ mostNodes
+left-few ws t k w = omega (arith, within-length w, k .few, rows-length (countIn ws) (nodeWords ws))
 
 -- the node that an argument names, found at a place, and the node region edited there: what the rest asks, and what it leaves
 module _ (a : NodeArgument) (ws : List ℕ) (k : Ready ws) (count : ℕ) (same : count ≡ countIn ws) (at : ℕ) (f : NodeFound a ws at)
@@ -41,12 +45,24 @@ module _ (a : NodeArgument) (ws : List ℕ) (k : Ready ws) (count : ℕ) (same :
   left : Leaves (nodeWords ws) (editRows (meantIn a ws) H (nodesIn ws)) us many
   left = leaves-first H (nodeWords ws) (nodesIn ws) us many at (rw same at does) (meantIn a ws) (f .here)
 
-  pub edited-ready : Comes (editRows (meantIn a ws) H (nodesIn ws)) (nodesIn ws) → (was : List ℕ) → Held was (rows count (nodeWords ws)) → Changed was many (put nodesPlace nodesWords us ws)
-  edited-ready c was held = changed-left ws k (editRows (meantIn a ws) H (nodesIn ws)) c was (rw same at held) us many left
+  edits : editAt at H (rows count (nodeWords ws)) ≡ editRows (meantIn a ws) H (nodesIn ws)
+  edits = ap (λ (n : ℕ). editAt at H (rows n (nodeWords ws))) same ∙ edit-first (meantIn a ws) at H (nodesIn ws) (f .here)
 
-  pub edited-sorted : length (editRows (meantIn a ws) H (nodesIn ws)) ≡ length (nodesIn ws) → numbers (editRows (meantIn a ws) H (nodesIn ws)) ≡ numbers (nodesIn ws)
+  pub edited-ready : length (editRows (meantIn a ws) H (nodesIn ws)) ≤ mostNodes → (edit : Edit) → Does edit (rows count (nodeWords ws)) (editAt at H (rows count (nodeWords ws)))
+      → Changed edit many (put nodesPlace nodesWords us ws)
+  edited-ready few edit d = changed-left ws k (editRows (meantIn a ws) H (nodesIn ws)) few edit (subst₂ (λ (n : ℕ) (l : List Node). Does edit (rows n (nodeWords ws)) l) same edits d) us many left
+
+  pub edited-sifts : length (editRows (meantIn a ws) H (nodesIn ws)) ≤ mostNodes → (from to : ℕ) → editAt at H (rows count (nodeWords ws)) ≡ sift from to 0 (rows count (nodeWords ws))
+      → (ps : List ℕ) → Sieved from to (rows count (nodeWords ws)) ps → Sifted ps many (put nodesPlace nodesWords us ws)
+  edited-sifts few from to sifts ps s =
+      let there : sift from to 0 (rows count (nodeWords ws)) ≡ editRows (meantIn a ws) H (nodesIn ws) = sym sifts ∙ edits in
+      sifted-left ws k (editRows (meantIn a ws) H (nodesIn ws)) few ps
+      (subst₂ (λ (n : ℕ) (l : List Node). Carries (placeIn ps) (rows n (nodeWords ws)) l) same there (s .carries))
+      (subst₂ (λ (n : ℕ) (l : List Node). (q : ℕ) → q < length l → Came (placeIn ps) (rows n (nodeWords ws)) q) same there (s .came)) us many left
+
+  pub edited-in-place : length (editRows (meantIn a ws) H (nodesIn ws)) ≡ length (nodesIn ws) → numbers (editRows (meantIn a ws) H (nodesIn ws)) ≡ numbers (nodesIn ws)
       → Sorted many (put nodesPlace nodesWords us ws)
-  edited-sorted size numbered = sorted-left ws k (editRows (meantIn a ws) H (nodesIn ws)) size numbered us many left
+  edited-in-place size numbered = sorted-left ws k (editRows (meantIn a ws) H (nodesIn ws)) size numbered us many left
 
   pub edited-left : length (editRows (meantIn a ws) H (nodesIn ws)) ≤ mostNodes → (out : List ℕ) → out ≡ renewed many (put nodesPlace nodesWords us ws) → (bs : List ℕ) → out ≡ putTree (withNodes (editRows (meantIn a ws) H (nodesIn ws)) (decode ws bs)) ws
   edited-left few out o bs = o ∙ renewed-left ws (k .size) (editRows (meantIn a ws) H (nodesIn ws)) few bs us many left

@@ -1,30 +1,28 @@
 // What is derived from the tree, written afresh after its nodes changed.
+use crate::indexing::renew_index;
+use crate::indexing::sift_index;
 use index::find_indexed;
 use layout::COUNT;
 use layout::INDEX;
 use layout::INDEX_END;
 use layout::LATEST;
-use layout::MOST_NODES;
 use layout::NEXT;
 use layout::NODES;
 use layout::NODES_END;
 use layout::ORDER;
 use layout::ORDER_END;
 use layout::ORDER_LENGTH;
-use reindex::follow_edit;
-use tree::copy_words;
-use words::wide;
+use reindex::Edit;
 ghost use mathlib.Core.Path.{_≡_};
 ghost use Prim.Native.Nat.{_≤_};
 ghost use lib.ListN.{length};
 ghost use Rattle.nodes.specs.Table.{rows};
 ghost use Rattle.nodes.specs.Order.{order};
 ghost use Rattle.nodes.specs.Formed.{mostNodes};
-ghost use Rattle.index.specs.Index.{indexOf};
-ghost use Rattle.model.specs.Layout.{wordsLength, nextIn, latestIn, putHeader, putOrder, putIndex};
+ghost use Rattle.model.specs.Layout.{wordsLength, nextIn, latestIn, putHeader, putOrder};
 ghost use Rattle.model.specs.Effects.{latestAmong};
 ghost use Rattle.treecommands.specs.Ready.{nodeWords};
-ghost use Rattle.treecommands.specs.Settle.{Sorted, Changed, settled, renewed};
+ghost use Rattle.treecommands.specs.Settle.{Sorted, Changed, Sifted, settled, renewed};
 
 // The first words, one after the other.
 fn write_header(words: &mut [u32], count: u32, many: u32, next: u32, latest: u32)
@@ -48,25 +46,13 @@ fn renew_order(words: &mut [u32], count: usize) -> u32
     many as u32
 }
 
-// The index, for the table of so many nodes: it was right for the table before, whose numbers were these.
-fn renew_index(words: &mut [u32], was: &[u32], count: usize)
-    requires { ⌜ Changed (now was) count (now words) ⌝ }
-    ensures { λ r. ⌜ now (words .exit) ≡ putIndex (indexOf (rows count (nodeWords (now (words .entry))))) (now (words .entry)) ⌝ }
-{
-    let before = wide(words[COUNT]);
-    let mut entries = [0u32; MOST_NODES];
-    copy_words(&mut entries, 0, &words[INDEX..INDEX_END], MOST_NODES);
-    follow_edit(&mut entries, before, was, &words[NODES..NODES_END], count);
-    copy_words(&mut words[INDEX..INDEX_END], 0, &entries, MOST_NODES);
-}
-
-// The order, the index and the first words, for the table of so many nodes, where the numbers were these.
-pub fn settle(words: &mut [u32], was: &[u32], count: usize, next: u32, latest: u32)
-    requires { ⌜ Changed (now was) count (now words) ⌝ }
+// The order, the index and the first words, for the table of so many nodes, after an edit.
+pub fn settle(words: &mut [u32], edit: Edit, count: usize, next: u32, latest: u32)
+    requires { ⌜ Changed edit count (now words) ⌝ }
     ensures { λ r. ⌜ now (words .exit) ≡ settled count next latest (now (words .entry)) ⌝ }
 {
     let many = renew_order(words, count);
-    renew_index(words, was, count);
+    renew_index(words, edit, count);
     write_header(words, count as u32, many, next, latest);
 }
 
@@ -91,12 +77,22 @@ fn renew_header(words: &mut [u32], count: usize, many: u32)
 }
 
 // What `settle` writes, where the next number stays, and the latest synth too while it lives.
-pub fn renew(words: &mut [u32], was: &[u32], count: usize)
-    requires { ⌜ Changed (now was) count (now words) ⌝ }
+pub fn renew(words: &mut [u32], edit: Edit, count: usize)
+    requires { ⌜ Changed edit count (now words) ⌝ }
     ensures { λ r. ⌜ now (words .exit) ≡ renewed count (now (words .entry)) ⌝ }
 {
     let many = renew_order(words, count);
-    renew_index(words, was, count);
+    renew_index(words, edit, count);
+    renew_header(words, count, many);
+}
+
+// The same, where these are the new places of the nodes, and none is new.
+pub fn renew_sifted(words: &mut [u32], places: &[u32], count: usize)
+    requires { ⌜ Sifted (now places) count (now words) ⌝ }
+    ensures { λ r. ⌜ now (words .exit) ≡ renewed count (now (words .entry)) ⌝ }
+{
+    let many = renew_order(words, count);
+    sift_index(words, places, count);
     renew_header(words, count, many);
 }
 

@@ -1,6 +1,7 @@
 // Commands that free nodes, and the run flag.
 use crate::finish::renew;
 use crate::finish::renew_in_place;
+use crate::finish::renew_sifted;
 use crate::place::is_synth;
 use layout::COUNT;
 use layout::NODES;
@@ -8,7 +9,9 @@ use layout::NODES_END;
 use model::Answer;
 use names::node_place;
 use refusals::Refusal;
-use reindex::numbers_of;
+use reindex::Edit;
+use reindex::kept_places;
+use tree::subtree_end;
 use values::NodeArgument;
 use words::wide;
 ghost use Rattle.model.specs.declared.TreeCommand.{TreeCommand};
@@ -46,9 +49,9 @@ pub fn free_node(node: NodeArgument, words: &mut [u32]) -> Answer
     if at == 0 {
         return Answer::Refused(Refusal::WrongKind);
     }
-    let was = numbers_of(&words[NODES..NODES_END], count);
     let left = tree::cut(&mut words[NODES..NODES_END], count, at);
-    renew(words, &was, left);
+    let end = at + (count - left);
+    renew(words, Edit::Cut(at, end), left);
     Answer::Done
 }
 
@@ -65,9 +68,10 @@ pub fn free_all(group: NodeArgument, words: &mut [u32]) -> Answer
     if is_synth(words, at) {
         return Answer::Refused(Refusal::WrongKind);
     }
-    let was = numbers_of(&words[NODES..NODES_END], count);
     let left = tree::cut_below(&mut words[NODES..NODES_END], count, at);
-    renew(words, &was, left);
+    let first = at + 1;
+    let end = first + (count - left);
+    renew(words, Edit::Cut(first, end), left);
     Answer::Done
 }
 
@@ -84,8 +88,9 @@ pub fn deep_free(group: NodeArgument, words: &mut [u32]) -> Answer
     if is_synth(words, at) {
         return Answer::Refused(Refusal::WrongKind);
     }
-    let was = numbers_of(&words[NODES..NODES_END], count);
+    let end = subtree_end(&words[NODES..NODES_END], count, at);
+    let places = kept_places(&words[NODES..NODES_END], count, at + 1, end);
     let left = tree::deep_free(&mut words[NODES..NODES_END], count, at);
-    renew(words, &was, left);
+    renew_sifted(words, &places, left);
     Answer::Done
 }

@@ -2,6 +2,7 @@
 use crate::adding::bad_target;
 use crate::adding::is_full;
 use crate::finish::renew;
+use crate::indexing::edit_by;
 use layout::COUNT;
 use layout::GROUP;
 use layout::NODES;
@@ -11,7 +12,6 @@ use names::node_place;
 use names::place_of;
 use nodes::Node;
 use refusals::Refusal;
-use reindex::numbers_of;
 use tree::Action;
 use tree::Asked;
 use values::NodeArgument;
@@ -69,9 +69,9 @@ fn add_group(number: u32, action: Action, target: NodeArgument, words: &mut [u32
                 slot: GROUP,
                 row: 0,
             };
-            let was = numbers_of(&words[NODES..NODES_END], count);
+            let edit = edit_by(&words[NODES..NODES_END], count, action, at);
             let after = tree::add_node(&mut words[NODES..NODES_END], count, action, at, group);
-            renew(words, &was, after);
+            renew(words, edit, after);
             Answer::Done
         }
         Spot::Refused(why) => Answer::Refused(why),

@@ -3,6 +3,7 @@ mod adding;
 mod finish;
 mod free;
 mod group;
+mod indexing;
 mod moves;
 mod place;
 
@@ -15,6 +16,7 @@ pub use free::free_node;
 pub use free::run_node;
 pub use group::Spot;
 pub use group::new_group;
+pub use indexing::edit_by;
 pub use moves::move_after;
 pub use moves::move_before;
 pub use moves::move_head;

@@ -1,5 +1,6 @@
 // Commands that move a node with all below it.
 use crate::finish::renew;
+use crate::indexing::move_edit;
 use crate::place::is_synth;
 use layout::COUNT;
 use layout::NODES;
@@ -7,7 +8,6 @@ use layout::NODES_END;
 use model::Answer;
 use names::node_place;
 use refusals::Refusal;
-use reindex::numbers_of;
 use tree::Position;
 use values::NodeArgument;
 use words::wide;
@@ -83,9 +83,9 @@ fn move_pair(pair: Pair, position: Position, words: &mut [u32]) -> Answer
     match pair {
         Pair::At(a, b) => {
             let count = wide(words[COUNT]);
-            let was = numbers_of(&words[NODES..NODES_END], count);
+            let edit = move_edit(&words[NODES..NODES_END], count, a, position, b);
             tree::move_node(&mut words[NODES..NODES_END], count, a, position, b);
-            renew(words, &was, count);
+            renew(words, edit, count);
             Answer::Done
         }
         Pair::Refused(why) => Answer::Refused(why),

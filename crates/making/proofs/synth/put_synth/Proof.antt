@@ -51,22 +51,22 @@ row-for-requires c κs =
 number-for-requires : tie.Need-number-for-requires
 number-for-requires c κs = search needs
 
-sub-numbers-of : tie.Need-sub-numbers-of
-sub-numbers-of c = search needs
+sub-edit-by : tie.Need-sub-edit-by
+sub-edit-by c = search needs
 
-part-numbers-of-start : tie.Need-part-numbers-of-start
-part-numbers-of-start c = search needs
+part-edit-by-start : tie.Need-part-edit-by-start
+part-edit-by-start c = search needs
 
-part-numbers-of-end : tie.Need-part-numbers-of-end
-part-numbers-of-end c = omega (arith, c .before .before .before .before .before .before .before .before .before .before .before .before .before .pre .ground .known .size)
+part-edit-by-end : tie.Need-part-edit-by-end
+part-edit-by-end c = omega (arith, c .before .before .before .before .before .before .before .before .before .before .before .before .before .pre .ground .known .size)
 
-numbers-of-requires : tie.Need-numbers-of-requires
-numbers-of-requires c κs =
+edit-by-requires : tie.Need-edit-by-requires
+edit-by-requires c κs =
     let a = c .before .before .before .before .before .before .before .before .before .before .before .before .before .before .args in
     let p = c .before .before .before .before .before .before .before .before .before .before .before .before .before .before .pre in
     let count = c .before .before .before .before .before .before .before .before .before .before .wide in
     let there = standing (a .number) (a .action) (p .target) (a .at) (a .slot) (p .bytes) (a .words .now) (a .arena .now) (p .ground) (count .result) (count .ensures) in
-    record { room = omega (arith, there .size, there .few); few = there .few }
+    record { room = omega (arith, there .size, there .few); few = there .few; live = there .live }
 
 sub-add-node : tie.Need-sub-add-node
 sub-add-node c = search needs
@@ -86,19 +86,17 @@ next-after-requires c κs =
     let p = c .before .before .before .before .before .before .before .before .before .before .before .before .before .before .before .before .before .before .before .pre in
     next-some (a .number) (a .action) (p .target) (a .at) (a .slot) (p .bytes) (a .words .now) (a .arena .now) (p .ground)
 
-slice-aggregate-settle : tie.Need-slice-aggregate-settle
-slice-aggregate-settle c = search needs
-
 settle-requires : tie.Need-settle-requires
 settle-requires c κs =
-    let a = c .before .before .before .before .before .before .before .before .before .before .before .before .before .before .before .before .before .before .before .before .before .before .args in
-    let p = c .before .before .before .before .before .before .before .before .before .before .before .before .before .before .before .before .before .before .before .before .before .before .pre in
-    let count = c .before .before .before .before .before .before .before .before .before .before .before .before .before .before .before .before .before .before .wide in
-    let row = c .before .before .before .before .before .before .before .before .before .before .before .row-for in
-    let given = c .before .before .before .before .before .before .before .before .before .before .number-for in
-    let add = c .before .before .before .before .before .add-node in
-    let was = c .before .before .before .before .before .before .before .numbers-of in
-    synth-ready (a .number) (a .action) (p .target) (a .at) (a .slot) (p .bytes) (a .words .now) (a .arena .now) (p .ground) (count .result) (count .ensures) (row .result) (row .ensures) (getD (a .words .now) 2 0) refl (given .result) (given .ensures) (add .last .0) (add .result) (add .ensures) (was .result) (was .ensures)
+    let a = c .before .before .before .before .before .before .before .before .before .before .before .before .before .before .before .before .before .before .before .before .before .args in
+    let p = c .before .before .before .before .before .before .before .before .before .before .before .before .before .before .before .before .before .before .before .before .before .pre in
+    let count = c .before .before .before .before .before .before .before .before .before .before .before .before .before .before .before .before .before .wide in
+    let row = c .before .before .before .before .before .before .before .before .before .before .row-for in
+    let given = c .before .before .before .before .before .before .before .before .before .number-for in
+    let add = c .before .before .before .before .add-node in
+    let edit = c .before .before .before .before .before .before .edit-by in
+    rw (edit .ensures)
+    (synth-ready (a .number) (a .action) (p .target) (a .at) (a .slot) (p .bytes) (a .words .now) (a .arena .now) (p .ground) (count .result) (count .ensures) (row .result) (row .ensures) (getD (a .words .now) 2 0) refl (given .result) (given .ensures) (add .last .0) (add .result) (add .ensures))
 
 sub-initial-row : tie.Need-sub-initial-row
 sub-initial-row c = search needs
@@ -108,6 +106,18 @@ part-initial-row-start c = search needs
 
 part-initial-row-end : tie.Need-part-initial-row-end
 part-initial-row-end c =
+    let a = c .before .before .before .before .before .before .before .before .before .before .before .before .before .before .before .before .before .before .before .before .before .before .before .before .args in
+    let p = c .before .before .before .before .before .before .before .before .before .before .before .before .before .before .before .before .before .before .before .before .before .before .before .before .pre in
+    let count = c .before .before .before .before .before .before .before .before .before .before .before .before .before .before .before .before .before .before .before .before .wide in
+    let row = c .before .before .before .before .before .before .before .before .before .before .before .before .before .row-for in
+    let given = c .before .before .before .before .before .before .before .before .before .before .before .before .number-for in
+    let add = c .before .before .before .before .before .before .before .add-node in
+    let fell = c .before .before .before .before .next-after in
+    let mid = c .before .before .settle in
+    omega (arith, mid-size (a .number) (a .action) (p .target) (a .at) (a .slot) (p .bytes) (a .words .now) (a .arena .now) (p .ground) (count .result) (count .ensures) (row .result) (row .ensures) (getD (a .words .now) 2 0) refl (given .result) (given .ensures) (add .last .0) (add .result) (add .ensures) (fell .result) (fell .ensures) (mid .last .0) (mid .ensures))
+
+initial-row-requires : tie.Need-initial-row-requires
+initial-row-requires c κs =
     let a = c .before .before .before .before .before .before .before .before .before .before .before .before .before .before .before .before .before .before .before .before .before .before .before .before .before .args in
     let p = c .before .before .before .before .before .before .before .before .before .before .before .before .before .before .before .before .before .before .before .before .before .before .before .before .before .pre in
     let count = c .before .before .before .before .before .before .before .before .before .before .before .before .before .before .before .before .before .before .before .before .before .wide in
@@ -115,47 +125,35 @@ part-initial-row-end c =
     let given = c .before .before .before .before .before .before .before .before .before .before .before .before .before .number-for in
     let add = c .before .before .before .before .before .before .before .before .add-node in
     let fell = c .before .before .before .before .before .next-after in
-    let mid = c .before .before .settle in
-    omega (arith, mid-size (a .number) (a .action) (p .target) (a .at) (a .slot) (p .bytes) (a .words .now) (a .arena .now) (p .ground) (count .result) (count .ensures) (row .result) (row .ensures) (getD (a .words .now) 2 0) refl (given .result) (given .ensures) (add .last .0) (add .result) (add .ensures) (fell .result) (fell .ensures) (mid .last .0) (mid .ensures))
-
-initial-row-requires : tie.Need-initial-row-requires
-initial-row-requires c κs =
-    let a = c .before .before .before .before .before .before .before .before .before .before .before .before .before .before .before .before .before .before .before .before .before .before .before .before .before .before .args in
-    let p = c .before .before .before .before .before .before .before .before .before .before .before .before .before .before .before .before .before .before .before .before .before .before .before .before .before .before .pre in
-    let count = c .before .before .before .before .before .before .before .before .before .before .before .before .before .before .before .before .before .before .before .before .before .before .wide in
-    let row = c .before .before .before .before .before .before .before .before .before .before .before .before .before .before .before .row-for in
-    let given = c .before .before .before .before .before .before .before .before .before .before .before .before .before .before .number-for in
-    let add = c .before .before .before .before .before .before .before .before .before .add-node in
-    let fell = c .before .before .before .before .before .before .next-after in
     let mid = c .before .before .before .settle in
-    let bytes = c .before .before .before .before .before .before .before .before .before .before .before .before .before .before .before .before .before .before .slot-bytes .ensures ∙ ap (slotBytes (a .words .now) (a .arena .now)) (c .before .before .before .before .before .before .before .before .before .before .before .before .before .before .before .before .before .before .before .wide2 .ensures) in (
+    let bytes = c .before .before .before .before .before .before .before .before .before .before .before .before .before .before .before .before .before .slot-bytes .ensures ∙ ap (slotBytes (a .words .now) (a .arena .now)) (c .before .before .before .before .before .before .before .before .before .before .before .before .before .before .before .before .before .before .wide2 .ensures) in (
       row-fits (a .number) (a .action) (p .target) (a .at) (a .slot) (p .bytes) (a .words .now) (a .arena .now) (p .ground) (count .result) (count .ensures) (row .result) (row .ensures) (getD (a .words .now) 2 0) refl (given .result) (given .ensures) (add .last .0) (add .result) (add .ensures) (fell .result) (fell .ensures) (mid .last .0) (mid .ensures),
       subst Readable (sym bytes) (definition-readable (a .number) (a .action) (p .target) (a .at) (a .slot) (p .bytes) (a .words .now) (a .arena .now) (p .ground) (getD (a .words .now) (4 + a .slot) 0) refl),
     )
 
 same-length : tie.Need-same-length
 same-length c =
-    let a = c .before .before .before .before .before .before .before .before .before .before .before .before .before .before .before .before .before .before .before .before .before .before .before .before .before .before .before .before .before .args in
-    let p = c .before .before .before .before .before .before .before .before .before .before .before .before .before .before .before .before .before .before .before .before .before .before .before .before .before .before .before .before .before .pre in
-    let count = c .before .before .before .before .before .before .before .before .before .before .before .before .before .before .before .before .before .before .before .before .before .before .before .before .before .wide in
-    let row = c .before .before .before .before .before .before .before .before .before .before .before .before .before .before .before .before .before .before .row-for in
-    let given = c .before .before .before .before .before .before .before .before .before .before .before .before .before .before .before .before .before .number-for in
-    let add = c .before .before .before .before .before .before .before .before .before .before .before .before .add-node in
-    let fell = c .before .before .before .before .before .before .before .before .before .next-after in
+    let a = c .before .before .before .before .before .before .before .before .before .before .before .before .before .before .before .before .before .before .before .before .before .before .before .before .before .before .before .before .args in
+    let p = c .before .before .before .before .before .before .before .before .before .before .before .before .before .before .before .before .before .before .before .before .before .before .before .before .before .before .before .before .pre in
+    let count = c .before .before .before .before .before .before .before .before .before .before .before .before .before .before .before .before .before .before .before .before .before .before .before .before .wide in
+    let row = c .before .before .before .before .before .before .before .before .before .before .before .before .before .before .before .before .before .row-for in
+    let given = c .before .before .before .before .before .before .before .before .before .before .before .before .before .before .before .before .number-for in
+    let add = c .before .before .before .before .before .before .before .before .before .before .before .add-node in
+    let fell = c .before .before .before .before .before .before .before .before .next-after in
     let mid = c .before .before .before .before .before .before .settle in
     c .before .words5 .given .1 ∙ mid-size (a .number) (a .action) (p .target) (a .at) (a .slot) (p .bytes) (a .words .now) (a .arena .now) (p .ground) (count .result) (count .ensures) (row .result) (row .ensures) (getD (a .words .now) 2 0) refl (given .result) (given .ensures) (add .last .0) (add .result) (add .ensures) (fell .result) (fell .ensures) (mid .last .0) (mid .ensures) ∙ sym (p .ground .known .size)
 
 returns : tie.Need-returns
 returns c =
     λ target bytes g.
-    let a = c .before .before .before .before .before .before .before .before .before .before .before .before .before .before .before .before .before .before .before .before .before .before .before .before .before .before .before .before .before .args in
-    let count = c .before .before .before .before .before .before .before .before .before .before .before .before .before .before .before .before .before .before .before .before .before .before .before .before .before .wide in
-    let row = c .before .before .before .before .before .before .before .before .before .before .before .before .before .before .before .before .before .before .row-for in
-    let given = c .before .before .before .before .before .before .before .before .before .before .before .before .before .before .before .before .before .number-for in
-    let add = c .before .before .before .before .before .before .before .before .before .before .before .before .add-node in
-    let fell = c .before .before .before .before .before .before .before .before .before .next-after in
+    let a = c .before .before .before .before .before .before .before .before .before .before .before .before .before .before .before .before .before .before .before .before .before .before .before .before .before .before .before .before .args in
+    let count = c .before .before .before .before .before .before .before .before .before .before .before .before .before .before .before .before .before .before .before .before .before .before .before .before .wide in
+    let row = c .before .before .before .before .before .before .before .before .before .before .before .before .before .before .before .before .before .row-for in
+    let given = c .before .before .before .before .before .before .before .before .before .before .before .before .before .before .before .before .number-for in
+    let add = c .before .before .before .before .before .before .before .before .before .before .before .add-node in
+    let fell = c .before .before .before .before .before .before .before .before .next-after in
     let mid = c .before .before .before .before .before .before .settle in
-    let own = c .before .before .before .before .before .before .before .before .before .before .before .before .before .before .before .before .before .before .before .before .before .slot-bytes .ensures ∙ ap (slotBytes (a .words .now) (a .arena .now)) (c .before .before .before .before .before .before .before .before .before .before .before .before .before .before .before .before .before .before .before .before .before .before .wide2 .ensures) in
+    let own = c .before .before .before .before .before .before .before .before .before .before .before .before .before .before .before .before .before .before .before .before .slot-bytes .ensures ∙ ap (slotBytes (a .words .now) (a .arena .now)) (c .before .before .before .before .before .before .before .before .before .before .before .before .before .before .before .before .before .before .before .before .before .wide2 .ensures) in
     let controls = c .before .before .initial-row in
     synth-done (a .number) (a .action) target (a .at) (a .slot) bytes (a .words .now) (a .arena .now) g (count .result) (count .ensures) (row .result) (row .ensures) (getD (a .words .now) 2 0) refl (given .result) (given .ensures) (add .last .0) (add .result) (add .ensures) (fell .result) (fell .ensures) (mid .last .0) (mid .ensures)
     (getD (a .words .now) (4 + a .slot) 0) refl
@@ -177,16 +175,15 @@ put-synth-spec =
     part-row-for-end
     row-for-requires
     number-for-requires
-    sub-numbers-of
-    part-numbers-of-start
-    part-numbers-of-end
-    numbers-of-requires
+    sub-edit-by
+    part-edit-by-start
+    part-edit-by-end
+    edit-by-requires
     sub-add-node
     part-add-node-start
     part-add-node-end
     add-node-requires
     next-after-requires
-    slice-aggregate-settle
     settle-requires
     sub-initial-row
     part-initial-row-start

@@ -1,60 +1,156 @@
--- `reindex::follow::follow_edit` meets its contract: the entries follow their nodes, and the new one is put in.
+-- `reindex::follow::follow_edit` meets its contract: each kind of edit by its own pass.
+use mathlib.Core.Path.{_≡_, sym, subst}
 use native.Mathlib.Omega.{arith}
 use borrow.Author.Needs.{needs}
-use Rattle.reindex.specs.Followed.{edit-traces, follow-none, one-fits, follow-one}
+use Rattle.reindex.specs.declared.edit.Edit.{Edit}
+use Rattle.reindex.specs.declared.edit.Edit.the-variants.{Cut, Put, Swap}
+use Rattle.reindex.specs.FollowWords.{Followed}
+use Rattle.reindex.specs.Edits.{newPlace, Bounded}
 use Rattle.reindex.proofs.follow.follow_edit.Statement.{statement}
 use Rattle.reindex.proofs.follow.follow_edit.Tie as tie
 
-new-places-requires : tie.Need-new-places-requires
-new-places-requires c κs =
-    let first = c .before .before .before in
-    let a = first .args in
-    edit-traces (a .index .now) (a .before) (a .was .now) (a .nodes .now) (a .count) (first .pre)
+enum-known-edit : tie.Need-enum-known-edit
+enum-known-edit c = search needs
 
-follow-requires : tie.Need-follow-requires
-follow-requires c κs =
-    let pre = c .before .before .before .before .before .before .before .before .pre in
-    omega (arith, pre .entries, pre .few)
+cast-close-entries : tie.Need-cast-close-entries
+cast-close-entries c =
+    let s = c .before .before .before .before .before in
+    let at = c .before .before .edit .given in
+    let fact : s .args .edit ≡ Cut (at .0 .0) (at .0 .1 .0) = at .1 in
+    let bounds : Bounded (Cut (at .0 .0) (at .0 .1 .0)) = subst (λ (x : Edit). Bounded x) fact (s .pre .0) in
+    omega (arith, bounds .0, bounds .1)
 
-put-in-requires : tie.Need-put-in-requires
-put-in-requires c κs =
-    let first = c .before .before .before .before .before .before .before .before .before .before .before .before .before in
-    let a = first .args in
-    let places = c .before .before .before .before .before .before .before .before .before .new-places in
-    let follow = c .before .before .before .before .follow in
-    one-fits (a .index .now) (a .before) (a .was .now) (a .nodes .now) (a .count) (first .pre) (places .result .to) (places .result .new) (places .ensures) (follow .last .0) (follow .result) (follow .ensures) (omega arith) (search needs)
+cast-close-entries-2 : tie.Need-cast-close-entries-2
+cast-close-entries-2 c =
+    let s = c .before .before .before .before .before in
+    let at = c .before .before .edit .given in
+    let fact : s .args .edit ≡ Cut (at .0 .0) (at .0 .1 .0) = at .1 in
+    let bounds : Bounded (Cut (at .0 .0) (at .0 .1 .0)) = subst (λ (x : Edit). Bounded x) fact (s .pre .0) in
+    omega (arith, bounds .0, bounds .1)
+
+close-entries-requires : tie.Need-close-entries-requires
+close-entries-requires c κs =
+    let s = c .before .before .before .before .before in
+    let at = c .before .before .edit .given in
+    let fact : s .args .edit ≡ Cut (at .0 .0) (at .0 .1 .0) = at .1 in
+    let bounds : Bounded (Cut (at .0 .0) (at .0 .1 .0)) = subst (λ (x : Edit). Bounded x) fact (s .pre .0) in
+    (bounds .0, (omega arith, s .pre .1))
+
+enum-known-edit-2 : tie.Need-enum-known-edit-2
+enum-known-edit-2 c = search needs
+
+cast-close-entries-3 : tie.Need-cast-close-entries-3
+cast-close-entries-3 c =
+    let s = c .before .before .before .before .before in
+    let at = c .before .before .edit2 .given in
+    let fact : s .args .edit ≡ Put (at .0 .0) (at .0 .1 .0) = at .1 in
+    let bounds : Bounded (Put (at .0 .0) (at .0 .1 .0)) = subst (λ (x : Edit). Bounded x) fact (s .pre .0) in
+    omega (arith, bounds .0, bounds .1)
+
+cast-close-entries-4 : tie.Need-cast-close-entries-4
+cast-close-entries-4 c =
+    let s = c .before .before .before .before .before in
+    let at = c .before .before .edit2 .given in
+    let fact : s .args .edit ≡ Put (at .0 .0) (at .0 .1 .0) = at .1 in
+    let bounds : Bounded (Put (at .0 .0) (at .0 .1 .0)) = subst (λ (x : Edit). Bounded x) fact (s .pre .0) in
+    omega (arith, bounds .0, bounds .1)
+
+close-entries-requires-2 : tie.Need-close-entries-requires-2
+close-entries-requires-2 c κs =
+    let s = c .before .before .before .before .before in
+    let at = c .before .before .edit2 .given in
+    let fact : s .args .edit ≡ Put (at .0 .0) (at .0 .1 .0) = at .1 in
+    let bounds : Bounded (Put (at .0 .0) (at .0 .1 .0)) = subst (λ (x : Edit). Bounded x) fact (s .pre .0) in
+    (bounds .0, (omega arith, s .pre .1))
+
+enum-known-edit-3 : tie.Need-enum-known-edit-3
+enum-known-edit-3 c = search needs
+
+cast-swap-entries : tie.Need-cast-swap-entries
+cast-swap-entries c =
+    let s = c .before .before .before .before .before in
+    let at = c .before .before .edit3 .given in
+    let fact : s .args .edit ≡ Swap (at .0 .0) (at .0 .1 .0) (at .0 .1 .1 .0) = at .1 in
+    let bounds : Bounded (Swap (at .0 .0) (at .0 .1 .0) (at .0 .1 .1 .0)) = subst (λ (x : Edit). Bounded x) fact (s .pre .0) in
+    omega (arith, bounds .0, bounds .1 .0, bounds .1 .1)
+
+cast-swap-entries-2 : tie.Need-cast-swap-entries-2
+cast-swap-entries-2 c =
+    let s = c .before .before .before .before .before in
+    let at = c .before .before .edit3 .given in
+    let fact : s .args .edit ≡ Swap (at .0 .0) (at .0 .1 .0) (at .0 .1 .1 .0) = at .1 in
+    let bounds : Bounded (Swap (at .0 .0) (at .0 .1 .0) (at .0 .1 .1 .0)) = subst (λ (x : Edit). Bounded x) fact (s .pre .0) in
+    omega (arith, bounds .0, bounds .1 .0, bounds .1 .1)
+
+cast-swap-entries-3 : tie.Need-cast-swap-entries-3
+cast-swap-entries-3 c =
+    let s = c .before .before .before .before .before in
+    let at = c .before .before .edit3 .given in
+    let fact : s .args .edit ≡ Swap (at .0 .0) (at .0 .1 .0) (at .0 .1 .1 .0) = at .1 in
+    let bounds : Bounded (Swap (at .0 .0) (at .0 .1 .0) (at .0 .1 .1 .0)) = subst (λ (x : Edit). Bounded x) fact (s .pre .0) in
+    omega (arith, bounds .0, bounds .1 .0, bounds .1 .1)
+
+swap-entries-requires : tie.Need-swap-entries-requires
+swap-entries-requires c κs =
+    let s = c .before .before .before .before .before in
+    let at = c .before .before .edit3 .given in
+    let fact : s .args .edit ≡ Swap (at .0 .0) (at .0 .1 .0) (at .0 .1 .1 .0) = at .1 in
+    let bounds : Bounded (Swap (at .0 .0) (at .0 .1 .0) (at .0 .1 .1 .0)) = subst (λ (x : Edit). Bounded x) fact (s .pre .0) in
+    (bounds .0, (bounds .1 .0, (bounds .1 .1, s .pre .1)))
 
 same-length : tie.Need-same-length
 same-length c = search needs
 
 returns : tie.Need-returns
 returns c =
-    let first = c .before .before .before .before .before .before .before .before .before .before .before .before .before .before .before .before in
-    let a = first .args in
-    let places = c .before .before .before .before .before .before .before .before .before .before .before .before .new-places in
-    let follow = c .before .before .before .before .before .before .before .follow in
-    let put = c .before .before .put-in in
-    follow-one (a .index .now) (a .before) (a .was .now) (a .nodes .now) (a .count) (first .pre) (places .result .to) (places .result .new) (places .ensures) (follow .last .0) (follow .result) (follow .ensures) (omega arith) (put .last .0) (put .ensures)
+    let a = c .before .before .before .before .before .before .before .before .args in
+    let at = c .before .before .before .before .before .edit .given in
+    let fact : a .edit ≡ Cut (at .0 .0) (at .0 .1 .0) = at .1 in
+    let done = c .before .before .close-entries in
+    subst (λ (x : Edit). Followed (newPlace x) (a .index .now) (a .count) (done .last .0) (done .result)) (sym fact) (done .ensures)
 
 same-length-2 : tie.Need-same-length-2
 same-length-2 c = search needs
 
 returns-2 : tie.Need-returns-2
 returns-2 c =
-    let first = c .before .before .before .before .before .before .before .before .before .before .before .before in
-    let a = first .args in
-    let places = c .before .before .before .before .before .before .before .before .new-places in
-    let follow = c .before .before .before .follow in
-    follow-none (a .index .now) (a .before) (a .was .now) (a .nodes .now) (a .count) (first .pre) (places .result .to) (places .result .new) (places .ensures) (follow .last .0) (follow .result) (follow .ensures) (c .if1 .left)
+    let a = c .before .before .before .before .before .before .before .before .args in
+    let at = c .before .before .before .before .before .edit2 .given in
+    let fact : a .edit ≡ Put (at .0 .0) (at .0 .1 .0) = at .1 in
+    let done = c .before .before .close-entries2 in
+    subst (λ (x : Edit). Followed (newPlace x) (a .index .now) (a .count) (done .last .0) (done .result)) (sym fact) (done .ensures)
+
+same-length-3 : tie.Need-same-length-3
+same-length-3 c = search needs
+
+returns-3 : tie.Need-returns-3
+returns-3 c =
+    let a = c .before .before .before .before .before .before .before .before .args in
+    let at = c .before .before .before .before .before .edit3 .given in
+    let fact : a .edit ≡ Swap (at .0 .0) (at .0 .1 .0) (at .0 .1 .1 .0) = at .1 in
+    let done = c .before .before .swap-entries in
+    subst (λ (x : Edit). Followed (newPlace x) (a .index .now) (a .count) (done .last .0) (a .count)) (sym fact) (done .ensures)
 
 pub follow-edit-spec : {M : Type 1} → statement M
 follow-edit-spec =
     tie.close
     (tie.spec
-    new-places-requires
-    follow-requires
-    put-in-requires
+    enum-known-edit
+    cast-close-entries
+    cast-close-entries-2
+    close-entries-requires
+    enum-known-edit-2
+    cast-close-entries-3
+    cast-close-entries-4
+    close-entries-requires-2
+    enum-known-edit-3
+    cast-swap-entries
+    cast-swap-entries-2
+    cast-swap-entries-3
+    swap-entries-requires
     same-length
     returns
     same-length-2
-    returns-2)
+    returns-2
+    same-length-3
+    returns-3)

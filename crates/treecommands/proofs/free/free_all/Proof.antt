@@ -2,6 +2,8 @@
 use native.Mathlib.Omega.{arith}
 use borrow.Author.Needs.{needs}
 use mathlib.Core.Path.{sym, _∙_}
+use Rattle.treecommands.specs.Ready.{nodeWords}
+use Rattle.treecommands.specs.Edits.{cutBelow-fewer}
 use Rattle.treecommands.specs.Emptying.{all-unknown, all-wrong, all-ready, all-done}
 use Rattle.treecommands.proofs.free.free_all.Statement.{statement}
 use Rattle.treecommands.proofs.free.free_all.Tie as tie
@@ -36,18 +38,6 @@ returns-2 c =
     let a = s .args in
     all-wrong (a .group) (a .words .now) (s .pre) (c .before .before .before .before .before .before .wide .result) (c .before .before .before .before .before .before .wide .ensures) (c .before .before .before .before .node-place .result) (c .before .before .before .before .node-place .ensures) (omega arith) (sym (c .before .is-synth .ensures) ∙ c .if2 .taken)
 
-sub-numbers-of : tie.Need-sub-numbers-of
-sub-numbers-of c = search needs
-
-part-numbers-of-start : tie.Need-part-numbers-of-start
-part-numbers-of-start c = search needs
-
-part-numbers-of-end : tie.Need-part-numbers-of-end
-part-numbers-of-end c = search needs
-
-numbers-of-requires : tie.Need-numbers-of-requires
-numbers-of-requires c κs = search needs
-
 sub-cut-below : tie.Need-sub-cut-below
 sub-cut-below c = search needs
 
@@ -60,31 +50,48 @@ part-cut-below-end c = search needs
 cut-below-requires : tie.Need-cut-below-requires
 cut-below-requires c κs = search needs
 
-slice-aggregate-renew : tie.Need-slice-aggregate-renew
-slice-aggregate-renew c = search needs
+add-first : tie.Need-add-first
+add-first c = search needs
+
+sub-end : tie.Need-sub-end
+sub-end c =
+    let s = c .before .before .before .before .before .before .before .before .before .before .before .before .before in
+    let a = s .args in
+    let count = c .before .before .before .before .before .before .before .before .before .before .wide in
+    let at = c .before .before .before .before .before .before .before .before .node-place in
+    let cut = c .before .before .cut-below in
+    omega (arith, cut .ensures .size, cutBelow-fewer (count .result) (nodeWords (a .words .now)) (at .result) (omega arith))
+
+add-end : tie.Need-add-end
+add-end c =
+    let s = c .before .before .before .before .before .before .before .before .before .before .before .before .before in
+    let a = s .args in
+    let count = c .before .before .before .before .before .before .before .before .before .before .wide in
+    let at = c .before .before .before .before .before .before .before .before .node-place in
+    let cut = c .before .before .cut-below in
+    omega arith
 
 renew-requires : tie.Need-renew-requires
 renew-requires c κs =
-    let s = c .before .before .before .before .before .before .before .before .before .before .before .before .before .before .before .before .before .before in
+    let s = c .before .before .before .before .before .before .before .before .before .before .before .before .before .before in
     let a = s .args in
-    let count = c .before .before .before .before .before .before .before .before .before .before .before .before .before .before .before .wide in
-    let at = c .before .before .before .before .before .before .before .before .before .before .before .before .before .node-place in
-    let was = c .before .before .before .before .before .before .numbers-of in
-    let cut = c .before .before .before .before .cut-below in
-    all-ready (a .group) (a .words .now) (s .pre) (count .result) (count .ensures) (at .result) (at .ensures) (omega arith) (cut .last .0) (cut .result) (cut .ensures) (was .result) (was .ensures)
+    let count = c .before .before .before .before .before .before .before .before .before .before .before .wide in
+    let at = c .before .before .before .before .before .before .before .before .before .node-place in
+    let cut = c .before .before .before .cut-below in
+    all-ready (a .group) (a .words .now) (s .pre) (count .result) (count .ensures) (at .result) (at .ensures) (omega arith) (cut .last .0) (cut .result) (cut .ensures)
 
 same-length-3 : tie.Need-same-length-3
 same-length-3 c = search needs
 
 returns-3 : tie.Need-returns-3
 returns-3 c =
-    let s = c .before .before .before .before .before .before .before .before .before .before .before .before .before .before .before .before .before .before .before .before .before in
+    let s = c .before .before .before .before .before .before .before .before .before .before .before .before .before .before .before .before .before in
     let a = s .args in
-    let count = c .before .before .before .before .before .before .before .before .before .before .before .before .before .before .before .before .before .before .wide in
-    let at = c .before .before .before .before .before .before .before .before .before .before .before .before .before .before .before .before .node-place in
-    let cut = c .before .before .before .before .before .before .before .cut-below in
+    let count = c .before .before .before .before .before .before .before .before .before .before .before .before .before .before .wide in
+    let at = c .before .before .before .before .before .before .before .before .before .before .before .before .node-place in
+    let cut = c .before .before .before .before .before .before .cut-below in
     let renew = c .before .before .renew in
-    all-done (a .group) (a .words .now) (s .pre) (count .result) (count .ensures) (at .result) (at .ensures) (omega arith) (cut .last .0) (cut .result) (cut .ensures) (renew .last .0) (sym (c .before .before .before .before .before .before .before .before .before .before .before .before .before .is-synth .ensures) ∙ c .before .before .before .before .before .before .before .before .before .before .before .before .if2 .left) (renew .ensures)
+    all-done (a .group) (a .words .now) (s .pre) (count .result) (count .ensures) (at .result) (at .ensures) (omega arith) (cut .last .0) (cut .result) (cut .ensures) (renew .last .0) (sym (c .before .before .before .before .before .before .before .before .before .is-synth .ensures) ∙ c .before .before .before .before .before .before .before .before .if2 .left) (renew .ensures)
 
 pub free-all-spec : {M : Type 1} → statement M
 free-all-spec =
@@ -98,15 +105,13 @@ free-all-spec =
     is-synth-requires
     same-length-2
     returns-2
-    sub-numbers-of
-    part-numbers-of-start
-    part-numbers-of-end
-    numbers-of-requires
     sub-cut-below
     part-cut-below-start
     part-cut-below-end
     cut-below-requires
-    slice-aggregate-renew
+    add-first
+    sub-end
+    add-end
     renew-requires
     same-length-3
     returns-3)

@@ -1,6 +1,8 @@
 -- `treecommands::free::free_node` meets its contract: each refusal by the check that fires, the rest by the law of the edit.
 use native.Mathlib.Omega.{arith}
 use borrow.Author.Needs.{needs}
+use Rattle.treecommands.specs.Ready.{nodeWords}
+use Rattle.treecommands.specs.Edits.{cut-fewer}
 use Rattle.treecommands.specs.Freeing.{free-unknown, free-root, free-ready, free-done}
 use Rattle.treecommands.proofs.free.free_node.Statement.{statement}
 use Rattle.treecommands.proofs.free.free_node.Tie as tie
@@ -32,18 +34,6 @@ returns-2 c =
     let a = s .args in
     free-root (a .node) (a .words .now) (s .pre) (c .before .before .before .before .wide .result) (c .before .before .before .before .wide .ensures) (c .before .before .node-place .result) (c .before .before .node-place .ensures) (omega arith) (c .if2 .taken)
 
-sub-numbers-of : tie.Need-sub-numbers-of
-sub-numbers-of c = search needs
-
-part-numbers-of-start : tie.Need-part-numbers-of-start
-part-numbers-of-start c = search needs
-
-part-numbers-of-end : tie.Need-part-numbers-of-end
-part-numbers-of-end c = search needs
-
-numbers-of-requires : tie.Need-numbers-of-requires
-numbers-of-requires c κs = search needs
-
 sub-cut : tie.Need-sub-cut
 sub-cut c = search needs
 
@@ -56,31 +46,45 @@ part-cut-end c = search needs
 cut-requires : tie.Need-cut-requires
 cut-requires c κs = search needs
 
-slice-aggregate-renew : tie.Need-slice-aggregate-renew
-slice-aggregate-renew c = search needs
+sub-end : tie.Need-sub-end
+sub-end c =
+    let s = c .before .before .before .before .before .before .before .before .before .before .before in
+    let a = s .args in
+    let count = c .before .before .before .before .before .before .before .before .wide in
+    let at = c .before .before .before .before .before .before .node-place in
+    let cut = c .before .before .cut in
+    omega (arith, cut .ensures .size, cut-fewer (count .result) (nodeWords (a .words .now)) (at .result) (omega arith))
+
+add-end : tie.Need-add-end
+add-end c =
+    let s = c .before .before .before .before .before .before .before .before .before .before .before in
+    let a = s .args in
+    let count = c .before .before .before .before .before .before .before .before .wide in
+    let at = c .before .before .before .before .before .before .node-place in
+    let cut = c .before .before .cut in
+    omega arith
 
 renew-requires : tie.Need-renew-requires
 renew-requires c κs =
-    let s = c .before .before .before .before .before .before .before .before .before .before .before .before .before .before .before .before in
+    let s = c .before .before .before .before .before .before .before .before .before .before .before .before in
     let a = s .args in
-    let count = c .before .before .before .before .before .before .before .before .before .before .before .before .before .wide in
-    let at = c .before .before .before .before .before .before .before .before .before .before .before .node-place in
-    let was = c .before .before .before .before .before .before .numbers-of in
-    let cut = c .before .before .before .before .cut in
-    free-ready (a .node) (a .words .now) (s .pre) (count .result) (count .ensures) (at .result) (at .ensures) (omega arith) (cut .last .0) (cut .result) (cut .ensures) (was .result) (was .ensures)
+    let count = c .before .before .before .before .before .before .before .before .before .wide in
+    let at = c .before .before .before .before .before .before .before .node-place in
+    let cut = c .before .before .before .cut in
+    free-ready (a .node) (a .words .now) (s .pre) (count .result) (count .ensures) (at .result) (at .ensures) (omega arith) (cut .last .0) (cut .result) (cut .ensures)
 
 same-length-3 : tie.Need-same-length-3
 same-length-3 c = search needs
 
 returns-3 : tie.Need-returns-3
 returns-3 c =
-    let s = c .before .before .before .before .before .before .before .before .before .before .before .before .before .before .before .before .before .before .before in
+    let s = c .before .before .before .before .before .before .before .before .before .before .before .before .before .before .before in
     let a = s .args in
-    let count = c .before .before .before .before .before .before .before .before .before .before .before .before .before .before .before .before .wide in
-    let at = c .before .before .before .before .before .before .before .before .before .before .before .before .before .before .node-place in
-    let cut = c .before .before .before .before .before .before .before .cut in
+    let count = c .before .before .before .before .before .before .before .before .before .before .before .before .wide in
+    let at = c .before .before .before .before .before .before .before .before .before .before .node-place in
+    let cut = c .before .before .before .before .before .before .cut in
     let renew = c .before .before .renew in
-    free-done (a .node) (a .words .now) (s .pre) (count .result) (count .ensures) (at .result) (at .ensures) (omega arith) (cut .last .0) (cut .result) (cut .ensures) (renew .last .0) (c .before .before .before .before .before .before .before .before .before .before .before .before .if2 .left) (renew .ensures)
+    free-done (a .node) (a .words .now) (s .pre) (count .result) (count .ensures) (at .result) (at .ensures) (omega arith) (cut .last .0) (cut .result) (cut .ensures) (renew .last .0) (omega arith) (renew .ensures)
 
 pub free-node-spec : {M : Type 1} → statement M
 free-node-spec =
@@ -93,15 +97,12 @@ free-node-spec =
     returns
     same-length-2
     returns-2
-    sub-numbers-of
-    part-numbers-of-start
-    part-numbers-of-end
-    numbers-of-requires
     sub-cut
     part-cut-start
     part-cut-end
     cut-requires
-    slice-aggregate-renew
+    sub-end
+    add-end
     renew-requires
     same-length-3
     returns-3)

@@ -1,7 +1,9 @@
 -- `treecommands::group::add_group` meets its contract: the checks' refusal, or the law of the add action.
+use native.Mathlib.Omega.{arith}
 use borrow.Author.Needs.{needs}
 use mathlib.Core.Path.{_≡_}
 use Rattle.treecommands.specs.declared.group.Spot.the-variants as spot
+use Rattle.treecommands.specs.Ready.{words-long}
 use Rattle.treecommands.specs.Grouping.{GroupGround, Answers, group-refused, group-ready, group-done}
 use Rattle.treecommands.proofs.group.add_group.Statement.{statement}
 use Rattle.treecommands.proofs.group.add_group.Tie as tie
@@ -18,17 +20,26 @@ slice-read-wide c = search needs
 wide-requires : tie.Need-wide-requires
 wide-requires c κs = search needs
 
-sub-numbers-of : tie.Need-sub-numbers-of
-sub-numbers-of c = search needs
+sub-edit-by : tie.Need-sub-edit-by
+sub-edit-by c = search needs
 
-part-numbers-of-start : tie.Need-part-numbers-of-start
-part-numbers-of-start c = search needs
+part-edit-by-start : tie.Need-part-edit-by-start
+part-edit-by-start c = search needs
 
-part-numbers-of-end : tie.Need-part-numbers-of-end
-part-numbers-of-end c = search needs
+part-edit-by-end : tie.Need-part-edit-by-end
+part-edit-by-end c = search needs
 
-numbers-of-requires : tie.Need-numbers-of-requires
-numbers-of-requires c κs = search needs
+edit-by-requires : tie.Need-edit-by-requires
+edit-by-requires c κs =
+    let s = c .before .before .before .before .before .before .before .before .before .before in
+    let a = s .args in
+    let at = c .before .before .before .before .before .spot .given in
+    let told = c .before .before .before .before .before .before .before .group-spot in
+    let fact : told .result ≡ spot.At (at .0 .0) = at .1 in
+    let ground : GroupGround (a .number) (a .action) (a .target) (a .words .now) (at .0 .0) = rw fact at (told .ensures) in
+    let count = c .before .before .wide in
+    let room = ground .room in
+    rw (count .ensures) (record { room = omega (arith, words-long (a .words .now) (s .pre .size), s .pre .few); few = s .pre .few; live = ground .spot .live })
 
 sub-add-node : tie.Need-sub-add-node
 sub-add-node c = search needs
@@ -47,23 +58,21 @@ add-node-requires c κs =
     let told = c .before .before .before .before .before .before .before .before .before .group-spot in
     let fact : told .result ≡ spot.At (at .0 .0) = at .1 in
     let ground : GroupGround (a .number) (a .action) (a .target) (a .words .now) (at .0 .0) = rw fact at (told .ensures) in
-    rw (c .before .before .before .before .wide .ensures) (ground .room)
-
-slice-aggregate-renew : tie.Need-slice-aggregate-renew
-slice-aggregate-renew c = search needs
+    let count = c .before .before .before .before .wide in
+    rw (count .ensures) (ground .room)
 
 renew-requires : tie.Need-renew-requires
 renew-requires c κs =
-    let s = c .before .before .before .before .before .before .before .before .before .before .before .before .before .before .before .before .before in
+    let s = c .before .before .before .before .before .before .before .before .before .before .before .before .before .before .before .before in
     let a = s .args in
-    let at = c .before .before .before .before .before .before .before .before .before .before .before .before .spot .given in
-    let told = c .before .before .before .before .before .before .before .before .before .before .before .before .before .before .group-spot in
+    let at = c .before .before .before .before .before .before .before .before .before .before .before .spot .given in
+    let told = c .before .before .before .before .before .before .before .before .before .before .before .before .before .group-spot in
     let fact : told .result ≡ spot.At (at .0 .0) = at .1 in
     let ground : GroupGround (a .number) (a .action) (a .target) (a .words .now) (at .0 .0) = rw fact at (told .ensures) in
-    let count = c .before .before .before .before .before .before .before .before .before .wide in
-    let was = c .before .before .before .before .before .before .numbers-of in
-    let add = c .before .before .before .before .add-node in
-    group-ready (a .number) (a .action) (a .target) (a .words .now) (s .pre) (count .result) (count .ensures) (at .0 .0) ground (add .last .0) (add .result) (add .ensures) (was .result) (was .ensures)
+    let count = c .before .before .before .before .before .before .before .before .wide in
+    let edit = c .before .before .before .before .before .edit-by in
+    let add = c .before .before .before .add-node in
+    rw (edit .ensures) (group-ready (a .number) (a .action) (a .target) (a .words .now) (s .pre) (count .result) (count .ensures) (at .0 .0) ground (add .last .0) (add .result) (add .ensures))
 
 enum-known-spot-2 : tie.Need-enum-known-spot-2
 enum-known-spot-2 c = search needs
@@ -73,14 +82,14 @@ same-length c = search needs
 
 returns : tie.Need-returns
 returns c =
-    let s = c .before .before .before .before .before .before .before .before .before .before .before .before .before .before .before .before .before .before .before .before in
+    let s = c .before .before .before .before .before .before .before .before .before .before .before .before .before .before .before .before .before .before .before in
     let a = s .args in
-    let at = c .before .before .before .before .before .before .before .before .before .before .before .before .before .before .before .spot .given in
-    let told = c .before .before .before .before .before .before .before .before .before .before .before .before .before .before .before .before .before .group-spot in
+    let at = c .before .before .before .before .before .before .before .before .before .before .before .before .before .before .spot .given in
+    let told = c .before .before .before .before .before .before .before .before .before .before .before .before .before .before .before .before .group-spot in
     let fact : told .result ≡ spot.At (at .0 .0) = at .1 in
     let ground : GroupGround (a .number) (a .action) (a .target) (a .words .now) (at .0 .0) = rw fact at (told .ensures) in
-    let count = c .before .before .before .before .before .before .before .before .before .before .before .before .wide in
-    let add = c .before .before .before .before .before .before .before .add-node in
+    let count = c .before .before .before .before .before .before .before .before .before .before .before .wide in
+    let add = c .before .before .before .before .before .before .add-node in
     let renew = c .before .before .renew in
     group-done (a .number) (a .action) (a .target) (a .words .now) (s .pre) (count .result) (count .ensures) (at .0 .0) ground (add .last .0) (add .result) (add .ensures) (renew .last .0) (renew .ensures)
 
@@ -102,15 +111,14 @@ add-group-spec =
     enum-known-spot
     slice-read-wide
     wide-requires
-    sub-numbers-of
-    part-numbers-of-start
-    part-numbers-of-end
-    numbers-of-requires
+    sub-edit-by
+    part-edit-by-start
+    part-edit-by-end
+    edit-by-requires
     sub-add-node
     part-add-node-start
     part-add-node-end
     add-node-requires
-    slice-aggregate-renew
     renew-requires
     enum-known-spot-2
     same-length

@@ -17,17 +17,23 @@ slice-read-wide c = search needs
 wide-requires : tie.Need-wide-requires
 wide-requires c κs = search needs
 
-sub-numbers-of : tie.Need-sub-numbers-of
-sub-numbers-of c = search needs
+sub-move-edit : tie.Need-sub-move-edit
+sub-move-edit c = search needs
 
-part-numbers-of-start : tie.Need-part-numbers-of-start
-part-numbers-of-start c = search needs
+part-move-edit-start : tie.Need-part-move-edit-start
+part-move-edit-start c = search needs
 
-part-numbers-of-end : tie.Need-part-numbers-of-end
-part-numbers-of-end c = search needs
+part-move-edit-end : tie.Need-part-move-edit-end
+part-move-edit-end c = search needs
 
-numbers-of-requires : tie.Need-numbers-of-requires
-numbers-of-requires c κs = search needs
+move-edit-requires : tie.Need-move-edit-requires
+move-edit-requires c κs =
+    let s = c .before .before .before .before .before .before .before .before in
+    let found = c .before .before .before .before .before .pair .given in
+    let fact : s .args .pair ≡ pair.At (found .0 .0) (found .0 .1 .0) = found .1 in
+    let moving : Movable (pair.At (found .0 .0) (found .0 .1 .0)) (s .args .position) (s .args .words .now) = subst (λ (x : Pair). Movable x (s .args .position) (s .args .words .now)) fact (s .pre .1) in
+    let m = moving .0 in
+    rw (c .before .before .wide .ensures) (record { room = m .room; few = m .few; live = m .live; other = m .target })
 
 sub-move-node : tie.Need-sub-move-node
 sub-move-node c = search needs
@@ -46,19 +52,16 @@ move-node-requires c κs =
     let moving : Movable (pair.At (found .0 .0) (found .0 .1 .0)) (s .args .position) (s .args .words .now) = subst (λ (x : Pair). Movable x (s .args .position) (s .args .words .now)) fact (s .pre .1) in
     rw (c .before .before .before .before .wide .ensures) (moving .0)
 
-slice-aggregate-renew : tie.Need-slice-aggregate-renew
-slice-aggregate-renew c = search needs
-
 renew-requires : tie.Need-renew-requires
 renew-requires c κs =
-    let s = c .before .before .before .before .before .before .before .before .before .before .before .before .before .before .before in
-    let found = c .before .before .before .before .before .before .before .before .before .before .before .before .pair .given in
+    let s = c .before .before .before .before .before .before .before .before .before .before .before .before .before .before in
+    let found = c .before .before .before .before .before .before .before .before .before .before .before .pair .given in
     let fact : s .args .pair ≡ pair.At (found .0 .0) (found .0 .1 .0) = found .1 in
     let moving : Movable (pair.At (found .0 .0) (found .0 .1 .0)) (s .args .position) (s .args .words .now) = subst (λ (x : Pair). Movable x (s .args .position) (s .args .words .now)) fact (s .pre .1) in
-    let wide = c .before .before .before .before .before .before .before .before .before .wide in
-    let was = c .before .before .before .before .before .before .numbers-of in
-    let moved = c .before .before .before .before .move-node in
-    gone-ready (found .0 .0) (found .0 .1 .0) (s .args .position) (s .args .words .now) (wide .result) (wide .ensures) (moved .last .0) (moved .ensures) moving (was .result) (was .ensures)
+    let wide = c .before .before .before .before .before .before .before .before .wide in
+    let edit = c .before .before .before .before .before .move-edit in
+    let moved = c .before .before .before .move-node in
+    gone-ready (found .0 .0) (found .0 .1 .0) (s .args .position) (s .args .words .now) (wide .result) (wide .ensures) (moved .last .0) (moved .ensures) moving (edit .result) (edit .ensures)
 
 enum-known-pair-2 : tie.Need-enum-known-pair-2
 enum-known-pair-2 c = search needs
@@ -68,11 +71,11 @@ same-length c = search needs
 
 returns : tie.Need-returns
 returns c =
-    let a = c .before .before .before .before .before .before .before .before .before .before .before .before .before .before .before .before .before .before .args in
-    let found = c .before .before .before .before .before .before .before .before .before .before .before .before .before .before .before .pair .given in
+    let a = c .before .before .before .before .before .before .before .before .before .before .before .before .before .before .before .before .before .args in
+    let found = c .before .before .before .before .before .before .before .before .before .before .before .before .before .before .pair .given in
     let fact : a .pair ≡ pair.At (found .0 .0) (found .0 .1 .0) = found .1 in
-    let wide = c .before .before .before .before .before .before .before .before .before .before .before .before .wide in
-    let moved = c .before .before .before .before .before .before .before .move-node in
+    let wide = c .before .before .before .before .before .before .before .before .before .before .before .wide in
+    let moved = c .before .before .before .before .before .before .move-node in
     let renew = c .before .before .renew in
     subst (λ (x : Pair). Goes x (a .position) (a .words .now) Done (renew .last .0)) (sym fact)
     (gone (found .0 .0) (found .0 .1 .0) (a .position) (a .words .now) (wide .result) (wide .ensures) (moved .last .0) (moved .ensures) (renew .last .0) (renew .ensures))
@@ -91,15 +94,14 @@ move-pair-spec =
     enum-known-pair
     slice-read-wide
     wide-requires
-    sub-numbers-of
-    part-numbers-of-start
-    part-numbers-of-end
-    numbers-of-requires
+    sub-move-edit
+    part-move-edit-start
+    part-move-edit-end
+    move-edit-requires
     sub-move-node
     part-move-node-start
     part-move-node-end
     move-node-requires
-    slice-aggregate-renew
     renew-requires
     enum-known-pair-2
     same-length

@@ -1,0 +1,98 @@
+-- `reindex::follow::swap_entries` meets its contract. The invariant: the entries gone over are at their new places, and past them the words as they were.
+use Prim.Native.Nat.{ℕ, _-_, _≤_, _<_}
+use mathlib.Core.Path.{_≡_, refl, sym, ap, _∙_}
+use mathlib.Core.List.{_++_}
+use native.Mathlib.Omega.{arith}
+use borrow.Author.Needs.{needs}
+use lib.ListN.{length, take, drop, getD, length-set}
+use Rattle.reindex.specs.Follow.{followed}
+use Rattle.reindex.specs.FollowWords.{follow-read, follow-size, follow-kept}
+use Rattle.reindex.specs.Edits.{swapped, swapped-low}
+use Rattle.reindex.proofs.follow.swap_entries.Statement.{statement}
+use Rattle.reindex.proofs.follow.swap_entries.Tie as tie
+
+abbrev Inv-loop : tie.InvT-loop
+Inv-loop index₀ count a b c i₀ index i =
+    (i ≤ count)
+    × (i ≡ length (followed (swapped a b c) (take i index₀)))
+    × (index ≡ followed (swapped a b c) (take i index₀) ++ drop i index₀)
+    × (length index ≡ length index₀)
+
+abbrev μ-loop : tie.MeasureT-loop
+μ-loop index₀ count a b c i₀ index i = count - i
+
+loop-holds : tie.Need-loop-holds Inv-loop μ-loop
+unfolding followed
+loop-holds c = (omega arith, refl, refl, refl)
+
+mul-swapped-place : tie.Need-mul-swapped-place Inv-loop μ-loop
+mul-swapped-place c = omega arith
+
+slice-read-swapped-place : tie.Need-slice-read-swapped-place Inv-loop μ-loop
+slice-read-swapped-place c = omega arith
+
+swapped-place-requires : tie.Need-swapped-place-requires Inv-loop μ-loop
+swapped-place-requires c κs =
+    let s = c .before .before .before .before in
+    let a = s .args in
+    let l = c .before .before .loop in
+    let read = follow-read (swapped (a .a) (a .b) (a .c)) (a .index .now) (l .index) (l .i) (l .i) (omega (arith, s .pre .1 .1 .1 .many)) (omega arith) (l .inv .1) (l .inv .2) in
+    (s .pre .0, (s .pre .1 .0, (s .pre .1 .1 .0, omega (arith, read, s .pre .1 .1 .1 .below (l .i) (omega arith)))))
+
+mul-index : tie.Need-mul-index Inv-loop μ-loop
+mul-index c = omega arith
+
+slice-write-index : tie.Need-slice-write-index Inv-loop μ-loop
+slice-write-index c = omega arith
+
+add-i : tie.Need-add-i Inv-loop μ-loop
+add-i c = omega arith
+
+loop-less : tie.Need-loop-less Inv-loop μ-loop
+loop-less c = omega arith
+
+loop-again : tie.Need-loop-again Inv-loop μ-loop
+loop-again c =
+    let s = c .before .before .before .before .before in
+    let a = s .args in
+    let l = c .before .before .before .loop in
+    let w = a .index .now in
+    let to = swapped (a .a) (a .b) (a .c) in
+    let v = c .swapped-place .result in
+    let long : l .i < length w = omega (arith, s .pre .1 .1 .1 .many) in
+    let read = follow-read to w (l .index) (l .i) (l .i) long (omega arith) (l .inv .1) (l .inv .2) in
+    let is : v ≡ to (getD w (l .i) 0) = c .swapped-place .ensures ∙ ap (λ (p : ℕ). to p) read in
+    let low : v < 256 = omega (arith, is, swapped-low (a .a) (a .b) (a .c) (getD w (l .i) 0) (s .pre .0) (s .pre .1 .0) (s .pre .1 .1 .0) (s .pre .1 .1 .1 .below (l .i) (omega arith))) in
+    (omega arith, follow-size to w (l .index) (l .i) (l .i) long (omega arith) (l .inv .1) (l .inv .2) v is low, follow-kept to w (l .index) (l .i) (l .i) long (omega arith) (l .inv .1) (l .inv .2) v is low, simp length-set (l .inv .3))
+
+same-length : tie.Need-same-length Inv-loop μ-loop
+same-length c = search needs
+
+returns : tie.Need-returns Inv-loop μ-loop
+returns c =
+    let a = c .before .before .before .args in
+    let l = c .before .loop in
+    let w = a .index .now in
+    let to = swapped (a .a) (a .b) (a .c) in
+    let all : l .i ≡ a .count = omega arith in record {
+      words = l .inv .2 ∙ ap (λ (i : ℕ). followed to (take i w) ++ drop i w) all;
+      size = sym all ∙ l .inv .1 ∙ ap (λ (i : ℕ). length (followed to (take i w))) all;
+    }
+
+pub swap-entries-spec : {M : Type 1} → statement M
+swap-entries-spec =
+    tie.close
+    (tie.spec
+    Inv-loop
+    μ-loop
+    loop-holds
+    mul-swapped-place
+    slice-read-swapped-place
+    swapped-place-requires
+    mul-index
+    slice-write-index
+    add-i
+    loop-less
+    loop-again
+    same-length
+    returns)

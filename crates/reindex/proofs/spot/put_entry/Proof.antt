@@ -1,0 +1,36 @@
+-- `reindex::spot::put_entry` meets its contract: one law of the words.
+use Prim.Native.Nat.{ℕ}
+use mathlib.Core.Path.{ap, _∙_}
+use mathlib.Core.List.{List}
+use native.Mathlib.Omega.{arith}
+use borrow.Author.Needs.{needs}
+use lib.ListN.{set}
+use Rattle.reindex.specs.Spot.{put-words}
+use Rattle.reindex.proofs.spot.put_entry.Statement.{statement}
+use Rattle.reindex.proofs.spot.put_entry.Tie as tie
+
+open-entry-requires : tie.Need-open-entry-requires
+open-entry-requires c κs = search needs
+
+cast-index : tie.Need-cast-index
+cast-index c = search needs
+
+mul-index : tie.Need-mul-index
+mul-index c = search needs
+
+slice-write-index : tie.Need-slice-write-index
+slice-write-index c = search needs
+
+same-length : tie.Need-same-length
+same-length c = search needs
+
+returns : tie.Need-returns
+returns c =
+    let a = c .before .before .before .before .before .args in
+    ap (λ (l : List ℕ). set l (a .spot) (a .place)) (c .before .before .open-entry .ensures)
+    ∙ put-words (a .index .now) (a .count) (a .spot) (a .place) (omega arith) (omega arith)
+
+pub put-entry-spec : {M : Type 1} → statement M
+put-entry-spec =
+    tie.close
+    (tie.spec open-entry-requires cast-index mul-index slice-write-index same-length returns)

@@ -1,0 +1,38 @@
+-- `treecommands::indexing::edit_by` meets its contract: by each action.
+use Prim.Native.Nat.{ℕ}
+use mathlib.Core.Path.{_≡_, ap}
+use borrow.Author.Needs.{needs}
+use Rattle.reindex.specs.declared.edit.Edit.the-variants as edit
+use Rattle.tree.specs.declared.action.Action.the-variants.{Put, Replace}
+use Rattle.treecommands.proofs.indexing.edit_by.Statement.{statement}
+use Rattle.treecommands.proofs.indexing.edit_by.Tie as tie
+
+enum-known-action : tie.Need-enum-known-action
+enum-known-action c = search needs
+
+place-at-requires : tie.Need-place-at-requires
+place-at-requires c κs = search needs
+
+enum-told : tie.Need-enum-told
+enum-told c = search needs
+
+subtree-end-requires : tie.Need-subtree-end-requires
+subtree-end-requires c κs = search needs
+
+returns : tie.Need-returns
+returns c =
+    let a = c .before .before .before .before .before .args in
+    let position = c .before .before .action .given in
+    let case : a .action ≡ Put (position .0 .0) = position .1 in
+    rw case (ap (λ (p : ℕ). edit.Put p p) (c .place-at .ensures))
+
+returns-2 : tie.Need-returns-2
+returns-2 c =
+    let a = c .before .before .before .before .args in
+    let case : a .action ≡ Replace = cc in
+    rw case (ap (λ (e : ℕ). edit.Put (a .at) e) (c .subtree-end .ensures))
+
+pub edit-by-spec : {M : Type 1} → statement M
+edit-by-spec =
+    tie.close
+    (tie.spec enum-known-action place-at-requires enum-told subtree-end-requires returns returns-2)

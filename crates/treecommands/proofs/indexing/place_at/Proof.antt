@@ -1,0 +1,55 @@
+-- `treecommands::indexing::place_at` meets its contract: by each position.
+use mathlib.Core.Path.{_≡_}
+use borrow.Author.Needs.{needs}
+use Rattle.tree.specs.declared.action.Position.the-variants.{Head, Tail, Before, After}
+use Rattle.treecommands.proofs.indexing.place_at.Statement.{statement}
+use Rattle.treecommands.proofs.indexing.place_at.Tie as tie
+
+enum-told : tie.Need-enum-told
+enum-told c = search needs
+
+add-result : tie.Need-add-result
+add-result c = search needs
+
+enum-told-2 : tie.Need-enum-told-2
+enum-told-2 c = search needs
+
+subtree-end-requires : tie.Need-subtree-end-requires
+subtree-end-requires c κs = search needs
+
+enum-told-3 : tie.Need-enum-told-3
+enum-told-3 c = search needs
+
+enum-told-4 : tie.Need-enum-told-4
+enum-told-4 c = search needs
+
+subtree-end-requires-2 : tie.Need-subtree-end-requires-2
+subtree-end-requires-2 c κs = search needs
+
+returns : tie.Need-returns
+returns c = let case : c .before .before .before .args .position ≡ Head = cc in rw case
+
+returns-2 : tie.Need-returns-2
+returns-2 c = let case : c .before .before .before .before .args .position ≡ Tail = cc in rw case (c .subtree-end .ensures)
+
+returns-3 : tie.Need-returns-3
+returns-3 c = let case : c .before .before .before .args .position ≡ Before = cc in rw case
+
+returns-4 : tie.Need-returns-4
+returns-4 c = let case : c .before .before .before .before .args .position ≡ After = cc in rw case (c .subtree-end2 .ensures)
+
+pub place-at-spec : {M : Type 1} → statement M
+place-at-spec =
+    tie.close
+    (tie.spec
+    enum-told
+    add-result
+    enum-told-2
+    subtree-end-requires
+    enum-told-3
+    enum-told-4
+    subtree-end-requires-2
+    returns
+    returns-2
+    returns-3
+    returns-4)

@@ -1,0 +1,84 @@
+-- `treecommands::indexing::put_new` meets its contract: the entry goes to its spot.
+use Prim.Native.Nat.{ℕ, _*_}
+use mathlib.Core.Path.{ap, _∙_}
+use mathlib.Core.List.{List}
+use native.Mathlib.Omega.{arith}
+use borrow.Author.Needs.{needs}
+use lib.ListN.{getD}
+use Rattle.words.specs.Parts.{put}
+use Rattle.reindex.specs.Spot.{spot-near, put-in-words}
+use Rattle.model.specs.Layout.{indexPlace, indexWords}
+use Rattle.treecommands.specs.Ready.{nodeWords}
+use Rattle.treecommands.specs.Settle.{indexRegion}
+use Rattle.treecommands.proofs.indexing.put_new.Statement.{statement}
+use Rattle.treecommands.proofs.indexing.put_new.Tie as tie
+
+sub-spot-of : tie.Need-sub-spot-of
+sub-spot-of c = search needs
+
+part-spot-of-start : tie.Need-part-spot-of-start
+part-spot-of-start c = search needs
+
+part-spot-of-end : tie.Need-part-spot-of-end
+part-spot-of-end c = search needs
+
+sub-spot-of-2 : tie.Need-sub-spot-of-2
+sub-spot-of-2 c = search needs
+
+part-spot-of-start-2 : tie.Need-part-spot-of-start-2
+part-spot-of-start-2 c = search needs
+
+part-spot-of-end-2 : tie.Need-part-spot-of-end-2
+part-spot-of-end-2 c = search needs
+
+spot-of-requires : tie.Need-spot-of-requires
+spot-of-requires c κs = search needs
+
+sub-put-entry : tie.Need-sub-put-entry
+sub-put-entry c = search needs
+
+part-put-entry-start : tie.Need-part-put-entry-start
+part-put-entry-start c = search needs
+
+part-put-entry-end : tie.Need-part-put-entry-end
+part-put-entry-end c = search needs
+
+put-entry-requires : tie.Need-put-entry-requires
+put-entry-requires c κs =
+    let s = c .before .before .before .before .before .before in
+    let a = s .args in
+    let ws = a .words .now in
+    let reads = s .pre .1 .0 in
+    let near = spot-near (nodeWords ws) (indexRegion ws) (a .count) (getD (nodeWords ws) (5 * a .at) 0) reads in
+    let spot = c .before .spot-of in
+    (omega (arith, spot .ensures, near), (reads .entries, omega (arith, s .pre .1 .1, reads .few)))
+
+same-length : tie.Need-same-length
+same-length c = search needs
+
+returns : tie.Need-returns
+returns c =
+    let s = c .before .before .before .before .before .before .before .before .before in
+    let a = s .args in
+    let ws = a .words .now in
+    let spot = c .before .before .before .before .spot-of in
+    ap (λ (l : List ℕ). put indexPlace indexWords l ws)
+    (c .before .before .put-entry .ensures ∙ put-in-words (nodeWords ws) (indexRegion ws) (a .count) (a .at) (spot .result) (s .pre .1 .1) (spot .ensures))
+
+pub put-new-spec : {M : Type 1} → statement M
+put-new-spec =
+    tie.close
+    (tie.spec
+    sub-spot-of
+    part-spot-of-start
+    part-spot-of-end
+    sub-spot-of-2
+    part-spot-of-start-2
+    part-spot-of-end-2
+    spot-of-requires
+    sub-put-entry
+    part-put-entry-start
+    part-put-entry-end
+    put-entry-requires
+    same-length
+    returns)

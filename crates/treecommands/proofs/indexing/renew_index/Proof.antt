@@ -1,0 +1,138 @@
+-- `treecommands::indexing::renew_index` meets its contract: the entries follow their nodes in the region, and a new node's is put in.
+use Prim.Native.Nat.{ℕ}
+use mathlib.Core.Path.{_≡_, subst, subst₂}
+use borrow.Author.Needs.{needs}
+use lib.ListN.{length}
+use Rattle.reindex.specs.declared.edit.Edit.{Edit}
+use Rattle.reindex.specs.declared.edit.Edit.the-variants.{Cut, Put, Swap}
+use Rattle.reindex.specs.FollowWords.{Followed}
+use Rattle.reindex.specs.Edits.{newPlace}
+use Rattle.model.specs.Layout.{countIn}
+use Rattle.treecommands.specs.Settle.{indexRegion, Changed}
+use Rattle.treecommands.specs.Indexing.{changed-follows, cut-index, swap-index, mid-size, new-reads, new-place, new-index, new-size}
+use Rattle.treecommands.proofs.indexing.renew_index.Statement.{statement}
+use Rattle.treecommands.proofs.indexing.renew_index.Tie as tie
+
+slice-read-wide : tie.Need-slice-read-wide
+slice-read-wide c = search needs
+
+wide-requires : tie.Need-wide-requires
+wide-requires c κs = search needs
+
+sub-follow-edit : tie.Need-sub-follow-edit
+sub-follow-edit c = search needs
+
+part-follow-edit-start : tie.Need-part-follow-edit-start
+part-follow-edit-start c = search needs
+
+part-follow-edit-end : tie.Need-part-follow-edit-end
+part-follow-edit-end c = search needs
+
+follow-edit-requires : tie.Need-follow-edit-requires
+follow-edit-requires c κs =
+    let s = c .before .before .before .before in
+    rw (c .before .wide .ensures) (changed-follows (s .args .edit) (s .args .count) (s .args .words .now) (s .pre))
+
+enum-known-edit : tie.Need-enum-known-edit
+enum-known-edit c = search needs
+
+enum-known-edit-2 : tie.Need-enum-known-edit-2
+enum-known-edit-2 c = search needs
+
+put-new-requires : tie.Need-put-new-requires
+put-new-requires c κs =
+    let s = c .before .before .before .before .before .before .before .before .before .before .before in
+    let a = s .args in
+    let ws = a .words .now in
+    let at = c .before .before .edit2 .given in
+    let fact : a .edit ≡ Put (at .0 .0) (at .0 .1 .0) = at .1 in
+    let follow = c .before .before .before .before .before .before .follow-edit in
+    let changed : Changed (Put (at .0 .0) (at .0 .1 .0)) (a .count) ws = subst (λ (x : Edit). Changed x (a .count) ws) fact (s .pre) in
+    let followed : Followed (newPlace (Put (at .0 .0) (at .0 .1 .0))) (indexRegion ws) (countIn ws) (follow .last .0) (follow .result) =
+    subst₂ (λ (x : Edit) (n : ℕ). Followed (newPlace x) (indexRegion ws) n (follow .last .0) (follow .result)) fact (c .before .before .before .before .before .before .before .before .wide .ensures) (follow .ensures) in
+    let same : length (follow .last .0) ≡ length (indexRegion ws) = search needs in
+    (mid-size (a .count) ws (follow .last .0) (follow .result) (at .0 .0) (at .0 .1 .0) changed followed same, (new-reads (a .count) ws (follow .last .0) (follow .result) (at .0 .0) (at .0 .1 .0) changed followed same, new-place (a .count) ws (follow .last .0) (follow .result) (at .0 .0) (at .0 .1 .0) changed followed same))
+
+enum-known-edit-3 : tie.Need-enum-known-edit-3
+enum-known-edit-3 c = search needs
+
+same-length : tie.Need-same-length
+same-length c = search needs
+
+returns : tie.Need-returns
+returns c =
+    let s = c .before .before .before .before .before .before .before .before .before .before in
+    let a = s .args in
+    let ws = a .words .now in
+    let at = c .before .edit .given in
+    let fact : a .edit ≡ Cut (at .0 .0) (at .0 .1 .0) = at .1 in
+    let follow = c .before .before .before .before .before .follow-edit in
+    let changed : Changed (Cut (at .0 .0) (at .0 .1 .0)) (a .count) ws = subst (λ (x : Edit). Changed x (a .count) ws) fact (s .pre) in
+    let followed : Followed (newPlace (Cut (at .0 .0) (at .0 .1 .0))) (indexRegion ws) (countIn ws) (follow .last .0) (follow .result) =
+    subst₂ (λ (x : Edit) (n : ℕ). Followed (newPlace x) (indexRegion ws) n (follow .last .0) (follow .result)) fact (c .before .before .before .before .before .before .before .wide .ensures) (follow .ensures) in
+    cut-index (a .count) ws (follow .last .0) (follow .result) (at .0 .0) (at .0 .1 .0) changed followed
+
+same-length-2 : tie.Need-same-length-2
+same-length-2 c =
+    let s = c .before .before .before .before .before .before .before .before .before .before .before .before .before .before in
+    let a = s .args in
+    let ws = a .words .now in
+    let at = c .before .before .before .before .before .edit2 .given in
+    let fact : a .edit ≡ Put (at .0 .0) (at .0 .1 .0) = at .1 in
+    let follow = c .before .before .before .before .before .before .before .before .before .follow-edit in
+    let changed : Changed (Put (at .0 .0) (at .0 .1 .0)) (a .count) ws = subst (λ (x : Edit). Changed x (a .count) ws) fact (s .pre) in
+    let followed : Followed (newPlace (Put (at .0 .0) (at .0 .1 .0))) (indexRegion ws) (countIn ws) (follow .last .0) (follow .result) =
+    subst₂ (λ (x : Edit) (n : ℕ). Followed (newPlace x) (indexRegion ws) n (follow .last .0) (follow .result)) fact (c .before .before .before .before .before .before .before .before .before .before .before .wide .ensures) (follow .ensures) in
+    let same : length (follow .last .0) ≡ length (indexRegion ws) = search needs in
+    new-size (a .count) ws (follow .last .0) (follow .result) (at .0 .0) (at .0 .1 .0) changed followed same (c .before .before .put-new .last .0) (c .before .before .put-new .ensures)
+
+returns-2 : tie.Need-returns-2
+returns-2 c =
+    let s = c .before .before .before .before .before .before .before .before .before .before .before .before .before .before in
+    let a = s .args in
+    let ws = a .words .now in
+    let at = c .before .before .before .before .before .edit2 .given in
+    let fact : a .edit ≡ Put (at .0 .0) (at .0 .1 .0) = at .1 in
+    let follow = c .before .before .before .before .before .before .before .before .before .follow-edit in
+    let changed : Changed (Put (at .0 .0) (at .0 .1 .0)) (a .count) ws = subst (λ (x : Edit). Changed x (a .count) ws) fact (s .pre) in
+    let followed : Followed (newPlace (Put (at .0 .0) (at .0 .1 .0))) (indexRegion ws) (countIn ws) (follow .last .0) (follow .result) =
+    subst₂ (λ (x : Edit) (n : ℕ). Followed (newPlace x) (indexRegion ws) n (follow .last .0) (follow .result)) fact (c .before .before .before .before .before .before .before .before .before .before .before .wide .ensures) (follow .ensures) in
+    let same : length (follow .last .0) ≡ length (indexRegion ws) = search needs in
+    new-index (a .count) ws (follow .last .0) (follow .result) (at .0 .0) (at .0 .1 .0) changed followed same (c .before .before .put-new .last .0) (c .before .before .put-new .ensures)
+
+same-length-3 : tie.Need-same-length-3
+same-length-3 c = search needs
+
+returns-3 : tie.Need-returns-3
+returns-3 c =
+    let s = c .before .before .before .before .before .before .before .before .before .before in
+    let a = s .args in
+    let ws = a .words .now in
+    let at = c .before .edit3 .given in
+    let fact : a .edit ≡ Swap (at .0 .0) (at .0 .1 .0) (at .0 .1 .1 .0) = at .1 in
+    let follow = c .before .before .before .before .before .follow-edit in
+    let changed : Changed (Swap (at .0 .0) (at .0 .1 .0) (at .0 .1 .1 .0)) (a .count) ws = subst (λ (x : Edit). Changed x (a .count) ws) fact (s .pre) in
+    let followed : Followed (newPlace (Swap (at .0 .0) (at .0 .1 .0) (at .0 .1 .1 .0))) (indexRegion ws) (countIn ws) (follow .last .0) (follow .result) =
+    subst₂ (λ (x : Edit) (n : ℕ). Followed (newPlace x) (indexRegion ws) n (follow .last .0) (follow .result)) fact (c .before .before .before .before .before .before .before .wide .ensures) (follow .ensures) in
+    swap-index (a .count) ws (follow .last .0) (follow .result) (at .0 .0) (at .0 .1 .0) (at .0 .1 .1 .0) changed followed
+
+pub renew-index-spec : {M : Type 1} → statement M
+renew-index-spec =
+    tie.close
+    (tie.spec
+    slice-read-wide
+    wide-requires
+    sub-follow-edit
+    part-follow-edit-start
+    part-follow-edit-end
+    follow-edit-requires
+    enum-known-edit
+    enum-known-edit-2
+    put-new-requires
+    enum-known-edit-3
+    same-length
+    returns
+    same-length-2
+    returns-2
+    same-length-3
+    returns-3)

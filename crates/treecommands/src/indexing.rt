@@ -1,0 +1,110 @@
+// The index after an edit of the table: where the edit takes the nodes, and the index region in place.
+use layout::COUNT;
+use layout::INDEX;
+use layout::INDEX_END;
+use layout::NODES;
+use layout::NODES_END;
+use reindex::Edit;
+use reindex::follow_edit;
+use reindex::follow_places;
+use reindex::put_entry;
+use reindex::spot_of;
+use tree::Action;
+use tree::Position;
+use tree::subtree_end;
+use words::wide;
+ghost use mathlib.Core.Path.{_≡_};
+ghost use mathlib.Core.List.{_++_};
+ghost use Prim.Native.Nat.{_+_, _≤_};
+ghost use lib.ListN.{length, take, drop};
+ghost use Rattle.words.specs.Parts.{put};
+ghost use Rattle.nodes.specs.Table.{rows};
+ghost use Rattle.nodes.specs.Sizes.{endAt};
+ghost use Rattle.index.specs.Index.{numbers, indexOf, putIn};
+ghost use Rattle.reindex.specs.Spot.{Reads};
+ghost use Rattle.model.specs.Layout.{wordsLength, indexPlace, indexWords, putIndex};
+ghost use Rattle.tree.specs.Sizes.{Placed, TwoPlaces};
+ghost use Rattle.tree.specs.Add.{placeBy};
+ghost use Rattle.treecommands.specs.Ready.{nodeWords};
+ghost use Rattle.treecommands.specs.Edits.{editBy, moveEdit};
+ghost use Rattle.treecommands.specs.Settle.{indexRegion, Changed, Sifted};
+
+// The place at a position by the node at another place.
+fn place_at(nodes: &[u32], count: usize, position: Position, at: usize) -> usize
+    requires { ⌜ Placed (now nodes) count at ⌝ }
+    ensures { λ r. ⌜ r ≡ placeBy position count (now (nodes .entry)) at .at ⌝ }
+{
+    match position {
+        Position::Head => at + 1,
+        Position::Tail => subtree_end(nodes, count, at),
+        Position::Before => at,
+        Position::After => subtree_end(nodes, count, at),
+    }
+}
+
+// What an add action by the node at a place does.
+pub fn edit_by(nodes: &[u32], count: usize, action: Action, at: usize) -> Edit
+    requires { ⌜ Placed (now nodes) count at ⌝ }
+    ensures { λ r. ⌜ r ≡ editBy action count (now (nodes .entry)) at ⌝ }
+{
+    match action {
+        Action::Put(position) => {
+            let place = place_at(nodes, count, position, at);
+            Edit::Put(place, place)
+        }
+        Action::Replace => {
+            let end = subtree_end(nodes, count, at);
+            Edit::Put(at, end)
+        }
+    }
+}
+
+// What a move of the node at the place a to a position by the node at the place b does.
+pub fn move_edit(nodes: &[u32], count: usize, a: usize, position: Position, b: usize) -> Edit
+    requires { ⌜ TwoPlaces (now nodes) count a b ⌝ }
+    ensures { λ r. ⌜ r ≡ moveEdit a (endAt count (now (nodes .entry)) a) (placeBy position count (now (nodes .entry)) b .at) ⌝ }
+{
+    let end = subtree_end(nodes, count, a);
+    let place = place_at(nodes, count, position, b);
+    if place <= a {
+        return Edit::Swap(place, a, end);
+    }
+    Edit::Swap(a, end, place)
+}
+
+// The entry of the new node at a place put in.
+fn put_new(words: &mut [u32], count: usize, at: usize)
+    requires { ⌜ (length (now words) ≡ wordsLength) × (Reads (nodeWords (now words)) (indexRegion (now words)) count × (at ≤ count)) ⌝ }
+    ensures { λ r. ⌜ now (words .exit) ≡ put indexPlace indexWords (putIn (numbers (rows (count + 1) (nodeWords (now (words .entry))))) at (take count (indexRegion (now (words .entry)))) ++ drop (count + 1) (indexRegion (now (words .entry)))) (now (words .entry)) ⌝ }
+{
+    let spot = spot_of(
+        &words[NODES..NODES_END],
+        &words[INDEX..INDEX_END],
+        count,
+        at,
+    );
+    put_entry(&mut words[INDEX..INDEX_END], count, spot, at);
+}
+
+// The index, for the table of so many nodes: it was right for the table before the edit.
+pub fn renew_index(words: &mut [u32], edit: Edit, count: usize)
+    requires { ⌜ Changed edit count (now words) ⌝ }
+    ensures { λ r. ⌜ now (words .exit) ≡ putIndex (indexOf (rows count (nodeWords (now (words .entry))))) (now (words .entry)) ⌝ }
+{
+    let before = wide(words[COUNT]);
+    let left = follow_edit(&mut words[INDEX..INDEX_END], before, edit);
+    match edit {
+        Edit::Cut(_from, _to) => {}
+        Edit::Put(at, _to) => put_new(words, left, at),
+        Edit::Swap(_a, _b, _c) => {}
+    }
+}
+
+// The same, where these are the new places of the nodes, and none is new.
+pub fn sift_index(words: &mut [u32], places: &[u32], count: usize)
+    requires { ⌜ Sifted (now places) count (now words) ⌝ }
+    ensures { λ r. ⌜ now (words .exit) ≡ putIndex (indexOf (rows count (nodeWords (now (words .entry))))) (now (words .entry)) ⌝ }
+{
+    let before = wide(words[COUNT]);
+    follow_places(&mut words[INDEX..INDEX_END], before, places);
+}
