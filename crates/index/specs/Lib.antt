@@ -5,7 +5,4 @@ pub mod Nodes
 pub mod Lookup
 pub mod Words
 pub mod Checks
-pub mod Follow
-pub mod FollowWords
-pub mod Spot
 pub mod Worked

@@ -1,8 +1,5 @@
 // The index of the nodes: their places in the table by rising number, in the first words of a lent region.
-mod after;
 mod search;
 
-pub use after::follow;
-pub use after::put_in;
 pub use search::find_indexed;
 pub use search::index_formed;
