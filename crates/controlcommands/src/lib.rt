@@ -59,7 +59,7 @@ fn change_run(
 }
 
 // /n_fill; /n_set is the same with a count of one
-fn fill_controls(
+pub fn fill_controls(
     node: NodeArgument,
     key: Key,
     count: u32,
@@ -105,7 +105,7 @@ fn mapping_to(bus: u32) -> Mapping
 }
 
 // /n_map
-fn map_control(
+pub fn map_control(
     node: NodeArgument,
     key: Key,
     bus: u32,

@@ -1,4 +1,5 @@
 // A list of commands in one call: the list judged as a whole, the state check, and then its commands one by one up to the first refusal.
+mod act;
 mod item;
 mod judged;
 mod number;

@@ -1,8 +1,10 @@
--- `lists::item::item_kind` meets its contract.
 use borrow.Author.Tests.{not-true, not-false}
-use Rattle.lists.specs.Lent.{ofParsed}
+use Rattle.lists.specs.Lent.{itemIn}
+use Rattle.lists.specs.Kinds.{kindLimit, kind-none, kind-replies, kind-acts}
 use mathlib.Core.Path.{sym, ap, _∙_}
+use native.Mathlib.Omega.{arith}
 use borrow.Author.Needs.{needs}
+use lib.ListN.{drop}
 use borrow.Author.Needs.{needs}
 use Rattle.lists.proofs.item.item_kind.Statement.{statement}
 use Rattle.lists.proofs.item.item_kind.Tie as tie
@@ -13,17 +15,66 @@ is-laid-requires c κs = search needs
 returns : tie.Need-returns
 returns c = rw (sym (c .before .is-laid .ensures) ∙ not-true (c .before .is-laid .result) (c .if1 .taken))
 
-parsed-at-requires : tie.Need-parsed-at-requires
-parsed-at-requires c κs = search needs
+word-requires : tie.Need-word-requires
+word-requires c κs = search needs
 
-kind-of-requires : tie.Need-kind-of-requires
-kind-of-requires c κs = search needs
+kind-limit-requires : tie.Need-kind-limit-requires
+kind-limit-requires c κs = search needs
+
+word-requires-2 : tie.Need-word-requires-2
+word-requires-2 c κs = search needs
+
+wide-requires : tie.Need-wide-requires
+wide-requires c κs = search needs
 
 returns-2 : tie.Need-returns-2
 returns-2 c =
-    let laid = c .before .before .before .is-laid in
-    rw (sym (laid .ensures) ∙ not-false (laid .result) (c .before .before .if1 .left)) (c .kind-of .ensures ∙ ap ofParsed (c .before .parsed-at .ensures))
+    let a = c .before .before .before .before .before .before .before .before .args in
+    let laid = c .before .before .before .before .before .before .is-laid in
+    let i = itemIn (drop (a .at) (a .items .now)) in
+    let op = c .before .before .before .before .word .ensures in
+    let limit = c .before .before .before .kind-limit .ensures ∙ ap kindLimit op in
+    let d = c .before .before .word2 .ensures in
+    let same = c .before .wide .ensures in
+    let test = c .if2 .taken in
+    kind-none (a .room) i (sym (laid .ensures) ∙ not-false (laid .result) (c .before .before .before .before .before .if1 .left)) (omega arith) (omega arith)
+
+returns-3 : tie.Need-returns-3
+returns-3 c =
+    let a = c .before .before .before .before .before .before .before .before .before .args in
+    let laid = c .before .before .before .before .before .before .before .is-laid in
+    let i = itemIn (drop (a .at) (a .items .now)) in
+    let op = c .before .before .before .before .before .word .ensures in
+    let limit = c .before .before .before .before .kind-limit .ensures ∙ ap kindLimit op in
+    let d = c .before .before .before .word2 .ensures in
+    let same = c .before .before .wide .ensures in
+    let test = c .before .if2 .left in
+    let high = c .if3 .taken in
+    kind-replies (a .room) i (sym (laid .ensures) ∙ not-false (laid .result) (c .before .before .before .before .before .before .if1 .left)) (omega arith) (omega arith) (omega arith)
+
+returns-4 : tie.Need-returns-4
+returns-4 c =
+    let a = c .before .before .before .before .before .before .before .before .before .args in
+    let laid = c .before .before .before .before .before .before .before .is-laid in
+    let i = itemIn (drop (a .at) (a .items .now)) in
+    let op = c .before .before .before .before .before .word .ensures in
+    let limit = c .before .before .before .before .kind-limit .ensures ∙ ap kindLimit op in
+    let d = c .before .before .before .word2 .ensures in
+    let same = c .before .before .wide .ensures in
+    let test = c .before .if2 .left in
+    let high = c .if3 .left in
+    kind-acts (a .room) i (sym (laid .ensures) ∙ not-false (laid .result) (c .before .before .before .before .before .before .if1 .left)) (omega arith) (omega arith) (omega arith)
 
 pub item-kind-spec : {M : Type 1} → statement M
 item-kind-spec =
-    tie.close (tie.spec is-laid-requires returns parsed-at-requires kind-of-requires returns-2)
+    tie.close
+    (tie.spec
+    is-laid-requires
+    returns
+    word-requires
+    kind-limit-requires
+    word-requires-2
+    wide-requires
+    returns-2
+    returns-3
+    returns-4)

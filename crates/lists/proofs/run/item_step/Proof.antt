@@ -1,11 +1,10 @@
--- `lists::run::item_step` meets its contract.
-use Rattle.lists.specs.Running.{goes-by}
-use Rattle.lists.specs.Laid.{acts-laid, acts-parsed}
-use Rattle.lists.specs.Lent.{itemIn}
-use Rattle.words.specs.Parts.{region}
 use mathlib.Core.Path.{ap₂}
+use Rattle.words.specs.Parts.{region}
+use Rattle.lists.specs.Running.{goes-by}
+use Rattle.lists.specs.Lent.{itemIn, ofParsed}
+use Rattle.lists.specs.Laid.{acts-laid, acts-kind, parsed-by}
 use Prim.Native.Nat.{ℕ, _+_, _-_, _≤_}
-use mathlib.Core.Path.{_≡_, sym, _∙_}
+use mathlib.Core.Path.{_≡_, sym, ap, _∙_}
 use native.Mathlib.Omega.{arith}
 use borrow.Author.Needs.{needs}
 use lib.ListN.{length, drop}
@@ -27,35 +26,44 @@ add-end c =
     let within = acts-laid (length (s .args .bytes .now)) (itemIn (drop (s .args .at) (s .args .items .now))) (s .pre .1 .0) in
     omega arith
 
-parsed-at-requires : tie.Need-parsed-at-requires
-parsed-at-requires c κs = search needs
+word-requires : tie.Need-word-requires
+word-requires c κs = search needs
 
-enum-known-command : tie.Need-enum-known-command
-enum-known-command c = search needs
+word-requires-2 : tie.Need-word-requires-2
+word-requires-2 c κs = search needs
 
-sub-step : tie.Need-sub-step
-sub-step c = search needs
+word-requires-3 : tie.Need-word-requires-3
+word-requires-3 c κs = search needs
 
-part-step-start : tie.Need-part-step-start
-part-step-start c = search needs
+word-requires-4 : tie.Need-word-requires-4
+word-requires-4 c κs = search needs
 
-part-step-end : tie.Need-part-step-end
-part-step-end c =
-    let s = c .before .before .before .before .before .before .before .before .before .before in
-    let start = c .before .before .before .before .before .part-start .ensures in
-    let size = c .before .before .before .before .part-size .ensures in
+word-requires-5 : tie.Need-word-requires-5
+word-requires-5 c κs = search needs
+
+word-requires-6 : tie.Need-word-requires-6
+word-requires-6 c κs = search needs
+
+sub-act : tie.Need-sub-act
+sub-act c = search needs
+
+part-act-start : tie.Need-part-act-start
+part-act-start c = search needs
+
+part-act-end : tie.Need-part-act-end
+part-act-end c =
+    let s = c .before .before .before .before .before .before .before .before .before .before .before .before in
+    let start = c .before .before .before .before .before .before .before .part-start .ensures in
+    let size = c .before .before .before .before .before .before .part-size .ensures in
     let within = acts-laid (length (s .args .bytes .now)) (itemIn (drop (s .args .at) (s .args .items .now))) (s .pre .1 .0) in
-    let end : c .before .before .before .before .before .part-start .result + c .before .before .before .before .part-size .result ≤ length (s .args .bytes .now) = omega arith in
+    let end : c .before .before .before .before .before .before .before .part-start .result + c .before .before .before .before .before .before .part-size .result ≤ length (s .args .bytes .now) = omega arith in
     search needs
 
-slice-aggregate-step : tie.Need-slice-aggregate-step
-slice-aggregate-step c = search needs
-
-step-requires : tie.Need-step-requires
-step-requires c κs = c .before .before .before .before .before .before .before .before .before .before .before .before .before .before .pre .1 .1
-
-enum-told : tie.Need-enum-told
-enum-told c = search needs
+act-requires : tie.Need-act-requires
+act-requires c κs =
+    let s = c .before .before .before .before .before .before .before .before .before .before .before .before .before .before .before in
+    let i = itemIn (drop (s .args .at) (s .args .items .now)) in
+    (s .pre .1 .1, ap ofParsed (parsed-by i (c .before .before .before .before .before .before .before .before .word .result) (c .before .before .before .before .before .before .before .word2 .result) (c .before .before .before .before .before .before .word3 .result) (c .before .before .before .before .before .word4 .result) (c .before .before .before .before .word5 .result) (c .before .before .before .word6 .result) (c .before .before .before .before .before .before .before .before .word .ensures) (c .before .before .before .before .before .before .before .word2 .ensures) (c .before .before .before .before .before .before .word3 .ensures) (c .before .before .before .before .before .word4 .ensures) (c .before .before .before .before .word5 .ensures) (c .before .before .before .word6 .ensures)) ∙ acts-kind (length (s .args .bytes .now)) i (s .pre .1 .0))
 
 same-length : tie.Need-same-length
 same-length c = search needs
@@ -65,22 +73,16 @@ same-length-2 c = search needs
 
 returns : tie.Need-returns
 returns c =
-    let s = c .before .before .before .before .before .before .before .before .before .before .before .before .before .before .before .before .before .before .before .before in
-    let a = s .args in
-    let fact = c .before .before .before .before .before .before .before .before .before .before .before .command .given in
+    let a = c .before .before .before .before .before .before .before .before .before .before .before .before .before .before .before .before .before .before .before .before .args in
+    let i = itemIn (drop (a .at) (a .items .now)) in
     let start = c .before .before .before .before .before .before .before .before .before .before .before .before .before .before .before .part-start .ensures in
     let size = c .before .before .before .before .before .before .before .before .before .before .before .before .before .before .part-size .ensures in
-    let step = c .before .before .before .before .before .step in
-    let long : c .before .before .before .before .before .before .before .before .before .before .before .before .before .before .before .part-start .result + c .before .before .before .before .before .before .before .before .before .before .before .before .before .before .part-size .result - c .before .before .before .before .before .before .before .before .before .before .before .before .before .before .before .part-start .result ≡ itemIn (drop (a .at) (a .items .now)) .size = omega arith in
-    goes-by (itemIn (drop (a .at) (a .items .now))) (a .bytes .now) (a .words .now) (a .arena .now) (fact .0 .0) _ (step .result) _ _ _
-    (sym (c .before .before .before .before .before .before .before .before .before .before .before .before .before .parsed-at .ensures) ∙ fact .1)
+    let acted = c .before .before .before .before .act .ensures in
+    let long : c .before .before .before .before .before .before .before .before .before .before .before .before .before .before .before .part-start .result + c .before .before .before .before .before .before .before .before .before .before .before .before .before .before .part-size .result - c .before .before .before .before .before .before .before .before .before .before .before .before .before .before .before .part-start .result ≡ i .size = omega arith in
+    goes-by i (a .bytes .now) (a .words .now) (a .arena .now) (acted .command) _ (c .before .before .before .before .act .result) _ _ _
+    (sym (parsed-by i (c .before .before .before .before .before .before .before .before .before .before .before .before .before .word .result) (c .before .before .before .before .before .before .before .before .before .before .before .before .word2 .result) (c .before .before .before .before .before .before .before .before .before .before .before .word3 .result) (c .before .before .before .before .before .before .before .before .before .before .word4 .result) (c .before .before .before .before .before .before .before .before .before .word5 .result) (c .before .before .before .before .before .before .before .before .word6 .result) (c .before .before .before .before .before .before .before .before .before .before .before .before .before .word .ensures) (c .before .before .before .before .before .before .before .before .before .before .before .before .word2 .ensures) (c .before .before .before .before .before .before .before .before .before .before .before .word3 .ensures) (c .before .before .before .before .before .before .before .before .before .before .word4 .ensures) (c .before .before .before .before .before .before .before .before .before .word5 .ensures) (c .before .before .before .before .before .before .before .before .word6 .ensures)) ∙ acted .is)
     (ap₂ (λ (n k : ℕ). region n k (a .bytes .now)) start long)
-    (step .ensures)
-
-returns-2 : tie.Need-returns-2
-returns-2 c =
-    let s = c .before .before .before .before .before .before .before .before .before in
-    absurd (acts-parsed (length (s .args .bytes .now)) (itemIn (drop (s .args .at) (s .args .items .now))) (s .pre .1 .0) (sym (c .before .before .parsed-at .ensures) ∙ c .enum-told .given .1))
+    (acted .does)
 
 pub item-step-spec : {M : Type 1} → statement M
 item-step-spec =
@@ -89,15 +91,16 @@ item-step-spec =
     part-start-requires
     part-size-requires
     add-end
-    parsed-at-requires
-    enum-known-command
-    sub-step
-    part-step-start
-    part-step-end
-    slice-aggregate-step
-    step-requires
-    enum-told
+    word-requires
+    word-requires-2
+    word-requires-3
+    word-requires-4
+    word-requires-5
+    word-requires-6
+    sub-act
+    part-act-start
+    part-act-end
+    act-requires
     same-length
     same-length-2
-    returns
-    returns-2)
+    returns)
