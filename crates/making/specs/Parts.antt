@@ -1,10 +1,9 @@
--- A part put in after the first words, and a run copied whole.
+-- A part put in after the first words.
 use Prim.Native.Nat.{ℕ, zero, suc, _+_, _≤_}
 use mathlib.Core.Path.{_≡_, sym, ap, _∙_}
-use mathlib.Core.List.{List, [], _∷_, _++_}
+use mathlib.Core.List.{List, [], _∷_}
 use native.Mathlib.Omega.{arith}
-use lib.ListN.{length, take, drop, take-append-drop, drop-of-length-le}
-use lib.Seq.{paste}
+use lib.ListN.{length, drop}
 use Rattle.words.specs.Parts.{put}
 use Rattle.model.specs.Layout.{putHeader}
 
@@ -24,8 +23,3 @@ header-put p q r s b m zs ws h =
     let more : 4 + b ≡ suc (suc (suc (suc b))) = omega arith in
     ap (λ (j : ℕ). put j m zs (putHeader p q r s ws)) more
     ∙ ap (λ (l : List ℕ). p ∷ (q ∷ (r ∷ (s ∷ l)))) (sym (drop-put 4 b m zs ws h))
-
--- a run copied whole
-pub paste-whole : (d s : List ℕ) (i : ℕ) → i ≡ length s → length d ≡ length s → paste d 0 s i ≡ s
-paste-whole d s i all same =
-    ap (λ (l : List ℕ). take 0 d ++ take i s ++ l) (drop-of-length-le d {i = 0 + i} (omega arith) ∙ sym (drop-of-length-le s {i = i} (omega arith))) ∙ take-append-drop i s

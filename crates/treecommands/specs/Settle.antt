@@ -4,8 +4,8 @@ use mathlib.Core.Bool.{true}
 use mathlib.Core.Path.{_≡_, refl, sym, ap, ap₂, _∙_, subst}
 use mathlib.Core.List.{List, [], _∷_, _++_}
 use native.Mathlib.Omega.{arith}
-use lib.ListN.{length, take, drop, getD, set, take-append-drop}
-use lib.Seq.{take-at, drop-drop, length-take-le}
+use lib.ListN.{length, take, drop, getD, set, take-append-drop, drop-of-length-le}
+use lib.Seq.{take-at, drop-drop, length-take-le, paste}
 use lib.Dec.{eqb}
 use Rattle.words.specs.Choice.{both}
 use Rattle.words.specs.Parts.{region, put, region-length, region-put, past-put, before-put}
@@ -64,10 +64,19 @@ settled count next latest ws =
 abbrev pub renewed : ℕ → List ℕ → List ℕ
 renewed count ws = settled count (nextIn ws) (latestAmong (rows count (nodeWords ws)) (latestIn ws)) ws
 
+-- a run copied whole
+pub paste-whole : (d s : List ℕ) (i : ℕ) → i ≡ length s → length d ≡ length s → paste d 0 s i ≡ s
+paste-whole d s i all same =
+    ap (λ (l : List ℕ). take 0 d ++ take i s ++ l) (drop-of-length-le d {i = 0 + i} (omega arith) ∙ sym (drop-of-length-le s {i = i} (omega arith))) ∙ take-append-drop i s
+
 -- the running order as it was worked out, and written
 module _ (count : ℕ) (ws : List ℕ) (r : Order) (k : Kept (rows count (nodeWords ws)) r) where
-  pub order-by : put orderPlace orderWords (r .numbers) ws ≡ putOrder (order (rows count (nodeWords ws))) ws
-  order-by = ap (λ (l : List ℕ). put orderPlace orderWords l ws) (k .numbers ∙ pad-is orderWords (order (rows count (nodeWords ws))))
+  pub order-by : length ws ≡ wordsLength → put orderPlace orderWords (paste (region orderPlace orderWords ws) 0 (r .numbers) orderWords) ws ≡ putOrder (order (rows count (nodeWords ws))) ws
+  order-by size =
+      let here : r .numbers ≡ orderRegion (order (rows count (nodeWords ws))) = k .numbers ∙ pad-is orderWords (order (rows count (nodeWords ws))) in
+      let long : length (r .numbers) ≡ orderWords = ap length here ∙ order-region-length (order (rows count (nodeWords ws))) in
+      let room : length (region orderPlace orderWords ws) ≡ orderWords = region-length orderPlace orderWords ws (omega (arith, size)) in
+      ap (λ (l : List ℕ). put orderPlace orderWords l ws) (paste-whole (region orderPlace orderWords ws) (r .numbers) orderWords (sym long) (room ∙ sym long) ∙ here)
 
   pub many-few : r .length ≤ count
   many-few = omega (arith, k .many, order-most 0 (rows count (nodeWords ws)), rows-length count (nodeWords ws))

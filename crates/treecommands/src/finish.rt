@@ -6,6 +6,7 @@ use layout::COUNT;
 use layout::INDEX;
 use layout::INDEX_END;
 use layout::LATEST;
+use layout::MOST_ORDER;
 use layout::NEXT;
 use layout::NODES;
 use layout::NODES_END;
@@ -13,6 +14,7 @@ use layout::ORDER;
 use layout::ORDER_END;
 use layout::ORDER_LENGTH;
 use reindex::Edit;
+use tree::copy_words;
 ghost use mathlib.Core.Path.{_≡_};
 ghost use Prim.Native.Nat.{_≤_};
 ghost use lib.ListN.{length};
@@ -42,7 +44,7 @@ fn renew_order(words: &mut [u32], count: usize) -> u32
 {
     let order = order::running_order(&words[NODES..NODES_END], count);
     let many = order.length;
-    order::write_order(&mut words[ORDER..ORDER_END], order);
+    copy_words(&mut words[ORDER..ORDER_END], 0, &order.numbers, MOST_ORDER);
     many as u32
 }
 

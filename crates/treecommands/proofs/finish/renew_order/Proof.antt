@@ -22,22 +22,22 @@ part-running-order-end c = search needs
 running-order-requires : tie.Need-running-order-requires
 running-order-requires c κs = search needs
 
-sub-write-order : tie.Need-sub-write-order
-sub-write-order c = search needs
+sub-copy-words : tie.Need-sub-copy-words
+sub-copy-words c = search needs
 
-part-write-order-start : tie.Need-part-write-order-start
-part-write-order-start c = search needs
+part-copy-words-start : tie.Need-part-copy-words-start
+part-copy-words-start c = search needs
 
-part-write-order-end : tie.Need-part-write-order-end
-part-write-order-end c = search needs
+part-copy-words-end : tie.Need-part-copy-words-end
+part-copy-words-end c = search needs
 
-write-order-requires : tie.Need-write-order-requires
-write-order-requires c κs = search needs
+copy-words-requires : tie.Need-copy-words-requires
+copy-words-requires c κs = search needs
 
 cast-result : tie.Need-cast-result
 cast-result c =
-    let a = c .before .before .before .before .before .before .before .before .args in
-    let order = c .before .before .before .before .running-order in
+    let a = c .before .before .before .before .before .before .before .before .before .before .before .args in
+    let order = c .before .before .before .before .before .before .before .running-order in
     omega (arith, many-few (a .count) (a .words .now) (order .result) (order .ensures))
 
 same-length : tie.Need-same-length
@@ -45,9 +45,13 @@ same-length c = search needs
 
 returns : tie.Need-returns
 returns c =
-    let a = c .before .before .before .before .before .before .before .before .args in
-    let order = c .before .before .before .before .running-order in
-    (ap (λ (l : List ℕ). put orderPlace orderWords l (a .words .now)) (c .before .before .write-order .ensures) ∙ order-by (a .count) (a .words .now) (order .result) (order .ensures), order .ensures .many)
+    let s = c .before .before .before .before .before .before .before .before .before .before .before in
+    let a = s .args in
+    let order = c .before .before .before .before .before .before .before .running-order in (
+      ap (λ (l : List ℕ). put orderPlace orderWords l (a .words .now)) (c .before .before .copy-words .ensures)
+          ∙ order-by (a .count) (a .words .now) (order .result) (order .ensures) (s .pre .0),
+      order .ensures .many,
+    )
 
 pub renew-order-spec : {M : Type 1} → statement M
 renew-order-spec =
@@ -57,10 +61,10 @@ renew-order-spec =
     part-running-order-start
     part-running-order-end
     running-order-requires
-    sub-write-order
-    part-write-order-start
-    part-write-order-end
-    write-order-requires
+    sub-copy-words
+    part-copy-words-start
+    part-copy-words-end
+    copy-words-requires
     cast-result
     same-length
     returns)
