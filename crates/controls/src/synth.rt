@@ -12,10 +12,12 @@ use words::wide;
 ghost use Prim.Native.Nat.{_+_, _*_, _≤_, _<_};
 ghost use mathlib.Core.Path.{_≡_};
 ghost use lib.ListN.{length, drop, getD};
+ghost use lib.Dec.{leb};
 ghost use Rattle.nodes.specs.Formed.{mostNodes, mostRows};
+ghost use Rattle.words.specs.Choice.{both};
 ghost use Rattle.values.specs.Controls.{controlAt, shownBy};
 ghost use Rattle.model.specs.Formed.{mappingsFormed};
-ghost use Rattle.model.specs.Layout.{rowWords, wordsLength, putControls, controlsIn};
+ghost use Rattle.model.specs.Layout.{rowWords, busCount, wordsLength, putControls, controlsIn};
 ghost use Rattle.model.specs.Effects.{changeCovered};
 ghost use Rattle.readable.specs.Lookup.{coverAt};
 ghost use Rattle.controls.specs.Change.{changeOf};
@@ -49,21 +51,30 @@ pub(crate) fn change_node(words: &mut [u32], place: usize, cover: Cover, count: 
     change_row(&mut words[CONTROLS..CONTROLS_END], row, start, many, change);
 }
 
-// The mapping words of a row's first controls, so many: each at most 4,096.
+// A row that was formed so far, with one more mapping word.
+fn still_formed(formed: bool, word: u32) -> bool
+    ensures { λ r. ⌜ r ≡ both formed (leb word busCount) ⌝ }
+{
+    if MOST_BUSES < wide(word) {
+        return false;
+    }
+    formed
+}
+
+// The mapping words of a row's first controls, so many: each at most 4,096. It goes to the end whatever it meets, so that several are looked at at once.
 pub(crate) fn row_formed(controls: &[u32], row: u32, many: u32) -> bool
     requires { ⌜ rowWords * row + 2 * many ≤ length (now controls) ⌝ }
     ensures { λ r. ⌜ r ≡ mappingsFormed many (drop (rowWords * row) (now (controls .entry))) ⌝ }
 {
     let start = ROW_WORDS * wide(row) + 1;
     let end = wide(many);
+    let mut formed = true;
     let mut i = 0;
     while i < end {
-        if MOST_BUSES < wide(controls[start + 2 * i]) {
-            return false;
-        }
+        formed = still_formed(formed, controls[start + 2 * i]);
         i += 1;
     }
-    true
+    formed
 }
 
 // What reading a control gives: the bus where it is mapped, otherwise its own float.

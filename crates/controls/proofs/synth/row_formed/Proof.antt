@@ -2,23 +2,32 @@ use Prim.{tt}
 use native.Mathlib.Nat.{sub-zero}
 use lib.Seq.{getD-drop}
 use lib.Dec.{leb}
+use Rattle.words.specs.Choice.{both}
 use Rattle.model.specs.Formed.{mappingsFormed}
 use Rattle.controls.specs.Synth.{mappings-turn, mappings-none}
 use Prim.Native.Nat.{ℕ, _+_, _*_, _-_, _≤_}
-use mathlib.Core.Bool.{true, false}
-use mathlib.Core.Path.{_≡_, sym, ap, _∙_}
+use mathlib.Core.Bool.{Bool, true, false}
+use mathlib.Core.Path.{_≡_, refl, sym, ap, _∙_}
 use native.Mathlib.Omega.{arith}
-use borrow.Author.Tests.{le-leb, lt-leb}
 use lib.ListN.{drop, getD}
 use Rattle.controls.proofs.synth.row_formed.Statement.{statement}
 use Rattle.controls.proofs.synth.row_formed.Tie as tie
 
+-- one more test, and none
+one-more : (formed t rest : Bool) → both (both formed t) rest ≡ both formed (both t rest)
+one-more true t rest = refl
+one-more false t rest = refl
+
+no-more : (formed : Bool) → formed ≡ both formed true
+no-more true = refl
+no-more false = refl
+
 abbrev Inv-loop : tie.InvT-loop
-Inv-loop controls row many start end i₀ i =
-    (i ≤ end) × (mappingsFormed (end - i) (drop (2 * i) (drop (64 * row) controls)) ≡ mappingsFormed end (drop (64 * row) controls))
+Inv-loop controls row many start end formed₀ i₀ formed i =
+    (i ≤ end) × (both formed (mappingsFormed (end - i) (drop (2 * i) (drop (64 * row) controls))) ≡ mappingsFormed end (drop (64 * row) controls))
 
 abbrev μ-loop : tie.MeasureT-loop
-μ-loop controls row many start end i₀ i = end - i
+μ-loop controls row many start end formed₀ i₀ formed i = end - i
 
 wide-requires : tie.Need-wide-requires Inv-loop μ-loop
 wide-requires c κs = tt
@@ -37,34 +46,20 @@ loop-holds c =
     let a = c .before .before .before .args in
     (omega arith, ap (λ (n : ℕ). mappingsFormed n (drop (64 * a .row) (a .controls .now))) (sub-zero (c .wide2 .result)))
 
-mul-wide : tie.Need-mul-wide Inv-loop μ-loop
-mul-wide c = omega arith
+mul-still-formed : tie.Need-mul-still-formed Inv-loop μ-loop
+mul-still-formed c = omega arith
 
-add-wide : tie.Need-add-wide Inv-loop μ-loop
-add-wide c = omega arith
+add-still-formed : tie.Need-add-still-formed Inv-loop μ-loop
+add-still-formed c = omega arith
 
-mul-wide-2 : tie.Need-mul-wide-2 Inv-loop μ-loop
-mul-wide-2 c = omega arith
+mul-still-formed-2 : tie.Need-mul-still-formed-2 Inv-loop μ-loop
+mul-still-formed-2 c = omega arith
 
-shared-slice-read-wide : tie.Need-shared-slice-read-wide Inv-loop μ-loop
-shared-slice-read-wide c = omega arith
+shared-slice-read-still-formed : tie.Need-shared-slice-read-still-formed Inv-loop μ-loop
+shared-slice-read-still-formed c = omega arith
 
-wide-requires-3 : tie.Need-wide-requires-3 Inv-loop μ-loop
-wide-requires-3 c κs = tt
-
-returns : tie.Need-returns Inv-loop μ-loop
-returns c =
-    let a = c .before .before .before .before .before .before .before .before .args in
-    let l = c .before .before .before .before .loop in
-    let us = drop (64 * a .row) (a .controls .now) in
-    let w = c .before .before .before .before .before in
-    let place : 64 * a .row + (2 * l .i + 1) ≡ 64 * w .before .wide .result + 1 + 2 * l .i = omega arith in
-    let word : getD us (2 * l .i + 1) 0 ≡ getD (a .controls .now) (64 * w .before .wide .result + 1 + 2 * l .i) 0 =
-    getD-drop (64 * a .row) (a .controls .now) (2 * l .i + 1) 0 ∙ ap (λ (k : ℕ). getD (a .controls .now) k 0) place in
-    let high : leb (getD us (2 * l .i + 1) 0) 4096 ≡ false = lt-leb (getD us (2 * l .i + 1) 0) 4096 (omega arith) in
-    sym (rw high at (mappings-turn us (w .wide2 .result) (l .i) (omega arith)))
-    ∙ l .inv .1
-    ∙ ap (λ (n : ℕ). mappingsFormed n us) (w .wide2 .ensures)
+still-formed-requires : tie.Need-still-formed-requires Inv-loop μ-loop
+still-formed-requires c κs = tt
 
 add-i : tie.Need-add-i Inv-loop μ-loop
 add-i c = omega arith
@@ -74,23 +69,30 @@ loop-less c = omega arith
 
 loop-again : tie.Need-loop-again Inv-loop μ-loop
 loop-again c =
-    let a = c .before .before .before .before .before .before .before .before .args in
-    let l = c .before .before .before .before .loop in
+    let a = c .before .before .before .before .before .before .before .args in
+    let l = c .before .before .before .loop in
     let us = drop (64 * a .row) (a .controls .now) in
-    let w = c .before .before .before .before .before in
+    let w = c .before .before .before .before in
     let place : 64 * a .row + (2 * l .i + 1) ≡ 64 * w .before .wide .result + 1 + 2 * l .i = omega arith in
     let word : getD us (2 * l .i + 1) 0 ≡ getD (a .controls .now) (64 * w .before .wide .result + 1 + 2 * l .i) 0 =
     getD-drop (64 * a .row) (a .controls .now) (2 * l .i + 1) 0 ∙ ap (λ (k : ℕ). getD (a .controls .now) k 0) place in
-    let low : leb (getD us (2 * l .i + 1) 0) 4096 ≡ true = le-leb (getD us (2 * l .i + 1) 0) 4096 (omega arith) in
-    (omega arith, sym (rw low at (mappings-turn us (w .wide2 .result) (l .i) (omega arith))) ∙ l .inv .1)
+    let rest = mappingsFormed (w .wide2 .result - (l .i + 1)) (drop (2 * (l .i + 1)) us) in
+    let test = leb (getD us (2 * l .i + 1) 0) 4096 in
+    let now : c .still-formed .result ≡ both (l .formed) test = c .still-formed .ensures ∙ ap (λ (k : ℕ). both (l .formed) (leb k 4096)) (sym word) in
+    let goes = ap (λ (t : Bool). both t rest) now
+    ∙ one-more (l .formed) test rest
+    ∙ ap (λ (t : Bool). both (l .formed) t) (sym (mappings-turn us (w .wide2 .result) (l .i) (omega arith)))
+    ∙ l .inv .1 in
+    (omega arith, goes)
 
-returns-2 : tie.Need-returns-2 Inv-loop μ-loop
-returns-2 c =
+returns : tie.Need-returns Inv-loop μ-loop
+returns c =
     let a = c .before .before .before .before .before .args in
     let l = c .before .loop in
     let us = drop (64 * a .row) (a .controls .now) in
     let w = c .before .before in
-    sym (mappings-none (drop (2 * l .i) us) (w .wide2 .result - l .i) (omega arith))
+    no-more (l .formed)
+    ∙ ap (λ (t : Bool). both (l .formed) t) (sym (mappings-none (drop (2 * l .i) us) (w .wide2 .result - l .i) (omega arith)))
     ∙ l .inv .1
     ∙ ap (λ (n : ℕ). mappingsFormed n us) (w .wide2 .ensures)
 
@@ -105,13 +107,12 @@ row-formed-spec =
     add-start
     wide-requires-2
     loop-holds
-    mul-wide
-    add-wide
-    mul-wide-2
-    shared-slice-read-wide
-    wide-requires-3
-    returns
+    mul-still-formed
+    add-still-formed
+    mul-still-formed-2
+    shared-slice-read-still-formed
+    still-formed-requires
     add-i
     loop-less
     loop-again
-    returns-2)
+    returns)
