@@ -3,20 +3,11 @@ use Prim.Native.Nat.{ℕ, _+_, _*_}
 use mathlib.Core.Path.{_≡_}
 use mathlib.Core.List.{List, [], _∷_}
 use lib.ListN.{length}
+use Rattle.words.specs.Bytes.{AreBytes}
 use Rattle.format.specs.declared.Width.{Width}
 use Rattle.format.specs.Read.{got}
 use Rattle.format.specs.Definition.{UnitSpec, Definition}
 use Rattle.format.specs.Reader.{definitionBy}
-
--- a definition is read from one place to another
-pub record Readable (w : Width) (s : List ℕ) (at end : ℕ) : Type 0 where
-  pub definition : Definition
-  pub read : definitionBy w s at ≡ got definition end
-
--- the same where its end is not said
-pub record Begins (w : Width) (s : List ℕ) (at : ℕ) : Type 0 where
-  pub end : ℕ
-  pub readable : Readable w s at end
 
 module _ {A : Type 0} where
   unfoldable pub total : (A → ℕ) → List A → ℕ
@@ -29,3 +20,10 @@ unitFields u = 2 + 2 * length (u .inputs)
 
 abbrev pub fieldsIn : Definition → ℕ
 fieldsIn d = 4 + length (d .front .names) + total unitFields (d .units)
+
+-- a definition is read from one place to another, and has so many such fields
+pub record Measured (w : Width) (s : List ℕ) (at end fields : ℕ) : Type 0 where
+  pub bytes : AreBytes s
+  pub definition : Definition
+  pub read : definitionBy w s at ≡ got definition end
+  pub counted : fields ≡ fieldsIn definition

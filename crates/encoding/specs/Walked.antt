@@ -1,15 +1,13 @@
 -- The fields of a definition's units, counted along the file.
-use Prim.Native.Nat.{ℕ, zero, suc, _+_, _*_, _-_, _≤_}
+use Prim.Native.Nat.{ℕ, zero, suc, _+_, _-_, _≤_}
 use mathlib.Core.Path.{_≡_, sym, ap, _∙_}
 use mathlib.Core.List.{List, []}
 use native.Mathlib.Omega.{arith}
 use lib.ListN.{length, getD, drop}
 use lib.Dec.{leb}
-use Rattle.faults.specs.declared.Fault.{Fault}
 use Rattle.faults.specs.declared.Fault.the-variants.{BadCount}
 use Rattle.format.specs.declared.Width.{Width}
-use Rattle.format.specs.declared.Width.the-variants.{Short, Long}
-use Rattle.format.specs.Read.{got, bad, repeat, mapRead}
+use Rattle.format.specs.Read.{got, repeat, mapRead}
 use Rattle.format.specs.Fields.{sizeOf, valueBy, integerBy, countBy, shortCountTo, highest16, highest32}
 use Rattle.format.specs.Definition.{UnitSpec, Definition}
 use Rattle.format.specs.Reader.{frontBy, inputBy, unitBy, unitsBy, variant, definitionBy}
@@ -19,22 +17,10 @@ use Rattle.format.specs.RepeatLaws.{went-on, got-value, got-place, repeat-lengt
 use Rattle.format.specs.Sizes.{rate-sized, count-got, name-got}
 use Rattle.front.specs.declared.Counts.{Counts}
 use Rattle.front.specs.Front.{countsOf}
-use Rattle.units.specs.Marks.{unitCounts, unitInputs, unitEnd, unitPlace}
+use Rattle.units.specs.Marks.{unitCounts, unitInputs, unitPlace, walked}
 use Rattle.units.specs.Units.{outsFrom, unit-on}
 use Rattle.units.specs.Walk.{units-behind, unit-read}
 use Rattle.encoding.specs.Encoding.{total, unitFields}
-
--- the fields of the first n units, the first of which starts at a place
-unfoldable pub walked : Width → List ℕ → ℕ → ℕ → ℕ
-walked w s start zero = 0
-walked w s start (suc n) = walked w s start n + (2 + 2 * unitInputs w s (unitPlace w s start n))
-
--- each takes at least two bytes
-pub walked-few : (w : Width) (s : List ℕ) (start n : ℕ) → start + 2 * walked w s start n ≤ unitPlace w s start n
-unfolding walked unitPlace unitEnd unitCounts
-walked-few w s start zero = omega arith
-walked-few Short s start (suc n) = omega (arith, walked-few Short s start n)
-walked-few Long s start (suc n) = omega (arith, walked-few Long s start n)
 
 -- a unit that was read has as many inputs as its count says
 inputs-counted : (w : Width) (k : ℕ) (outs s : List ℕ) (at : ℕ) {u : UnitSpec} {end : ℕ} → unitBy w k outs s at ≡ got u end → length (u .inputs) ≡ unitInputs w s at
@@ -110,16 +96,3 @@ told w s at {d} {end} {past} {start} {n} {c} h e1 e2 =
       fields = walked-all w (length (d .front .constants)) s n start units;
       inside = units-inside w (length (d .front .constants)) s n start room units;
     }
-
--- the front and U of a definition that was read are no faults
-pub no-front : (w : Width) (s : List ℕ) (at : ℕ) {d : Definition} {end place : ℕ} {q : Fault} → definitionBy w s at ≡ got d end
-    → mapRead (countsOf w at) (frontBy w s at) ≡ bad q place → _≡_ {A = ℕ} 0 1
-no-front w s at h e1 = let e = rw (definition-parts w s at h .front) at e1 in cc
-
-pub no-count : (w : Width) (s : List ℕ) (at : ℕ) {d : Definition} {end past place : ℕ} {c : Counts} {q : Fault} → definitionBy w s at ≡ got d end
-    → mapRead (countsOf w at) (frontBy w s at) ≡ got c past → countBy w s past ≡ bad q place → _≡_ {A = ℕ} 0 1
-no-count w s at h e1 e2 =
-    let t = definition-parts w s at h in
-    let same = got-place (rw (t .front) at e1) in
-    let e : got (t .count) (t .start) ≡ bad _ _ = sym (t .counted) ∙ ap (countBy w s) same ∙ e2 in
-    cc

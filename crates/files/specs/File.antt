@@ -1,9 +1,9 @@
 -- What the functions on a whole file answer.
 use Prim.{Unit}
-use Prim.Native.Nat.{ℕ, _≤_}
+use Prim.Native.Nat.{ℕ, _+_, _≤_, _<_}
 use mathlib.Core.Path.{_≡_}
 use mathlib.Core.List.{List, map}
-use lib.ListN.{length}
+use lib.ListN.{length, getD}
 use Rattle.faults.specs.Faults as faults
 use Rattle.files.specs.declared.file.Checked.{Checked}
 use Rattle.files.specs.declared.file.Checked.the-variants.{Accepted, Refused}
@@ -49,3 +49,8 @@ definitionCount (Refused r at) = 0
 pub record Begun (starts : List ℕ) (count : ℕ) : Type 0 where
   pub few : count ≤ mostDefinitions
   pub sized : length starts ≡ mostDefinitions
+
+-- the name at a place lies whole in the file, and is not empty
+pub record Named (s : List ℕ) (at : ℕ) : Type 0 where
+  pub some : 0 < getD s at 0
+  pub inside : at + 1 + getD s at 0 ≤ length s

@@ -1,17 +1,18 @@
 -- Laws of a file's definitions.
 use Prim.{Unit, tt}
-use Prim.Native.Nat.{ℕ, zero, suc, _+_, _-_, _≤_, _<_}
+use Prim.Native.Nat.{ℕ, zero, suc, _+_, _*_, _-_, _≤_, _<_}
 use mathlib.Core.Bool.{Bool, true, false}
-use mathlib.Core.Path.{_≡_, refl, sym, ap, _∙_}
+use mathlib.Core.Path.{_≡_, refl, sym, ap, ap₂, _∙_}
 use mathlib.Core.List.{List, [], _∷_, _++_, map}
 use native.Mathlib.Omega.{arith}
-use native.Mathlib.Nat.{sub-zero}
+use native.Mathlib.Nat.{sub-zero, add-zero}
 use native.Mathlib.Numerals.{add-one}
-use lib.Seq.{take-suc-set, length-take-le, drop-cons, getD-take}
-use lib.ListN.{length, getD, take, drop, set, length-set, drop-of-length-le, List·getD-eq-default}
-use lib.Dec.{ltb}
-use borrow.Author.Tests.{lt-ltb, le-ltb, leb-true, ne-eqb}
-use Rattle.words.specs.Choice.{pick, either}
+use lib.Seq.{take-suc-set, length-take-le, drop-cons, getD-take, getD-drop}
+use lib.ListN.{length, getD, take, drop, set, length-set, length-take, length-drop, drop-of-length-le, List·getD-eq-default}
+use lib.Dec.{ltb, eqb}
+use borrow.Author.Tests.{lt-ltb, le-ltb, leb-true, ne-eqb, eqb-true}
+use Rattle.words.specs.Choice.{pick, both, either}
+use Rattle.words.specs.Parts.{region-length}
 use Rattle.faults.specs.declared.Fault.{Fault}
 use Rattle.faults.specs.declared.Fault.the-variants.{TooLong, NameTwice, BytesLeft}
 use Rattle.format.specs.Read.{Read, got, bad, andThen, mapRead, ending}
@@ -25,7 +26,7 @@ use Rattle.format.specs.Writer.{firstVersion, writeDefinition}
 use Rattle.format.specs.Endings.{Mapped, mapped-got, then-got, then-bad, ending-keeps, ending-got}
 use Rattle.format.specs.RepeatLaws.{went-on}
 use Rattle.files.specs.Forward.{definition-whole}
-use Rattle.files.specs.File.{Begun, namesFrom, skipFitting, verdict, firstPlace}
+use Rattle.files.specs.File.{Begun, Named, namesFrom, skipFitting, verdict, firstPlace}
 use Rattle.files.specs.declared.file.Checked.the-variants.{Accepted, Refused}
 
 -- what is asked at a definition's end: whether it is too long, and its name, which stands at its start
@@ -212,3 +213,30 @@ head-count v (bad q at) = refl
 -- a definition ends behind its start
 pub end-forward : (w : Width) (s : List ℕ) (at : ℕ) {u : Unit {0}} {end : ℕ} → ending (definitionBy w s at) ≡ got u end → at < end
 end-forward w s at e = omega (arith, definition-whole w s at (ending-got (definitionBy w s at) e .read) .forward)
+
+-- the name of a definition that was read lies whole in the file
+pub definition-named : (w : Width) (s : List ℕ) (at : ℕ) {d : Definition} {end : ℕ} → definitionBy w s at ≡ got d end → Named s at
+definition-named w s at h = let t = definition-whole w s at h in record { some = t .some; inside = t .inside }
+
+different : (a b : List ℕ) → (a ≡ b → ⊥) → sameName a b ≡ false
+unfolding sameName
+different [] [] h = absurd (h refl)
+different [] (y ∷ b) h = refl
+different (x ∷ a) [] h = refl
+different (x ∷ a) (y ∷ b) h = go (eqb x y) refl (different a b) where
+  go : (e : Bool) → eqb x y ≡ e → ((a ≡ b → ⊥) → sameName a b ≡ false) → both e (sameName a b) ≡ false
+  go false e rest = refl
+  go true e rest = rest (λ same. h (ap₂ _∷_ (eqb-true x y e) same))
+
+first-letter : (s : List ℕ) (at : ℕ) → 0 < getD s at 0 → getD (stringAt s at) 0 0 ≡ getD s (at + 1) 0
+first-letter s at h = getD-take (getD s at 0) (drop (at + 1) s) 0 0 h ∙ getD-drop (at + 1) s 0 0 ∙ ap (λ (i : ℕ). getD s i 0) (add-zero (at + 1))
+
+-- names whose lengths or first letters differ
+pub names-apart : (s : List ℕ) (other at : ℕ) → Named s at → other < at
+    → (256 * getD s other 0 + getD s (other + 1) 0 ≡ 256 * getD s at 0 + getD s (at + 1) 0 → ⊥) → sameName (stringAt s other) (stringAt s at) ≡ false
+names-apart s other at n l h =
+    different (stringAt s other) (stringAt s at) (λ same.
+    let long : length (stringAt s at) ≡ getD s at 0 = region-length (at + 1) (getD s at 0) s (n .inside) in
+    let size : getD s other 0 ≡ getD s at 0 = omega (arith, n .inside, simp (length-take, length-drop) at (ap length same ∙ long)) in
+    let letter : getD s (other + 1) 0 ≡ getD s (at + 1) 0 = sym (first-letter s other (rw size (n .some))) ∙ ap (λ (x : List ℕ). getD x 0 0) same ∙ first-letter s at (n .some) in
+    h (omega (arith, size, letter)))

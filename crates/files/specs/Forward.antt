@@ -24,7 +24,7 @@ use Rattle.roundtrip.specs.Stands.{stands-all}
 use Rattle.roundtrip.specs.RecordsBack.{definition-reads}
 use Rattle.roundtrip.specs.Forth.{definition-forth}
 use Rattle.units.specs.Marks.{unitEnd, unitCounts}
-use Rattle.units.specs.Units.{unit-shape, remembered}
+use Rattle.units.specs.Units.{countsOf, unit-shape, remembered}
 
 module _ {A : Type 0} where
   -- readings that never go back
@@ -80,7 +80,7 @@ variant-forward p s at x next h =
 unit-size : (w : Width) (k : ℕ) (outs s : List ℕ) (at : ℕ) (x : UnitSpec) (next : ℕ) → unitBy w k outs s at ≡ got x next → at + 8 ≤ next
 unfolding unitEnd unitCounts
 unit-size w k outs s at x next h =
-    omega (arith, least w, unit-shape w k outs s at (ap (mapRead (λ (u : UnitSpec). length (u .outputs))) h) .past)
+    omega (arith, least w, unit-shape w k outs s at (ap (mapRead countsOf) h) .past)
 
 units-size : (w : Width) (k : ℕ) (s : List ℕ) (n : ℕ) (outs : List ℕ) (at : ℕ) (us : List UnitSpec) (end : ℕ) → unitsBy w k s n outs at ≡ got us end → at + 8 * length us ≤ end
 unfolding unitsBy
@@ -103,6 +103,7 @@ units-size w k s (suc n) outs at us end h =
 -- what is known of a part of a definition that starts with its name, and takes at least so many bytes
 pub record Whole (s : List ℕ) (at : ℕ) (n : List ℕ) (least end : ℕ) : Type 0 where
   pub named : stringAt s at ≡ n
+  pub some : 0 < getD s at 0
   pub inside : at + 1 + getD s at 0 ≤ length s
   pub forward : at + 1 + getD s at 0 ≤ end
   pub room : at + least ≤ end
@@ -131,7 +132,7 @@ front-whole w s at {f} {end} h =
     let last : p7 ≡ end = cc in
     let same : got n p7 ≡ got (f .name) end = ap (mapRead (λ (x : Front). x .name)) r7 in
     let named : n ≡ f .name = cc in
-    record { named = t .0 ∙ named; inside = omega arith; forward = omega arith; room = omega arith })))))))
+    record { named = t .0 ∙ named; some = omega arith; inside = omega arith; forward = omega arith; room = omega arith })))))))
 
 pub definition-whole : (w : Width) (s : List ℕ) (at : ℕ) {d : Definition} {end : ℕ} → definitionBy w s at ≡ got d end → Whole s at (d .front .name) (12 + 8 * length (d .units)) end
 unfolding definitionBy
@@ -152,6 +153,7 @@ definition-whole w s at {d} {end} h =
     let all = got-value (ap (mapRead (λ (x : Definition). length (x .units))) r5) in
     record {
       named = t .named ∙ named;
+      some = t .some;
       inside = t .inside;
       forward = omega (arith, t .forward);
       room = omega (arith, t .room);

@@ -1,16 +1,38 @@
 -- Parts of a definition of which only the end is countsOf, field by field.
 use Prim.{Unit}
-use Prim.Native.Nat.{ℕ}
-use mathlib.Core.Path.{_≡_, refl, _∙_}
+use Prim.Native.Nat.{ℕ, _+_, _*_, _≤_}
+use mathlib.Core.Path.{_≡_, refl, ap, _∙_}
 use mathlib.Core.List.{List, []}
+use native.Mathlib.Omega.{arith}
 use lib.ListN.{length}
+use Rattle.faults.specs.declared.Fault.{Fault}
 use Rattle.front.specs.declared.Counts.{Counts}
-use Rattle.format.specs.Read.{Read, andThen, repeat, ending, mapRead}
+use Rattle.format.specs.Read.{Read, got, bad, andThen, repeat, ending, mapRead}
 use Rattle.format.specs.declared.Width.{Width}
 use Rattle.format.specs.Fields.{float32, name, countBy, shortCountTo, highest16}
 use Rattle.format.specs.Reader.{frontBy, unitsBy, variant, definitionBy}
 use Rattle.front.specs.Front.{countsOf}
-use Rattle.format.specs.Endings.{ending-fact, ending-then, then-ending, ending-keeps}
+use Rattle.format.specs.Endings.{mapped-got, ending-fact, ending-then, ending-keeps, ending-got}
+use Rattle.units.specs.Marks.{walked-few}
+use Rattle.units.specs.Units.{countUnits}
+use Rattle.units.specs.Walk.{units-end}
+use Rattle.encoding.specs.Encoding.{fieldsIn}
+use Rattle.encoding.specs.Walked.{told}
+
+module _ {A B : Type 0} where
+  -- the rest takes only the place, and something of the value is kept
+  then-kept : {C : Type 0} (k : A → C) (r : Read A) (f : A → ℕ → Read B) (g : ℕ → Read B) → ((x : A) (n : ℕ) → f x n ≡ g n) → andThen r f ≡ andThen (mapRead k r) (λ c n. g n)
+  then-kept k (got x n) f g h = h x n
+  then-kept k (bad q at) f g h = refl
+
+  -- where a reading ends, whatever is kept of the value
+  pub kept-ending : (k : A → B) (r : Read A) → ending (mapRead k r) ≡ ending r
+  kept-ending k (got x n) = refl
+  kept-ending k (bad q at) = refl
+
+  pub kept-bad : (k : A → B) (r : Read A) {q : Fault} {place : ℕ} → bad q place ≡ ending r → bad q place ≡ mapRead k r
+  kept-bad k (got x n) h = absurd (let z : _≡_ {A = ℕ} 0 1 = cc in omega arith)
+  kept-bad k (bad q at) h = cc
 
 -- a variant
 abbrev pub skipVariant : ℕ → List ℕ → ℕ → Read (Unit {0})
@@ -23,7 +45,7 @@ skip-variant p s at = ending-then (name s at) _ _ (λ n next. ending-keeps (repe
 abbrev pub skipRest : Width → List ℕ → Counts → ℕ → Read (Unit {0})
 skipRest w s c at =
     andThen (countBy w s at) (λ many p2.
-    andThen (ending (unitsBy w (c .constants) s many [] p2)) (λ u p3.
+    andThen (countUnits w (c .constants) s many p2) (λ u p3.
     andThen (shortCountTo highest16 s p3) (λ v p4.
     ending (repeat (variant (c .parameters) s) v p4))))
 
@@ -35,4 +57,21 @@ skip-definition w s at =
     ending-then (unitsBy w (length (f .constants)) s many [] p2) _ _ (λ units p3.
     ending-then (shortCountTo highest16 s p3) _ _ (λ v p4.
     ending-keeps (repeat (variant (length (f .values)) s) v p4) (λ variants. record { front = f; units = units; variants = variants })))
-    ∙ then-ending (unitsBy w (length (f .constants)) s many [] p2) _ _ (λ units p3. refl)))
+    ∙ then-kept _ (unitsBy w (length (f .constants)) s many [] p2) _ _ (λ units p3. refl)))
+
+-- the same where a definition was read: how many counts and indices it has
+pub count-definition : (w : Width) (s : List ℕ) (at : ℕ) {c : Counts} {p1 n p2 fields p3 v p4 next : ℕ} {u : Unit {0}} → mapRead (countsOf w at) (frontBy w s at) ≡ got c p1
+    → countBy w s p1 ≡ got n p2 → countUnits w (c .constants) s n p2 ≡ got fields p3 → shortCountTo highest16 s p3 ≡ got v p4
+    → ending (repeat (variant (c .parameters) s) v p4) ≡ got u next → mapRead fieldsIn (definitionBy w s at) ≡ got (4 + c .names + fields) next
+count-definition w s at {c} {p1} {n} {p2} {fields} {p3} {v} {p4} {next} {u} e1 e2 e3 e4 e5 =
+    let t = ending-got (definitionBy w s at) {u = u} {end = next} (rw (skip-definition w s at, e1, e2, e3, e4) e5) in
+    let units = mapped-got _ (unitsBy w (c .constants) s n [] p2) e3 in
+    let z = told w s at (t .read) e1 e2 in
+    let same : fieldsIn (t .value) ≡ 4 + c .names + fields = omega (arith, z .named, z .fields, units .same) in
+    ap (mapRead fieldsIn) (t .read) ∙ ap (λ (m : ℕ). got m next) same
+
+-- each takes at least two bytes
+pub units-few : (w : Width) (k : ℕ) (s : List ℕ) (n at : ℕ) {fields end : ℕ} → countUnits w k s n at ≡ got fields end → 2 * fields ≤ end
+units-few w k s n at e =
+    let t = mapped-got _ (unitsBy w k s n [] at) e in
+    omega (arith, walked-few w s at n, units-end w k s n at (t .read), t .same)

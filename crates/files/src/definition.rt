@@ -10,13 +10,17 @@ use front::FrontRead;
 use front::read_front;
 use front::skip_floats;
 use units::REMEMBERED;
+use units::Run;
 use units::read_units;
+use words::wide;
 ghost use mathlib.Core.Path.{_≡_};
 ghost use Rattle.fields.specs.Answers.{stepOf};
-ghost use Rattle.format.specs.Read.{ending, repeat};
+ghost use Rattle.format.specs.Read.{ending, mapRead, repeat};
 ghost use lib.ListN.{length};
 ghost use Rattle.format.specs.Reader.{variant, definitionBy};
+ghost use Rattle.units.specs.Answers.{runOf};
 ghost use Rattle.units.specs.Units.{remembered};
+ghost use Rattle.encoding.specs.Encoding.{fieldsIn};
 
 // One variant, in a definition of so many parameters.
 pub fn read_variant(s: &[u8], cursor: Cursor, parameters: u32) -> Step
@@ -48,33 +52,34 @@ pub fn read_variants(s: &[u8], cursor: Cursor, parameters: u32, count: u32) -> S
     Step::Next(Cursor { at: at })
 }
 
-// The next definition. What the lent ring holds before and after it says nothing.
-pub(crate) fn next_definition(s: &[u8], cursor: Cursor, width: Width, outs: &mut [u32; REMEMBERED]) -> Step
+// The next definition: how many counts and indices it has, and the next cursor. What the lent ring holds before and after it says
+// nothing.
+pub(crate) fn next_definition(s: &[u8], cursor: Cursor, width: Width, outs: &mut [u32; REMEMBERED]) -> Run
     requires { ⌜ length (now outs) ≡ remembered ⌝ }
-    ensures { λ r. ⌜ (stepOf r ≡ ending (definitionBy width (now (s .entry)) (cursor .at))) × (length (now (outs .exit)) ≡ remembered) ⌝ }
+    ensures { λ r. ⌜ (runOf r ≡ mapRead fieldsIn (definitionBy width (now (s .entry)) (cursor .at))) × (length (now (outs .exit)) ≡ remembered) ⌝ }
 {
     match read_front(s, cursor, width) {
         FrontRead::Value(counts, p1) => match p1.count_to(s, width, HIGHEST) {
             Number::Value(units, p2) => {
-                let p3 = match read_units(s, p2, width, counts.constants, units, outs) {
-                    Step::Next(next) => next,
-                    Step::Bad(refusal, place) => {
-                        return Step::Bad(refusal, place);
-                    }
-                };
-                match p3.short_count_to(s, HIGHEST_SHORT) {
-                    Number::Value(variants, p4) => read_variants(
-                        s,
-                        p4,
-                        counts.parameters,
-                        variants,
-                    ),
-                    Number::Bad(refusal, place) => Step::Bad(refusal, place),
+                match read_units(s, p2, width, counts.constants, units, outs) {
+                    Run::Next(fields, p3) => match p3.short_count_to(s, HIGHEST_SHORT) {
+                        Number::Value(variants, p4) => {
+                            match read_variants(s, p4, counts.parameters, variants) {
+                                Step::Next(next) => {
+                                    let names = counts.names;
+                                    Run::Next(4 + wide(names) + fields, next)
+                                }
+                                Step::Bad(refusal, place) => Run::Bad(refusal, place),
+                            }
+                        }
+                        Number::Bad(refusal, place) => Run::Bad(refusal, place),
+                    },
+                    Run::Bad(refusal, place) => Run::Bad(refusal, place),
                 }
             }
-            Number::Bad(refusal, place) => Step::Bad(refusal, place),
+            Number::Bad(refusal, place) => Run::Bad(refusal, place),
         },
-        FrontRead::Bad(refusal, place) => Step::Bad(refusal, place),
+        FrontRead::Bad(refusal, place) => Run::Bad(refusal, place),
     }
 }
 
@@ -83,5 +88,8 @@ pub fn read_definition(s: &[u8], cursor: Cursor, width: Width) -> Step
     ensures { λ r. ⌜ stepOf r ≡ ending (definitionBy width (now (s .entry)) (cursor .at)) ⌝ }
 {
     let mut outs = [0; REMEMBERED];
-    next_definition(s, cursor, width, &mut outs)
+    match next_definition(s, cursor, width, &mut outs) {
+        Run::Next(fields, next) => Step::Next(next),
+        Run::Bad(refusal, place) => Step::Bad(refusal, place),
+    }
 }

@@ -14,18 +14,19 @@ use format::FIRST_VERSION;
 use format::MOST_DEFINITIONS;
 use format::Width;
 use units::REMEMBERED;
+use units::Run;
 use words::wide;
 ghost use mathlib.Core.Path.{_≡_};
-ghost use Prim.Native.Nat.{_≤_};
+ghost use Prim.Native.Nat.{_+_, _*_, _≤_};
 ghost use mathlib.Core.List.{[]};
 ghost use lib.ListN.{length, take};
 ghost use Rattle.fields.specs.Answers.{numberOf, stepOf};
 ghost use Rattle.format.specs.Fields.{stringAt};
 ghost use Rattle.format.specs.Read.{ending, mapRead};
-ghost use Rattle.format.specs.Reader.{Header, mostDefinitions, among, isVersion, readHeader, readDefinitions, readFile};
+ghost use Rattle.format.specs.Reader.{Header, mostDefinitions, sameName, among, isVersion, readHeader, readDefinitions, readFile};
 ghost use Rattle.format.specs.HeaderLaws.{fileWidth};
 ghost use Rattle.units.specs.Units.{remembered};
-ghost use Rattle.files.specs.File.{Begun, verdict, namesFrom, skipFitting};
+ghost use Rattle.files.specs.File.{Begun, Named, verdict, namesFrom, skipFitting};
 
 // A file is accepted, and has so many definitions; or it is refused, at a place.
 pub enum Checked {
@@ -81,14 +82,37 @@ fn read_header(s: &[u8]) -> Number
     }
 }
 
+// The length and the first letter of a name, as one number.
+fn name_key(size: u8, first: u8) -> u32
+    ensures { λ r. ⌜ r ≡ 256 * size + first ⌝ }
+{
+    let high = size as u32;
+    let low = first as u32;
+    256 * high + low
+}
+
+// Whether the names at two places are the same, the second of which lies whole in the file and is not empty. The two bytes at their
+// starts tell most names apart.
+fn same_names(s: &[u8], other: usize, at: usize) -> bool
+    requires { ⌜ Named (now s) at ⌝ }
+    ensures { λ r. ⌜ r ≡ sameName (stringAt (now (s .entry)) other) (stringAt (now (s .entry)) at) ⌝ }
+{
+    if other < at {
+        if name_key(s[other], s[other + 1]) != name_key(s[at], s[at + 1]) {
+            return false;
+        }
+    }
+    same_name(name_at(s, other), name_at(s, at))
+}
+
 // The name of the definition at a place is that of one of those that start at the first so many of `starts`.
 fn name_among(s: &[u8], at: usize, starts: &[usize; MOST_DEFINITIONS], count: usize) -> bool
-    requires { ⌜ Begun (now starts) count ⌝ }
+    requires { ⌜ Begun (now starts) count × Named (now s) at ⌝ }
     ensures { λ r. ⌜ r ≡ among (stringAt (now (s .entry)) at) (namesFrom (now (s .entry)) (take count (now (starts .entry)))) ⌝ }
 {
     let mut i = 0;
     while i < count {
-        if same_name(name_at(s, starts[i]), name_at(s, at)) {
+        if same_names(s, starts[i], at) {
             return true;
         }
         i += 1;
@@ -110,9 +134,9 @@ fn read_fitting(
 {
     let at = cursor.at;
     match next_definition(s, cursor, width, outs) {
-        Step::Next(next) => {
+        Run::Next(fields, next) => {
             let end = next.at;
-            if too_long(s, at, end, width) {
+            if too_long(s, at, end, width, fields) {
                 return Step::Bad(Fault::TooLong, at);
             }
             if name_among(s, at, starts, count) {
@@ -120,7 +144,7 @@ fn read_fitting(
             }
             Step::Next(next)
         }
-        Step::Bad(refusal, place) => Step::Bad(refusal, place),
+        Run::Bad(refusal, place) => Step::Bad(refusal, place),
     }
 }
 

@@ -56,6 +56,18 @@ place-behind w s start m (suc n) =
     let e : m + suc n ≡ suc (m + n) = omega arith in
     ap (unitEnd w s) (place-behind w s start m n) ∙ rw e
 
+-- how many counts and indices the first n units have: of each the counts of its inputs and outputs, and two indices of each input
+unfoldable pub walked : Width → List ℕ → ℕ → ℕ → ℕ
+walked w s start zero = 0
+walked w s start (suc n) = walked w s start n + (2 + 2 * unitInputs w s (unitPlace w s start n))
+
+-- each takes at least two bytes
+pub walked-few : (w : Width) (s : List ℕ) (start n : ℕ) → start + 2 * walked w s start n ≤ unitPlace w s start n
+unfolding walked unitPlace unitEnd unitCounts
+walked-few w s start zero = omega arith
+walked-few Short s start (suc n) = omega (arith, walked-few Short s start n)
+walked-few Long s start (suc n) = omega (arith, walked-few Long s start n)
+
 -- the most marks of a definition
 abbrev pub mostMarks : ℕ
 mostMarks = 262144

@@ -12,7 +12,7 @@ use Rattle.format.specs.Definition.{UnitSpec}
 use Rattle.format.specs.Reader.{unitBy, unitsBy}
 use Rattle.format.specs.RepeatLaws.{went-on, got-value, got-place}
 use Rattle.units.specs.Marks.{unitPlace}
-use Rattle.units.specs.Units.{outsFrom, unit-shape}
+use Rattle.units.specs.Units.{countsOf, outsFrom, unit-shape}
 
 -- a unit that was read, behind i others, and what is left behind it
 pub record UnitRead (w : Width) (k : ℕ) (s : List ℕ) (start n i : ℕ) (us : List UnitSpec) (end : ℕ) : Type 0 where
@@ -33,7 +33,7 @@ module _ (w : Width) (k : ℕ) (s : List ℕ) (n start : ℕ) {us : List UnitSpe
   next-unit i m e l h =
       went-on (unitBy w k (outsFrom w s start i) s (unitPlace w s start i)) _ (rw e at h) (λ u next e1 r1.
       went-on (unitsBy w k s m (outsFrom w s start i ++ (length (u .outputs) ∷ [])) next) _ r1 (λ more last e2 r2.
-      let shape = unit-shape w k (outsFrom w s start i) s (unitPlace w s start i) (ap (mapRead (λ (x : UnitSpec). length (x .outputs))) e1) in
+      let shape = unit-shape w k (outsFrom w s start i) s (unitPlace w s start i) (ap (mapRead countsOf) e1) in
       let all : u ∷ more ≡ drop i us = got-value r2 in
       let tail : drop (suc i) us ≡ more = drop-more i us (sym all) in
       record {

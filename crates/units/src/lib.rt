@@ -11,14 +11,14 @@ use format::Width;
 use words::wide;
 ghost use Prim.Native.Nat.{_≤_, _<_};
 ghost use mathlib.Core.Path.{_≡_};
-ghost use mathlib.Core.List.{[]};
 ghost use lib.ListN.{length};
-ghost use Rattle.fields.specs.Answers.{numberOf, stepOf};
+ghost use Rattle.fields.specs.Answers.{stepOf};
 ghost use Rattle.format.specs.Fields.{sizeOf, rate, indexBelowBy};
 ghost use Rattle.format.specs.Read.{ending, repeat};
-ghost use Rattle.format.specs.Reader.{inputBy, unitsBy};
+ghost use Rattle.format.specs.Reader.{inputBy};
 ghost use Rattle.units.specs.Marks.{unitCounts, unitInputs, unitOutputs, unitEnd, unitPlace, mostMarks, Marked, Marking};
-ghost use Rattle.units.specs.Units.{remembered, outsFrom, skipUnit, Remembered, Stood, Ran};
+ghost use Rattle.units.specs.Answers.{unitOf, runOf};
+ghost use Rattle.units.specs.Units.{remembered, outsFrom, skipUnit, countUnits, Remembered, Stood, Ran};
 
 // The outputs of the last so many units are remembered. In version 2 a unit takes at least 12 bytes and a definition 20
 // besides, so a definition within the size limit has fewer units than this.
@@ -29,6 +29,18 @@ pub const REMEMBERED: usize = 256;
 const MANY_MARKS: usize = 65536;
 
 const MOST_MARKS: usize = 262144;
+
+// How many counts and indices the units have that were read, and the next cursor; or the refusal and its place.
+pub enum Run {
+    Next(usize, Cursor),
+    Bad(Fault, usize),
+}
+
+// How many inputs and outputs a unit has, and the next cursor; or the refusal and its place.
+pub enum UnitRead {
+    Value(u32, u32, Cursor),
+    Bad(Fault, usize),
+}
 
 // How many bytes a count or an index takes.
 pub fn field_size(width: Width) -> usize
@@ -224,7 +236,7 @@ fn read_rates(s: &[u8], cursor: Cursor, count: u32) -> Step
     Step::Next(Cursor { at: at })
 }
 
-// A unit behind so many others: how many outputs it has, and the next cursor.
+// A unit behind so many others: how many inputs and outputs it has, and the next cursor.
 fn read_unit(
     s: &[u8],
     cursor: Cursor,
@@ -235,20 +247,20 @@ fn read_unit(
     outs: &[u32; REMEMBERED],
     stride: u32,
     marks: &[u32],
-) -> Number
+) -> UnitRead
     requires { ⌜ Remembered width (now s) start units (now outs) stride (now marks) ⌝ }
-    ensures { λ r. ⌜ numberOf r ≡ skipUnit width constants (outsFrom width (now (s .entry)) start units) (now (s .entry)) (cursor .at) ⌝ }
+    ensures { λ r. ⌜ unitOf r ≡ skipUnit width constants (outsFrom width (now (s .entry)) start units) (now (s .entry)) (cursor .at) ⌝ }
 {
     let p1 = match cursor.name(s) {
         Text::Value(_, next) => next,
         Text::Bad(refusal, place) => {
-            return Number::Bad(refusal, place);
+            return UnitRead::Bad(refusal, place);
         }
     };
     let p2 = match p1.rate(s) {
         Number::Value(_, next) => next,
         Number::Bad(refusal, place) => {
-            return Number::Bad(refusal, place);
+            return UnitRead::Bad(refusal, place);
         }
     };
     match p2.count_to(s, width, HIGHEST) {
@@ -257,7 +269,7 @@ fn read_unit(
                 let p5 = match p4.int16(s) {
                     Number::Value(_, next) => next,
                     Number::Bad(refusal, place) => {
-                        return Number::Bad(refusal, place);
+                        return UnitRead::Bad(refusal, place);
                     }
                 };
                 let p6 = match read_inputs(
@@ -274,17 +286,17 @@ fn read_unit(
                 ) {
                     Step::Next(next) => next,
                     Step::Bad(refusal, place) => {
-                        return Number::Bad(refusal, place);
+                        return UnitRead::Bad(refusal, place);
                     }
                 };
                 match read_rates(s, p6, outputs) {
-                    Step::Next(end) => Number::Value(outputs, end),
-                    Step::Bad(refusal, place) => Number::Bad(refusal, place),
+                    Step::Next(end) => UnitRead::Value(inputs, outputs, end),
+                    Step::Bad(refusal, place) => UnitRead::Bad(refusal, place),
                 }
             }
-            Number::Bad(refusal, place) => Number::Bad(refusal, place),
+            Number::Bad(refusal, place) => UnitRead::Bad(refusal, place),
         },
-        Number::Bad(refusal, place) => Number::Bad(refusal, place),
+        Number::Bad(refusal, place) => UnitRead::Bad(refusal, place),
     }
 }
 
@@ -306,7 +318,8 @@ fn mark_unit(marks: &mut [u32], known: usize, stride: u32, unit: u32, place: usi
     known + 1
 }
 
-// The units from one number to another, of a definition whose first unit starts at a place.
+// The units from one number to another, of a definition whose first unit starts at a place; those before them have so many counts and
+// indices.
 fn read_run(
     s: &[u8],
     cursor: Cursor,
@@ -315,13 +328,15 @@ fn read_run(
     start: usize,
     from: u32,
     to: u32,
+    before: usize,
     outs: &mut [u32; REMEMBERED],
     stride: u32,
     marks: &[u32],
-) -> Step
-    requires { ⌜ (from ≤ to) × Stood width (now s) start (now outs) stride (now marks) (cursor .at) from ⌝ }
-    ensures { λ r. ⌜ Ran width constants (now (s .entry)) start from to (cursor .at) stride (now (marks .entry)) (now (outs .exit)) (stepOf r) ⌝ }
+) -> Run
+    requires { ⌜ (from ≤ to) × Stood width (now s) start (now outs) stride (now marks) (cursor .at) from before ⌝ }
+    ensures { λ r. ⌜ Ran width constants (now (s .entry)) start from to (cursor .at) stride (now (marks .entry)) (now (outs .exit)) (runOf r) ⌝ }
 {
+    let mut fields = before;
     let mut at = cursor.at;
     let mut i = from;
     while i < to {
@@ -336,17 +351,18 @@ fn read_run(
             stride,
             marks,
         ) {
-            Number::Value(outputs, next) => {
+            UnitRead::Value(inputs, outputs, next) => {
+                fields += 2 + 2 * wide(inputs);
                 at = next.at;
                 outs[wide(i) % REMEMBERED] = outputs;
             }
-            Number::Bad(refusal, place) => {
-                return Step::Bad(refusal, place);
+            UnitRead::Bad(refusal, place) => {
+                return Run::Bad(refusal, place);
             }
         }
         i += 1;
     }
-    Step::Next(Cursor { at: at })
+    Run::Next(fields, Cursor { at: at })
 }
 
 // So many units, the first of a definition, with no marks. What the lent ring holds before and after it says nothing.
@@ -357,9 +373,9 @@ fn read_few(
     constants: u32,
     count: u32,
     outs: &mut [u32; REMEMBERED],
-) -> Step
+) -> Run
     requires { ⌜ length (now outs) ≡ remembered ⌝ }
-    ensures { λ r. ⌜ (stepOf r ≡ ending (unitsBy width constants (now (s .entry)) count [] (cursor .at))) × (length (now (outs .exit)) ≡ remembered) ⌝ }
+    ensures { λ r. ⌜ (runOf r ≡ countUnits width constants (now (s .entry)) count (cursor .at)) × (length (now (outs .exit)) ≡ remembered) ⌝ }
 {
     let marks = [0u32; 1];
     read_run(
@@ -370,6 +386,7 @@ fn read_few(
         cursor.at,
         0,
         count,
+        0,
         outs,
         1,
         &marks[..0],
@@ -396,13 +413,14 @@ fn read_marked(
     count: u32,
     stride: u32,
     marks: &mut [u32],
-) -> Step
+) -> Run
     requires { ⌜ (0 < stride) × (length (now marks) ≤ mostMarks) ⌝ }
-    ensures { λ r. ⌜ stepOf r ≡ ending (unitsBy width constants (now (s .entry)) count [] (cursor .at)) ⌝ }
+    ensures { λ r. ⌜ runOf r ≡ countUnits width constants (now (s .entry)) count (cursor .at) ⌝ }
 {
     let start = cursor.at;
     let mut outs = [0; REMEMBERED];
     let mut known = 0;
+    let mut fields = 0;
     let mut at = start;
     let mut i = 0;
     while i < count {
@@ -416,20 +434,22 @@ fn read_marked(
             start,
             i,
             to,
+            fields,
             &mut outs,
             stride,
             &marks[..known],
         ) {
-            Step::Next(next) => {
+            Run::Next(counted, next) => {
+                fields = counted;
                 at = next.at;
             }
-            Step::Bad(refusal, place) => {
-                return Step::Bad(refusal, place);
+            Run::Bad(refusal, place) => {
+                return Run::Bad(refusal, place);
             }
         }
         i = to;
     }
-    Step::Next(Cursor { at: at })
+    Run::Next(fields, Cursor { at: at })
 }
 
 // So many units, the first of a definition, with as many marks as there are at most.
@@ -440,9 +460,9 @@ fn read_most(
     constants: u32,
     count: u32,
     stride: u32,
-) -> Step
+) -> Run
     requires { ⌜ 0 < stride ⌝ }
-    ensures { λ r. ⌜ stepOf r ≡ ending (unitsBy width constants (now (s .entry)) count [] (cursor .at)) ⌝ }
+    ensures { λ r. ⌜ runOf r ≡ countUnits width constants (now (s .entry)) count (cursor .at) ⌝ }
 {
     let mut marks = [0u32; MOST_MARKS];
     read_marked(s, cursor, width, constants, count, stride, &mut marks)
@@ -457,8 +477,8 @@ fn read_many(
     constants: u32,
     count: u32,
     most: usize,
-) -> Step
-    ensures { λ r. ⌜ stepOf r ≡ ending (unitsBy width constants (now (s .entry)) count [] (cursor .at)) ⌝ }
+) -> Run
+    ensures { λ r. ⌜ runOf r ≡ countUnits width constants (now (s .entry)) count (cursor .at) ⌝ }
 {
     if wide(count) < most {
         return read_many(s, cursor, width, constants, count, wide(count));
@@ -479,9 +499,9 @@ pub fn read_units(
     constants: u32,
     count: u32,
     outs: &mut [u32; REMEMBERED],
-) -> Step
+) -> Run
     requires { ⌜ length (now outs) ≡ remembered ⌝ }
-    ensures { λ r. ⌜ (stepOf r ≡ ending (unitsBy width constants (now (s .entry)) count [] (cursor .at))) × (length (now (outs .exit)) ≡ remembered) ⌝ }
+    ensures { λ r. ⌜ (runOf r ≡ countUnits width constants (now (s .entry)) count (cursor .at)) × (length (now (outs .exit)) ≡ remembered) ⌝ }
 {
     let at = cursor.at;
     if REMEMBERED < wide(count) {

@@ -10,10 +10,10 @@ use Rattle.units.proofs.read_marked.Statement.{statement}
 use Rattle.units.proofs.read_marked.Tie as tie
 
 abbrev Inv-loop : tie.InvT-loop
-Inv-loop s width constants count stride marks₀ start outs₀ known₀ at₀ i₀ marks outs known at i = Standing width constants s start count outs stride marks known at i × (length marks ≡ length marks₀)
+Inv-loop s width constants count stride marks₀ start outs₀ known₀ fields₀ at₀ i₀ marks outs known fields at i = Standing width constants s start count outs stride marks known at i fields × (length marks ≡ length marks₀)
 
 abbrev μ-loop : tie.MeasureT-loop
-μ-loop s width constants count stride marks₀ start outs₀ known₀ at₀ i₀ marks outs known at i = count - i
+μ-loop s width constants count stride marks₀ start outs₀ known₀ fields₀ at₀ i₀ marks outs known fields at i = count - i
 
 loop-holds : tie.Need-loop-holds Inv-loop μ-loop
 loop-holds c =
@@ -59,8 +59,8 @@ read-run-requires c κs =
     let st = stands-marked (a .width) (a .constants) (a .s .now) (a .cursor .at) (a .count) (l .inv .0) m in
     (omega (arith, c .before .before .run-end .ensures), st .stood)
 
-enum-known-next : tie.Need-enum-known-next Inv-loop μ-loop
-enum-known-next c = search needs
+enum-known-counted : tie.Need-enum-known-counted Inv-loop μ-loop
+enum-known-counted c = search needs
 
 enum-known-refusal : tie.Need-enum-known-refusal Inv-loop μ-loop
 enum-known-refusal c = search needs
@@ -88,7 +88,7 @@ loop-again c =
     let m = c .before .before .before .before .before .before .before .before .before .mark-unit .ensures in
     let st = stands-marked (a .width) (a .constants) (a .s .now) (a .cursor .at) (a .count) (l .inv .0) m in
     let to = c .before .before .before .before .before .before .run-end .ensures in
-    let found = rw (c .before .next .given .1) at (c .before .before .before .read-run .ensures) in
+    let found = rw (c .before .counted .given .1) at (c .before .before .before .read-run .ensures) in
     (stands-next (a .width) (a .constants) (a .s .now) (a .cursor .at) (a .count) st _ (omega (arith, to)) (to .1) found, marking-same m ∙ l .inv .1)
 
 same-length-2 : tie.Need-same-length-2 Inv-loop μ-loop
@@ -112,7 +112,7 @@ read-marked-spec =
     slice-reshare-prefix-read-run
     slice-aggregate-read-run
     read-run-requires
-    enum-known-next
+    enum-known-counted
     enum-known-refusal
     same-length
     returns

@@ -4,19 +4,19 @@ use native.Mathlib.Omega.{arith}
 use borrow.Author.Needs.{needs}
 use Rattle.format.specs.Read.{ending}
 use Rattle.format.specs.Reader.{unitsBy}
-use Rattle.units.specs.Units.{outsFrom, Stood, Ran, run-stood, run-next, run-bad}
+use Rattle.units.specs.Units.{outsFrom, Stood, Ran, run-few, run-stood, run-next, run-bad}
 use Rattle.units.proofs.read_run.Statement.{statement}
 use Rattle.units.proofs.read_run.Tie as tie
 
 abbrev Inv-loop : tie.InvT-loop
-Inv-loop s width constants start from to outs₀ stride marks at₀ i₀ outs at i =
+Inv-loop s width constants start from to before outs₀ stride marks fields₀ at₀ i₀ outs fields at i =
     (from ≤ i)
     × (i ≤ to)
-    × Stood width s start outs stride marks at i
+    × Stood width s start outs stride marks at i fields
     × ((n : ℕ) → ending (unitsBy width constants s ((to - i) + n) (outsFrom width s start i) at) ≡ ending (unitsBy width constants s ((to - from) + n) (outsFrom width s start from) at₀))
 
 abbrev μ-loop : tie.MeasureT-loop
-μ-loop s width constants start from to outs₀ stride marks at₀ i₀ outs at i = to - i
+μ-loop s width constants start from to before outs₀ stride marks fields₀ at₀ i₀ outs fields at i = to - i
 
 loop-holds : tie.Need-loop-holds Inv-loop μ-loop
 loop-holds c =
@@ -26,11 +26,27 @@ loop-holds c =
 read-unit-requires : tie.Need-read-unit-requires Inv-loop μ-loop
 read-unit-requires c κs = c .before .before .loop .inv .2 .before
 
-enum-known-outputs : tie.Need-enum-known-outputs Inv-loop μ-loop
-enum-known-outputs c = search needs
+enum-known-inputs : tie.Need-enum-known-inputs Inv-loop μ-loop
+enum-known-inputs c = search needs
 
 wide-requires : tie.Need-wide-requires Inv-loop μ-loop
 wide-requires c κs = search needs
+
+mul-fields : tie.Need-mul-fields Inv-loop μ-loop
+mul-fields c = omega arith
+
+add-fields : tie.Need-add-fields Inv-loop μ-loop
+add-fields c = omega arith
+
+add-fields-2 : tie.Need-add-fields-2 Inv-loop μ-loop
+add-fields-2 c =
+    let a = c .before .before .before .before .before .before .before .before .before .before .args in
+    let l = c .before .before .before .before .before .before .before .loop in
+    let found = sym (rw (c .before .before .inputs .given .1) at (c .before .before .before .before .read-unit .ensures)) in
+    omega (arith, c .wide .ensures, run-few (a .width) (a .constants) (a .s .now) (a .start) (l .inv .2) found)
+
+wide-requires-2 : tie.Need-wide-requires-2 Inv-loop μ-loop
+wide-requires-2 c κs = search needs
 
 mul-outs : tie.Need-mul-outs Inv-loop μ-loop
 mul-outs c = omega arith
@@ -57,12 +73,12 @@ loop-less c = omega arith
 
 loop-again : tie.Need-loop-again Inv-loop μ-loop
 loop-again c =
-    let a = c .before .before .before .before .before .before .before .before .before .before .args in
-    let l = c .before .before .before .before .before .before .before .loop in
-    let found = sym (rw (c .before .before .outputs .given .1) at (c .before .before .before .before .read-unit .ensures)) in (
+    let a = c .before .before .before .before .before .before .before .before .before .before .before .args in
+    let l = c .before .before .before .before .before .before .before .before .loop in
+    let found = sym (rw (c .before .before .before .inputs .given .1) at (c .before .before .before .before .before .read-unit .ensures)) in (
       omega arith,
       omega arith,
-      rw (c .wide .ensures) (run-stood (a .width) (a .constants) (a .s .now) (a .start) (l .inv .2) found),
+      rw (c .wide2 .ensures, c .before .wide .ensures) (run-stood (a .width) (a .constants) (a .s .now) (a .start) (l .inv .2) found),
       λ n. run-next (a .width) (a .constants) (a .s .now) (a .start) (l .inv .2) ((a .to - l .i) + n) ((a .to - (l .i + 1)) + n) found (omega arith) ∙ l .inv .3 n,
     )
 
@@ -83,8 +99,12 @@ read-run-spec =
     μ-loop
     loop-holds
     read-unit-requires
-    enum-known-outputs
+    enum-known-inputs
     wide-requires
+    mul-fields
+    add-fields
+    add-fields-2
+    wide-requires-2
     mul-outs
     element-write-outs
     enum-known-refusal

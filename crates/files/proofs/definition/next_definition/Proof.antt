@@ -1,6 +1,9 @@
 use mathlib.Core.Path.{sym}
+use native.Mathlib.Omega.{arith}
 use borrow.Author.Needs.{needs}
-use Rattle.files.specs.Skips.{skip-definition}
+use Rattle.format.specs.Reader.{definitionBy}
+use Rattle.encoding.specs.Encoding.{fieldsIn}
+use Rattle.files.specs.Skips.{kept-bad, skip-definition, count-definition, units-few}
 use Rattle.files.proofs.definition.next_definition.Statement.{statement}
 use Rattle.files.proofs.definition.next_definition.Tie as tie
 
@@ -19,19 +22,8 @@ enum-known-units c = search needs
 read-units-requires : tie.Need-read-units-requires
 read-units-requires c κs = c .before .before .before .before .before .before .before .before .before .before .pre
 
-enum-known-next : tie.Need-enum-known-next
-enum-known-next c = search needs
-
-enum-known-refusal : tie.Need-enum-known-refusal
-enum-known-refusal c = search needs
-
-returns : tie.Need-returns
-returns c =
-    let a = c .before .before .before .before .before .before .before .before .before .before .before .before .before .before .args in
-    let e1 = sym (rw (c .before .before .before .before .before .before .before .before .before .before .counts .given .1) at (c .before .before .before .before .before .before .before .before .before .before .before .before .read-front .ensures)) in
-    let e2 = sym (rw (c .before .before .before .before .before .before .units .given .1) at (c .before .before .before .before .before .before .before .before .count-to .ensures)) in
-    let e3 = sym (rw (c .before .refusal .given .1) at (c .before .before .before .read-units .ensures .0)) in
-    (rw (skip-definition (a .width) (a .s .now) (a .cursor .at), e1, e2, e3), c .before .before .before .read-units .ensures .1)
+enum-known-fields : tie.Need-enum-known-fields
+enum-known-fields c = search needs
 
 short-count-to-requires : tie.Need-short-count-to-requires
 short-count-to-requires c κs = search needs
@@ -42,6 +34,24 @@ enum-known-variants c = search needs
 read-variants-requires : tie.Need-read-variants-requires
 read-variants-requires c κs = search needs
 
+enum-known-next : tie.Need-enum-known-next
+enum-known-next c = search needs
+
+wide-requires : tie.Need-wide-requires
+wide-requires c κs = search needs
+
+add-t37 : tie.Need-add-t37
+add-t37 c = search (needs, c .before .before .before .before .before .before .before .before .before .before .before .before .before .before .before .before .before .before .known-told .given)
+
+add-t38 : tie.Need-add-t38
+add-t38 c =
+    let a = c .before .before .before .before .before .before .before .before .before .before .before .before .before .before .before .before .before .before .before .before .before .before .before .args in
+    let e3 = sym (rw (c .before .before .before .before .before .before .before .before .before .before .fields .given .1) at (c .before .before .before .before .before .before .before .before .before .before .before .before .read-units .ensures .0)) in
+    omega (arith, c .before .before .before .before .before .before .before .before .before .before .before .before .before .before .before .before .before .before .known-told .given, units-few (a .width) _ (a .s .now) _ _ e3)
+
+enum-known-refusal : tie.Need-enum-known-refusal
+enum-known-refusal c = search needs
+
 enum-known-refusal-2 : tie.Need-enum-known-refusal-2
 enum-known-refusal-2 c = search needs
 
@@ -51,36 +61,58 @@ enum-known-refusal-3 c = search needs
 enum-known-refusal-4 : tie.Need-enum-known-refusal-4
 enum-known-refusal-4 c = search needs
 
+enum-known-refusal-5 : tie.Need-enum-known-refusal-5
+enum-known-refusal-5 c = search needs
+
+returns : tie.Need-returns
+returns c =
+    let a = c .before .before .before .before .before .before .before .before .before .before .before .before .before .before .before .before .before .before .before .before .before .before .before .args in
+    let e1 = sym (rw (c .before .before .before .before .before .before .before .before .before .before .before .before .before .before .before .before .before .before .before .counts .given .1) at (c .before .before .before .before .before .before .before .before .before .before .before .before .before .before .before .before .before .before .before .before .before .read-front .ensures)) in
+    let e2 = sym (rw (c .before .before .before .before .before .before .before .before .before .before .before .before .before .before .before .units .given .1) at (c .before .before .before .before .before .before .before .before .before .before .before .before .before .before .before .before .before .count-to .ensures)) in
+    let e3 = sym (rw (c .before .before .before .before .before .before .before .before .before .before .fields .given .1) at (c .before .before .before .before .before .before .before .before .before .before .before .before .read-units .ensures .0)) in
+    let e4 = sym (rw (c .before .before .before .before .before .before .variants .given .1) at (c .before .before .before .before .before .before .before .before .short-count-to .ensures)) in
+    let e5 = sym (rw (c .before .before .next .given .1) at (c .before .before .before .before .read-variants .ensures)) in
+    (rw (c .wide .ensures) (sym (count-definition (a .width) (a .s .now) (a .cursor .at) e1 e2 e3 e4 e5)), c .before .before .before .before .before .before .before .before .before .before .before .before .read-units .ensures .1)
+
 returns-2 : tie.Need-returns-2
 returns-2 c =
-    let a = c .before .before .before .before .before .before .before .before .before .before .before .before .before .before .before .before .before .before .before .args in
-    let e1 = sym (rw (c .before .before .before .before .before .before .before .before .before .before .before .before .before .before .before .counts .given .1) at (c .before .before .before .before .before .before .before .before .before .before .before .before .before .before .before .before .before .read-front .ensures)) in
-    let e2 = sym (rw (c .before .before .before .before .before .before .before .before .before .before .before .units .given .1) at (c .before .before .before .before .before .before .before .before .before .before .before .before .before .count-to .ensures)) in
-    let e3 = sym (rw (c .before .before .before .before .before .before .next .given .1) at (c .before .before .before .before .before .before .before .before .read-units .ensures .0)) in
-    let e4 = sym (rw (c .before .before .variants .given .1) at (c .before .before .before .before .short-count-to .ensures)) in
-    (rw (skip-definition (a .width) (a .s .now) (a .cursor .at), e1, e2, e3, e4) (c .read-variants .ensures), c .before .before .before .before .before .before .before .before .read-units .ensures .1)
+    let a = c .before .before .before .before .before .before .before .before .before .before .before .before .before .before .before .before .before .before .before .before .before .before .args in
+    let e1 = sym (rw (c .before .before .before .before .before .before .before .before .before .before .before .before .before .before .before .before .before .before .counts .given .1) at (c .before .before .before .before .before .before .before .before .before .before .before .before .before .before .before .before .before .before .before .before .read-front .ensures)) in
+    let e2 = sym (rw (c .before .before .before .before .before .before .before .before .before .before .before .before .before .before .units .given .1) at (c .before .before .before .before .before .before .before .before .before .before .before .before .before .before .before .before .count-to .ensures)) in
+    let e3 = sym (rw (c .before .before .before .before .before .before .before .before .before .fields .given .1) at (c .before .before .before .before .before .before .before .before .before .before .before .read-units .ensures .0)) in
+    let e4 = sym (rw (c .before .before .before .before .before .variants .given .1) at (c .before .before .before .before .before .before .before .short-count-to .ensures)) in
+    let e5 = sym (rw (c .before .refusal .given .1) at (c .before .before .before .read-variants .ensures)) in
+    (kept-bad fieldsIn (definitionBy (a .width) (a .s .now) (a .cursor .at)) (rw (skip-definition (a .width) (a .s .now) (a .cursor .at), e1, e2, e3, e4, e5)), c .before .before .before .before .before .before .before .before .before .before .before .read-units .ensures .1)
 
 returns-3 : tie.Need-returns-3
 returns-3 c =
     let a = c .before .before .before .before .before .before .before .before .before .before .before .before .before .before .before .before .before .before .args in
     let e1 = sym (rw (c .before .before .before .before .before .before .before .before .before .before .before .before .before .before .counts .given .1) at (c .before .before .before .before .before .before .before .before .before .before .before .before .before .before .before .before .read-front .ensures)) in
     let e2 = sym (rw (c .before .before .before .before .before .before .before .before .before .before .units .given .1) at (c .before .before .before .before .before .before .before .before .before .before .before .before .count-to .ensures)) in
-    let e3 = sym (rw (c .before .before .before .before .before .next .given .1) at (c .before .before .before .before .before .before .before .read-units .ensures .0)) in
+    let e3 = sym (rw (c .before .before .before .before .before .fields .given .1) at (c .before .before .before .before .before .before .before .read-units .ensures .0)) in
     let e4 = sym (rw (c .before .refusal2 .given .1) at (c .before .before .before .short-count-to .ensures)) in
-    (rw (skip-definition (a .width) (a .s .now) (a .cursor .at), e1, e2, e3, e4), c .before .before .before .before .before .before .before .read-units .ensures .1)
+    (kept-bad fieldsIn (definitionBy (a .width) (a .s .now) (a .cursor .at)) (rw (skip-definition (a .width) (a .s .now) (a .cursor .at), e1, e2, e3, e4)), c .before .before .before .before .before .before .before .read-units .ensures .1)
 
 returns-4 : tie.Need-returns-4
 returns-4 c =
-    let a = c .before .before .before .before .before .before .before .before .before .args in
-    let e1 = sym (rw (c .before .before .before .before .before .counts .given .1) at (c .before .before .before .before .before .before .before .read-front .ensures)) in
-    let e2 = sym (rw (c .before .refusal3 .given .1) at (c .before .before .before .count-to .ensures)) in
-    (rw (skip-definition (a .width) (a .s .now) (a .cursor .at), e1, e2), c .before .before .before .before .before .before .before .before .before .pre)
+    let a = c .before .before .before .before .before .before .before .before .before .before .before .before .before .before .args in
+    let e1 = sym (rw (c .before .before .before .before .before .before .before .before .before .before .counts .given .1) at (c .before .before .before .before .before .before .before .before .before .before .before .before .read-front .ensures)) in
+    let e2 = sym (rw (c .before .before .before .before .before .before .units .given .1) at (c .before .before .before .before .before .before .before .before .count-to .ensures)) in
+    let e3 = sym (rw (c .before .refusal3 .given .1) at (c .before .before .before .read-units .ensures .0)) in
+    (kept-bad fieldsIn (definitionBy (a .width) (a .s .now) (a .cursor .at)) (rw (skip-definition (a .width) (a .s .now) (a .cursor .at), e1, e2, e3)), c .before .before .before .read-units .ensures .1)
 
 returns-5 : tie.Need-returns-5
 returns-5 c =
+    let a = c .before .before .before .before .before .before .before .before .before .args in
+    let e1 = sym (rw (c .before .before .before .before .before .counts .given .1) at (c .before .before .before .before .before .before .before .read-front .ensures)) in
+    let e2 = sym (rw (c .before .refusal4 .given .1) at (c .before .before .before .count-to .ensures)) in
+    (kept-bad fieldsIn (definitionBy (a .width) (a .s .now) (a .cursor .at)) (rw (skip-definition (a .width) (a .s .now) (a .cursor .at), e1, e2)), c .before .before .before .before .before .before .before .before .before .pre)
+
+returns-6 : tie.Need-returns-6
+returns-6 c =
     let a = c .before .before .before .before .before .args in
-    let e1 = sym (rw (c .before .refusal4 .given .1) at (c .before .before .before .read-front .ensures)) in
-    (rw (skip-definition (a .width) (a .s .now) (a .cursor .at), e1), c .before .before .before .before .before .pre)
+    let e1 = sym (rw (c .before .refusal5 .given .1) at (c .before .before .before .read-front .ensures)) in
+    (kept-bad fieldsIn (definitionBy (a .width) (a .s .now) (a .cursor .at)) (rw (skip-definition (a .width) (a .s .now) (a .cursor .at), e1)), c .before .before .before .before .before .pre)
 
 pub next-definition-spec : {M : Type 1} → statement M
 next-definition-spec =
@@ -91,16 +123,22 @@ next-definition-spec =
     count-to-requires
     enum-known-units
     read-units-requires
-    enum-known-next
-    enum-known-refusal
-    returns
+    enum-known-fields
     short-count-to-requires
     enum-known-variants
     read-variants-requires
+    enum-known-next
+    wide-requires
+    add-t37
+    add-t38
+    enum-known-refusal
     enum-known-refusal-2
     enum-known-refusal-3
     enum-known-refusal-4
+    enum-known-refusal-5
+    returns
     returns-2
     returns-3
     returns-4
-    returns-5)
+    returns-5
+    returns-6)

@@ -1,0 +1,30 @@
+use mathlib.Core.Path.{ap, _∙_}
+use borrow.Author.Needs.{needs}
+use Rattle.format.specs.Read.{ending}
+use Rattle.format.specs.Reader.{definitionBy}
+use Rattle.encoding.specs.Encoding.{fieldsIn}
+use Rattle.files.specs.Skips.{kept-ending}
+use Rattle.files.proofs.definition.read_definition.Statement.{statement}
+use Rattle.files.proofs.definition.read_definition.Tie as tie
+
+next-definition-requires : tie.Need-next-definition-requires
+next-definition-requires c κs = search needs
+
+enum-known-fields : tie.Need-enum-known-fields
+enum-known-fields c = search needs
+
+enum-known-refusal : tie.Need-enum-known-refusal
+enum-known-refusal c = search needs
+
+returns : tie.Need-returns
+returns c =
+    let a = c .before .before .before .before .before .before .args in
+    ap ending (rw (c .before .fields .given .1) at (c .before .before .before .next-definition .ensures .0)) ∙ kept-ending fieldsIn (definitionBy (a .width) (a .s .now) (a .cursor .at))
+
+returns-2 : tie.Need-returns-2
+returns-2 c =
+    let a = c .before .before .before .before .before .before .args in
+    ap ending (rw (c .before .refusal .given .1) at (c .before .before .before .next-definition .ensures .0)) ∙ kept-ending fieldsIn (definitionBy (a .width) (a .s .now) (a .cursor .at))
+
+pub read-definition-spec : {M : Type 1} → statement M
+read-definition-spec = tie.close (tie.spec next-definition-requires enum-known-fields enum-known-refusal returns returns-2)
