@@ -9,35 +9,17 @@ use Rattle.calls.specs.Numbers.{room, callNumber}
 use Rattle.calls.proofs.call_number.Statement.{statement}
 use Rattle.calls.proofs.call_number.Tie as tie
 
-enum-told : tie.Need-enum-told
-enum-told c = search needs
-
-enum-known-answer : tie.Need-enum-known-answer
-enum-known-answer c = search needs
-
 placed-requires : tie.Need-placed-requires
 placed-requires c κs = search needs
 
-enum-known-answer-2 : tie.Need-enum-known-answer-2
-enum-known-answer-2 c = search needs
-
 refusal-number-requires : tie.Need-refusal-number-requires
 refusal-number-requires c κs = search needs
-
-cast-result : tie.Need-cast-result
-cast-result c = search needs
-
-enum-known-answer-3 : tie.Need-enum-known-answer-3
-enum-known-answer-3 c = search needs
 
 fault-number-requires : tie.Need-fault-number-requires
 fault-number-requires c κs = search needs
 
 placed-requires-2 : tie.Need-placed-requires-2
 placed-requires-2 c κs = omega (arith, fault-high (c .before .before .answer3 .given .0 .0), c .fault-number .ensures)
-
-returns : tie.Need-returns
-returns c = search needs
 
 returns-2 : tie.Need-returns-2
 returns-2 c = c .placed .ensures ∙ zero-add (256 * (c .before .before .answer .given .0 .0 % room)) ∙ ap callNumber (sym (c .before .before .answer .given .1))
@@ -53,17 +35,6 @@ returns-4 c =
 pub call-number-spec : {M : Type 1} → statement M
 call-number-spec =
     tie.close
-    (tie.spec
-    enum-told
-    enum-known-answer
-    placed-requires
-    enum-known-answer-2
-    refusal-number-requires
-    cast-result
-    enum-known-answer-3
-    fault-number-requires
-    placed-requires-2
-    returns
-    returns-2
-    returns-3
-    returns-4)
+    (tie.spec (λ c. search needs) (λ c. search needs) placed-requires (λ c. search needs) refusal-number-requires
+    (λ c. search needs) (λ c. search needs) fault-number-requires placed-requires-2 (λ c. search needs) returns-2
+    returns-3 returns-4)

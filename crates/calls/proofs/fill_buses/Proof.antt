@@ -19,4 +19,5 @@ returns-3 c =
     none-valued (a .kind) (a .value) (busFilling (a .start) (a .count)) (c .before .if1 .left) (c .if2 .left)
 
 pub fill-buses-spec : {M : Type 1} → statement M
-fill-buses-spec = tie.close (tie.spec returns returns-2 returns-3)
+fill-buses-spec =
+    tie.close (tie.spec returns returns-2 returns-3)

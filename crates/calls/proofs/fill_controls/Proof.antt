@@ -19,4 +19,5 @@ returns-3 c =
     none-valued (a .kind) (a .value) (filling (a .node) (a .key) (a .count)) (c .before .if1 .left) (c .if2 .left)
 
 pub fill-controls-spec : {M : Type 1} → statement M
-fill-controls-spec = tie.close (tie.spec returns returns-2 returns-3)
+fill-controls-spec =
+    tie.close (tie.spec returns returns-2 returns-3)

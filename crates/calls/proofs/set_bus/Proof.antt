@@ -19,4 +19,5 @@ returns-3 c =
     none-valued (a .kind) (a .value) (busSetting (a .bus)) (c .before .if1 .left) (c .if2 .left)
 
 pub set-bus-spec : {M : Type 1} → statement M
-set-bus-spec = tie.close (tie.spec returns returns-2 returns-3)
+set-bus-spec =
+    tie.close (tie.spec returns returns-2 returns-3)

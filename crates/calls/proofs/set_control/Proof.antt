@@ -19,4 +19,5 @@ returns-3 c =
     none-valued (a .kind) (a .value) (setting (a .node) (a .key)) (c .before .if1 .left) (c .if2 .left)
 
 pub set-control-spec : {M : Type 1} → statement M
-set-control-spec = tie.close (tie.spec returns returns-2 returns-3)
+set-control-spec =
+    tie.close (tie.spec returns returns-2 returns-3)

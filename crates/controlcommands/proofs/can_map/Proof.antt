@@ -17,4 +17,5 @@ returns-2 : tie.Need-returns-2
 returns-2 c = sym (rw (ne-eqb (c .before .before .args .bus) 4294967295 (c .before .if1 .left)) (sym (c .is-bus .ensures)))
 
 pub can-map-spec : {M : Type 1} → statement M
-can-map-spec = tie.close (tie.spec returns is-bus-requires returns-2)
+can-map-spec =
+    tie.close (tie.spec returns is-bus-requires returns-2)

@@ -13,23 +13,8 @@ controls-asked-requires c κs =
     let p = c .before .before .before .before .pre in
     (ready-known (a .words .now) (a .arena .now) (p .0), p .1)
 
-enum-told : tie.Need-enum-told
-enum-told c = search needs
-
-slice-read-wide : tie.Need-slice-read-wide
-slice-read-wide c = search needs
-
 wide-requires : tie.Need-wide-requires
 wide-requires c κs = search needs
-
-sub-subtree-end : tie.Need-sub-subtree-end
-sub-subtree-end c = search needs
-
-part-subtree-end-start : tie.Need-part-subtree-end-start
-part-subtree-end-start c = search needs
-
-part-subtree-end-end : tie.Need-part-subtree-end-end
-part-subtree-end-end c = search needs
 
 subtree-end-requires : tie.Need-subtree-end-requires
 subtree-end-requires c κs = search needs
@@ -42,15 +27,6 @@ change-all-requires c κs =
     let end = c .before .subtree-end in
     (ready-known (a .words .now) (a .arena .now) (p .0), run-inside (a .words .now) (a .at) (many .result) (end .result) (p .1) (many .ensures) (end .ensures))
 
-enum-told-2 : tie.Need-enum-told-2
-enum-told-2 c = search needs
-
-enum-told-3 : tie.Need-enum-told-3
-enum-told-3 c = search needs
-
-same-length : tie.Need-same-length
-same-length c = search needs
-
 returns : tie.Need-returns
 returns c =
     let a = c .before .before .before .before .before .before .before .before .before .before .before .before .before .before .before .before .args in
@@ -60,16 +36,10 @@ returns c =
     run-changed (a .change) (a .key) (a .count) (a .bytes .now) (a .at) (a .words .now) (a .arena .now) (many .result) (end .result) (c .before .before .change-all .last .0)
     (sym told ∙ c .before .before .before .before .before .before .before .before .before .before .before .controls-asked .ensures) (many .ensures) (end .ensures) (c .before .before .change-all .ensures)
 
-same-length-2 : tie.Need-same-length-2
-same-length-2 c = search needs
-
 returns-2 : tie.Need-returns-2
 returns-2 c =
     let told : c .before .before .controls-asked .result ≡ Missing = c .enum-told2 .given .1 in
     record { answers = ap answerTo (sym told ∙ c .before .before .controls-asked .ensures); words = refl }
-
-same-length-3 : tie.Need-same-length-3
-same-length-3 c = search needs
 
 returns-3 : tie.Need-returns-3
 returns-3 c =
@@ -79,21 +49,6 @@ returns-3 c =
 pub change-run-spec : {M : Type 1} → statement M
 change-run-spec =
     tie.close
-    (tie.spec
-    controls-asked-requires
-    enum-told
-    slice-read-wide
-    wide-requires
-    sub-subtree-end
-    part-subtree-end-start
-    part-subtree-end-end
-    subtree-end-requires
-    change-all-requires
-    enum-told-2
-    enum-told-3
-    same-length
-    returns
-    same-length-2
-    returns-2
-    same-length-3
-    returns-3)
+    (tie.spec controls-asked-requires (λ c. search needs) (λ c. search needs) wide-requires (λ c. search needs)
+    (λ c. search needs) (λ c. search needs) subtree-end-requires change-all-requires (λ c. search needs)
+    (λ c. search needs) (λ c. search needs) returns (λ c. search needs) returns-2 (λ c. search needs) returns-3)

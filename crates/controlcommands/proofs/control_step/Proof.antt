@@ -8,40 +8,22 @@ use Rattle.controlcommands.specs.Steps.{set-filled}
 use Rattle.controlcommands.proofs.control_step.Statement.{statement}
 use Rattle.controlcommands.proofs.control_step.Tie as tie
 
-enum-known-command : tie.Need-enum-known-command
-enum-known-command c = search needs
-
 fill-controls-requires : tie.Need-fill-controls-requires
 fill-controls-requires c κs = search needs
-
-enum-known-command-2 : tie.Need-enum-known-command-2
-enum-known-command-2 c = search needs
 
 fill-controls-requires-2 : tie.Need-fill-controls-requires-2
 fill-controls-requires-2 c κs = search needs
 
-enum-known-command-3 : tie.Need-enum-known-command-3
-enum-known-command-3 c = search needs
-
 map-control-requires : tie.Need-map-control-requires
 map-control-requires c κs = search needs
-
-same-length : tie.Need-same-length
-same-length c = search needs
 
 returns : tie.Need-returns
 returns c =
     rw (c .before .before .before .before .before .command .given .1)
     (set-filled _ _ _ _ _ _ _ _ (c .before .before .fill-controls .ensures))
 
-same-length-2 : tie.Need-same-length-2
-same-length-2 c = search needs
-
 returns-2 : tie.Need-returns-2
 returns-2 c = rw (c .before .before .before .before .before .command2 .given .1) (c .before .before .fill-controls2 .ensures)
-
-same-length-3 : tie.Need-same-length-3
-same-length-3 c = search needs
 
 returns-3 : tie.Need-returns-3
 returns-3 c = rw (c .before .before .before .before .before .command3 .given .1) (c .before .before .map-control .ensures)
@@ -49,16 +31,6 @@ returns-3 c = rw (c .before .before .before .before .before .command3 .given .1)
 pub control-step-spec : {M : Type 1} → statement M
 control-step-spec =
     tie.close
-    (tie.spec
-    enum-known-command
-    fill-controls-requires
-    enum-known-command-2
-    fill-controls-requires-2
-    enum-known-command-3
-    map-control-requires
-    same-length
-    returns
-    same-length-2
-    returns-2
-    same-length-3
-    returns-3)
+    (tie.spec (λ c. search needs) fill-controls-requires (λ c. search needs) fill-controls-requires-2
+    (λ c. search needs) map-control-requires (λ c. search needs) returns (λ c. search needs) returns-2
+    (λ c. search needs) returns-3)

@@ -17,14 +17,8 @@ node-place-requires c κs =
     let a = c .before .before .before .before .args in
     findable (a .words .now) (a .arena .now) (c .before .before .before .before .pre)
 
-slice-read-wide : tie.Need-slice-read-wide
-slice-read-wide c = search needs
-
 wide-requires : tie.Need-wide-requires
 wide-requires c κs = search needs
-
-same-length : tie.Need-same-length
-same-length c = search needs
 
 returns : tie.Need-returns
 returns c =
@@ -35,26 +29,14 @@ returns c =
 value-pattern-requires : tie.Need-value-pattern-requires
 value-pattern-requires c κs = search needs
 
-enum-known-pattern : tie.Need-enum-known-pattern
-enum-known-pattern c = search needs
-
 change-run-requires : tie.Need-change-run-requires
 change-run-requires c κs = search needs
-
-enum-told : tie.Need-enum-told
-enum-told c = search needs
-
-same-length-2 : tie.Need-same-length-2
-same-length-2 c = search needs
 
 returns-2 : tie.Need-returns-2
 returns-2 c =
     let a = c .before .before .before .before .before .before .before .before .before .before .before .before .before .before .before .before .args in
     fill-ran (a .node) (a .key) (a .bytes .now) (a .words .now) (a .arena .now) (c .before .before .before .before .before .before .before .before .before .before .before .node-place .result) (c .before .before .before .before .before .before .before .before .before .before .before .node-place .ensures) (omega arith) _ _
     (a .count) (a .value) (c .before .before .before .before .before .pattern .given .0 .0) (sym (c .before .before .before .before .before .before .before .value-pattern .ensures) ∙ c .before .before .before .before .before .pattern .given .1) (c .before .before .change-run .ensures)
-
-same-length-3 : tie.Need-same-length-3
-same-length-3 c = search needs
 
 returns-3 : tie.Need-returns-3
 returns-3 c =
@@ -65,17 +47,6 @@ returns-3 c =
 pub fill-controls-spec : {M : Type 1} → statement M
 fill-controls-spec =
     tie.close
-    (tie.spec
-    node-place-requires
-    slice-read-wide
-    wide-requires
-    same-length
-    returns
-    value-pattern-requires
-    enum-known-pattern
-    change-run-requires
-    enum-told
-    same-length-2
-    returns-2
-    same-length-3
+    (tie.spec node-place-requires (λ c. search needs) wide-requires (λ c. search needs) returns value-pattern-requires
+    (λ c. search needs) change-run-requires (λ c. search needs) (λ c. search needs) returns-2 (λ c. search needs)
     returns-3)

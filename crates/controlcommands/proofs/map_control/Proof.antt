@@ -17,14 +17,8 @@ node-place-requires c κs =
     let a = c .before .before .before .before .args in
     findable (a .words .now) (a .arena .now) (c .before .before .before .before .pre)
 
-slice-read-wide : tie.Need-slice-read-wide
-slice-read-wide c = search needs
-
 wide-requires : tie.Need-wide-requires
 wide-requires c κs = search needs
-
-same-length : tie.Need-same-length
-same-length c = search needs
 
 returns : tie.Need-returns
 returns c =
@@ -34,9 +28,6 @@ returns c =
 
 can-map-requires : tie.Need-can-map-requires
 can-map-requires c κs = search needs
-
-same-length-2 : tie.Need-same-length-2
-same-length-2 c = search needs
 
 returns-2 : tie.Need-returns-2
 returns-2 c =
@@ -50,9 +41,6 @@ mapping-to-requires c κs = search needs
 change-run-requires : tie.Need-change-run-requires
 change-run-requires c κs = search needs
 
-same-length-3 : tie.Need-same-length-3
-same-length-3 c = search needs
-
 returns-3 : tie.Need-returns-3
 returns-3 c =
     let a = c .before .before .before .before .before .before .before .before .before .before .before .before .before .before .before .args in
@@ -63,16 +51,5 @@ returns-3 c =
 pub map-control-spec : {M : Type 1} → statement M
 map-control-spec =
     tie.close
-    (tie.spec
-    node-place-requires
-    slice-read-wide
-    wide-requires
-    same-length
-    returns
-    can-map-requires
-    same-length-2
-    returns-2
-    mapping-to-requires
-    change-run-requires
-    same-length-3
-    returns-3)
+    (tie.spec node-place-requires (λ c. search needs) wide-requires (λ c. search needs) returns can-map-requires
+    (λ c. search needs) returns-2 mapping-to-requires change-run-requires (λ c. search needs) returns-3)

@@ -14,4 +14,5 @@ returns-2 : tie.Need-returns-2
 returns-2 c = sym (rw (ne-eqb (c .before .args .bus) 4294967295 (c .if1 .left)))
 
 pub mapping-to-spec : {M : Type 1} → statement M
-mapping-to-spec = tie.close (tie.spec returns returns-2)
+mapping-to-spec =
+    tie.close (tie.spec returns returns-2)

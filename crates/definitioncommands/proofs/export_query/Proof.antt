@@ -8,15 +8,6 @@ use Rattle.definitioncommands.specs.Steps.{formed-table, export-long, ex
 use Rattle.definitioncommands.proofs.export_query.Statement.{statement}
 use Rattle.definitioncommands.proofs.export_query.Tie as tie
 
-sub-export-length : tie.Need-sub-export-length
-sub-export-length c = search needs
-
-part-export-length-start : tie.Need-part-export-length-start
-part-export-length-start c = search needs
-
-part-export-length-end : tie.Need-part-export-length-end
-part-export-length-end c = search needs
-
 export-length-requires : tie.Need-export-length-requires
 export-length-requires c κs =
     let s = c .before .before .before .before in
@@ -28,23 +19,11 @@ returns c =
     let long = c .before .export-length .ensures in
     export-long (a .words .now) (a .arena .now) (a .out .now) (omega arith)
 
-sub-export : tie.Need-sub-export
-sub-export c = search needs
-
-part-export-start : tie.Need-part-export-start
-part-export-start c = search needs
-
-part-export-end : tie.Need-part-export-end
-part-export-end c = search needs
-
 export-requires : tie.Need-export-requires
 export-requires c κs =
     let s = c .before .before .before .before .before .before .before .before in
     let long = c .before .before .before .export-length .ensures in
     (formed-table (s .args .words .now) (s .args .arena .now) (s .pre), omega arith)
-
-same-length : tie.Need-same-length
-same-length c = search needs
 
 returns-2 : tie.Need-returns-2
 returns-2 c =
@@ -54,15 +33,5 @@ returns-2 c =
 pub export-query-spec : {M : Type 1} → statement M
 export-query-spec =
     tie.close
-    (tie.spec
-    sub-export-length
-    part-export-length-start
-    part-export-length-end
-    export-length-requires
-    returns
-    sub-export
-    part-export-start
-    part-export-end
-    export-requires
-    same-length
-    returns-2)
+    (tie.spec (λ c. search needs) (λ c. search needs) (λ c. search needs) export-length-requires returns
+    (λ c. search needs) (λ c. search needs) (λ c. search needs) export-requires (λ c. search needs) returns-2)

@@ -7,32 +7,11 @@ use Rattle.definitioncommands.specs.Steps.{formed-table, receive-full, r
 use Rattle.definitioncommands.proofs.load_file.Statement.{statement}
 use Rattle.definitioncommands.proofs.load_file.Tie as tie
 
-sub-held-slots : tie.Need-sub-held-slots
-sub-held-slots c = search needs
-
-part-held-slots-start : tie.Need-part-held-slots-start
-part-held-slots-start c = search needs
-
-part-held-slots-end : tie.Need-part-held-slots-end
-part-held-slots-end c = search needs
-
-slice-reshared-read-wide : tie.Need-slice-reshared-read-wide
-slice-reshared-read-wide c = search needs
-
 wide-requires : tie.Need-wide-requires
 wide-requires c κs = search needs
 
 held-slots-requires : tie.Need-held-slots-requires
 held-slots-requires c κs = search needs
-
-sub-staying-count : tie.Need-sub-staying-count
-sub-staying-count c = search needs
-
-part-staying-count-start : tie.Need-part-staying-count-start
-part-staying-count-start c = search needs
-
-part-staying-count-end : tie.Need-part-staying-count-end
-part-staying-count-end c = search needs
 
 staying-count-requires : tie.Need-staying-count-requires
 staying-count-requires c κs =
@@ -41,12 +20,6 @@ staying-count-requires c κs =
 
 no-slot-requires : tie.Need-no-slot-requires
 no-slot-requires c κs = search needs
-
-same-length : tie.Need-same-length
-same-length c = search needs
-
-same-length-2 : tie.Need-same-length-2
-same-length-2 c = search needs
 
 returns : tie.Need-returns
 returns c =
@@ -58,25 +31,10 @@ returns c =
     let fact = full-fact (a .bytes .now) (a .words .now) (a .arena .now) (w .wide .result) (a .count) (t .staying-count .result) (h .held-slots .result) (w .wide .ensures) (h .held-slots .ensures) (s .pre .1 .1) (t .staying-count .ensures) in
     receive-full (a .bytes .now) (a .words .now) (a .arena .now) (s .pre .1 .0) (sym fact ∙ sym (c .before .no-slot .ensures) ∙ c .if1 .taken)
 
-sub-load : tie.Need-sub-load
-sub-load c = search needs
-
-part-load-start : tie.Need-part-load-start
-part-load-start c = search needs
-
-part-load-end : tie.Need-part-load-end
-part-load-end c = search needs
-
 load-requires : tie.Need-load-requires
 load-requires c κs =
     let s = c .before .before .before .before .before .before .before .before .before .before .before .before .before .before .before in
     (formed-table (s .args .words .now) (s .args .arena .now) (s .pre .0), s .pre .1 .0)
-
-same-length-3 : tie.Need-same-length-3
-same-length-3 c = search needs
-
-same-length-4 : tie.Need-same-length-4
-same-length-4 c = search needs
 
 returns-2 : tie.Need-returns-2
 returns-2 c =
@@ -95,25 +53,7 @@ returns-2 c =
 pub load-file-spec : {M : Type 1} → statement M
 load-file-spec =
     tie.close
-    (tie.spec
-    sub-held-slots
-    part-held-slots-start
-    part-held-slots-end
-    slice-reshared-read-wide
-    wide-requires
-    held-slots-requires
-    sub-staying-count
-    part-staying-count-start
-    part-staying-count-end
-    staying-count-requires
-    no-slot-requires
-    same-length
-    same-length-2
-    returns
-    sub-load
-    part-load-start
-    part-load-end
-    load-requires
-    same-length-3
-    same-length-4
-    returns-2)
+    (tie.spec (λ c. search needs) (λ c. search needs) (λ c. search needs) (λ c. search needs) wide-requires
+    held-slots-requires (λ c. search needs) (λ c. search needs) (λ c. search needs) staying-count-requires
+    no-slot-requires (λ c. search needs) (λ c. search needs) returns (λ c. search needs) (λ c. search needs)
+    (λ c. search needs) load-requires (λ c. search needs) (λ c. search needs) returns-2)

@@ -23,4 +23,5 @@ returns-2 : tie.Need-returns-2
 returns-2 c = ap₂ (λ (x y : ℕ). ltb (32 - x) y) (c .before .before .wide .ensures) (c .wide2 .ensures)
 
 pub no-slot-spec : {M : Type 1} → statement M
-no-slot-spec = tie.close (tie.spec wide-requires returns wide-requires-2 returns-2)
+no-slot-spec =
+    tie.close (tie.spec wide-requires returns wide-requires-2 returns-2)

@@ -11,25 +11,10 @@ use Rattle.definitioncommands.proofs.receive.Tie as tie
 check-file-requires : tie.Need-check-file-requires
 check-file-requires c κs = search needs
 
-enum-known-count : tie.Need-enum-known-count
-enum-known-count c = search needs
-
 load-file-requires : tie.Need-load-file-requires
 load-file-requires c κs =
     let s = c .before .before .before .before .before .before .before .before .before in
     (s .pre, verdict-got (readFile (s .args .bytes .now)) (sym (c .before .before .before .before .before .check-file .ensures) ∙ c .before .before .before .count .given .1))
-
-enum-known-fault : tie.Need-enum-known-fault
-enum-known-fault c = search needs
-
-same-length : tie.Need-same-length
-same-length c = search needs
-
-same-length-2 : tie.Need-same-length-2
-same-length-2 c = search needs
-
-returns : tie.Need-returns
-returns c = search needs
 
 returns-2 : tie.Need-returns-2
 returns-2 c =
@@ -39,12 +24,5 @@ returns-2 c =
 pub receive-spec : {M : Type 1} → statement M
 receive-spec =
     tie.close
-    (tie.spec
-    check-file-requires
-    enum-known-count
-    load-file-requires
-    enum-known-fault
-    same-length
-    same-length-2
-    returns
-    returns-2)
+    (tie.spec check-file-requires (λ c. search needs) load-file-requires (λ c. search needs) (λ c. search needs)
+    (λ c. search needs) (λ c. search needs) returns-2)

@@ -14,12 +14,6 @@ use Rattle.definitions.specs.Checking.{endsAt, bytes-read}
 use Rattle.definitions.proofs.bytes_formed.Statement.{statement}
 use Rattle.definitions.proofs.bytes_formed.Tie as tie
 
-mul-wide : tie.Need-mul-wide
-mul-wide c = omega arith
-
-shared-slice-read-wide : tie.Need-shared-slice-read-wide
-shared-slice-read-wide c = omega arith
-
 wide-requires : tie.Need-wide-requires
 wide-requires c κs = tt
 
@@ -34,12 +28,6 @@ bytes-on-requires c κs = tt
 
 read-definition-requires : tie.Need-read-definition-requires
 read-definition-requires c κs = tt
-
-enum-known-next : tie.Need-enum-known-next
-enum-known-next c = search needs
-
-enum-known-refusal : tie.Need-enum-known-refusal
-enum-known-refusal c = search needs
 
 returns-2 : tie.Need-returns-2
 returns-2 c =
@@ -63,14 +51,5 @@ returns-3 c =
 pub bytes-formed-spec : {M : Type 1} → statement M
 bytes-formed-spec =
     tie.close
-    (tie.spec
-    mul-wide
-    shared-slice-read-wide
-    wide-requires
-    returns
-    bytes-on-requires
-    read-definition-requires
-    enum-known-next
-    enum-known-refusal
-    returns-2
-    returns-3)
+    (tie.spec (λ c. omega arith) (λ c. omega arith) wide-requires returns bytes-on-requires read-definition-requires
+    (λ c. search needs) (λ c. search needs) returns-2 returns-3)

@@ -28,32 +28,8 @@ abbrev μ-loop : tie.MeasureT-loop
 loop-holds : tie.Need-loop-holds Inv-loop μ-loop
 loop-holds c = (omega arith, (omega arith, λ arena names n. zero-add (staying 0 names (slotsOn (c .before .args .table .now) arena) (holders (c .before .args .t2)))))
 
-add-stays : tie.Need-add-stays Inv-loop μ-loop
-add-stays c = omega arith
-
-mul-stays : tie.Need-mul-stays Inv-loop μ-loop
-mul-stays c = omega arith
-
-shared-slice-read-stays : tie.Need-shared-slice-read-stays Inv-loop μ-loop
-shared-slice-read-stays c = omega arith
-
-array-read-stays : tie.Need-array-read-stays Inv-loop μ-loop
-array-read-stays c = omega arith
-
-array-read-stays-2 : tie.Need-array-read-stays-2 Inv-loop μ-loop
-array-read-stays-2 c = omega arith
-
 stays-requires : tie.Need-stays-requires Inv-loop μ-loop
 stays-requires c κs = tt
-
-add-n : tie.Need-add-n Inv-loop μ-loop
-add-n c = omega arith
-
-add-k : tie.Need-add-k Inv-loop μ-loop
-add-k c = omega arith
-
-loop-less : tie.Need-loop-less Inv-loop μ-loop
-loop-less c = omega arith
 
 loop-again : tie.Need-loop-again Inv-loop μ-loop
 loop-again c = let k = c .before .before .before .before .loop .k in
@@ -89,18 +65,5 @@ returns c = λ arena names n.
 pub count-staying-spec : {M : Type 1} → statement M
 count-staying-spec =
     tie.close
-    (tie.spec
-    Inv-loop
-    μ-loop
-    loop-holds
-    add-stays
-    mul-stays
-    shared-slice-read-stays
-    array-read-stays
-    array-read-stays-2
-    stays-requires
-    add-n
-    add-k
-    loop-less
-    loop-again
-    returns)
+    (tie.spec Inv-loop μ-loop loop-holds (λ c. omega arith) (λ c. omega arith) (λ c. omega arith) (λ c. omega arith)
+    (λ c. omega arith) stays-requires (λ c. omega arith) (λ c. omega arith) (λ c. omega arith) loop-again returns)

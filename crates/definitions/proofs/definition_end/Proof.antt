@@ -13,12 +13,6 @@ width-of-requires c κs = tt
 read-definition-requires : tie.Need-read-definition-requires
 read-definition-requires c κs = tt
 
-enum-known-next : tie.Need-enum-known-next
-enum-known-next c = search needs
-
-enum-known-refusal : tie.Need-enum-known-refusal
-enum-known-refusal c = search needs
-
 returns : tie.Need-returns
 returns c = λ d next e.
     let call = c .before .before .before .read-definition in
@@ -36,4 +30,4 @@ returns-2 c = λ d next e.
 pub definition-end-spec : {M : Type 1} → statement M
 definition-end-spec =
     tie.close
-    (tie.spec width-of-requires read-definition-requires enum-known-next enum-known-refusal returns returns-2)
+    (tie.spec width-of-requires read-definition-requires (λ c. search needs) (λ c. search needs) returns returns-2)

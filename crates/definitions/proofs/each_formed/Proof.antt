@@ -23,9 +23,6 @@ abbrev μ-loop : tie.MeasureT-loop
 loop-holds : tie.Need-loop-holds Inv-loop μ-loop
 loop-holds c = (omega arith, refl)
 
-array-read-slot-formed : tie.Need-array-read-slot-formed Inv-loop μ-loop
-array-read-slot-formed c = omega arith
-
 slot-formed-requires : tie.Need-slot-formed-requires Inv-loop μ-loop
 slot-formed-requires c κs = (c .before .before .before .before .pre, omega arith)
 
@@ -38,12 +35,6 @@ returns c = let a = c .before .before .before .before .before .before .args in
     let bad : formedOn table arena t k ≡ false = sym (c .before .slot-formed .ensures t (sym (held-holders (a .t3) k))) ∙ not-true (c .before .slot-formed .result) (c .if1 .taken) in
     let rest = slotsFormed (k + 1) (drop (k + 1) (lengthsOn table)) (drop (k + 1) (slotsOn table arena)) t in
     sym (formed-turn table arena t k (omega arith) ∙ ap (λ (b : Bool). both b rest) bad) ∙ c .before .before .before .loop .inv .1
-
-add-k : tie.Need-add-k Inv-loop μ-loop
-add-k c = omega arith
-
-loop-less : tie.Need-loop-less Inv-loop μ-loop
-loop-less c = omega arith
 
 loop-again : tie.Need-loop-again Inv-loop μ-loop
 loop-again c = let a = c .before .before .before .before .before .before .args in
@@ -62,14 +53,5 @@ returns-2 c = let a = c .before .before .before .before .args in
 pub each-formed-spec : {M : Type 1} → statement M
 each-formed-spec =
     tie.close
-    (tie.spec
-    Inv-loop
-    μ-loop
-    loop-holds
-    array-read-slot-formed
-    slot-formed-requires
-    returns
-    add-k
-    loop-less
-    loop-again
-    returns-2)
+    (tie.spec Inv-loop μ-loop loop-holds (λ c. omega arith) slot-formed-requires returns (λ c. omega arith)
+    (λ c. omega arith) loop-again returns-2)

@@ -38,15 +38,6 @@ loop-holds c = let a = c .before .before .before .before .before .before .before
     let count = c .before .before .before .resident-count .ensures (a .arena .now) in
     exporting-first (a .table .now) (a .arena .now) (a .out .now) (c .before .before .write-head .last .0) (c .before .before .before .before .before .before .before .before .pre .1) (c .before .before .write-head .ensures ∙ ap (λ (n : ℕ). put 0 10 (headOf n) (a .out .now)) count)
 
-add-flag : tie.Need-add-flag Inv-loop μ-loop
-add-flag c = omega arith
-
-mul-flag : tie.Need-mul-flag Inv-loop μ-loop
-mul-flag c = omega arith
-
-shared-slice-read-flag : tie.Need-shared-slice-read-flag Inv-loop μ-loop
-shared-slice-read-flag c = omega arith
-
 bytes-on-requires : tie.Need-bytes-on-requires Inv-loop μ-loop
 bytes-on-requires c κs = tt
 
@@ -77,12 +68,6 @@ add-at c = let s = c .before .before .before .before .before .before .before .be
     let room = s .pre .1 in
     record { fits = omega (arith, s .good .1 .1 .0 .0) }
 
-add-k : tie.Need-add-k Inv-loop μ-loop
-add-k c = omega arith
-
-loop-less : tie.Need-loop-less Inv-loop μ-loop
-loop-less c = omega arith
-
 loop-again : tie.Need-loop-again Inv-loop μ-loop
 loop-again c = let s = c .before .before .before .before .before .before .before .before .before .before .before .before in
     let a = s .args in
@@ -102,9 +87,6 @@ loop-again c = let s = c .before .before .before .before .before .before .before
     (λ w. let out = ne-eqb (getD table (32 + l .k) 0) 1 (w .0 .left) in rw (w .1, w .2) (exporting-skip table arena start (l .k) (l .at) (l .out) b (s .pre .0) (l .inv) less out))
     (c .if1 .came)
 
-same-length : tie.Need-same-length Inv-loop μ-loop
-same-length c = search needs
-
 returns : tie.Need-returns Inv-loop μ-loop
 returns c = let s = c .before .before .before .before .before .before .before .before .before .before in
     let a = s .args in
@@ -115,21 +97,6 @@ returns c = let s = c .before .before .before .before .before .before .before .b
 pub export-spec : {M : Type 1} → statement M
 export-spec =
     tie.close
-    (tie.spec
-    Inv-loop
-    μ-loop
-    resident-count-requires
-    cast-write-head
-    write-head-requires
-    loop-holds
-    add-flag
-    mul-flag
-    shared-slice-read-flag
-    bytes-on-requires
-    copy-in-requires
-    add-at
-    add-k
-    loop-less
-    loop-again
-    same-length
-    returns)
+    (tie.spec Inv-loop μ-loop resident-count-requires cast-write-head write-head-requires loop-holds (λ c. omega arith)
+    (λ c. omega arith) (λ c. omega arith) bytes-on-requires copy-in-requires add-at (λ c. omega arith)
+    (λ c. omega arith) loop-again (λ c. search needs) returns)

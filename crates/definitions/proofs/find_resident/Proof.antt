@@ -24,9 +24,6 @@ loop-holds c = (omega arith, refl)
 slot-named-requires : tie.Need-slot-named-requires Inv-loop μ-loop
 slot-named-requires c κs = (c .before .before .before .before .before .pre, omega arith)
 
-cast-result : tie.Need-cast-result Inv-loop μ-loop
-cast-result c = omega arith
-
 returns : tie.Need-returns Inv-loop μ-loop
 returns c = let k = c .before .before .before .loop .k in
     let a = c .before .before .before .before .before .before .before .args in
@@ -36,12 +33,6 @@ returns c = let k = c .before .before .before .loop .k in
     let found : namedOn table arena name k ≡ true = sym (c .before .slot-named .ensures) ∙ c .if1 .taken in
     let next = residentFrom (k + 1) name (drop (k + 1) (slotsOn table arena)) in
     sym (resident-turn table arena name k (omega arith) ∙ ap (λ (b : Bool). pick b k next) found) ∙ c .before .before .before .loop .inv .1
-
-add-k : tie.Need-add-k Inv-loop μ-loop
-add-k c = omega arith
-
-loop-less : tie.Need-loop-less Inv-loop μ-loop
-loop-less c = omega arith
 
 loop-again : tie.Need-loop-again Inv-loop μ-loop
 loop-again c = let k = c .before .before .before .loop .k in
@@ -53,9 +44,6 @@ loop-again c = let k = c .before .before .before .loop .k in
     let next = residentFrom (k + 1) name (drop (k + 1) (slotsOn table arena)) in
     (omega arith, sym (resident-turn table arena name k (omega arith) ∙ ap (λ (b : Bool). pick b k next) missed) ∙ c .before .before .before .loop .inv .1)
 
-cast-result-2 : tie.Need-cast-result-2 Inv-loop μ-loop
-cast-result-2 c = omega arith
-
 returns-2 : tie.Need-returns-2 Inv-loop μ-loop
 returns-2 c =
     let a = c .before .before .before .before .before .args in
@@ -64,15 +52,5 @@ returns-2 c =
 pub find-resident-spec : {M : Type 1} → statement M
 find-resident-spec =
     tie.close
-    (tie.spec
-    Inv-loop
-    μ-loop
-    loop-holds
-    slot-named-requires
-    cast-result
-    returns
-    add-k
-    loop-less
-    loop-again
-    cast-result-2
-    returns-2)
+    (tie.spec Inv-loop μ-loop loop-holds slot-named-requires (λ c. omega arith) returns (λ c. omega arith)
+    (λ c. omega arith) loop-again (λ c. omega arith) returns-2)

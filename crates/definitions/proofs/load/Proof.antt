@@ -18,12 +18,6 @@ place-all-requires : tie.Need-place-all-requires
 place-all-requires c κs = let s = c .before .before .before .before .before .before .before .before .before .before in
     (rw (c .before .before .before .before .retire-named .ensures) (retired-formed (s .args .table .now) (s .args .arena .now) _ (s .pre .0)), s .pre .1)
 
-same-length : tie.Need-same-length
-same-length c = search needs
-
-same-length-2 : tie.Need-same-length-2
-same-length-2 c = search needs
-
 returns : tie.Need-returns
 returns c = let s = c .before .before .before .before .before .before .before .before .before .before .before .before .before .before .before in
     let a = s .args in
@@ -31,4 +25,4 @@ returns c = let s = c .before .before .before .before .before .before .before .b
 
 pub load-spec : {M : Type 1} → statement M
 load-spec =
-    tie.close (tie.spec retire-named-requires place-all-requires same-length same-length-2 returns)
+    tie.close (tie.spec retire-named-requires place-all-requires (λ c. search needs) (λ c. search needs) returns)

@@ -21,15 +21,6 @@ loop-holds c = record { most = omega arith; size = c .before .before .before .pr
 slot-named-requires : tie.Need-slot-named-requires Inv-loop μ-loop
 slot-named-requires c κs = (c .before .before .before .before .before .pre .0, omega arith)
 
-array-write-named : tie.Need-array-write-named Inv-loop μ-loop
-array-write-named c = omega arith
-
-add-k : tie.Need-add-k Inv-loop μ-loop
-add-k c = omega arith
-
-loop-less : tie.Need-loop-less Inv-loop μ-loop
-loop-less c = omega arith
-
 loop-again : tie.Need-loop-again Inv-loop μ-loop
 loop-again c = let k = c .before .before .before .loop .k in
     let now = c .before .before .before .loop .named in
@@ -51,13 +42,5 @@ returns c = let inv = c .before .loop .inv in
 pub mark-named-spec : {M : Type 1} → statement M
 mark-named-spec =
     tie.close
-    (tie.spec
-    Inv-loop
-    μ-loop
-    loop-holds
-    slot-named-requires
-    array-write-named
-    add-k
-    loop-less
-    loop-again
-    returns)
+    (tie.spec Inv-loop μ-loop loop-holds slot-named-requires (λ c. omega arith) (λ c. omega arith) (λ c. omega arith)
+    loop-again returns)

@@ -35,12 +35,6 @@ returns c = let a = c .before .before .before .before .before .before .before .a
     let rest = nameResident name (drop (k + 1) (slotsOn table arena)) in
     ap not (sym (resident-turn table arena name k (omega arith) ∙ ap (λ (b : Bool). pick b true rest) there) ∙ c .before .before .before .loop .inv .1)
 
-add-k : tie.Need-add-k Inv-loop μ-loop
-add-k c = omega arith
-
-loop-less : tie.Need-loop-less Inv-loop μ-loop
-loop-less c = omega arith
-
 loop-again : tie.Need-loop-again Inv-loop μ-loop
 loop-again c = let a = c .before .before .before .before .before .before .before .args in
     let k = c .before .before .before .loop .k in
@@ -58,13 +52,5 @@ returns-2 c = let a = c .before .before .before .before .before .args in
 pub name-apart-spec : {M : Type 1} → statement M
 name-apart-spec =
     tie.close
-    (tie.spec
-    Inv-loop
-    μ-loop
-    loop-holds
-    slot-named-requires
-    returns
-    add-k
-    loop-less
-    loop-again
+    (tie.spec Inv-loop μ-loop loop-holds slot-named-requires returns (λ c. omega arith) (λ c. omega arith) loop-again
     returns-2)

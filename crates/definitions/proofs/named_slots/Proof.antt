@@ -54,13 +54,5 @@ returns c = let a = c .before .before .before .before .before .args in
 pub named-slots-spec : {M : Type 1} → statement M
 named-slots-spec =
     tie.close
-    (tie.spec
-    Inv-loop
-    μ-loop
-    loop-holds
-    name-at-requires
-    mark-named-requires
-    definition-end-requires
-    loop-less
-    loop-again
-    returns)
+    (tie.spec Inv-loop μ-loop loop-holds name-at-requires mark-named-requires definition-end-requires loop-less
+    loop-again returns)

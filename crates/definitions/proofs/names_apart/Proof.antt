@@ -24,23 +24,11 @@ abbrev μ-loop : tie.MeasureT-loop
 loop-holds : tie.Need-loop-holds Inv-loop μ-loop
 loop-holds c = (omega arith, refl)
 
-add-if1 : tie.Need-add-if1 Inv-loop μ-loop
-add-if1 c = omega arith
-
-mul-if1 : tie.Need-mul-if1 Inv-loop μ-loop
-mul-if1 c = omega arith
-
-shared-slice-read-if1 : tie.Need-shared-slice-read-if1 Inv-loop μ-loop
-shared-slice-read-if1 c = omega arith
-
 slot-name-requires : tie.Need-slot-name-requires Inv-loop μ-loop
 slot-name-requires c κs =
     let s = c .before .before .before .before .before .before in
     let k = c .before .before .before .loop .k in
     (s .pre, omega arith, eq-eqb (getD (s .args .table .now) (32 + k) 0) 1 (c .if1 .taken))
-
-add-name-apart : tie.Need-add-name-apart Inv-loop μ-loop
-add-name-apart c = omega arith
 
 name-apart-requires : tie.Need-name-apart-requires Inv-loop μ-loop
 name-apart-requires c κs = (c .before .before .before .before .before .before .before .pre, omega arith)
@@ -56,12 +44,6 @@ returns c = let s = c .before .before .before .before .before .before .before .b
     let test : not (nameResident (nameOn table arena k) (drop (k + 1) (slotsOn table arena))) ≡ false =
     ap (λ (n : List ℕ). not (nameResident n (drop (k + 1) (slotsOn table arena)))) (sym (c .before .before .slot-name .ensures)) ∙ sym (c .before .name-apart .ensures) ∙ not-true (c .before .name-apart .result) (c .if2 .taken) in
     sym (rw (in-slot, test) at (apart-turn table arena k less)) ∙ c .before .before .before .before .before .before .loop .inv .1
-
-add-k : tie.Need-add-k Inv-loop μ-loop
-add-k c = omega arith
-
-loop-less : tie.Need-loop-less Inv-loop μ-loop
-loop-less c = omega arith
 
 loop-again : tie.Need-loop-again Inv-loop μ-loop
 loop-again c = let s = c .before .before .before .before .before .before in
@@ -87,18 +69,5 @@ returns-2 c = let a = c .before .before .before .before .args in
 pub names-apart-spec : {M : Type 1} → statement M
 names-apart-spec =
     tie.close
-    (tie.spec
-    Inv-loop
-    μ-loop
-    loop-holds
-    add-if1
-    mul-if1
-    shared-slice-read-if1
-    slot-name-requires
-    add-name-apart
-    name-apart-requires
-    returns
-    add-k
-    loop-less
-    loop-again
-    returns-2)
+    (tie.spec Inv-loop μ-loop loop-holds (λ c. omega arith) (λ c. omega arith) (λ c. omega arith) slot-name-requires
+    (λ c. omega arith) name-apart-requires returns (λ c. omega arith) (λ c. omega arith) loop-again returns-2)

@@ -8,9 +8,6 @@ use Rattle.model.specs.Layout.{slotRoom}
 use Rattle.definitions.proofs.place.Statement.{statement}
 use Rattle.definitions.proofs.place.Tie as tie
 
-mul-start : tie.Need-mul-start
-mul-start c = search needs
-
 widen-requires : tie.Need-widen-requires
 widen-requires c κs =
     let p = c .before .before .before .before .pre in
@@ -31,26 +28,8 @@ cast-table c =
     let w = c .before .before .widen .ensures (h .definition) (h .read) in
     omega (arith, w .end, h .small)
 
-mul-table : tie.Need-mul-table
-mul-table c = search needs
-
-slice-write-table : tie.Need-slice-write-table
-slice-write-table c = search needs
-
-add-table : tie.Need-add-table
-add-table c = search needs
-
-mul-table-2 : tie.Need-mul-table-2
-mul-table-2 c = search needs
-
 slice-write-table-2 : tie.Need-slice-write-table-2
 slice-write-table-2 c = simp length-set (omega arith)
-
-same-length : tie.Need-same-length
-same-length c = search needs
-
-same-length-2 : tie.Need-same-length-2
-same-length-2 c = search needs
 
 returns : tie.Need-returns
 returns c = λ d e.
@@ -62,16 +41,5 @@ returns c = λ d e.
 pub place-spec : {M : Type 1} → statement M
 place-spec =
     tie.close
-    (tie.spec
-    mul-start
-    widen-requires
-    sub-table
-    cast-table
-    mul-table
-    slice-write-table
-    add-table
-    mul-table-2
-    slice-write-table-2
-    same-length
-    same-length-2
-    returns)
+    (tie.spec (λ c. search needs) widen-requires sub-table cast-table (λ c. search needs) (λ c. search needs)
+    (λ c. search needs) (λ c. search needs) slice-write-table-2 (λ c. search needs) (λ c. search needs) returns)

@@ -72,9 +72,6 @@ loop-again-2 c = let s = c .before .before .before .before .before .before .befo
     rw end
     (loading-skip (a .table .now) (a .arena .now) (a .file .now) (a .held) (l .at) (l .table) (l .arena) (s .pre .0 .sized .arenaSize) (l .inv) n (c .before .lowest-free .result) (c .before .lowest-free .ensures) (c .if1 .left))
 
-same-length : tie.Need-same-length Inv-loop μ-loop
-same-length c = search needs
-
 same-length-2 : tie.Need-same-length-2 Inv-loop μ-loop
 same-length-2 c = let z = c .before .loop .inv .sized .arenaSize in let y = c .before .before .before .before .before .pre .0 .sized .arenaSize in z ∙ sym y
 
@@ -85,18 +82,5 @@ returns c = let a = c .before .before .before .before .before .args in
 pub place-all-spec : {M : Type 1} → statement M
 place-all-spec =
     tie.close
-    (tie.spec
-    Inv-loop
-    μ-loop
-    loop-holds
-    definition-end-requires
-    lowest-free-requires
-    width-of-requires
-    place-requires
-    loop-less
-    loop-again
-    loop-less-2
-    loop-again-2
-    same-length
-    same-length-2
-    returns)
+    (tie.spec Inv-loop μ-loop loop-holds definition-end-requires lowest-free-requires width-of-requires place-requires
+    loop-less loop-again loop-less-2 loop-again-2 (λ c. search needs) same-length-2 returns)

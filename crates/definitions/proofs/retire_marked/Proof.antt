@@ -17,24 +17,6 @@ abbrev μ-loop : tie.MeasureT-loop
 loop-holds : tie.Need-loop-holds Inv-loop μ-loop
 loop-holds c = record { most = omega arith; size = c .pre; lengths = λ j h. refl; before = λ j h. absurd (omega arith); behind = λ j h. refl }
 
-array-read-if1 : tie.Need-array-read-if1 Inv-loop μ-loop
-array-read-if1 c = omega arith
-
-add-table : tie.Need-add-table Inv-loop μ-loop
-add-table c = omega arith
-
-mul-table : tie.Need-mul-table Inv-loop μ-loop
-mul-table c = omega arith
-
-slice-write-table : tie.Need-slice-write-table Inv-loop μ-loop
-slice-write-table c = omega arith
-
-add-k : tie.Need-add-k Inv-loop μ-loop
-add-k c = omega arith
-
-loop-less : tie.Need-loop-less Inv-loop μ-loop
-loop-less c = omega arith
-
 loop-again : tie.Need-loop-again Inv-loop μ-loop
 loop-again c = let k = c .before .before .loop .k in
     let now = c .before .before .loop .table in
@@ -46,9 +28,6 @@ loop-again c = let k = c .before .before .loop .k in
     (λ w. rw (w .1) (retiring-skip (a .table .now) (a .t2) k now inv less (w .0 .left)))
     (c .if1 .came)
 
-same-length : tie.Need-same-length Inv-loop μ-loop
-same-length c = search needs
-
 returns : tie.Need-returns Inv-loop μ-loop
 returns c = λ arena names f n.
     let a = c .before .before .args in
@@ -57,16 +36,5 @@ returns c = λ arena names f n.
 pub retire-marked-spec : {M : Type 1} → statement M
 retire-marked-spec =
     tie.close
-    (tie.spec
-    Inv-loop
-    μ-loop
-    loop-holds
-    array-read-if1
-    add-table
-    mul-table
-    slice-write-table
-    add-k
-    loop-less
-    loop-again
-    same-length
-    returns)
+    (tie.spec Inv-loop μ-loop loop-holds (λ c. omega arith) (λ c. omega arith) (λ c. omega arith) (λ c. omega arith)
+    (λ c. omega arith) (λ c. omega arith) loop-again (λ c. search needs) returns)

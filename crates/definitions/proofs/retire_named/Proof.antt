@@ -15,13 +15,10 @@ named-slots-requires c κs = c .before .before .before .before .pre
 retire-marked-requires : tie.Need-retire-marked-requires
 retire-marked-requires c κs = c .before .before .before .before .before .before .pre .0 .sized .tableSize
 
-same-length : tie.Need-same-length
-same-length c = search needs
-
 returns : tie.Need-returns
 returns c = let s = c .before .before .before .before .before .before .before .before .before in
     c .before .before .retire-marked .ensures (s .args .arena .now) _ (s .pre .0) (c .before .before .before .before .named-slots .ensures)
 
 pub retire-named-spec : {M : Type 1} → statement M
 retire-named-spec =
-    tie.close (tie.spec named-slots-requires retire-marked-requires same-length returns)
+    tie.close (tie.spec named-slots-requires retire-marked-requires (λ c. search needs) returns)

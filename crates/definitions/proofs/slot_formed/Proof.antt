@@ -15,15 +15,6 @@ use lib.ListN.{getD}
 use Rattle.definitions.proofs.slot_formed.Statement.{statement}
 use Rattle.definitions.proofs.slot_formed.Tie as tie
 
-add-if1 : tie.Need-add-if1
-add-if1 c = omega arith
-
-mul-if1 : tie.Need-mul-if1
-mul-if1 c = omega arith
-
-shared-slice-read-if1 : tie.Need-shared-slice-read-if1
-shared-slice-read-if1 c = omega arith
-
 returns : tie.Need-returns
 returns c = λ t e.
     let a = c .before .before .before .before .before .args in
@@ -52,10 +43,4 @@ returns-2 c = λ t e.
 pub slot-formed-spec : {M : Type 1} → statement M
 slot-formed-spec =
     tie.close
-    (tie.spec
-    add-if1
-    mul-if1
-    shared-slice-read-if1
-    returns
-    bytes-formed-requires
-    returns-2)
+    (tie.spec (λ c. omega arith) (λ c. omega arith) (λ c. omega arith) returns bytes-formed-requires returns-2)

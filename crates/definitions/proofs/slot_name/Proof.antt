@@ -27,4 +27,5 @@ returns c =
     ∙ sym (named-there (a .table .now) (a .arena .now) (a .k) w .same)
 
 pub slot-name-spec : {M : Type 1} → statement M
-slot-name-spec = tie.close (tie.spec bytes-on-requires name-at-requires returns)
+slot-name-spec =
+    tie.close (tie.spec bytes-on-requires name-at-requires returns)

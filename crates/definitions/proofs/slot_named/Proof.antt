@@ -13,15 +13,6 @@ use borrow.Author.Needs.{needs}
 use Rattle.definitions.proofs.slot_named.Statement.{statement}
 use Rattle.definitions.proofs.slot_named.Tie as tie
 
-add-if1 : tie.Need-add-if1
-add-if1 c = search needs
-
-mul-if1 : tie.Need-mul-if1
-mul-if1 c = search needs
-
-shared-slice-read-if1 : tie.Need-shared-slice-read-if1
-shared-slice-read-if1 c = search needs
-
 returns : tie.Need-returns
 returns c = let a = c .before .before .before .before .before .args in
     let out : residentOn (a .table .now) (a .k) ≡ false = ne-eqb (getD (a .table .now) (32 + a .k) 0) 1 (c .if1 .taken) in
@@ -46,11 +37,5 @@ returns-2 c =
 pub slot-named-spec : {M : Type 1} → statement M
 slot-named-spec =
     tie.close
-    (tie.spec
-    add-if1
-    mul-if1
-    shared-slice-read-if1
-    returns
-    slot-name-requires
-    same-name-requires
+    (tie.spec (λ c. search needs) (λ c. search needs) (λ c. search needs) returns slot-name-requires same-name-requires
     returns-2)

@@ -46,10 +46,4 @@ returns-3 c = let a = c .before .before .before .before .before .before .before 
 pub slots-formed-spec : {M : Type 1} → statement M
 slots-formed-spec =
     tie.close
-    (tie.spec
-    flags-formed-requires
-    returns
-    each-formed-requires
-    returns-2
-    names-apart-requires
-    returns-3)
+    (tie.spec flags-formed-requires returns each-formed-requires returns-2 names-apart-requires returns-3)

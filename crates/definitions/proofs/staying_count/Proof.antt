@@ -21,4 +21,5 @@ returns c = let a = c .before .before .before .before .before .args in
     c .count-staying .ensures (a .arena .now) _ (c .before .named-slots .ensures)
 
 pub staying-count-spec : {M : Type 1} → statement M
-staying-count-spec = tie.close (tie.spec named-slots-requires count-staying-requires returns)
+staying-count-spec =
+    tie.close (tie.spec named-slots-requires count-staying-requires returns)

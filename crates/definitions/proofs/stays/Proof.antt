@@ -20,4 +20,5 @@ returns-3 : tie.Need-returns-3
 returns-3 c = rw (c .before .if1 .left, eq-eqb (c .before .before .args .flag) 1 (c .if2 .left))
 
 pub stays-spec : {M : Type 1} → statement M
-stays-spec = tie.close (tie.spec returns returns-2 returns-3)
+stays-spec =
+    tie.close (tie.spec returns returns-2 returns-3)

@@ -21,12 +21,6 @@ sub-size c =
     let z = sized (a .width) (a .s .now) (p .bytes) (a .at) (a .end) (p .definition) (p .read) in
     z .forward
 
-enum-told : tie.Need-enum-told
-enum-told c = search needs
-
-enum-told-2 : tie.Need-enum-told-2
-enum-told-2 c = search needs
-
 returns : tie.Need-returns
 returns c =
     λ d h.
@@ -67,4 +61,6 @@ returns-3 c =
     sym (ap (ltb sizeLimit) same)
 
 pub too-long-spec : {M : Type 1} → statement M
-too-long-spec = tie.close (tie.spec sub-size enum-told enum-told-2 returns mul-result add-result returns-2 returns-3)
+too-long-spec =
+    tie.close
+    (tie.spec sub-size (λ c. search needs) (λ c. search needs) returns mul-result add-result returns-2 returns-3)

@@ -6,20 +6,8 @@ use Rattle.front.proofs.counted_floats.Tie as tie
 count-to-requires : tie.Need-count-to-requires
 count-to-requires c κs = search needs
 
-enum-known-count : tie.Need-enum-known-count
-enum-known-count c = search needs
-
 skip-floats-requires : tie.Need-skip-floats-requires
 skip-floats-requires c κs = search needs
-
-enum-known-past : tie.Need-enum-known-past
-enum-known-past c = search needs
-
-enum-known-refusal : tie.Need-enum-known-refusal
-enum-known-refusal c = search needs
-
-enum-known-refusal-2 : tie.Need-enum-known-refusal-2
-enum-known-refusal-2 c = search needs
 
 returns : tie.Need-returns
 returns c =
@@ -41,13 +29,5 @@ returns-3 c =
 pub counted-floats-spec : {M : Type 1} → statement M
 counted-floats-spec =
     tie.close
-    (tie.spec
-    count-to-requires
-    enum-known-count
-    skip-floats-requires
-    enum-known-past
-    enum-known-refusal
-    enum-known-refusal-2
-    returns
-    returns-2
-    returns-3)
+    (tie.spec count-to-requires (λ c. search needs) skip-floats-requires (λ c. search needs) (λ c. search needs)
+    (λ c. search needs) returns returns-2 returns-3)

@@ -6,20 +6,8 @@ use Rattle.front.proofs.parameter_name.Tie as tie
 name-requires : tie.Need-name-requires
 name-requires c κs = search needs
 
-enum-known-start : tie.Need-enum-known-start
-enum-known-start c = search needs
-
 index-below-requires : tie.Need-index-below-requires
 index-below-requires c κs = search needs
-
-enum-known-index : tie.Need-enum-known-index
-enum-known-index c = search needs
-
-enum-known-refusal : tie.Need-enum-known-refusal
-enum-known-refusal c = search needs
-
-enum-known-refusal-2 : tie.Need-enum-known-refusal-2
-enum-known-refusal-2 c = search needs
 
 returns : tie.Need-returns
 returns c =
@@ -41,13 +29,5 @@ returns-3 c =
 pub parameter-name-spec : {M : Type 1} → statement M
 parameter-name-spec =
     tie.close
-    (tie.spec
-    name-requires
-    enum-known-start
-    index-below-requires
-    enum-known-index
-    enum-known-refusal
-    enum-known-refusal-2
-    returns
-    returns-2
-    returns-3)
+    (tie.spec name-requires (λ c. search needs) index-below-requires (λ c. search needs) (λ c. search needs)
+    (λ c. search needs) returns returns-2 returns-3)

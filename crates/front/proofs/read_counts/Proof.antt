@@ -6,38 +6,14 @@ use Rattle.front.proofs.read_counts.Tie as tie
 definition-name-requires : tie.Need-definition-name-requires
 definition-name-requires c κs = search needs
 
-enum-known-start : tie.Need-enum-known-start
-enum-known-start c = search needs
-
 counted-floats-requires : tie.Need-counted-floats-requires
 counted-floats-requires c κs = search needs
-
-enum-known-constants : tie.Need-enum-known-constants
-enum-known-constants c = search needs
 
 counted-floats-requires-2 : tie.Need-counted-floats-requires-2
 counted-floats-requires-2 c κs = search needs
 
-enum-known-values : tie.Need-enum-known-values
-enum-known-values c = search needs
-
 count-to-requires : tie.Need-count-to-requires
 count-to-requires c κs = search needs
-
-enum-known-names : tie.Need-enum-known-names
-enum-known-names c = search needs
-
-enum-known-refusal : tie.Need-enum-known-refusal
-enum-known-refusal c = search needs
-
-enum-known-refusal-2 : tie.Need-enum-known-refusal-2
-enum-known-refusal-2 c = search needs
-
-enum-known-refusal-3 : tie.Need-enum-known-refusal-3
-enum-known-refusal-3 c = search needs
-
-enum-known-refusal-4 : tie.Need-enum-known-refusal-4
-enum-known-refusal-4 c = search needs
 
 returns : tie.Need-returns
 returns c =
@@ -76,21 +52,6 @@ returns-5 c =
 pub read-counts-spec : {M : Type 1} → statement M
 read-counts-spec =
     tie.close
-    (tie.spec
-    definition-name-requires
-    enum-known-start
-    counted-floats-requires
-    enum-known-constants
-    counted-floats-requires-2
-    enum-known-values
-    count-to-requires
-    enum-known-names
-    enum-known-refusal
-    enum-known-refusal-2
-    enum-known-refusal-3
-    enum-known-refusal-4
-    returns
-    returns-2
-    returns-3
-    returns-4
-    returns-5)
+    (tie.spec definition-name-requires (λ c. search needs) counted-floats-requires (λ c. search needs)
+    counted-floats-requires-2 (λ c. search needs) count-to-requires (λ c. search needs) (λ c. search needs)
+    (λ c. search needs) (λ c. search needs) (λ c. search needs) returns returns-2 returns-3 returns-4 returns-5)

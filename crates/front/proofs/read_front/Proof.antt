@@ -7,20 +7,8 @@ use Rattle.front.proofs.read_front.Tie as tie
 read-counts-requires : tie.Need-read-counts-requires
 read-counts-requires c κs = search needs
 
-enum-known-counts : tie.Need-enum-known-counts
-enum-known-counts c = search needs
-
 skip-parameter-names-requires : tie.Need-skip-parameter-names-requires
 skip-parameter-names-requires c κs = search needs
-
-enum-known-past : tie.Need-enum-known-past
-enum-known-past c = search needs
-
-enum-known-refusal : tie.Need-enum-known-refusal
-enum-known-refusal c = search needs
-
-enum-known-refusal-2 : tie.Need-enum-known-refusal-2
-enum-known-refusal-2 c = search needs
 
 returns : tie.Need-returns
 returns c =
@@ -45,13 +33,5 @@ returns-3 c =
 pub read-front-spec : {M : Type 1} → statement M
 read-front-spec =
     tie.close
-    (tie.spec
-    read-counts-requires
-    enum-known-counts
-    skip-parameter-names-requires
-    enum-known-past
-    enum-known-refusal
-    enum-known-refusal-2
-    returns
-    returns-2
-    returns-3)
+    (tie.spec read-counts-requires (λ c. search needs) skip-parameter-names-requires (λ c. search needs)
+    (λ c. search needs) (λ c. search needs) returns returns-2 returns-3)

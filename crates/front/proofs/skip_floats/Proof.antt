@@ -23,25 +23,10 @@ returns-2 c =
 wide-requires : tie.Need-wide-requires
 wide-requires c κs = search needs
 
-sub-room : tie.Need-sub-room
-sub-room c = search needs
-
-mul-t11 : tie.Need-mul-t11
-mul-t11 c = search needs
-
-add-t12 : tie.Need-add-t12
-add-t12 c = search needs
-
 returns-3 : tie.Need-returns-3
 returns-3 c =
     let a = c .before .before .before .before .before .args in
     rw (c .before .wide .ensures) (sym (floats-whole (a .s .now) (a .count) (a .cursor .at) (omega arith)))
-
-mul-t10 : tie.Need-mul-t10
-mul-t10 c = search needs
-
-add-t8 : tie.Need-add-t8
-add-t8 c = search needs
 
 returns-4 : tie.Need-returns-4
 returns-4 c =
@@ -53,14 +38,5 @@ returns-4 c =
 pub skip-floats-spec : {M : Type 1} → statement M
 skip-floats-spec =
     tie.close
-    (tie.spec
-    returns
-    returns-2
-    wide-requires
-    sub-room
-    mul-t11
-    add-t12
-    returns-3
-    mul-t10
-    add-t8
-    returns-4)
+    (tie.spec returns returns-2 wide-requires (λ c. search needs) (λ c. search needs) (λ c. search needs) returns-3
+    (λ c. search needs) (λ c. search needs) returns-4)

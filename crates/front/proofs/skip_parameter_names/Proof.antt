@@ -21,24 +21,12 @@ loop-holds c = (omega arith, rw sub-zero)
 parameter-name-requires : tie.Need-parameter-name-requires Inv-loop μ-loop
 parameter-name-requires c κs = search needs
 
-enum-known-start : tie.Need-enum-known-start Inv-loop μ-loop
-enum-known-start c = search needs
-
-enum-known-refusal : tie.Need-enum-known-refusal Inv-loop μ-loop
-enum-known-refusal c = search needs
-
 returns : tie.Need-returns Inv-loop μ-loop
 returns c =
     let a = c .before .before .before .before .before .before .before .args in
     let l = c .before .before .before .before .before .loop in
     let e = rw (c .before .refusal .given .1) at (c .before .before .before .parameter-name .ensures) in
     rw (sym e) at (sym (ending-turn (parameterNameBy (a .width) (a .parameters) (a .s .now)) (a .count) (l .i) (l .at) (omega arith)) ∙ l .inv .1)
-
-add-i : tie.Need-add-i Inv-loop μ-loop
-add-i c = omega arith
-
-loop-less : tie.Need-loop-less Inv-loop μ-loop
-loop-less c = omega arith
 
 loop-again : tie.Need-loop-again Inv-loop μ-loop
 loop-again c =
@@ -56,15 +44,5 @@ returns-2 c =
 pub skip-parameter-names-spec : {M : Type 1} → statement M
 skip-parameter-names-spec =
     tie.close
-    (tie.spec
-    Inv-loop
-    μ-loop
-    loop-holds
-    parameter-name-requires
-    enum-known-start
-    enum-known-refusal
-    returns
-    add-i
-    loop-less
-    loop-again
-    returns-2)
+    (tie.spec Inv-loop μ-loop loop-holds parameter-name-requires (λ c. search needs) (λ c. search needs) returns
+    (λ c. omega arith) (λ c. omega arith) loop-again returns-2)

@@ -22,12 +22,6 @@ use Rattle.messageread.proofs.behind_address.Tie as tie
 headed-requires : tie.Need-headed-requires
 headed-requires c κs = search needs
 
-enum-told : tie.Need-enum-told
-enum-told c = search needs
-
-enum-known-start : tie.Need-enum-known-start
-enum-known-start c = search needs
-
 part-requires : tie.Need-part-requires
 part-requires c κs = search needs
 
@@ -79,15 +73,5 @@ returns-2 c =
 pub behind-address-spec : {M : Type 1} → statement M
 behind-address-spec =
     tie.close
-    (tie.spec
-    headed-requires
-    enum-told
-    enum-known-start
-    part-requires
-    add-part
-    part-requires-2
-    find-requires
-    walk-requires
-    finish-requires
-    returns
-    returns-2)
+    (tie.spec headed-requires (λ c. search needs) (λ c. search needs) part-requires add-part part-requires-2
+    find-requires walk-requires finish-requires returns returns-2)

@@ -11,12 +11,6 @@ use Rattle.messageread.specs.FinishLaws.{stands-by, left-over, no-op, no
 use Rattle.messageread.proofs.finish.Statement.{statement}
 use Rattle.messageread.proofs.finish.Tie as tie
 
-enum-told : tie.Need-enum-told
-enum-told c = search needs
-
-enum-known-step : tie.Need-enum-known-step
-enum-known-step c = search needs
-
 returns : tie.Need-returns
 returns c =
     let a = c .before .before .before .before .before .args in
@@ -37,12 +31,6 @@ returns-2 c =
 
 command-of-requires : tie.Need-command-of-requires
 command-of-requires c κs = search needs
-
-enum-told-2 : tie.Need-enum-told-2
-enum-told-2 c = search needs
-
-enum-known-command : tie.Need-enum-known-command
-enum-known-command c = search needs
 
 returns-3 : tie.Need-returns-3
 returns-3 c =
@@ -71,14 +59,5 @@ returns-5 c =
 pub finish-spec : {M : Type 1} → statement M
 finish-spec =
     tie.close
-    (tie.spec
-    enum-told
-    enum-known-step
-    returns
-    returns-2
-    command-of-requires
-    enum-told-2
-    enum-known-command
-    returns-3
-    returns-4
-    returns-5)
+    (tie.spec (λ c. search needs) (λ c. search needs) returns returns-2 command-of-requires (λ c. search needs)
+    (λ c. search needs) returns-3 returns-4 returns-5)

@@ -8,12 +8,6 @@ use Rattle.messageread.proofs.read.Tie as tie
 headed-requires : tie.Need-headed-requires
 headed-requires c κs = search needs
 
-enum-told : tie.Need-enum-told
-enum-told c = search needs
-
-enum-known-start : tie.Need-enum-known-start
-enum-known-start c = search needs
-
 behind-address-requires : tie.Need-behind-address-requires
 behind-address-requires c κs = search needs
 
@@ -32,4 +26,4 @@ returns-2 c =
 pub read-spec : {M : Type 1} → statement M
 read-spec =
     tie.close
-    (tie.spec headed-requires enum-told enum-known-start behind-address-requires returns returns-2)
+    (tie.spec headed-requires (λ c. search needs) (λ c. search needs) behind-address-requires returns returns-2)

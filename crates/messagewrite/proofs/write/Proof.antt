@@ -53,9 +53,6 @@ put-message-requires c κs =
       room = fitting-some whole (length (a .out .now)) (λ z. c .before .if3 .left (c .before .before .message-size .ensures ∙ z)) .1;
     }
 
-same-length : tie.Need-same-length
-same-length c = search needs
-
 returns-4 : tie.Need-returns-4
 returns-4 c =
     let a = c .before .before .before .before .before .before .before .before .before .before .before .before .before .args in
@@ -70,14 +67,5 @@ returns-4 c =
 pub write-spec : {M : Type 1} → statement M
 write-spec =
     tie.close
-    (tie.spec
-    address-length-requires
-    returns
-    slot-count-requires
-    any-unfit-requires
-    returns-2
-    message-size-requires
-    returns-3
-    put-message-requires
-    same-length
-    returns-4)
+    (tie.spec address-length-requires returns slot-count-requires any-unfit-requires returns-2 message-size-requires
+    returns-3 put-message-requires (λ c. search needs) returns-4)

@@ -4,20 +4,11 @@ use Rattle.names.specs.Named.{named-number, named-latest, named-none, na
 use Rattle.names.proofs.node_place.Statement.{statement}
 use Rattle.names.proofs.node_place.Tie as tie
 
-shared-slice-read-wide : tie.Need-shared-slice-read-wide
-shared-slice-read-wide c = search needs
-
 wide-requires : tie.Need-wide-requires
 wide-requires c κs = search needs
 
 target-of-requires : tie.Need-target-of-requires
 target-of-requires c κs = search needs
-
-enum-told : tie.Need-enum-told
-enum-told c = search needs
-
-shared-slice-read-latest : tie.Need-shared-slice-read-latest
-shared-slice-read-latest c = search needs
 
 returns : tie.Need-returns
 returns c =
@@ -28,14 +19,8 @@ returns c =
 place-of-requires : tie.Need-place-of-requires
 place-of-requires c κs = search needs
 
-enum-known-target : tie.Need-enum-known-target
-enum-known-target c = search needs
-
 place-of-requires-2 : tie.Need-place-of-requires-2
 place-of-requires-2 c κs = search needs
-
-enum-told-2 : tie.Need-enum-told-2
-enum-told-2 c = search needs
 
 returns-2 : tie.Need-returns-2
 returns-2 c =
@@ -56,17 +41,5 @@ returns-4 c =
 pub node-place-spec : {M : Type 1} → statement M
 node-place-spec =
     tie.close
-    (tie.spec
-    shared-slice-read-wide
-    wide-requires
-    target-of-requires
-    enum-told
-    shared-slice-read-latest
-    returns
-    place-of-requires
-    enum-known-target
-    place-of-requires-2
-    enum-told-2
-    returns-2
-    returns-3
-    returns-4)
+    (tie.spec (λ c. search needs) wide-requires target-of-requires (λ c. search needs) (λ c. search needs) returns
+    place-of-requires (λ c. search needs) place-of-requires-2 (λ c. search needs) returns-2 returns-3 returns-4)

@@ -30,4 +30,5 @@ returns-4 c =
     rw (le-leb (a .run) 1 (omega arith), le-leb (a .slot) 32 (omega arith), ne-eqb (a .slot) 32 (c .before .if3 .left), c .wide .ensures) refl
 
 pub fields-hold-spec : {M : Type 1} → statement M
-fields-hold-spec = tie.close (tie.spec returns returns-2 returns-3 wide-requires returns-4)
+fields-hold-spec =
+    tie.close (tie.spec returns returns-2 returns-3 wide-requires returns-4)

@@ -152,19 +152,5 @@ returns-10 c =
 pub nodes-formed-spec : {M : Type 1} → statement M
 nodes-formed-spec =
     tie.close
-    (tie.spec
-    returns
-    returns-2
-    root-holds-requires
-    returns-3
-    numbers-apart-requires
-    returns-4
-    records-hold-requires
-    returns-5
-    rows-apart-requires
-    returns-6
-    returns-7
-    returns-8
-    returns-9
-    synth-lives-requires
-    returns-10)
+    (tie.spec returns returns-2 root-holds-requires returns-3 numbers-apart-requires returns-4 records-hold-requires
+    returns-5 rows-apart-requires returns-6 returns-7 returns-8 returns-9 synth-lives-requires returns-10)

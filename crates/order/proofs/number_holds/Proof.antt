@@ -32,4 +32,5 @@ returns-4 c =
     rw (le-ltb (a .number) lastGiven (omega arith), le-leb (a .number) firstGiven near, lt-ltb (a .next) (a .number) (omega arith)) (not-pick (eqb (a .slot) 32))
 
 pub number-holds-spec : {M : Type 1} → statement M
-number-holds-spec = tie.close (tie.spec returns returns-2 returns-3 returns-4)
+number-holds-spec =
+    tie.close (tie.spec returns returns-2 returns-3 returns-4)

@@ -23,23 +23,8 @@ loop-holds c =
     let a = c .before .args in
     (omega arith, (apart-end (a .count) (a .nodes .now) (a .count) (omega arith), met-none (a .count) (a .nodes .now) _ (a .count) (length-replicate 1024 false) (omega arith)))
 
-sub-i : tie.Need-sub-i Inv-loop μ-loop
-sub-i c = omega arith
-
-mul-number : tie.Need-mul-number Inv-loop μ-loop
-mul-number c = omega arith
-
-mul-number-2 : tie.Need-mul-number-2 Inv-loop μ-loop
-mul-number-2 c = omega arith
-
-shared-slice-read-number : tie.Need-shared-slice-read-number Inv-loop μ-loop
-shared-slice-read-number c = omega arith
-
 wide-requires : tie.Need-wide-requires Inv-loop μ-loop
 wide-requires c κs = tt
-
-array-read-stands-again : tie.Need-array-read-stands-again Inv-loop μ-loop
-array-read-stands-again c = omega arith
 
 stands-again-requires : tie.Need-stands-again-requires Inv-loop μ-loop
 stands-again-requires c κs =
@@ -58,12 +43,6 @@ returns c =
     let again : lives (getD us (5 * i) 0) (drop (i + 1) (rows (a .count) us)) ≡ true = ap (λ (k : ℕ). lives (getD us (5 * i) 0) (drop k (rows (a .count) us))) next ∙ sym (c .before .stands-again .ensures) ∙ c .if1 .taken in
     let twice : apart (drop i (rows (a .count) us)) ≡ false = apart-turn (a .count) us i (omega arith) ∙ rw again in
     not-apart i (rows (a .count) us) twice
-
-array-write-met : tie.Need-array-write-met Inv-loop μ-loop
-array-write-met c = omega arith
-
-loop-less : tie.Need-loop-less Inv-loop μ-loop
-loop-less c = omega arith
 
 loop-again : tie.Need-loop-again Inv-loop μ-loop
 loop-again c =
@@ -94,19 +73,6 @@ returns-2 c =
 pub numbers-apart-spec : {M : Type 1} → statement M
 numbers-apart-spec =
     tie.close
-    (tie.spec
-    Inv-loop
-    μ-loop
-    loop-holds
-    sub-i
-    mul-number
-    mul-number-2
-    shared-slice-read-number
-    wide-requires
-    array-read-stands-again
-    stands-again-requires
-    returns
-    array-write-met
-    loop-less
-    loop-again
+    (tie.spec Inv-loop μ-loop loop-holds (λ c. omega arith) (λ c. omega arith) (λ c. omega arith) (λ c. omega arith)
+    wide-requires (λ c. omega arith) stands-again-requires returns (λ c. omega arith) (λ c. omega arith) loop-again
     returns-2)

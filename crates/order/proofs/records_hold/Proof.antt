@@ -20,24 +20,6 @@ abbrev μ-loop : tie.MeasureT-loop
 loop-holds : tie.Need-loop-holds Inv-loop μ-loop
 loop-holds c = (omega arith, refl)
 
-mul-at : tie.Need-mul-at Inv-loop μ-loop
-mul-at c = omega arith
-
-add-slot : tie.Need-add-slot Inv-loop μ-loop
-add-slot c = omega arith
-
-mul-slot : tie.Need-mul-slot Inv-loop μ-loop
-mul-slot c = omega arith
-
-shared-slice-read-slot : tie.Need-shared-slice-read-slot Inv-loop μ-loop
-shared-slice-read-slot c = omega arith
-
-mul-number-holds : tie.Need-mul-number-holds Inv-loop μ-loop
-mul-number-holds c = omega arith
-
-shared-slice-read-number-holds : tie.Need-shared-slice-read-number-holds Inv-loop μ-loop
-shared-slice-read-number-holds c = omega arith
-
 number-holds-requires : tie.Need-number-holds-requires Inv-loop μ-loop
 number-holds-requires c κs = tt
 
@@ -50,24 +32,6 @@ returns c =
     let e = c .before .number-holds .ensures in
     let bad : numberHolds (a .next) (getD us (5 * i) 0) (getD us (5 * i + 3) 0) ≡ false = sym e ∙ not-true (c .before .number-holds .result) (c .if1 .taken) in
     sym (rw bad at (fields-turn (a .count) us (a .next) i (omega arith))) ∙ b .loop .inv .1
-
-add-fields-hold : tie.Need-add-fields-hold Inv-loop μ-loop
-add-fields-hold c = omega arith
-
-mul-fields-hold : tie.Need-mul-fields-hold Inv-loop μ-loop
-mul-fields-hold c = omega arith
-
-shared-slice-read-fields-hold : tie.Need-shared-slice-read-fields-hold Inv-loop μ-loop
-shared-slice-read-fields-hold c = omega arith
-
-add-fields-hold-2 : tie.Need-add-fields-hold-2 Inv-loop μ-loop
-add-fields-hold-2 c = omega arith
-
-mul-fields-hold-2 : tie.Need-mul-fields-hold-2 Inv-loop μ-loop
-mul-fields-hold-2 c = omega arith
-
-shared-slice-read-fields-hold-2 : tie.Need-shared-slice-read-fields-hold-2 Inv-loop μ-loop
-shared-slice-read-fields-hold-2 c = omega arith
 
 fields-hold-requires : tie.Need-fields-hold-requires Inv-loop μ-loop
 fields-hold-requires c κs = tt
@@ -84,12 +48,6 @@ returns-2 c =
     let bad : fieldsHold (getD us (5 * i + 2) 0) (getD us (5 * i + 3) 0) (getD us (5 * i + 4) 0) ≡ false =
     sym (c .before .fields-hold .ensures) ∙ not-true (c .before .fields-hold .result) (c .if2 .taken) in
     sym (rw (good, bad) at (fields-turn (a .count) us (a .next) i (omega arith))) ∙ b .loop .inv .1
-
-add-i : tie.Need-add-i Inv-loop μ-loop
-add-i c = omega arith
-
-loop-less : tie.Need-loop-less Inv-loop μ-loop
-loop-less c = omega arith
 
 loop-again : tie.Need-loop-again Inv-loop μ-loop
 loop-again c =
@@ -113,27 +71,7 @@ returns-3 c =
 pub records-hold-spec : {M : Type 1} → statement M
 records-hold-spec =
     tie.close
-    (tie.spec
-    Inv-loop
-    μ-loop
-    loop-holds
-    mul-at
-    add-slot
-    mul-slot
-    shared-slice-read-slot
-    mul-number-holds
-    shared-slice-read-number-holds
-    number-holds-requires
-    returns
-    add-fields-hold
-    mul-fields-hold
-    shared-slice-read-fields-hold
-    add-fields-hold-2
-    mul-fields-hold-2
-    shared-slice-read-fields-hold-2
-    fields-hold-requires
-    returns-2
-    add-i
-    loop-less
-    loop-again
-    returns-3)
+    (tie.spec Inv-loop μ-loop loop-holds (λ c. omega arith) (λ c. omega arith) (λ c. omega arith) (λ c. omega arith)
+    (λ c. omega arith) (λ c. omega arith) number-holds-requires returns (λ c. omega arith) (λ c. omega arith)
+    (λ c. omega arith) (λ c. omega arith) (λ c. omega arith) (λ c. omega arith) fields-hold-requires returns-2
+    (λ c. omega arith) (λ c. omega arith) loop-again returns-3)

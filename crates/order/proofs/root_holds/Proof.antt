@@ -8,26 +8,17 @@ use Rattle.order.specs.Checks.{rooted-turn}
 use Rattle.order.proofs.root_holds.Statement.{statement}
 use Rattle.order.proofs.root_holds.Tie as tie
 
-shared-slice-read-if1 : tie.Need-shared-slice-read-if1
-shared-slice-read-if1 c = search needs
-
 returns : tie.Need-returns
 returns c =
     let a = c .before .before .before .args in
     let us = a .nodes .now in
     sym (rw (ne-eqb (getD us 0 0) 0 (c .if1 .taken)) at (rooted-turn (a .count) us (omega arith)))
 
-shared-slice-read-if2 : tie.Need-shared-slice-read-if2
-shared-slice-read-if2 c = search needs
-
 returns-2 : tie.Need-returns-2
 returns-2 c =
     let a = c .before .before .before .before .before .args in
     let us = a .nodes .now in
     sym (rw (eq-eqb (getD us 0 0) 0 (omega arith), ne-eqb (getD us 1 0) 0 (c .if2 .taken)) at (rooted-turn (a .count) us (omega arith)))
-
-shared-slice-read-if3 : tie.Need-shared-slice-read-if3
-shared-slice-read-if3 c = search needs
 
 returns-3 : tie.Need-returns-3
 returns-3 c =
@@ -48,12 +39,5 @@ returns-4 c =
 pub root-holds-spec : {M : Type 1} → statement M
 root-holds-spec =
     tie.close
-    (tie.spec
-    shared-slice-read-if1
-    returns
-    shared-slice-read-if2
-    returns-2
-    shared-slice-read-if3
-    returns-3
-    steps-hold-requires
-    returns-4)
+    (tie.spec (λ c. search needs) returns (λ c. search needs) returns-2 (λ c. search needs) returns-3
+    steps-hold-requires returns-4)

@@ -21,27 +21,6 @@ abbrev μ-loop : tie.MeasureT-loop
 loop-holds : tie.Need-loop-holds Inv-loop μ-loop
 loop-holds c = (omega arith, pass-none 256 (rows (c .before .args .count) (c .before .args .nodes .now)) (omega arith))
 
-mul-at : tie.Need-mul-at Inv-loop μ-loop
-mul-at c = omega arith
-
-add-if1 : tie.Need-add-if1 Inv-loop μ-loop
-add-if1 c = omega arith
-
-mul-if1 : tie.Need-mul-if1 Inv-loop μ-loop
-mul-if1 c = omega arith
-
-shared-slice-read-if1 : tie.Need-shared-slice-read-if1 Inv-loop μ-loop
-shared-slice-read-if1 c = omega arith
-
-add-wide : tie.Need-add-wide Inv-loop μ-loop
-add-wide c = omega arith
-
-mul-wide : tie.Need-mul-wide Inv-loop μ-loop
-mul-wide c = omega arith
-
-shared-slice-read-wide : tie.Need-shared-slice-read-wide Inv-loop μ-loop
-shared-slice-read-wide c = omega arith
-
 wide-requires : tie.Need-wide-requires Inv-loop μ-loop
 wide-requires c κs = search needs
 
@@ -53,9 +32,6 @@ returns c =
     let whole = rowsHold (rows (a .count) us) in
     pass-past (a .count) us (l .i) (l .seen) whole (omega arith) (l .inv .1) (c .before .before .before .if1 .taken) (omega arith)
 
-array-read-if3 : tie.Need-array-read-if3 Inv-loop μ-loop
-array-read-if3 c = omega arith
-
 returns-2 : tie.Need-returns-2 Inv-loop μ-loop
 returns-2 c =
     let a = c .before .before .before .before .before .before .before .before .before .args in
@@ -64,15 +40,6 @@ returns-2 c =
     let whole = rowsHold (rows (a .count) us) in
     let same : c .before .before .wide .result ≡ getD us (5 * l .i + 4) 0 = c .before .before .wide .ensures in
     pass-taken (a .count) us (l .i) (l .seen) whole (omega arith) (l .inv .1) (c .before .before .before .before .if1 .taken) (omega arith) (ap (λ (k : ℕ). getD (l .seen) k false) (sym same) ∙ c .if3 .taken)
-
-array-write-seen : tie.Need-array-write-seen Inv-loop μ-loop
-array-write-seen c = omega arith
-
-add-i : tie.Need-add-i Inv-loop μ-loop
-add-i c = omega arith
-
-loop-less : tie.Need-loop-less Inv-loop μ-loop
-loop-less c = omega arith
 
 loop-again : tie.Need-loop-again Inv-loop μ-loop
 loop-again c =
@@ -103,23 +70,6 @@ returns-3 c =
 pub rows-apart-spec : {M : Type 1} → statement M
 rows-apart-spec =
     tie.close
-    (tie.spec
-    Inv-loop
-    μ-loop
-    loop-holds
-    mul-at
-    add-if1
-    mul-if1
-    shared-slice-read-if1
-    add-wide
-    mul-wide
-    shared-slice-read-wide
-    wide-requires
-    returns
-    array-read-if3
-    returns-2
-    array-write-seen
-    add-i
-    loop-less
-    loop-again
-    returns-3)
+    (tie.spec Inv-loop μ-loop loop-holds (λ c. omega arith) (λ c. omega arith) (λ c. omega arith) (λ c. omega arith)
+    (λ c. omega arith) (λ c. omega arith) (λ c. omega arith) wide-requires returns (λ c. omega arith) returns-2
+    (λ c. omega arith) (λ c. omega arith) (λ c. omega arith) loop-again returns-3)

@@ -39,18 +39,6 @@ loop-holds c =
     let e = b .running-order .ensures in
     (omega arith, omega arith, e .numbers, (let m = e .many in omega arith), refl)
 
-mul-if3 : tie.Need-mul-if3 Inv-loop μ-loop
-mul-if3 c = omega arith
-
-shared-slice-read-if3 : tie.Need-shared-slice-read-if3 Inv-loop μ-loop
-shared-slice-read-if3 c = omega arith
-
-mul-if3-2 : tie.Need-mul-if3-2 Inv-loop μ-loop
-mul-if3-2 c = omega arith
-
-array-read-if3 : tie.Need-array-read-if3 Inv-loop μ-loop
-array-read-if3 c = omega arith
-
 returns-3 : tie.Need-returns-3 Inv-loop μ-loop
 returns-3 c =
     let b = c .before .before .before in
@@ -63,12 +51,6 @@ returns-3 c =
     (order-whole (a .kept .now) (a .many) t (inv .1)
     ∙ sym (inv .4)
     ∙ (rw (ne-eqb (getD (a .kept .now) i 0) (getD numbers i 0) (c .if3 .taken)) at (order-turn (a .kept .now) (a .many) t numbers i (inv .2) (inv .3) (inv .1) (omega arith) (omega arith))))
-
-add-i : tie.Need-add-i Inv-loop μ-loop
-add-i c = omega arith
-
-loop-less : tie.Need-loop-less Inv-loop μ-loop
-loop-less c = omega arith
 
 loop-again : tie.Need-loop-again Inv-loop μ-loop
 loop-again c =
@@ -99,19 +81,5 @@ returns-4 c =
 pub same-order-spec : {M : Type 1} → statement M
 same-order-spec =
     tie.close
-    (tie.spec
-    Inv-loop
-    μ-loop
-    returns
-    running-order-requires
-    returns-2
-    loop-holds
-    mul-if3
-    shared-slice-read-if3
-    mul-if3-2
-    array-read-if3
-    returns-3
-    add-i
-    loop-less
-    loop-again
-    returns-4)
+    (tie.spec Inv-loop μ-loop returns running-order-requires returns-2 loop-holds (λ c. omega arith) (λ c. omega arith)
+    (λ c. omega arith) (λ c. omega arith) returns-3 (λ c. omega arith) (λ c. omega arith) loop-again returns-4)

@@ -15,8 +15,6 @@ returns c = sym (c .before .before .pre .1 .1 (unmarked _ (c .if1 .taken)))
 number-lives-requires : tie.Need-number-lives-requires
 number-lives-requires c κs = search needs
 
-returns-2 : tie.Need-returns-2
-returns-2 c = search needs
-
 pub stands-again-spec : {M : Type 1} → statement M
-stands-again-spec = tie.close (tie.spec returns number-lives-requires returns-2)
+stands-again-spec =
+    tie.close (tie.spec returns number-lives-requires (λ c. search needs))

@@ -19,24 +19,6 @@ abbrev μ-loop : tie.MeasureT-loop
 loop-holds : tie.Need-loop-holds Inv-loop μ-loop
 loop-holds c = (omega arith, paste-zero (c .before .args .order .now) 0 (c .before .args .from .numbers), refl, search needs)
 
-mul-order : tie.Need-mul-order Inv-loop μ-loop
-mul-order c = omega arith
-
-array-read-order : tie.Need-array-read-order Inv-loop μ-loop
-array-read-order c = omega arith
-
-mul-order-2 : tie.Need-mul-order-2 Inv-loop μ-loop
-mul-order-2 c = omega arith
-
-slice-write-order : tie.Need-slice-write-order Inv-loop μ-loop
-slice-write-order c = omega arith
-
-add-i : tie.Need-add-i Inv-loop μ-loop
-add-i c = omega arith
-
-loop-less : tie.Need-loop-less Inv-loop μ-loop
-loop-less c = omega arith
-
 loop-again : tie.Need-loop-again Inv-loop μ-loop
 loop-again c =
     let b = c .before in
@@ -49,9 +31,6 @@ loop-again c =
       simp length-set (b .loop .inv .2),
       b .loop .inv .3,
     )
-
-same-length : tie.Need-same-length Inv-loop μ-loop
-same-length c = search needs
 
 returns : tie.Need-returns Inv-loop μ-loop
 returns c =
@@ -68,16 +47,5 @@ returns c =
 pub write-order-spec : {M : Type 1} → statement M
 write-order-spec =
     tie.close
-    (tie.spec
-    Inv-loop
-    μ-loop
-    loop-holds
-    mul-order
-    array-read-order
-    mul-order-2
-    slice-write-order
-    add-i
-    loop-less
-    loop-again
-    same-length
-    returns)
+    (tie.spec Inv-loop μ-loop loop-holds (λ c. omega arith) (λ c. omega arith) (λ c. omega arith) (λ c. omega arith)
+    (λ c. omega arith) (λ c. omega arith) loop-again (λ c. search needs) returns)

@@ -17,4 +17,5 @@ returns-4 : tie.Need-returns-4
 returns-4 c = sym (digits-4 (c .before .before .before .args .n) (omega arith))
 
 pub decimal-length-spec : {M : Type 1} → statement M
-decimal-length-spec = tie.close (tie.spec returns returns-2 returns-3 returns-4)
+decimal-length-spec =
+    tie.close (tie.spec returns returns-2 returns-3 returns-4)

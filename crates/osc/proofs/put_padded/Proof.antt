@@ -14,20 +14,11 @@ put-bytes-requires c κs =
     let a = c .before .before .before .args in
     omega (arith, padded-size (a .bytes .now))
 
-add-put-zeros : tie.Need-add-put-zeros
-add-put-zeros c = search needs
-
-sub-put-zeros : tie.Need-sub-put-zeros
-sub-put-zeros c = search needs
-
 put-zeros-requires : tie.Need-put-zeros-requires
 put-zeros-requires c κs =
     let a = c .before .before .before .before .before .before .before .args in
     let put : c .before .before .before .put-bytes .last .0 ≡ over (a .at) (a .bytes .now) (a .out .now) = c .before .before .before .put-bytes .ensures in
     rw (put, over-length (a .at) (a .bytes .now) (a .out .now) (omega (arith, padded-size (a .bytes .now)))) (omega (arith, padded-size (a .bytes .now)))
-
-same-length : tie.Need-same-length
-same-length c = search needs
 
 returns : tie.Need-returns
 returns c =
@@ -40,10 +31,4 @@ returns c =
 pub put-padded-spec : {M : Type 1} → statement M
 put-padded-spec =
     tie.close
-    (tie.spec
-    put-bytes-requires
-    add-put-zeros
-    sub-put-zeros
-    put-zeros-requires
-    same-length
-    returns)
+    (tie.spec put-bytes-requires (λ c. search needs) (λ c. search needs) put-zeros-requires (λ c. search needs) returns)

@@ -15,9 +15,6 @@ padded-length-requires c κs = search needs
 padded-length-requires-2 : tie.Need-padded-length-requires-2
 padded-length-requires-2 c κs = search needs
 
-add-front : tie.Need-add-front
-add-front c = search needs
-
 put-padded-requires : tie.Need-put-padded-requires
 put-padded-requires c κs = omega (arith, padded-size (c .before .before .before .before .before .before .before .args .address .now))
 
@@ -26,9 +23,6 @@ put-padded-requires-2 c κs = omega (arith, padded-size (c .before .before .befo
 
 put-words-requires : tie.Need-put-words-requires
 put-words-requires c κs = search needs
-
-same-length : tie.Need-same-length
-same-length c = search needs
 
 returns : tie.Need-returns
 returns c =
@@ -44,12 +38,5 @@ returns c =
 pub put-message-spec : {M : Type 1} → statement M
 put-message-spec =
     tie.close
-    (tie.spec
-    padded-length-requires
-    padded-length-requires-2
-    add-front
-    put-padded-requires
-    put-padded-requires-2
-    put-words-requires
-    same-length
-    returns)
+    (tie.spec padded-length-requires padded-length-requires-2 (λ c. search needs) put-padded-requires
+    put-padded-requires-2 put-words-requires (λ c. search needs) returns)

@@ -22,26 +22,8 @@ loop-holds c =
     let a = c .before .before .args in
     (omega arith, sym (ap (λ (l : List ℕ). over (a .at) l (a .out .now)) word-bytes-none ∙ over-none (a .at) (a .out .now)), refl)
 
-mul-word : tie.Need-mul-word Inv-loop μ-loop
-mul-word c = omega arith
-
-shared-slice-read-word : tie.Need-shared-slice-read-word Inv-loop μ-loop
-shared-slice-read-word c = omega arith
-
-mul-put-int : tie.Need-mul-put-int Inv-loop μ-loop
-mul-put-int c = omega arith
-
-add-put-int : tie.Need-add-put-int Inv-loop μ-loop
-add-put-int c = omega arith
-
 put-int-requires : tie.Need-put-int-requires Inv-loop μ-loop
 put-int-requires c κs = omega arith
-
-add-i : tie.Need-add-i Inv-loop μ-loop
-add-i c = omega arith
-
-loop-less : tie.Need-loop-less Inv-loop μ-loop
-loop-less c = omega arith
 
 loop-again : tie.Need-loop-again Inv-loop μ-loop
 loop-again c =
@@ -57,9 +39,6 @@ loop-again c =
     let size : length (wordBytes (take (i + 1) (a .words .now))) ≡ 4 * (i + 1) = word-bytes-size (take (i + 1) (a .words .now)) ∙ ap (λ (k : ℕ). 4 * k) (length-take-le (i + 1) (a .words .now) (omega arith)) in
     (omega arith, more, ap length more ∙ over-length (a .at) (wordBytes (take (i + 1) (a .words .now))) (a .out .now) (omega arith))
 
-same-length : tie.Need-same-length Inv-loop μ-loop
-same-length c = search needs
-
 returns : tie.Need-returns Inv-loop μ-loop
 returns c =
     let a = c .before .before .before .before .args in
@@ -71,17 +50,5 @@ returns c =
 pub put-words-spec : {M : Type 1} → statement M
 put-words-spec =
     tie.close
-    (tie.spec
-    Inv-loop
-    μ-loop
-    loop-holds
-    mul-word
-    shared-slice-read-word
-    mul-put-int
-    add-put-int
-    put-int-requires
-    add-i
-    loop-less
-    loop-again
-    same-length
-    returns)
+    (tie.spec Inv-loop μ-loop loop-holds (λ c. omega arith) (λ c. omega arith) (λ c. omega arith) (λ c. omega arith)
+    put-int-requires (λ c. omega arith) (λ c. omega arith) loop-again (λ c. search needs) returns)

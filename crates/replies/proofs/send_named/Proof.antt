@@ -22,12 +22,6 @@ returns-2 c =
     let a = c .before .before .before .before .args in
     sends-none (namedMessage (a .number) (a .name .now) (a .value)) (a .out .now) (omega (arith, named-size (a .number) (a .name .now) (a .value)))
 
-sub-if3 : tie.Need-sub-if3
-sub-if3 c = search needs
-
-sub-if3-2 : tie.Need-sub-if3-2
-sub-if3-2 c = search needs
-
 returns-3 : tie.Need-returns-3
 returns-3 c =
     let a = c .before .before .before .before .before .args in
@@ -35,18 +29,6 @@ returns-3 c =
 
 padded-length-requires : tie.Need-padded-length-requires
 padded-length-requires c κs = search needs
-
-add-end : tie.Need-add-end
-add-end c = search needs
-
-slice-aggregate-put-message : tie.Need-slice-aggregate-put-message
-slice-aggregate-put-message c = search needs
-
-slice-aggregate-put-message-2 : tie.Need-slice-aggregate-put-message-2
-slice-aggregate-put-message-2 c = search needs
-
-slice-aggregate-put-message-3 : tie.Need-slice-aggregate-put-message-3
-slice-aggregate-put-message-3 c = search needs
 
 put-message-requires : tie.Need-put-message-requires
 put-message-requires c κs = search needs
@@ -56,12 +38,6 @@ put-padded-requires c κs = omega (arith, padded-size (c .before .before .before
 
 put-int-requires : tie.Need-put-int-requires
 put-int-requires c κs = search needs
-
-add-t15 : tie.Need-add-t15
-add-t15 c = search needs
-
-same-length : tie.Need-same-length
-same-length c = search needs
 
 returns-4 : tie.Need-returns-4
 unfolding wordBytes
@@ -81,20 +57,6 @@ returns-4 c =
 pub send-named-spec : {M : Type 1} → statement M
 send-named-spec =
     tie.close
-    (tie.spec
-    returns
-    returns-2
-    sub-if3
-    sub-if3-2
-    returns-3
-    padded-length-requires
-    add-end
-    slice-aggregate-put-message
-    slice-aggregate-put-message-2
-    slice-aggregate-put-message-3
-    put-message-requires
-    put-padded-requires
-    put-int-requires
-    add-t15
-    same-length
-    returns-4)
+    (tie.spec returns returns-2 (λ c. search needs) (λ c. search needs) returns-3 padded-length-requires
+    (λ c. search needs) (λ c. search needs) (λ c. search needs) (λ c. search needs) put-message-requires
+    put-padded-requires put-int-requires (λ c. search needs) (λ c. search needs) returns-4)

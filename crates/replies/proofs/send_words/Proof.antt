@@ -12,15 +12,6 @@ padded-length-requires c κs = search needs
 padded-length-requires-2 : tie.Need-padded-length-requires-2
 padded-length-requires-2 c κs = search needs
 
-add-front : tie.Need-add-front
-add-front c = search needs
-
-mul-size : tie.Need-mul-size
-mul-size c = search needs
-
-add-size : tie.Need-add-size
-add-size c = search needs
-
 returns : tie.Need-returns
 returns c =
     let a = c .before .before .before .before .before .before .before .args in
@@ -28,9 +19,6 @@ returns c =
 
 put-message-requires : tie.Need-put-message-requires
 put-message-requires c κs = search needs
-
-same-length : tie.Need-same-length
-same-length c = search needs
 
 returns-2 : tie.Need-returns-2
 returns-2 c =
@@ -45,13 +33,5 @@ returns-2 c =
 pub send-words-spec : {M : Type 1} → statement M
 send-words-spec =
     tie.close
-    (tie.spec
-    padded-length-requires
-    padded-length-requires-2
-    add-front
-    mul-size
-    add-size
-    returns
-    put-message-requires
-    same-length
-    returns-2)
+    (tie.spec padded-length-requires padded-length-requires-2 (λ c. search needs) (λ c. search needs)
+    (λ c. search needs) returns put-message-requires (λ c. search needs) returns-2)

@@ -10,9 +10,6 @@ use Rattle.slots.specs.Slots.{take-least}
 use Rattle.slots.proofs.bytes_on.Statement.{statement}
 use Rattle.slots.proofs.bytes_on.Tie as tie
 
-slice-aggregate-result : tie.Need-slice-aggregate-result
-slice-aggregate-result c = search needs
-
 returns : tie.Need-returns
 returns c =
     let a = c .before .before .before .before .args in
@@ -20,47 +17,20 @@ returns c =
     let none : getD (a .table .now) (a .slot) 0 ≡ 0 = List·getD-eq-default (a .table .now) 0 {n = a .slot} past in
     rw none
 
-slice-aggregate-result-2 : tie.Need-slice-aggregate-result-2
-slice-aggregate-result-2 c = search needs
-
 returns-2 : tie.Need-returns-2
 returns-2 c =
     let a = c .before .before .before .before .before .args in
     let past : drop (slotRoom * a .slot) (a .arena .now) ≡ [] = drop-of-length-le (a .arena .now) {i = slotRoom * a .slot} (omega arith) in
     rw (past, take-nil {A = ℕ} slotRoom, take-nil {A = ℕ} (getD (a .table .now) (a .slot) 0))
 
-mul-start : tie.Need-mul-start
-mul-start c = search needs
-
-sub-least : tie.Need-sub-least
-sub-least c = search needs
-
 least-requires : tie.Need-least-requires
 least-requires c κs = search needs
-
-mul-wide : tie.Need-mul-wide
-mul-wide c = search needs
-
-shared-slice-read-wide : tie.Need-shared-slice-read-wide
-shared-slice-read-wide c = search needs
 
 wide-requires : tie.Need-wide-requires
 wide-requires c κs = search needs
 
 least-requires-2 : tie.Need-least-requires-2
 least-requires-2 c κs = search needs
-
-add-end : tie.Need-add-end
-add-end c = search needs
-
-sub-result : tie.Need-sub-result
-sub-result c = search needs
-
-part-result-start : tie.Need-part-result-start
-part-result-start c = search needs
-
-part-result-end : tie.Need-part-result-end
-part-result-end c = search needs
 
 returns-3 : tie.Need-returns-3
 returns-3 c =
@@ -79,20 +49,6 @@ returns-3 c =
 pub bytes-on-spec : {M : Type 1} → statement M
 bytes-on-spec =
     tie.close
-    (tie.spec
-    slice-aggregate-result
-    returns
-    slice-aggregate-result-2
-    returns-2
-    mul-start
-    sub-least
-    least-requires
-    mul-wide
-    shared-slice-read-wide
-    wide-requires
-    least-requires-2
-    add-end
-    sub-result
-    part-result-start
-    part-result-end
-    returns-3)
+    (tie.spec (λ c. search needs) returns (λ c. search needs) returns-2 (λ c. search needs) (λ c. search needs)
+    least-requires (λ c. search needs) (λ c. search needs) wide-requires least-requires-2 (λ c. search needs)
+    (λ c. search needs) (λ c. search needs) (λ c. search needs) returns-3)

@@ -5,15 +5,6 @@ use Rattle.slots.specs.Slots.{bytes-lent}
 use Rattle.slots.proofs.slot_bytes.Statement.{statement}
 use Rattle.slots.proofs.slot_bytes.Tie as tie
 
-sub-bytes-on : tie.Need-sub-bytes-on
-sub-bytes-on c = search needs
-
-part-bytes-on-start : tie.Need-part-bytes-on-start
-part-bytes-on-start c = search needs
-
-part-bytes-on-end : tie.Need-part-bytes-on-end
-part-bytes-on-end c = search needs
-
 bytes-on-requires : tie.Need-bytes-on-requires
 bytes-on-requires c κs = search needs
 
@@ -24,10 +15,4 @@ returns c =
 
 pub slot-bytes-spec : {M : Type 1} → statement M
 slot-bytes-spec =
-    tie.close
-    (tie.spec
-    sub-bytes-on
-    part-bytes-on-start
-    part-bytes-on-end
-    bytes-on-requires
-    returns)
+    tie.close (tie.spec (λ c. search needs) (λ c. search needs) (λ c. search needs) bytes-on-requires returns)

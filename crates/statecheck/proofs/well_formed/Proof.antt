@@ -55,12 +55,5 @@ returns-5 c =
 pub well-formed-spec : {M : Type 1} → statement M
 well-formed-spec =
     tie.close
-    (tie.spec
-    returns
-    returns-2
-    tree-formed-requires
-    returns-3
-    slots-hold-requires
-    returns-4
-    controls-formed-requires
+    (tie.spec returns returns-2 tree-formed-requires returns-3 slots-hold-requires returns-4 controls-formed-requires
     returns-5)

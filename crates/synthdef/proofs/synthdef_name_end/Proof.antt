@@ -9,9 +9,6 @@ use Rattle.synthdef.proofs.synthdef_name_end.Tie as tie
 definition-span-requires : tie.Need-definition-span-requires
 definition-span-requires c κs = search needs
 
-enum-known-start : tie.Need-enum-known-start
-enum-known-start c = search needs
-
 shared-slice-read-size : tie.Need-shared-slice-read-size
 shared-slice-read-size c =
     let a = c .before .before .before .before .before .before .args in
@@ -33,9 +30,6 @@ add-result-2 c =
     let inside = span-inside (a .file .now) (a .index) (sym (rw (c .before .before .start .given .1) at (c .before .before .before .before .definition-span .ensures))) in
     omega arith
 
-enum-told : tie.Need-enum-told
-enum-told c = search needs
-
 returns : tie.Need-returns
 returns c = ap (nameEnd (c .before .before .before .before .before .before .args .file .now)) (rw (c .before .before .start .given .1) at (c .before .before .before .before .definition-span .ensures))
 
@@ -45,13 +39,5 @@ returns-2 c = ap (nameEnd (c .before .before .before .before .args .file .now)) 
 pub synthdef-name-end-spec : {M : Type 1} → statement M
 synthdef-name-end-spec =
     tie.close
-    (tie.spec
-    definition-span-requires
-    enum-known-start
-    shared-slice-read-size
-    cast-size
-    add-result
-    add-result-2
-    enum-told
-    returns
-    returns-2)
+    (tie.spec definition-span-requires (λ c. search needs) shared-slice-read-size cast-size add-result add-result-2
+    (λ c. search needs) returns returns-2)

@@ -9,17 +9,11 @@ use Rattle.synthdef.proofs.synthdef_name_start.Tie as tie
 definition-span-requires : tie.Need-definition-span-requires
 definition-span-requires c κs = search needs
 
-enum-known-start : tie.Need-enum-known-start
-enum-known-start c = search needs
-
 add-result : tie.Need-add-result
 add-result c =
     let a = c .before .before .before .before .before .args in
     let inside = span-inside (a .file .now) (a .index) (sym (rw (c .before .start .given .1) at (c .before .before .before .definition-span .ensures))) in
     omega arith
-
-enum-told : tie.Need-enum-told
-enum-told c = search needs
 
 returns : tie.Need-returns
 returns c = ap nameStart (rw (c .before .start .given .1) at (c .before .before .before .definition-span .ensures))
@@ -30,4 +24,4 @@ returns-2 c = ap nameStart (rw (c .enum-told .given .1) at (c .before .before .d
 pub synthdef-name-start-spec : {M : Type 1} → statement M
 synthdef-name-start-spec =
     tie.close
-    (tie.spec definition-span-requires enum-known-start add-result enum-told returns returns-2)
+    (tie.spec definition-span-requires (λ c. search needs) add-result (λ c. search needs) returns returns-2)

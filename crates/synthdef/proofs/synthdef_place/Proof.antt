@@ -7,12 +7,6 @@ use Rattle.synthdef.proofs.synthdef_place.Tie as tie
 check-file-requires : tie.Need-check-file-requires
 check-file-requires c κs = search needs
 
-enum-known-count : tie.Need-enum-known-count
-enum-known-count c = search needs
-
-enum-known-refusal : tie.Need-enum-known-refusal
-enum-known-refusal c = search needs
-
 returns : tie.Need-returns
 returns c = ap refusalPlace (rw (c .before .count .given .1) at (c .before .before .before .check-file .ensures))
 
@@ -21,4 +15,4 @@ returns-2 c = ap refusalPlace (rw (c .before .refusal .given .1) at (c .before .
 
 pub synthdef-place-spec : {M : Type 1} → statement M
 synthdef-place-spec =
-    tie.close (tie.spec check-file-requires enum-known-count enum-known-refusal returns returns-2)
+    tie.close (tie.spec check-file-requires (λ c. search needs) (λ c. search needs) returns returns-2)

@@ -7,12 +7,6 @@ use Rattle.synthdef.proofs.synthdef_refusal.Tie as tie
 check-file-requires : tie.Need-check-file-requires
 check-file-requires c κs = search needs
 
-enum-known-count : tie.Need-enum-known-count
-enum-known-count c = search needs
-
-enum-known-refusal : tie.Need-enum-known-refusal
-enum-known-refusal c = search needs
-
 fault-number-requires : tie.Need-fault-number-requires
 fault-number-requires c κs = search needs
 
@@ -25,10 +19,4 @@ returns-2 c = c .fault-number .ensures ∙ ap refusalNumber (rw (c .before .befo
 pub synthdef-refusal-spec : {M : Type 1} → statement M
 synthdef-refusal-spec =
     tie.close
-    (tie.spec
-    check-file-requires
-    enum-known-count
-    enum-known-refusal
-    fault-number-requires
-    returns
-    returns-2)
+    (tie.spec check-file-requires (λ c. search needs) (λ c. search needs) fault-number-requires returns returns-2)

@@ -13,17 +13,11 @@ use Rattle.synthdef.proofs.synthdef_version.Tie as tie
 check-file-requires : tie.Need-check-file-requires
 check-file-requires c κs = search needs
 
-enum-known-count : tie.Need-enum-known-count
-enum-known-count c = search needs
-
 width-of-requires : tie.Need-width-of-requires
 width-of-requires c κs = search needs
 
 version-of-requires : tie.Need-version-of-requires
 version-of-requires c κs = search needs
-
-enum-known-refusal : tie.Need-enum-known-refusal
-enum-known-refusal c = search needs
 
 returns : tie.Need-returns
 returns c =
@@ -38,11 +32,5 @@ returns-2 c =
 pub synthdef-version-spec : {M : Type 1} → statement M
 synthdef-version-spec =
     tie.close
-    (tie.spec
-    check-file-requires
-    enum-known-count
-    width-of-requires
-    version-of-requires
-    enum-known-refusal
-    returns
+    (tie.spec check-file-requires (λ c. search needs) width-of-requires version-of-requires (λ c. search needs) returns
     returns-2)

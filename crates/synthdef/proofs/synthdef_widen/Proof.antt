@@ -11,9 +11,6 @@ use Rattle.synthdef.proofs.synthdef_widen.Tie as tie
 check-file-requires : tie.Need-check-file-requires
 check-file-requires c κs = search needs
 
-enum-known-count : tie.Need-enum-known-count
-enum-known-count c = search needs
-
 twin-size-requires : tie.Need-twin-size-requires
 twin-size-requires c κs = accepted (c .before .before .before .before .before .before .args .file .now) (sym (c .before .before .before .check-file .ensures) ∙ c .before .count .given .1)
 
@@ -24,12 +21,6 @@ returns c =
 
 write-twin-requires : tie.Need-write-twin-requires
 write-twin-requires c κs = (accepted (c .before .before .before .before .before .before .before .before .before .args .file .now) (sym (c .before .before .before .before .before .before .check-file .ensures) ∙ c .before .before .before .before .count .given .1), omega (arith, c .before .before .twin-size .ensures))
-
-enum-known-refusal : tie.Need-enum-known-refusal
-enum-known-refusal c = search needs
-
-same-length : tie.Need-same-length
-same-length c = search needs
 
 returns-2 : tie.Need-returns-2
 returns-2 c =
@@ -44,13 +35,5 @@ returns-3 c =
 pub synthdef-widen-spec : {M : Type 1} → statement M
 synthdef-widen-spec =
     tie.close
-    (tie.spec
-    check-file-requires
-    enum-known-count
-    twin-size-requires
-    returns
-    write-twin-requires
-    enum-known-refusal
-    same-length
-    returns-2
-    returns-3)
+    (tie.spec check-file-requires (λ c. search needs) twin-size-requires returns write-twin-requires (λ c. search needs)
+    (λ c. search needs) returns-2 returns-3)

@@ -7,17 +7,8 @@ use Rattle.units.specs.Marks.{unitCounts, unitOutputs, unitEnd, unitPlac
 use Rattle.units.proofs.far_outputs.Statement.{statement}
 use Rattle.units.proofs.far_outputs.Tie as tie
 
-div-wide : tie.Need-div-wide
-div-wide c = search needs
-
 wide-requires : tie.Need-wide-requires
 wide-requires c κs = search needs
-
-mul-wide : tie.Need-mul-wide
-mul-wide c = search needs
-
-shared-slice-read-wide : tie.Need-shared-slice-read-wide
-shared-slice-read-wide c = search needs
 
 wide-requires-2 : tie.Need-wide-requires-2
 wide-requires-2 c κs = search needs
@@ -32,9 +23,6 @@ add-outputs-behind c =
     let low : k < length m = rw index at (c .before .before .if1 .taken) in
     let place : c .wide2 .result ≡ getD m k 0 = c .wide2 .ensures ∙ ap (λ (n : ℕ). getD m n 0) index in
     omega (arith, mark-within (a .args .width) (a .args .s .now) (a .args .start) (a .args .stride) m (a .args .unit) (a .pre .1) low)
-
-rem-outputs-behind : tie.Need-rem-outputs-behind
-rem-outputs-behind c = search needs
 
 outputs-behind-requires : tie.Need-outputs-behind-requires
 outputs-behind-requires c κs =
@@ -61,21 +49,8 @@ returns c =
 outputs-behind-requires-2 : tie.Need-outputs-behind-requires-2
 outputs-behind-requires-2 c κs = search needs
 
-returns-2 : tie.Need-returns-2
-returns-2 c = search needs
-
 pub far-outputs-spec : {M : Type 1} → statement M
 far-outputs-spec =
     tie.close
-    (tie.spec
-    div-wide
-    wide-requires
-    mul-wide
-    shared-slice-read-wide
-    wide-requires-2
-    add-outputs-behind
-    rem-outputs-behind
-    outputs-behind-requires
-    returns
-    outputs-behind-requires-2
-    returns-2)
+    (tie.spec (λ c. search needs) wide-requires (λ c. search needs) (λ c. search needs) wide-requires-2
+    add-outputs-behind (λ c. search needs) outputs-behind-requires returns outputs-behind-requires-2 (λ c. search needs))

@@ -28,21 +28,6 @@ returns-2 c = as-before refl refl
 returns-3 : tie.Need-returns-3
 returns-3 c = as-before refl refl
 
-cast-marks : tie.Need-cast-marks
-cast-marks c = search needs
-
-mul-marks : tie.Need-mul-marks
-mul-marks c = search needs
-
-slice-write-marks : tie.Need-slice-write-marks
-slice-write-marks c = search needs
-
-add-result : tie.Need-add-result
-add-result c = search needs
-
-same-length : tie.Need-same-length
-same-length c = search needs
-
 returns-4 : tie.Need-returns-4
 returns-4 c =
     let a = c .before .before .before .before .before .before in
@@ -51,16 +36,5 @@ returns-4 c =
 pub mark-unit-spec : {M : Type 1} → statement M
 mark-unit-spec =
     tie.close
-    (tie.spec
-    wide-requires
-    mul-if1
-    wide-requires-2
-    returns
-    returns-2
-    returns-3
-    cast-marks
-    mul-marks
-    slice-write-marks
-    add-result
-    same-length
-    returns-4)
+    (tie.spec wide-requires mul-if1 wide-requires-2 returns returns-2 returns-3 (λ c. search needs) (λ c. search needs)
+    (λ c. search needs) (λ c. search needs) (λ c. search needs) returns-4)

@@ -24,12 +24,6 @@ unit-end-requires c κs =
     let i = c .before .loop .i in
     rw (c .before .loop .inv .1) (le-trans (place-up (a .width) (a .s .now) (a .start) (suc i) (suc (a .unit)) (omega arith)) (c .before .before .before .pre))
 
-add-i : tie.Need-add-i Inv-loop μ-loop
-add-i c = omega arith
-
-loop-less : tie.Need-loop-less Inv-loop μ-loop
-loop-less c = omega arith
-
 loop-again : tie.Need-loop-again Inv-loop μ-loop
 unfolding unitPlace
 loop-again c =
@@ -53,13 +47,5 @@ returns c =
 pub outputs-behind-spec : {M : Type 1} → statement M
 outputs-behind-spec =
     tie.close
-    (tie.spec
-    Inv-loop
-    μ-loop
-    loop-holds
-    unit-end-requires
-    add-i
-    loop-less
-    loop-again
-    unit-outputs-requires
-    returns)
+    (tie.spec Inv-loop μ-loop loop-holds unit-end-requires (λ c. omega arith) (λ c. omega arith) loop-again
+    unit-outputs-requires returns)

@@ -5,12 +5,6 @@ use Rattle.units.specs.Units.{stood-first, run-whole, run-sized}
 use Rattle.units.proofs.read_few.Statement.{statement}
 use Rattle.units.proofs.read_few.Tie as tie
 
-array-share-prefix-marks : tie.Need-array-share-prefix-marks
-array-share-prefix-marks c = search needs
-
-slice-aggregate-read-run : tie.Need-slice-aggregate-read-run
-slice-aggregate-read-run c = search needs
-
 read-run-requires : tie.Need-read-run-requires
 read-run-requires c κs =
     let a = c .before .before .before in
@@ -23,5 +17,4 @@ returns c =
 
 pub read-few-spec : {M : Type 1} → statement M
 read-few-spec =
-    tie.close
-    (tie.spec array-share-prefix-marks slice-aggregate-read-run read-run-requires returns)
+    tie.close (tie.spec (λ c. search needs) (λ c. search needs) read-run-requires returns)

@@ -7,12 +7,6 @@ use Rattle.units.proofs.read_index.Tie as tie
 index-below-requires : tie.Need-index-below-requires
 index-below-requires c κs = search needs
 
-enum-known-next : tie.Need-enum-known-next
-enum-known-next c = search needs
-
-enum-known-refusal : tie.Need-enum-known-refusal
-enum-known-refusal c = search needs
-
 returns : tie.Need-returns
 returns c = ap ending (rw (c .before .next .given .1) at (c .before .before .before .index-below .ensures))
 
@@ -21,4 +15,4 @@ returns-2 c = ap ending (rw (c .before .refusal .given .1) at (c .before .before
 
 pub read-index-spec : {M : Type 1} → statement M
 read-index-spec =
-    tie.close (tie.spec index-below-requires enum-known-next enum-known-refusal returns returns-2)
+    tie.close (tie.spec index-below-requires (λ c. search needs) (λ c. search needs) returns returns-2)

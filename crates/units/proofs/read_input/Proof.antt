@@ -14,9 +14,6 @@ use Rattle.units.proofs.read_input.Tie as tie
 integer-requires : tie.Need-integer-requires
 integer-requires c κs = search needs
 
-enum-known-unit : tie.Need-enum-known-unit
-enum-known-unit c = search needs
-
 read-index-requires : tie.Need-read-index-requires
 read-index-requires c κs = search needs
 
@@ -38,17 +35,8 @@ wide-requires c κs = search needs
 wide-requires-2 : tie.Need-wide-requires-2
 wide-requires-2 c κs = search needs
 
-add-if3 : tie.Need-add-if3
-add-if3 c = search needs
-
 wide-requires-3 : tie.Need-wide-requires-3
 wide-requires-3 c κs = search needs
-
-mul-read-index : tie.Need-mul-read-index
-mul-read-index c = search needs
-
-element-copy-out-read-index : tie.Need-element-copy-out-read-index
-element-copy-out-read-index c = search needs
 
 read-index-requires-2 : tie.Need-read-index-requires-2
 read-index-requires-2 c κs = search needs
@@ -75,9 +63,6 @@ far-outputs-requires c κs =
 read-index-requires-3 : tie.Need-read-index-requires-3
 read-index-requires-3 c κs = search needs
 
-enum-known-refusal : tie.Need-enum-known-refusal
-enum-known-refusal c = search needs
-
 returns-4 : tie.Need-returns-4
 returns-4 c =
     let a = c .before .before .before .before .before .before .before .before .before .before .before .before .before in
@@ -98,22 +83,6 @@ returns-5 c =
 pub read-input-spec : {M : Type 1} → statement M
 read-input-spec =
     tie.close
-    (tie.spec
-    integer-requires
-    enum-known-unit
-    read-index-requires
-    returns
-    returns-2
-    wide-requires
-    wide-requires-2
-    add-if3
-    wide-requires-3
-    mul-read-index
-    element-copy-out-read-index
-    read-index-requires-2
-    returns-3
-    far-outputs-requires
-    read-index-requires-3
-    enum-known-refusal
-    returns-4
-    returns-5)
+    (tie.spec integer-requires (λ c. search needs) read-index-requires returns returns-2 wide-requires wide-requires-2
+    (λ c. search needs) wide-requires-3 (λ c. search needs) (λ c. search needs) read-index-requires-2 returns-3
+    far-outputs-requires read-index-requires-3 (λ c. search needs) returns-4 returns-5)

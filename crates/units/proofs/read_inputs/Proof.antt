@@ -23,24 +23,12 @@ loop-holds c = (omega arith, rw sub-zero)
 read-input-requires : tie.Need-read-input-requires Inv-loop μ-loop
 read-input-requires c κs = c .before .before .before .before .pre
 
-enum-known-next : tie.Need-enum-known-next Inv-loop μ-loop
-enum-known-next c = search needs
-
-enum-known-refusal : tie.Need-enum-known-refusal Inv-loop μ-loop
-enum-known-refusal c = search needs
-
 returns : tie.Need-returns Inv-loop μ-loop
 returns c =
     let a = c .before .before .before .before .before .before .before .before .args in
     let l = c .before .before .before .before .before .loop in
     let found = sym (rw (c .before .refusal .given .1) at (c .before .before .before .read-input .ensures)) in
     sym (repeat-bad (inputBy (a .width) (a .constants) (outsFrom (a .width) (a .s .now) (a .start) (a .units)) (a .s .now)) (a .count) (l .i) (l .at) (omega arith) found) ∙ l .inv .1
-
-add-i : tie.Need-add-i Inv-loop μ-loop
-add-i c = omega arith
-
-loop-less : tie.Need-loop-less Inv-loop μ-loop
-loop-less c = omega arith
 
 loop-again : tie.Need-loop-again Inv-loop μ-loop
 loop-again c =
@@ -58,15 +46,5 @@ returns-2 c =
 pub read-inputs-spec : {M : Type 1} → statement M
 read-inputs-spec =
     tie.close
-    (tie.spec
-    Inv-loop
-    μ-loop
-    loop-holds
-    read-input-requires
-    enum-known-next
-    enum-known-refusal
-    returns
-    add-i
-    loop-less
-    loop-again
-    returns-2)
+    (tie.spec Inv-loop μ-loop loop-holds read-input-requires (λ c. search needs) (λ c. search needs) returns
+    (λ c. omega arith) (λ c. omega arith) loop-again returns-2)

@@ -59,12 +59,6 @@ read-run-requires c κs =
     let st = stands-marked (a .width) (a .constants) (a .s .now) (a .cursor .at) (a .count) (l .inv .0) m in
     (omega (arith, c .before .before .run-end .ensures), st .stood)
 
-enum-known-counted : tie.Need-enum-known-counted Inv-loop μ-loop
-enum-known-counted c = search needs
-
-enum-known-refusal : tie.Need-enum-known-refusal Inv-loop μ-loop
-enum-known-refusal c = search needs
-
 same-length : tie.Need-same-length Inv-loop μ-loop
 same-length c = marking-same (c .before .before .before .before .before .before .before .before .before .mark-unit .ensures) ∙ c .before .before .before .before .before .before .before .before .before .before .before .before .loop .inv .1
 
@@ -102,21 +96,6 @@ returns-2 c =
 pub read-marked-spec : {M : Type 1} → statement M
 read-marked-spec =
     tie.close
-    (tie.spec
-    Inv-loop
-    μ-loop
-    loop-holds
-    sub-mark-unit
-    mark-unit-requires
-    run-end-requires
-    slice-reshare-prefix-read-run
-    slice-aggregate-read-run
-    read-run-requires
-    enum-known-counted
-    enum-known-refusal
-    same-length
-    returns
-    loop-less
-    loop-again
-    same-length-2
-    returns-2)
+    (tie.spec Inv-loop μ-loop loop-holds sub-mark-unit mark-unit-requires run-end-requires slice-reshare-prefix-read-run
+    slice-aggregate-read-run read-run-requires (λ c. search needs) (λ c. search needs) same-length returns loop-less
+    loop-again same-length-2 returns-2)

@@ -22,24 +22,12 @@ loop-holds c = (omega arith, rw sub-zero)
 read-rate-requires : tie.Need-read-rate-requires Inv-loop μ-loop
 read-rate-requires c κs = search needs
 
-enum-known-next : tie.Need-enum-known-next Inv-loop μ-loop
-enum-known-next c = search needs
-
-enum-known-refusal : tie.Need-enum-known-refusal Inv-loop μ-loop
-enum-known-refusal c = search needs
-
 returns : tie.Need-returns Inv-loop μ-loop
 returns c =
     let a = c .before .before .before .before .before .before .before .args in
     let l = c .before .before .before .before .before .loop in
     let found = sym (rw (c .before .refusal .given .1) at (c .before .before .before .read-rate .ensures)) in
     sym (repeat-bad (rate (a .s .now)) (a .count) (l .i) (l .at) (omega arith) found) ∙ l .inv .1
-
-add-i : tie.Need-add-i Inv-loop μ-loop
-add-i c = omega arith
-
-loop-less : tie.Need-loop-less Inv-loop μ-loop
-loop-less c = omega arith
 
 loop-again : tie.Need-loop-again Inv-loop μ-loop
 loop-again c =
@@ -57,15 +45,5 @@ returns-2 c =
 pub read-rates-spec : {M : Type 1} → statement M
 read-rates-spec =
     tie.close
-    (tie.spec
-    Inv-loop
-    μ-loop
-    loop-holds
-    read-rate-requires
-    enum-known-next
-    enum-known-refusal
-    returns
-    add-i
-    loop-less
-    loop-again
-    returns-2)
+    (tie.spec Inv-loop μ-loop loop-holds read-rate-requires (λ c. search needs) (λ c. search needs) returns
+    (λ c. omega arith) (λ c. omega arith) loop-again returns-2)

@@ -26,17 +26,8 @@ loop-holds c =
 read-unit-requires : tie.Need-read-unit-requires Inv-loop μ-loop
 read-unit-requires c κs = c .before .before .loop .inv .2 .before
 
-enum-known-inputs : tie.Need-enum-known-inputs Inv-loop μ-loop
-enum-known-inputs c = search needs
-
 wide-requires : tie.Need-wide-requires Inv-loop μ-loop
 wide-requires c κs = search needs
-
-mul-fields : tie.Need-mul-fields Inv-loop μ-loop
-mul-fields c = omega arith
-
-add-fields : tie.Need-add-fields Inv-loop μ-loop
-add-fields c = omega arith
 
 add-fields-2 : tie.Need-add-fields-2 Inv-loop μ-loop
 add-fields-2 c =
@@ -48,15 +39,6 @@ add-fields-2 c =
 wide-requires-2 : tie.Need-wide-requires-2 Inv-loop μ-loop
 wide-requires-2 c κs = search needs
 
-mul-outs : tie.Need-mul-outs Inv-loop μ-loop
-mul-outs c = omega arith
-
-element-write-outs : tie.Need-element-write-outs Inv-loop μ-loop
-element-write-outs c = omega arith
-
-enum-known-refusal : tie.Need-enum-known-refusal Inv-loop μ-loop
-enum-known-refusal c = search needs
-
 returns : tie.Need-returns Inv-loop μ-loop
 unfolding Ran
 returns c =
@@ -64,12 +46,6 @@ returns c =
     let l = c .before .before .before .before .before .before .loop in
     let found = sym (rw (c .before .refusal .given .1) at (c .before .before .before .read-unit .ensures)) in
     (l .inv .2 .sized, λ n. sym (l .inv .3 n) ∙ run-bad (a .width) (a .constants) (a .s .now) (a .start) (l .inv .2) ((a .to - l .i) + n) ((a .to - suc (l .i)) + n) found (omega arith))
-
-add-i : tie.Need-add-i Inv-loop μ-loop
-add-i c = omega arith
-
-loop-less : tie.Need-loop-less Inv-loop μ-loop
-loop-less c = omega arith
 
 loop-again : tie.Need-loop-again Inv-loop μ-loop
 loop-again c =
@@ -94,22 +70,6 @@ returns-2 c =
 pub read-run-spec : {M : Type 1} → statement M
 read-run-spec =
     tie.close
-    (tie.spec
-    Inv-loop
-    μ-loop
-    loop-holds
-    read-unit-requires
-    enum-known-inputs
-    wide-requires
-    mul-fields
-    add-fields
-    add-fields-2
-    wide-requires-2
-    mul-outs
-    element-write-outs
-    enum-known-refusal
-    returns
-    add-i
-    loop-less
-    loop-again
-    returns-2)
+    (tie.spec Inv-loop μ-loop loop-holds read-unit-requires (λ c. search needs) wide-requires (λ c. omega arith)
+    (λ c. omega arith) add-fields-2 wide-requires-2 (λ c. omega arith) (λ c. omega arith) (λ c. search needs) returns
+    (λ c. omega arith) (λ c. omega arith) loop-again returns-2)

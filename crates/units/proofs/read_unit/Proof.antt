@@ -7,12 +7,6 @@ use Rattle.units.proofs.read_unit.Tie as tie
 name-requires : tie.Need-name-requires
 name-requires c κs = search needs
 
-enum-known-next : tie.Need-enum-known-next
-enum-known-next c = search needs
-
-enum-known-refusal : tie.Need-enum-known-refusal
-enum-known-refusal c = search needs
-
 returns : tie.Need-returns
 unfolding skipUnit
 returns c =
@@ -21,12 +15,6 @@ returns c =
 
 rate-requires : tie.Need-rate-requires
 rate-requires c κs = search needs
-
-enum-known-next-2 : tie.Need-enum-known-next-2
-enum-known-next-2 c = search needs
-
-enum-known-refusal-2 : tie.Need-enum-known-refusal-2
-enum-known-refusal-2 c = search needs
 
 returns-2 : tie.Need-returns-2
 unfolding skipUnit
@@ -38,23 +26,11 @@ returns-2 c =
 count-to-requires : tie.Need-count-to-requires
 count-to-requires c κs = search needs
 
-enum-known-inputs : tie.Need-enum-known-inputs
-enum-known-inputs c = search needs
-
 count-to-requires-2 : tie.Need-count-to-requires-2
 count-to-requires-2 c κs = search needs
 
-enum-known-outputs : tie.Need-enum-known-outputs
-enum-known-outputs c = search needs
-
 int16-requires : tie.Need-int16-requires
 int16-requires c κs = search needs
-
-enum-known-next-3 : tie.Need-enum-known-next-3
-enum-known-next-3 c = search needs
-
-enum-known-refusal-3 : tie.Need-enum-known-refusal-3
-enum-known-refusal-3 c = search needs
 
 returns-3 : tie.Need-returns-3
 unfolding skipUnit
@@ -69,12 +45,6 @@ returns-3 c =
 read-inputs-requires : tie.Need-read-inputs-requires
 read-inputs-requires c κs = c .before .before .before .before .before .before .before .before .before .before .before .before .before .before .before .before .before .before .before .before .before .before .pre
 
-enum-known-next-4 : tie.Need-enum-known-next-4
-enum-known-next-4 c = search needs
-
-enum-known-refusal-4 : tie.Need-enum-known-refusal-4
-enum-known-refusal-4 c = search needs
-
 returns-4 : tie.Need-returns-4
 unfolding skipUnit
 returns-4 c =
@@ -88,18 +58,6 @@ returns-4 c =
 
 read-rates-requires : tie.Need-read-rates-requires
 read-rates-requires c κs = search needs
-
-enum-known-end : tie.Need-enum-known-end
-enum-known-end c = search needs
-
-enum-known-refusal-5 : tie.Need-enum-known-refusal-5
-enum-known-refusal-5 c = search needs
-
-enum-known-refusal-6 : tie.Need-enum-known-refusal-6
-enum-known-refusal-6 c = search needs
-
-enum-known-refusal-7 : tie.Need-enum-known-refusal-7
-enum-known-refusal-7 c = search needs
 
 returns-5 : tie.Need-returns-5
 unfolding skipUnit
@@ -145,33 +103,8 @@ returns-8 c =
 pub read-unit-spec : {M : Type 1} → statement M
 read-unit-spec =
     tie.close
-    (tie.spec
-    name-requires
-    enum-known-next
-    enum-known-refusal
-    returns
-    rate-requires
-    enum-known-next-2
-    enum-known-refusal-2
-    returns-2
-    count-to-requires
-    enum-known-inputs
-    count-to-requires-2
-    enum-known-outputs
-    int16-requires
-    enum-known-next-3
-    enum-known-refusal-3
-    returns-3
-    read-inputs-requires
-    enum-known-next-4
-    enum-known-refusal-4
-    returns-4
-    read-rates-requires
-    enum-known-end
-    enum-known-refusal-5
-    enum-known-refusal-6
-    enum-known-refusal-7
-    returns-5
-    returns-6
-    returns-7
-    returns-8)
+    (tie.spec name-requires (λ c. search needs) (λ c. search needs) returns rate-requires (λ c. search needs)
+    (λ c. search needs) returns-2 count-to-requires (λ c. search needs) count-to-requires-2 (λ c. search needs)
+    int16-requires (λ c. search needs) (λ c. search needs) returns-3 read-inputs-requires (λ c. search needs)
+    (λ c. search needs) returns-4 read-rates-requires (λ c. search needs) (λ c. search needs) (λ c. search needs)
+    (λ c. search needs) returns-5 returns-6 returns-7 returns-8)

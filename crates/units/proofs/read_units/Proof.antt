@@ -7,9 +7,6 @@ use Rattle.units.proofs.read_units.Tie as tie
 wide-requires : tie.Need-wide-requires
 wide-requires c κs = search needs
 
-sub-most : tie.Need-sub-most
-sub-most c = search needs
-
 field-size-requires : tie.Need-field-size-requires
 field-size-requires c κs = search needs
 
@@ -19,32 +16,14 @@ mul-most c = omega (arith, size-most (c .before .before .before .before .before 
 add-most : tie.Need-add-most
 add-most c = omega (arith, size-most (c .before .before .before .before .before .args .width))
 
-div-most : tie.Need-div-most
-div-most c = search needs
-
 read-many-requires : tie.Need-read-many-requires
 read-many-requires c κs = search needs
-
-returns : tie.Need-returns
-returns c = search needs
 
 read-few-requires : tie.Need-read-few-requires
 read-few-requires c κs = search needs
 
-returns-2 : tie.Need-returns-2
-returns-2 c = search needs
-
 pub read-units-spec : {M : Type 1} → statement M
 read-units-spec =
     tie.close
-    (tie.spec
-    wide-requires
-    sub-most
-    field-size-requires
-    mul-most
-    add-most
-    div-most
-    read-many-requires
-    returns
-    read-few-requires
-    returns-2)
+    (tie.spec wide-requires (λ c. search needs) field-size-requires mul-most add-most (λ c. search needs)
+    read-many-requires (λ c. search needs) read-few-requires (λ c. search needs))

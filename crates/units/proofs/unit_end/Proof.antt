@@ -35,9 +35,6 @@ mul-result-2 : tie.Need-mul-result-2
 unfolding unitEnd
 mul-result-2 c = omega arith
 
-cast-result : tie.Need-cast-result
-cast-result c = search needs
-
 mul-result-3 : tie.Need-mul-result-3
 unfolding unitEnd
 mul-result-3 c = omega (arith, ap₂ (λ (size inputs : ℕ). 2 * size * inputs) (c .before .before .before .field-size .ensures) (c .before .unit-inputs .ensures))
@@ -45,9 +42,6 @@ mul-result-3 c = omega (arith, ap₂ (λ (size inputs : ℕ). 2 * size * inputs)
 add-result-3 : tie.Need-add-result-3
 unfolding unitEnd
 add-result-3 c = omega (arith, ap₂ (λ (size inputs : ℕ). 2 * size * inputs) (c .before .before .before .field-size .ensures) (c .before .unit-inputs .ensures))
-
-cast-result-2 : tie.Need-cast-result-2
-cast-result-2 c = search needs
 
 add-result-4 : tie.Need-add-result-4
 unfolding unitEnd
@@ -60,18 +54,5 @@ returns c = omega (arith, ap₂ (λ (size inputs : ℕ). 2 * size * inputs) (c .
 pub unit-end-spec : {M : Type 1} → statement M
 unit-end-spec =
     tie.close
-    (tie.spec
-    field-size-requires
-    unit-counts-requires
-    unit-inputs-requires
-    unit-outputs-requires
-    mul-result
-    add-result
-    add-result-2
-    mul-result-2
-    cast-result
-    mul-result-3
-    add-result-3
-    cast-result-2
-    add-result-4
-    returns)
+    (tie.spec field-size-requires unit-counts-requires unit-inputs-requires unit-outputs-requires mul-result add-result
+    add-result-2 mul-result-2 (λ c. search needs) mul-result-3 add-result-3 (λ c. search needs) add-result-4 returns)

@@ -20,4 +20,5 @@ returns c =
     c .value-at .ensures ∙ ap (valueBy (a .width) (a .s .now)) (c .before .unit-counts .ensures)
 
 pub unit-inputs-spec : {M : Type 1} → statement M
-unit-inputs-spec = tie.close (tie.spec unit-counts-requires value-at-requires returns)
+unit-inputs-spec =
+    tie.close (tie.spec unit-counts-requires value-at-requires returns)

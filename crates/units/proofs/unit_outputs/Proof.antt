@@ -31,5 +31,4 @@ returns c =
 
 pub unit-outputs-spec : {M : Type 1} → statement M
 unit-outputs-spec =
-    tie.close
-    (tie.spec unit-counts-requires field-size-requires add-value-at value-at-requires returns)
+    tie.close (tie.spec unit-counts-requires field-size-requires add-value-at value-at-requires returns)

@@ -8,12 +8,6 @@ use Rattle.values.proofs.bus_at.Tie as tie
 wide-requires : tie.Need-wide-requires
 wide-requires c κs = search needs
 
-mul-result : tie.Need-mul-result
-mul-result c = search needs
-
-shared-slice-read-result : tie.Need-shared-slice-read-result
-shared-slice-read-result c = search needs
-
 returns : tie.Need-returns
 returns c = rw (c .before .before .wide .ensures)
 
@@ -22,4 +16,4 @@ returns-2 c = sym (List·getD-eq-default (c .before .before .before .args .buses
 
 pub bus-at-spec : {M : Type 1} → statement M
 bus-at-spec =
-    tie.close (tie.spec wide-requires mul-result shared-slice-read-result returns returns-2)
+    tie.close (tie.spec wide-requires (λ c. search needs) (λ c. search needs) returns returns-2)

@@ -18,12 +18,6 @@ returns c = sym (small-integer (c .before .before .args .integer) (c .before .if
 returns-2 : tie.Need-returns-2
 returns-2 c = sym (large-integer (c .before .before .args .integer) (c .before .if1 .left) (c .if2 .taken))
 
-sub-magnitude : tie.Need-sub-magnitude
-sub-magnitude c = search needs
-
-add-magnitude : tie.Need-add-magnitude
-add-magnitude c = search needs
-
 int-to-float-number-2 : tie.Need-int-to-float-number-2
 int-to-float-number-2 c = in-float (4294967295 - c .before .before .before .args .integer + 1) (omega arith)
 
@@ -36,13 +30,5 @@ returns-3 c = rw (negated (4294967295 - c .before .before .before .args .integer
 pub integer-pattern-spec : {M : Type 1} → statement M
 integer-pattern-spec =
     tie.close
-    (tie.spec
-    int-to-float-number
-    float-to-bits-t6
-    returns
-    returns-2
-    sub-magnitude
-    add-magnitude
-    int-to-float-number-2
-    float-to-bits-t7
-    returns-3)
+    (tie.spec int-to-float-number float-to-bits-t6 returns returns-2 (λ c. search needs) (λ c. search needs)
+    int-to-float-number-2 float-to-bits-t7 returns-3)

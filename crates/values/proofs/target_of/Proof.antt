@@ -15,4 +15,5 @@ returns-3 : tie.Need-returns-3
 returns-3 c = let l : c .before .before .args .number < 4294967295 = omega (arith, c .before .before .fits .number .fits) in sym (target-reserved (c .before .before .args .number) (c .before .if1 .left) l)
 
 pub target-of-spec : {M : Type 1} → statement M
-target-of-spec = tie.close (tie.spec returns returns-2 returns-3)
+target-of-spec =
+    tie.close (tie.spec returns returns-2 returns-3)

@@ -4,12 +4,6 @@ use Rattle.values.specs.ValueLaws.{float-pattern}
 use Rattle.values.proofs.value_pattern.Statement.{statement}
 use Rattle.values.proofs.value_pattern.Tie as tie
 
-enum-known-value : tie.Need-enum-known-value
-enum-known-value c = search needs
-
-enum-known-value-2 : tie.Need-enum-known-value-2
-enum-known-value-2 c = search needs
-
 integer-pattern-requires : tie.Need-integer-pattern-requires
 integer-pattern-requires c κs = search needs
 
@@ -21,5 +15,4 @@ returns-2 c = rw (c .before .before .value2 .given .1) (c .integer-pattern .ensu
 
 pub value-pattern-spec : {M : Type 1} → statement M
 value-pattern-spec =
-    tie.close
-    (tie.spec enum-known-value enum-known-value-2 integer-pattern-requires returns returns-2)
+    tie.close (tie.spec (λ c. search needs) (λ c. search needs) integer-pattern-requires returns returns-2)

@@ -22,26 +22,8 @@ returns c =
 value-pattern-requires : tie.Need-value-pattern-requires
 value-pattern-requires c κs = search needs
 
-enum-known-pattern : tie.Need-enum-known-pattern
-enum-known-pattern c = search needs
-
-sub-fill-buses : tie.Need-sub-fill-buses
-sub-fill-buses c = search needs
-
-part-fill-buses-start : tie.Need-part-fill-buses-start
-part-fill-buses-start c = search needs
-
-part-fill-buses-end : tie.Need-part-fill-buses-end
-part-fill-buses-end c = search needs
-
 fill-buses-requires : tie.Need-fill-buses-requires
 fill-buses-requires c κs = search needs
-
-enum-told : tie.Need-enum-told
-enum-told c = search needs
-
-same-length : tie.Need-same-length
-same-length c = search needs
 
 returns-2 : tie.Need-returns-2
 returns-2 c =
@@ -60,16 +42,6 @@ returns-3 c =
 pub fill-range-spec : {M : Type 1} → statement M
 fill-range-spec =
     tie.close
-    (tie.spec
-    is-bus-range-requires
-    returns
-    value-pattern-requires
-    enum-known-pattern
-    sub-fill-buses
-    part-fill-buses-start
-    part-fill-buses-end
-    fill-buses-requires
-    enum-told
-    same-length
-    returns-2
+    (tie.spec is-bus-range-requires returns value-pattern-requires (λ c. search needs) (λ c. search needs)
+    (λ c. search needs) (λ c. search needs) fill-buses-requires (λ c. search needs) (λ c. search needs) returns-2
     returns-3)

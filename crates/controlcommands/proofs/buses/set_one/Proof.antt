@@ -22,26 +22,8 @@ returns c =
 value-pattern-requires : tie.Need-value-pattern-requires
 value-pattern-requires c κs = search needs
 
-enum-known-pattern : tie.Need-enum-known-pattern
-enum-known-pattern c = search needs
-
-sub-set-bus : tie.Need-sub-set-bus
-sub-set-bus c = search needs
-
-part-set-bus-start : tie.Need-part-set-bus-start
-part-set-bus-start c = search needs
-
-part-set-bus-end : tie.Need-part-set-bus-end
-part-set-bus-end c = search needs
-
 set-bus-requires : tie.Need-set-bus-requires
 set-bus-requires c κs = search needs
-
-enum-told : tie.Need-enum-told
-enum-told c = search needs
-
-same-length : tie.Need-same-length
-same-length c = search needs
 
 returns-2 : tie.Need-returns-2
 returns-2 c =
@@ -60,16 +42,5 @@ returns-3 c =
 pub set-one-spec : {M : Type 1} → statement M
 set-one-spec =
     tie.close
-    (tie.spec
-    is-bus-requires
-    returns
-    value-pattern-requires
-    enum-known-pattern
-    sub-set-bus
-    part-set-bus-start
-    part-set-bus-end
-    set-bus-requires
-    enum-told
-    same-length
-    returns-2
-    returns-3)
+    (tie.spec is-bus-requires returns value-pattern-requires (λ c. search needs) (λ c. search needs) (λ c. search needs)
+    (λ c. search needs) set-bus-requires (λ c. search needs) (λ c. search needs) returns-2 returns-3)

@@ -17,9 +17,6 @@ use Rattle.controls.proofs.asked.controls_asked.Tie as tie
 negative-key-requires : tie.Need-negative-key-requires
 negative-key-requires c κs = search needs
 
-returns : tie.Need-returns
-returns c = search needs
-
 returns-2 : tie.Need-returns-2
 returns-2 c =
     let a = c .before .before .before .before .before .before .args in
@@ -68,12 +65,5 @@ returns-4 c =
 pub controls-asked-spec : {M : Type 1} → statement M
 controls-asked-spec =
     tie.close
-    (tie.spec
-    negative-key-requires
-    returns
-    returns-2
-    node-is-group-requires
-    returns-3
-    node-definition-requires
-    asked-of-requires
-    returns-4)
+    (tie.spec negative-key-requires (λ c. search needs) returns-2 node-is-group-requires returns-3
+    node-definition-requires asked-of-requires returns-4)

@@ -10,15 +10,6 @@ use Rattle.controls.proofs.asked.controls_missing.Tie as tie
 controls-asked-requires : tie.Need-controls-asked-requires
 controls-asked-requires c κs = search needs
 
-enum-told : tie.Need-enum-told
-enum-told c = search needs
-
-enum-told-2 : tie.Need-enum-told-2
-enum-told-2 c = search needs
-
-enum-told-3 : tie.Need-enum-told-3
-enum-told-3 c = search needs
-
 returns : tie.Need-returns
 returns c =
     let a = c .before .before .before .before .before .before .args in
@@ -49,11 +40,5 @@ returns-3 c =
 pub controls-missing-spec : {M : Type 1} → statement M
 controls-missing-spec =
     tie.close
-    (tie.spec
-    controls-asked-requires
-    enum-told
-    enum-told-2
-    enum-told-3
-    returns
-    returns-2
+    (tie.spec controls-asked-requires (λ c. search needs) (λ c. search needs) (λ c. search needs) returns returns-2
     returns-3)

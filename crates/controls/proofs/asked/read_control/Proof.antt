@@ -11,35 +11,8 @@ use Rattle.controls.proofs.asked.read_control.Tie as tie
 wide-requires : tie.Need-wide-requires
 wide-requires c κs = search needs
 
-mul-at : tie.Need-mul-at
-mul-at c = search needs
-
 wide-requires-2 : tie.Need-wide-requires-2
 wide-requires-2 c κs = search needs
-
-mul-at-2 : tie.Need-mul-at-2
-mul-at-2 c = search needs
-
-add-at : tie.Need-add-at
-add-at c = search needs
-
-sub-read-at : tie.Need-sub-read-at
-sub-read-at c = search needs
-
-part-read-at-start : tie.Need-part-read-at-start
-part-read-at-start c = search needs
-
-part-read-at-end : tie.Need-part-read-at-end
-part-read-at-end c = search needs
-
-sub-read-at-2 : tie.Need-sub-read-at-2
-sub-read-at-2 c = search needs
-
-part-read-at-start-2 : tie.Need-part-read-at-start-2
-part-read-at-start-2 c = search needs
-
-part-read-at-end-2 : tie.Need-part-read-at-end-2
-part-read-at-end-2 c = search needs
 
 read-at-requires : tie.Need-read-at-requires
 read-at-requires c κs = search needs
@@ -54,17 +27,6 @@ returns c =
 pub read-control-spec : {M : Type 1} → statement M
 read-control-spec =
     tie.close
-    (tie.spec
-    wide-requires
-    mul-at
-    wide-requires-2
-    mul-at-2
-    add-at
-    sub-read-at
-    part-read-at-start
-    part-read-at-end
-    sub-read-at-2
-    part-read-at-start-2
-    part-read-at-end-2
-    read-at-requires
-    returns)
+    (tie.spec wide-requires (λ c. search needs) wide-requires-2 (λ c. search needs) (λ c. search needs)
+    (λ c. search needs) (λ c. search needs) (λ c. search needs) (λ c. search needs) (λ c. search needs)
+    (λ c. search needs) read-at-requires returns)

@@ -68,11 +68,5 @@ returns-3 c =
 pub read-key-spec : {M : Type 1} → statement M
 read-key-spec =
     tie.close
-    (tie.spec
-    node-definition-requires
-    key-cover-requires
-    returns
-    returns-2
-    node-row-requires
-    read-control-requires
+    (tie.spec node-definition-requires key-cover-requires returns returns-2 node-row-requires read-control-requires
     returns-3)

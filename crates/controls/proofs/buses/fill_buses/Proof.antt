@@ -27,9 +27,6 @@ wide-requires-2 c κs = tt
 returns : tie.Need-returns Inv-loop μ-loop
 returns c = rw (lt-leb (c .before .before .before .before .args .start + c .before .before .before .before .args .count) (length (c .before .before .before .before .args .buses .now)) (omega arith))
 
-sub-if2 : tie.Need-sub-if2 Inv-loop μ-loop
-sub-if2 c = omega arith
-
 returns-2 : tie.Need-returns-2 Inv-loop μ-loop
 returns-2 c = rw (lt-leb (c .before .before .before .before .before .args .start + c .before .before .before .before .before .args .count) (length (c .before .before .before .before .before .args .buses .now)) (omega arith))
 
@@ -37,21 +34,6 @@ loop-holds : tie.Need-loop-holds Inv-loop μ-loop
 loop-holds c =
     let a = c .before .before .before .before .before .args in
     (omega arith, paste-zero (a .buses .now) (c .before .before .before .wide .result) (replicate (c .before .before .wide2 .result) (a .pattern)), refl)
-
-add-buses : tie.Need-add-buses Inv-loop μ-loop
-add-buses c = omega arith
-
-mul-buses : tie.Need-mul-buses Inv-loop μ-loop
-mul-buses c = omega arith
-
-slice-write-buses : tie.Need-slice-write-buses Inv-loop μ-loop
-slice-write-buses c = omega arith
-
-add-i : tie.Need-add-i Inv-loop μ-loop
-add-i c = omega arith
-
-loop-less : tie.Need-loop-less Inv-loop μ-loop
-loop-less c = omega arith
 
 loop-again : tie.Need-loop-again Inv-loop μ-loop
 loop-again c =
@@ -66,9 +48,6 @@ loop-again c =
           ∙ rw add-one (paste-suc (a .buses .now) from (replicate many (a .pattern)) (l .i) 0 (omega arith) inner),
       simp length-set (l .inv .2),
     )
-
-same-length : tie.Need-same-length Inv-loop μ-loop
-same-length c = search needs
 
 returns-3 : tie.Need-returns-3 Inv-loop μ-loop
 returns-3 c =
@@ -87,20 +66,6 @@ returns-3 c =
 pub fill-buses-spec : {M : Type 1} → statement M
 fill-buses-spec =
     tie.close
-    (tie.spec
-    Inv-loop
-    μ-loop
-    wide-requires
-    wide-requires-2
-    returns
-    sub-if2
-    returns-2
-    loop-holds
-    add-buses
-    mul-buses
-    slice-write-buses
-    add-i
-    loop-less
-    loop-again
-    same-length
-    returns-3)
+    (tie.spec Inv-loop μ-loop wide-requires wide-requires-2 returns (λ c. omega arith) returns-2 loop-holds
+    (λ c. omega arith) (λ c. omega arith) (λ c. omega arith) (λ c. omega arith) (λ c. omega arith) loop-again
+    (λ c. search needs) returns-3)

@@ -12,4 +12,5 @@ returns : tie.Need-returns
 returns c = ap (λ (n : ℕ). ltb n 4096) (c .wide .ensures)
 
 pub is-bus-spec : {M : Type 1} → statement M
-is-bus-spec = tie.close (tie.spec wide-requires returns)
+is-bus-spec =
+    tie.close (tie.spec wide-requires returns)

@@ -22,4 +22,5 @@ returns-2 c =
     ap₂ (λ (x y : ℕ). leb x (4096 - y)) (c .wide2 .ensures) (c .before .before .wide .ensures) ∙ sym (range-within (a .start) (a .count) (omega arith))
 
 pub is-bus-range-spec : {M : Type 1} → statement M
-is-bus-range-spec = tie.close (tie.spec wide-requires returns wide-requires-2 returns-2)
+is-bus-range-spec =
+    tie.close (tie.spec wide-requires returns wide-requires-2 returns-2)

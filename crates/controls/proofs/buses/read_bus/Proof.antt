@@ -9,12 +9,6 @@ use Rattle.controls.proofs.buses.read_bus.Tie as tie
 wide-requires : tie.Need-wide-requires
 wide-requires c κs = search needs
 
-mul-result : tie.Need-mul-result
-mul-result c = search needs
-
-shared-slice-read-result : tie.Need-shared-slice-read-result
-shared-slice-read-result c = search needs
-
 returns : tie.Need-returns
 returns c = ap (λ (k : ℕ). getD (c .before .before .before .before .args .buses .now) k 0) (c .before .before .wide .ensures)
 
@@ -23,4 +17,4 @@ returns-2 c = sym (List·getD-eq-default (c .before .before .before .args .buses
 
 pub read-bus-spec : {M : Type 1} → statement M
 read-bus-spec =
-    tie.close (tie.spec wide-requires mul-result shared-slice-read-result returns returns-2)
+    tie.close (tie.spec wide-requires (λ c. search needs) (λ c. search needs) returns returns-2)

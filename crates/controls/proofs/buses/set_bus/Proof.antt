@@ -10,15 +10,6 @@ use Rattle.controls.proofs.buses.set_bus.Tie as tie
 wide-requires : tie.Need-wide-requires
 wide-requires c κs = search needs
 
-mul-buses : tie.Need-mul-buses
-mul-buses c = search needs
-
-slice-write-buses : tie.Need-slice-write-buses
-slice-write-buses c = search needs
-
-same-length : tie.Need-same-length
-same-length c = search needs
-
 returns : tie.Need-returns
 returns c = ap (λ (k : ℕ). set (c .before .before .before .args .buses .now) k (c .before .before .before .args .pattern)) (c .before .wide .ensures)
 
@@ -28,4 +19,5 @@ returns-2 c =
 
 pub set-bus-spec : {M : Type 1} → statement M
 set-bus-spec =
-    tie.close (tie.spec wide-requires mul-buses slice-write-buses same-length returns returns-2)
+    tie.close
+    (tie.spec wide-requires (λ c. search needs) (λ c. search needs) (λ c. search needs) returns returns-2)

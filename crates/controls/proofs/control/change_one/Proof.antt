@@ -8,21 +8,6 @@ use Rattle.controls.specs.Change.{changeOf, set-two}
 use Rattle.controls.proofs.control.change_one.Statement.{statement}
 use Rattle.controls.proofs.control.change_one.Tie as tie
 
-mul-from-words : tie.Need-mul-from-words
-mul-from-words c = search needs
-
-slice-read-from-words : tie.Need-slice-read-from-words
-slice-read-from-words c = search needs
-
-add-from-words : tie.Need-add-from-words
-add-from-words c = search needs
-
-mul-from-words-2 : tie.Need-mul-from-words-2
-mul-from-words-2 c = search needs
-
-slice-read-from-words-2 : tie.Need-slice-read-from-words-2
-slice-read-from-words-2 c = search needs
-
 from-words-requires : tie.Need-from-words-requires
 from-words-requires c κs = search needs
 
@@ -35,23 +20,8 @@ own-word-requires c κs = search needs
 mapping-word-requires : tie.Need-mapping-word-requires
 mapping-word-requires c κs = search needs
 
-mul-controls : tie.Need-mul-controls
-mul-controls c = search needs
-
-slice-write-controls : tie.Need-slice-write-controls
-slice-write-controls c = search needs
-
-add-controls : tie.Need-add-controls
-add-controls c = search needs
-
-mul-controls-2 : tie.Need-mul-controls-2
-mul-controls-2 c = search needs
-
 slice-write-controls-2 : tie.Need-slice-write-controls-2
 slice-write-controls-2 c = simp length-set (omega arith)
-
-same-length : tie.Need-same-length
-same-length c = search needs
 
 returns : tie.Need-returns
 returns c =
@@ -69,20 +39,6 @@ returns c =
 pub change-one-spec : {M : Type 1} → statement M
 change-one-spec =
     tie.close
-    (tie.spec
-    mul-from-words
-    slice-read-from-words
-    add-from-words
-    mul-from-words-2
-    slice-read-from-words-2
-    from-words-requires
-    changed-requires
-    own-word-requires
-    mapping-word-requires
-    mul-controls
-    slice-write-controls
-    add-controls
-    mul-controls-2
-    slice-write-controls-2
-    same-length
-    returns)
+    (tie.spec (λ c. search needs) (λ c. search needs) (λ c. search needs) (λ c. search needs) (λ c. search needs)
+    from-words-requires changed-requires own-word-requires mapping-word-requires (λ c. search needs) (λ c. search needs)
+    (λ c. search needs) (λ c. search needs) slice-write-controls-2 (λ c. search needs) returns)

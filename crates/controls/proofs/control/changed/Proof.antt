@@ -3,14 +3,8 @@ use lib.ListN.{set}
 use Rattle.controls.proofs.control.changed.Statement.{statement}
 use Rattle.controls.proofs.control.changed.Tie as tie
 
-enum-known-change : tie.Need-enum-known-change
-enum-known-change c = search needs
-
 set-requires : tie.Need-set-requires
 set-requires c κs = search needs
-
-enum-known-change-2 : tie.Need-enum-known-change-2
-enum-known-change-2 c = search needs
 
 map-to-requires : tie.Need-map-to-requires
 map-to-requires c κs = search needs
@@ -23,5 +17,4 @@ returns-2 c = rw (c .before .before .change2 .given .1) (c .map-to .ensures)
 
 pub changed-spec : {M : Type 1} → statement M
 changed-spec =
-    tie.close
-    (tie.spec enum-known-change set-requires enum-known-change-2 map-to-requires returns returns-2)
+    tie.close (tie.spec (λ c. search needs) set-requires (λ c. search needs) map-to-requires returns returns-2)

@@ -22,4 +22,5 @@ returns-2 : tie.Need-returns-2
 returns-2 c = c .parameter-count .ensures ∙ ap (λ (s : List ℕ). length (frontIn s .values)) (c .before .slot-bytes .ensures)
 
 pub slot-controls-spec : {M : Type 1} → statement M
-slot-controls-spec = tie.close (tie.spec returns slot-bytes-requires parameter-count-requires returns-2)
+slot-controls-spec =
+    tie.close (tie.spec returns slot-bytes-requires parameter-count-requires returns-2)

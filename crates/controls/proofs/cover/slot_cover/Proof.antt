@@ -24,4 +24,5 @@ returns-2 c =
     c .key-cover .ensures ∙ ap (λ (s : List ℕ). coverOf (a .key) (a .name .now) (frontOnly s)) (c .before .slot-bytes .ensures)
 
 pub slot-cover-spec : {M : Type 1} → statement M
-slot-cover-spec = tie.close (tie.spec returns slot-bytes-requires key-cover-requires returns-2)
+slot-cover-spec =
+    tie.close (tie.spec returns slot-bytes-requires key-cover-requires returns-2)

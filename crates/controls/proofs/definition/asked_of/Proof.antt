@@ -51,12 +51,4 @@ returns-6 c =
 pub asked-of-spec : {M : Type 1} → statement M
 asked-of-spec =
     tie.close
-    (tie.spec
-    key-cover-requires
-    returns
-    returns-2
-    parameter-count-requires
-    returns-3
-    returns-4
-    returns-5
-    returns-6)
+    (tie.spec key-cover-requires returns returns-2 parameter-count-requires returns-3 returns-4 returns-5 returns-6)

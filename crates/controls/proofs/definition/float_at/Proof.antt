@@ -8,12 +8,6 @@ use Rattle.controls.proofs.definition.float_at.Tie as tie
 float32-requires : tie.Need-float32-requires
 float32-requires c κs = search needs
 
-enum-known-pattern : tie.Need-enum-known-pattern
-enum-known-pattern c = search needs
-
-enum-known-refusal : tie.Need-enum-known-refusal
-enum-known-refusal c = search needs
-
 returns : tie.Need-returns
 returns c =
     let a = c .before .before .before .before .before .args in
@@ -26,4 +20,4 @@ returns-2 c =
 
 pub float-at-spec : {M : Type 1} → statement M
 float-at-spec =
-    tie.close (tie.spec float32-requires enum-known-pattern enum-known-refusal returns returns-2)
+    tie.close (tie.spec float32-requires (λ c. search needs) (λ c. search needs) returns returns-2)

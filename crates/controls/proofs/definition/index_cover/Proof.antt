@@ -12,11 +12,6 @@ returns c =
     let none-left : 0 ≡ a .many - a .index = omega arith in
     ap (λ (w : ℕ). some (record { index = a .index; width = w })) none-left
 
-sub-t4 : tie.Need-sub-t4
-sub-t4 c = search needs
-
-returns-2 : tie.Need-returns-2
-returns-2 c = search needs
-
 pub index-cover-spec : {M : Type 1} → statement M
-index-cover-spec = tie.close (tie.spec returns sub-t4 returns-2)
+index-cover-spec =
+    tie.close (tie.spec returns (λ c. search needs) (λ c. search needs))

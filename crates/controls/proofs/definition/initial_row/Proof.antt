@@ -15,9 +15,6 @@ use Rattle.controls.proofs.definition.initial_row.Tie as tie
 values-requires : tie.Need-values-requires
 values-requires c κs = search needs
 
-enum-known-start : tie.Need-enum-known-start
-enum-known-start c = search needs
-
 returns : tie.Need-returns
 returns c =
     let a = c .before .before .before .before .before .before .before .args in
@@ -26,9 +23,6 @@ returns c =
 
 wide-requires : tie.Need-wide-requires
 wide-requires c κs = search needs
-
-mul-write-initial : tie.Need-mul-write-initial
-mul-write-initial c = search needs
 
 wide-requires-2 : tie.Need-wide-requires-2
 wide-requires-2 c κs = search needs
@@ -40,12 +34,6 @@ write-initial-requires c κs =
     let few = values-few (a .definition .now) in
     let end = t .end (omega arith) in
     (omega arith, omega arith)
-
-enum-told : tie.Need-enum-told
-enum-told c = search needs
-
-same-length : tie.Need-same-length
-same-length c = search needs
 
 returns-2 : tie.Need-returns-2
 returns-2 c =
@@ -68,15 +56,5 @@ returns-3 c =
 pub initial-row-spec : {M : Type 1} → statement M
 initial-row-spec =
     tie.close
-    (tie.spec
-    values-requires
-    enum-known-start
-    returns
-    wide-requires
-    mul-write-initial
-    wide-requires-2
-    write-initial-requires
-    enum-told
-    same-length
-    returns-2
-    returns-3)
+    (tie.spec values-requires (λ c. search needs) returns wide-requires (λ c. search needs) wide-requires-2
+    write-initial-requires (λ c. search needs) (λ c. search needs) returns-2 returns-3)

@@ -9,17 +9,11 @@ use Rattle.controls.specs.Encoded.{frontOnly, cover-fact}
 use Rattle.controls.proofs.definition.key_cover.Statement.{statement}
 use Rattle.controls.proofs.definition.key_cover.Tie as tie
 
-enum-known-key : tie.Need-enum-known-key
-enum-known-key c = search needs
-
 parameter-count-requires : tie.Need-parameter-count-requires
 parameter-count-requires c κs = search needs
 
 index-cover-requires : tie.Need-index-cover-requires
 index-cover-requires c κs = search needs
-
-enum-told : tie.Need-enum-told
-enum-told c = search needs
 
 name-cover-requires : tie.Need-name-cover-requires
 name-cover-requires c κs = search needs
@@ -43,11 +37,5 @@ returns-2 c =
 pub key-cover-spec : {M : Type 1} → statement M
 key-cover-spec =
     tie.close
-    (tie.spec
-    enum-known-key
-    parameter-count-requires
-    index-cover-requires
-    enum-told
-    name-cover-requires
-    returns
-    returns-2)
+    (tie.spec (λ c. search needs) parameter-count-requires index-cover-requires (λ c. search needs) name-cover-requires
+    returns returns-2)

@@ -11,4 +11,5 @@ returns : tie.Need-returns
 returns c = ap numberOr (c .parameters .ensures) ∙ parameters-fact (c .before .before .args .definition .now)
 
 pub parameter-count-spec : {M : Type 1} → statement M
-parameter-count-spec = tie.close (tie.spec parameters-requires returns)
+parameter-count-spec =
+    tie.close (tie.spec parameters-requires returns)

@@ -21,47 +21,11 @@ loop-holds c =
     let a = c .before .before .args in
     (omega arith, paste-zero (a .controls .now) (a .at) (initialWords (floatsFrom (a .s .now) (a .count) (a .start))), refl)
 
-mul-float-at : tie.Need-mul-float-at Inv-loop μ-loop
-mul-float-at c = omega arith
-
-add-float-at : tie.Need-add-float-at Inv-loop μ-loop
-add-float-at c = omega arith
-
 float-at-requires : tie.Need-float-at-requires Inv-loop μ-loop
 float-at-requires c κs = tt
 
-mul-controls : tie.Need-mul-controls Inv-loop μ-loop
-mul-controls c = omega arith
-
-add-controls : tie.Need-add-controls Inv-loop μ-loop
-add-controls c = omega arith
-
-mul-controls-2 : tie.Need-mul-controls-2 Inv-loop μ-loop
-mul-controls-2 c = omega arith
-
-slice-write-controls : tie.Need-slice-write-controls Inv-loop μ-loop
-slice-write-controls c = omega arith
-
-mul-controls-3 : tie.Need-mul-controls-3 Inv-loop μ-loop
-mul-controls-3 c = omega arith
-
-add-controls-2 : tie.Need-add-controls-2 Inv-loop μ-loop
-add-controls-2 c = omega arith
-
-add-controls-3 : tie.Need-add-controls-3 Inv-loop μ-loop
-add-controls-3 c = omega arith
-
-mul-controls-4 : tie.Need-mul-controls-4 Inv-loop μ-loop
-mul-controls-4 c = omega arith
-
 slice-write-controls-2 : tie.Need-slice-write-controls-2 Inv-loop μ-loop
 slice-write-controls-2 c = simp length-set (omega arith)
-
-add-i : tie.Need-add-i Inv-loop μ-loop
-add-i c = omega arith
-
-loop-less : tie.Need-loop-less Inv-loop μ-loop
-loop-less c = omega arith
 
 loop-again : tie.Need-loop-again Inv-loop μ-loop
 loop-again c =
@@ -95,24 +59,6 @@ returns c =
 pub write-initial-spec : {M : Type 1} → statement M
 write-initial-spec =
     tie.close
-    (tie.spec
-    Inv-loop
-    μ-loop
-    loop-holds
-    mul-float-at
-    add-float-at
-    float-at-requires
-    mul-controls
-    add-controls
-    mul-controls-2
-    slice-write-controls
-    mul-controls-3
-    add-controls-2
-    add-controls-3
-    mul-controls-4
-    slice-write-controls-2
-    add-i
-    loop-less
-    loop-again
-    same-length
-    returns)
+    (tie.spec Inv-loop μ-loop loop-holds (λ c. omega arith) (λ c. omega arith) float-at-requires (λ c. omega arith)
+    (λ c. omega arith) (λ c. omega arith) (λ c. omega arith) (λ c. omega arith) (λ c. omega arith) (λ c. omega arith)
+    (λ c. omega arith) slice-write-controls-2 (λ c. omega arith) (λ c. omega arith) loop-again same-length returns)

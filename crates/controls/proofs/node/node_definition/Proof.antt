@@ -15,4 +15,5 @@ returns c =
     c .slot-bytes .ensures ∙ ap (slotBytes (a .words .now) (a .arena .now)) (c .before .node-slot .ensures)
 
 pub node-definition-spec : {M : Type 1} → statement M
-node-definition-spec = tie.close (tie.spec node-slot-requires slot-bytes-requires returns)
+node-definition-spec =
+    tie.close (tie.spec node-slot-requires slot-bytes-requires returns)

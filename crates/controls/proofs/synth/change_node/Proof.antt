@@ -27,15 +27,6 @@ returns c =
 node-row-requires : tie.Need-node-row-requires
 node-row-requires c κs = search needs
 
-sub-change-row : tie.Need-sub-change-row
-sub-change-row c = search needs
-
-part-change-row-start : tie.Need-part-change-row-start
-part-change-row-start c = search needs
-
-part-change-row-end : tie.Need-part-change-row-end
-part-change-row-end c = search needs
-
 change-row-requires : tie.Need-change-row-requires
 change-row-requires c κs =
     let a = c .before .before .before .before .before .before in
@@ -47,9 +38,6 @@ change-row-requires c κs =
     let inside = reached-inside (a .args .cover) (a .args .count) (a .pre .3) some-reached in
     let long : length (region 1603 16384 ws) ≡ 16384 = region-length 1603 16384 ws (omega (arith, a .pre .0)) in
     omega arith
-
-same-length : tie.Need-same-length
-same-length c = search needs
 
 returns-2 : tie.Need-returns-2
 returns-2 c =
@@ -66,13 +54,5 @@ returns-2 c =
 pub change-node-spec : {M : Type 1} → statement M
 change-node-spec =
     tie.close
-    (tie.spec
-    reached-requires
-    returns
-    node-row-requires
-    sub-change-row
-    part-change-row-start
-    part-change-row-end
-    change-row-requires
-    same-length
-    returns-2)
+    (tie.spec reached-requires returns node-row-requires (λ c. search needs) (λ c. search needs) (λ c. search needs)
+    change-row-requires (λ c. search needs) returns-2)

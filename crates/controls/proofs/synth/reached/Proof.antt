@@ -21,4 +21,5 @@ returns-3 c =
     rw (not-false (a .cover .found) (c .before .before .if1 .left)) (sym many)
 
 pub reached-spec : {M : Type 1} → statement M
-reached-spec = tie.close (tie.spec returns returns-2 returns-3)
+reached-spec =
+    tie.close (tie.spec returns returns-2 returns-3)

@@ -4,21 +4,6 @@ use Rattle.values.specs.Controls.{shownBy}
 use Rattle.controls.proofs.synth.read_at.Statement.{statement}
 use Rattle.controls.proofs.synth.read_at.Tie as tie
 
-mul-from-words : tie.Need-mul-from-words
-mul-from-words c = search needs
-
-shared-slice-read-from-words : tie.Need-shared-slice-read-from-words
-shared-slice-read-from-words c = search needs
-
-add-from-words : tie.Need-add-from-words
-add-from-words c = search needs
-
-mul-from-words-2 : tie.Need-mul-from-words-2
-mul-from-words-2 c = search needs
-
-shared-slice-read-from-words-2 : tie.Need-shared-slice-read-from-words-2
-shared-slice-read-from-words-2 c = search needs
-
 from-words-requires : tie.Need-from-words-requires
 from-words-requires c κs = search needs
 
@@ -31,12 +16,5 @@ returns c = c .read .ensures ∙ ap (shownBy (c .before .before .before .before 
 pub read-at-spec : {M : Type 1} → statement M
 read-at-spec =
     tie.close
-    (tie.spec
-    mul-from-words
-    shared-slice-read-from-words
-    add-from-words
-    mul-from-words-2
-    shared-slice-read-from-words-2
-    from-words-requires
-    read-requires
-    returns)
+    (tie.spec (λ c. search needs) (λ c. search needs) (λ c. search needs) (λ c. search needs) (λ c. search needs)
+    from-words-requires read-requires returns)

@@ -32,12 +32,6 @@ abbrev μ-loop : tie.MeasureT-loop
 wide-requires : tie.Need-wide-requires Inv-loop μ-loop
 wide-requires c κs = tt
 
-mul-start : tie.Need-mul-start Inv-loop μ-loop
-mul-start c = omega arith
-
-add-start : tie.Need-add-start Inv-loop μ-loop
-add-start c = omega arith
-
 wide-requires-2 : tie.Need-wide-requires-2 Inv-loop μ-loop
 wide-requires-2 c κs = tt
 
@@ -46,26 +40,8 @@ loop-holds c =
     let a = c .before .before .before .args in
     (omega arith, ap (λ (n : ℕ). mappingsFormed n (drop (64 * a .row) (a .controls .now))) (sub-zero (c .wide2 .result)))
 
-mul-still-formed : tie.Need-mul-still-formed Inv-loop μ-loop
-mul-still-formed c = omega arith
-
-add-still-formed : tie.Need-add-still-formed Inv-loop μ-loop
-add-still-formed c = omega arith
-
-mul-still-formed-2 : tie.Need-mul-still-formed-2 Inv-loop μ-loop
-mul-still-formed-2 c = omega arith
-
-shared-slice-read-still-formed : tie.Need-shared-slice-read-still-formed Inv-loop μ-loop
-shared-slice-read-still-formed c = omega arith
-
 still-formed-requires : tie.Need-still-formed-requires Inv-loop μ-loop
 still-formed-requires c κs = tt
-
-add-i : tie.Need-add-i Inv-loop μ-loop
-add-i c = omega arith
-
-loop-less : tie.Need-loop-less Inv-loop μ-loop
-loop-less c = omega arith
 
 loop-again : tie.Need-loop-again Inv-loop μ-loop
 loop-again c =
@@ -99,20 +75,6 @@ returns c =
 pub row-formed-spec : {M : Type 1} → statement M
 row-formed-spec =
     tie.close
-    (tie.spec
-    Inv-loop
-    μ-loop
-    wide-requires
-    mul-start
-    add-start
-    wide-requires-2
-    loop-holds
-    mul-still-formed
-    add-still-formed
-    mul-still-formed-2
-    shared-slice-read-still-formed
-    still-formed-requires
-    add-i
-    loop-less
-    loop-again
-    returns)
+    (tie.spec Inv-loop μ-loop wide-requires (λ c. omega arith) (λ c. omega arith) wide-requires-2 loop-holds
+    (λ c. omega arith) (λ c. omega arith) (λ c. omega arith) (λ c. omega arith) still-formed-requires (λ c. omega arith)
+    (λ c. omega arith) loop-again returns)

@@ -30,4 +30,5 @@ returns-2 c =
     as-formed (a .formed) ∙ ap (λ (t : Bool). both (a .formed) t) (sym (le-leb (a .word) 4096 (omega arith)))
 
 pub still-formed-spec : {M : Type 1} → statement M
-still-formed-spec = tie.close (tie.spec wide-requires returns returns-2)
+still-formed-spec =
+    tie.close (tie.spec wide-requires returns returns-2)

@@ -112,12 +112,6 @@ change-node-requires c κs =
     let w = synth-lent (a .words .now) (a .arena .now) (l .words) (l .i) (s .pre .0) (l .inv .0) (l .inv .1) (omega (arith, s .pre .1)) single in
     (l .inv .0, w .place, w .row, cover-inside (a .key) (a .name .now) (slotBytes (l .words) (a .arena .now) (c .before .before .before .before .node-slot .result)) (c .before .slot-cover .result) (c .before .slot-cover .ensures))
 
-add-i : tie.Need-add-i Inv-loop μ-loop
-add-i c = omega arith
-
-loop-less : tie.Need-loop-less Inv-loop μ-loop
-loop-less c = omega arith
-
 loop-again : tie.Need-loop-again Inv-loop μ-loop
 loop-again c =
     let s = c .before .before .before .before .before .before .before .before in
@@ -148,9 +142,6 @@ loop-again c =
     (rw (w .1) (t .size), rw (w .1) (t .rest), rw (w .1) (t .left ∙ l .inv .2), rw (w .2) (l .inv .3)))
     (c .if1 .came)
 
-same-length : tie.Need-same-length Inv-loop μ-loop
-same-length c = search needs
-
 returns : tie.Need-returns Inv-loop μ-loop
 returns c =
     let a = c .before .before .before .before .before .args in
@@ -163,20 +154,6 @@ returns c =
 pub change-all-spec : {M : Type 1} → statement M
 change-all-spec =
     tie.close
-    (tie.spec
-    Inv-loop
-    μ-loop
-    loop-holds
-    node-is-group-requires
-    node-slot-requires
-    mul-slot-cover
-    array-copy-out-slot-cover
-    slot-cover-requires
-    mul-covers
-    array-set-from-covers
-    change-node-requires
-    add-i
-    loop-less
-    loop-again
-    same-length
-    returns)
+    (tie.spec Inv-loop μ-loop loop-holds node-is-group-requires node-slot-requires mul-slot-cover
+    array-copy-out-slot-cover slot-cover-requires mul-covers array-set-from-covers change-node-requires
+    (λ c. omega arith) (λ c. omega arith) loop-again (λ c. search needs) returns)

@@ -28,9 +28,6 @@ Inv-loop words arena count fact₀ i₀ fact i =
 abbrev μ-loop : tie.MeasureT-loop
 μ-loop words arena count fact₀ i₀ fact i = count - i
 
-shared-slice-read-wide : tie.Need-shared-slice-read-wide Inv-loop μ-loop
-shared-slice-read-wide c = omega arith
-
 wide-requires : tie.Need-wide-requires Inv-loop μ-loop
 wide-requires c κs = tt
 
@@ -96,12 +93,6 @@ array-write-known c =
     let h = synth-here ws arena (s .pre) (l .i) (omega arith) single in
     omega (arith, h .bounds .slot single, c .before .node-slot .ensures)
 
-sub-row-formed : tie.Need-sub-row-formed Inv-loop μ-loop
-sub-row-formed c = omega arith
-
-part-row-formed-start : tie.Need-part-row-formed-start Inv-loop μ-loop
-part-row-formed-start c = omega arith
-
 part-row-formed-end : tie.Need-part-row-formed-end Inv-loop μ-loop
 part-row-formed-end c = omega (arith, c .before .before .before .before .before .before .before .before .before .before .pre .size)
 
@@ -140,12 +131,6 @@ returns c =
     ∙ not-true (c .before .row-formed .result) (c .if2 .taken) in
     sym (rw no-more at turn) ∙ l .inv .0
 
-add-i : tie.Need-add-i Inv-loop μ-loop
-add-i c = omega arith
-
-loop-less : tie.Need-loop-less Inv-loop μ-loop
-loop-less c = omega arith
-
 loop-again : tie.Need-loop-again Inv-loop μ-loop
 loop-again c =
     let s = c .before .before .before .before .before .before .before .before in
@@ -179,26 +164,7 @@ returns-2 c =
 pub controls-formed-spec : {M : Type 1} → statement M
 controls-formed-spec =
     tie.close
-    (tie.spec
-    Inv-loop
-    μ-loop
-    shared-slice-read-wide
-    wide-requires
-    loop-holds
-    node-is-group-requires
-    node-slot-requires
-    mul-slot-controls
-    array-read-slot-controls
-    slot-controls-requires
-    mul-known
-    array-write-known
-    sub-row-formed
-    part-row-formed-start
-    part-row-formed-end
-    node-row-requires
-    row-formed-requires
-    returns
-    add-i
-    loop-less
-    loop-again
-    returns-2)
+    (tie.spec Inv-loop μ-loop (λ c. omega arith) wide-requires loop-holds node-is-group-requires node-slot-requires
+    mul-slot-controls array-read-slot-controls slot-controls-requires mul-known array-write-known (λ c. omega arith)
+    (λ c. omega arith) part-row-formed-end node-row-requires row-formed-requires returns (λ c. omega arith)
+    (λ c. omega arith) loop-again returns-2)

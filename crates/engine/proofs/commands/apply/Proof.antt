@@ -9,12 +9,6 @@ use Rattle.engine.proofs.commands.apply.Tie as tie
 well-formed-requires : tie.Need-well-formed-requires
 well-formed-requires c κs = search needs
 
-same-length : tie.Need-same-length
-same-length c = search needs
-
-same-length-2 : tie.Need-same-length-2
-same-length-2 c = search needs
-
 returns : tie.Need-returns
 returns c =
     let a = c .before .before .before .before .before .before .before .before .args in
@@ -28,28 +22,11 @@ step-requires c κs =
     let check = c .before .before .before .before .well-formed in
     sym (check .ensures) ∙ not-false (check .result) (c .before .before .before .if1 .left)
 
-same-length-3 : tie.Need-same-length-3
-same-length-3 c = search needs
-
-same-length-4 : tie.Need-same-length-4
-same-length-4 c = search needs
-
-same-length-5 : tie.Need-same-length-5
-same-length-5 c = search needs
-
 returns-2 : tie.Need-returns-2
 returns-2 c = c .before .before .before .before .before .before .step .ensures
 
 pub apply-spec : {M : Type 1} → statement M
 apply-spec =
     tie.close
-    (tie.spec
-    well-formed-requires
-    same-length
-    same-length-2
-    returns
-    step-requires
-    same-length-3
-    same-length-4
-    same-length-5
-    returns-2)
+    (tie.spec well-formed-requires (λ c. search needs) (λ c. search needs) returns step-requires (λ c. search needs)
+    (λ c. search needs) (λ c. search needs) returns-2)

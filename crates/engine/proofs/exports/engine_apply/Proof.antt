@@ -8,26 +8,11 @@ use Rattle.engine.proofs.exports.engine_apply.Tie as tie
 command-of-requires : tie.Need-command-of-requires
 command-of-requires c κs = search needs
 
-enum-known-command : tie.Need-enum-known-command
-enum-known-command c = search needs
-
 apply-requires : tie.Need-apply-requires
 apply-requires c κs = search needs
 
 call-number-requires : tie.Need-call-number-requires
 call-number-requires c κs = search needs
-
-enum-told : tie.Need-enum-told
-enum-told c = search needs
-
-same-length : tie.Need-same-length
-same-length c = search needs
-
-same-length-2 : tie.Need-same-length-2
-same-length-2 c = search needs
-
-same-length-3 : tie.Need-same-length-3
-same-length-3 c = search needs
 
 returns : tie.Need-returns
 returns c =
@@ -42,14 +27,5 @@ returns-2 c =
 pub engine-apply-spec : {M : Type 1} → statement M
 engine-apply-spec =
     tie.close
-    (tie.spec
-    command-of-requires
-    enum-known-command
-    apply-requires
-    call-number-requires
-    enum-told
-    same-length
-    same-length-2
-    same-length-3
-    returns
-    returns-2)
+    (tie.spec command-of-requires (λ c. search needs) apply-requires call-number-requires (λ c. search needs)
+    (λ c. search needs) (λ c. search needs) (λ c. search needs) returns returns-2)

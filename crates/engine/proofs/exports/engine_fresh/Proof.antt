@@ -20,12 +20,6 @@ cast-result c =
     let fact : c .call-number .result ≡ callNumber (freshAnswer (a .words .now) (a .arena .now)) = c .call-number .ensures ∙ ap callNumber (c .before .before .before .before .before .fresh .ensures .answers) in
     omega (arith, fresh-small (a .words .now) (a .arena .now))
 
-same-length : tie.Need-same-length
-same-length c = search needs
-
-same-length-2 : tie.Need-same-length-2
-same-length-2 c = search needs
-
 returns : tie.Need-returns
 returns c =
     let fresh = c .before .before .before .before .before .fresh in
@@ -34,4 +28,4 @@ returns c =
 pub engine-fresh-spec : {M : Type 1} → statement M
 engine-fresh-spec =
     tie.close
-    (tie.spec fresh-requires call-number-requires cast-result same-length same-length-2 returns)
+    (tie.spec fresh-requires call-number-requires cast-result (λ c. search needs) (λ c. search needs) returns)

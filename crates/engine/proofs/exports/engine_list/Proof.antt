@@ -9,12 +9,6 @@ list-requires c κs = search needs
 list-number-requires : tie.Need-list-number-requires
 list-number-requires c κs = search needs
 
-same-length : tie.Need-same-length
-same-length c = search needs
-
-same-length-2 : tie.Need-same-length-2
-same-length-2 c = search needs
-
 returns : tie.Need-returns
 returns c =
     let list = c .before .before .before .before .before .list in
@@ -22,10 +16,4 @@ returns c =
 
 pub engine-list-spec : {M : Type 1} → statement M
 engine-list-spec =
-    tie.close
-    (tie.spec
-    list-requires
-    list-number-requires
-    same-length
-    same-length-2
-    returns)
+    tie.close (tie.spec list-requires list-number-requires (λ c. search needs) (λ c. search needs) returns)

@@ -9,15 +9,6 @@ message-requires c κs = search needs
 call-number-requires : tie.Need-call-number-requires
 call-number-requires c κs = search needs
 
-same-length : tie.Need-same-length
-same-length c = search needs
-
-same-length-2 : tie.Need-same-length-2
-same-length-2 c = search needs
-
-same-length-3 : tie.Need-same-length-3
-same-length-3 c = search needs
-
 returns : tie.Need-returns
 returns c =
     let sent = c .before .before .before .before .before .before .before .message in
@@ -26,10 +17,4 @@ returns c =
 pub engine-message-spec : {M : Type 1} → statement M
 engine-message-spec =
     tie.close
-    (tie.spec
-    message-requires
-    call-number-requires
-    same-length
-    same-length-2
-    same-length-3
-    returns)
+    (tie.spec message-requires call-number-requires (λ c. search needs) (λ c. search needs) (λ c. search needs) returns)

@@ -15,4 +15,5 @@ returns : tie.Need-returns
 returns c = c .told-number .ensures ∙ ap toldNumber (c .before .why .ensures)
 
 pub engine-why-spec : {M : Type 1} → statement M
-engine-why-spec = tie.close (tie.spec why-requires told-number-requires returns)
+engine-why-spec =
+    tie.close (tie.spec why-requires told-number-requires returns)

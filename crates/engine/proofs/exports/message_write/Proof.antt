@@ -8,20 +8,11 @@ use Rattle.engine.proofs.exports.message_write.Tie as tie
 command-of-requires : tie.Need-command-of-requires
 command-of-requires c κs = search needs
 
-enum-known-command : tie.Need-enum-known-command
-enum-known-command c = search needs
-
 write-requires : tie.Need-write-requires
 write-requires c κs = search needs
 
 call-number-requires : tie.Need-call-number-requires
 call-number-requires c κs = search needs
-
-enum-told : tie.Need-enum-told
-enum-told c = search needs
-
-same-length : tie.Need-same-length
-same-length c = search needs
 
 returns : tie.Need-returns
 returns c =
@@ -36,12 +27,5 @@ returns-2 c =
 pub message-write-spec : {M : Type 1} → statement M
 message-write-spec =
     tie.close
-    (tie.spec
-    command-of-requires
-    enum-known-command
-    write-requires
-    call-number-requires
-    enum-told
-    same-length
-    returns
-    returns-2)
+    (tie.spec command-of-requires (λ c. search needs) write-requires call-number-requires (λ c. search needs)
+    (λ c. search needs) returns returns-2)

@@ -15,12 +15,6 @@ read-requires c κs = search needs
 well-formed-requires : tie.Need-well-formed-requires
 well-formed-requires c κs = search needs
 
-same-length : tie.Need-same-length
-same-length c = search needs
-
-same-length-2 : tie.Need-same-length-2
-same-length-2 c = search needs
-
 returns : tie.Need-returns
 returns c =
     let a = c .before .before .before .before .before .before .before .before .before .args in
@@ -29,15 +23,6 @@ returns c =
     let lent = c .before .before .before .before .before .before .before .before .shared-slice-known .given in
     let kept = c .before .before .before .before .before .before .slice-known2 .given in
     sends-bad (a .message .now) (a .words .now) (a .arena .now) (a .reply .now) (λ i. lent i .fits) (λ i. kept i .fits) (read .result) (read .ensures) (sym (check .ensures) ∙ not-true (check .result) (c .if1 .taken))
-
-enum-told : tie.Need-enum-told
-enum-told c = search needs
-
-enum-told-2 : tie.Need-enum-told-2
-enum-told-2 c = search needs
-
-enum-known-received : tie.Need-enum-known-received
-enum-known-received c = search needs
 
 sub-step : tie.Need-sub-step
 sub-step c =
@@ -67,12 +52,6 @@ step-requires c κs =
     let check = c .before .before .before .before .before .before .before .before .well-formed in
     sym (check .ensures) ∙ not-false (check .result) (c .before .before .before .before .before .before .before .if1 .left)
 
-same-length-3 : tie.Need-same-length-3
-same-length-3 c = search needs
-
-same-length-4 : tie.Need-same-length-4
-same-length-4 c = search needs
-
 returns-2 : tie.Need-returns-2
 returns-2 c =
     let a = c .before .before .before .before .before .before .before .before .before .before .before .args in
@@ -82,12 +61,6 @@ returns-2 c =
     let kept = c .before .before .before .before .before .before .before .before .slice-known2 .given in
     sends-malformed (a .message .now) (a .words .now) (a .arena .now) (a .reply .now) (λ i. lent i .fits) (λ i. kept i .fits) (read .result) (read .ensures) (c .enum-told .given .1) (sym (check .ensures) ∙ not-false (check .result) (c .before .before .if1 .left))
 
-same-length-5 : tie.Need-same-length-5
-same-length-5 c = search needs
-
-same-length-6 : tie.Need-same-length-6
-same-length-6 c = search needs
-
 returns-3 : tie.Need-returns-3
 returns-3 c =
     let a = c .before .before .before .before .before .before .before .before .before .before .before .args in
@@ -96,15 +69,6 @@ returns-3 c =
     let lent = c .before .before .before .before .before .before .before .before .before .before .shared-slice-known .given in
     let kept = c .before .before .before .before .before .before .before .before .slice-known2 .given in
     sends-unknown (a .message .now) (a .words .now) (a .arena .now) (a .reply .now) (λ i. lent i .fits) (λ i. kept i .fits) (read .result) (read .ensures) (c .enum-told2 .given .1) (sym (check .ensures) ∙ not-false (check .result) (c .before .before .if1 .left))
-
-same-length-7 : tie.Need-same-length-7
-same-length-7 c = search needs
-
-same-length-8 : tie.Need-same-length-8
-same-length-8 c = search needs
-
-same-length-9 : tie.Need-same-length-9
-same-length-9 c = search needs
 
 returns-4 : tie.Need-returns-4
 returns-4 c =
@@ -120,26 +84,7 @@ returns-4 c =
 pub message-spec : {M : Type 1} → statement M
 message-spec =
     tie.close
-    (tie.spec
-    read-requires
-    well-formed-requires
-    same-length
-    same-length-2
-    returns
-    enum-told
-    enum-told-2
-    enum-known-received
-    sub-step
-    part-step-start
-    part-step-end
-    step-requires
-    same-length-3
-    same-length-4
-    returns-2
-    same-length-5
-    same-length-6
-    returns-3
-    same-length-7
-    same-length-8
-    same-length-9
-    returns-4)
+    (tie.spec read-requires well-formed-requires (λ c. search needs) (λ c. search needs) returns (λ c. search needs)
+    (λ c. search needs) (λ c. search needs) sub-step part-step-start part-step-end step-requires (λ c. search needs)
+    (λ c. search needs) returns-2 (λ c. search needs) (λ c. search needs) returns-3 (λ c. search needs)
+    (λ c. search needs) (λ c. search needs) returns-4)

@@ -21,12 +21,6 @@ fresh-words-requires c κs = search needs
 zero-bytes-requires : tie.Need-zero-bytes-requires
 zero-bytes-requires c κs = search needs
 
-same-length : tie.Need-same-length
-same-length c = search needs
-
-same-length-2 : tie.Need-same-length-2
-same-length-2 c = search needs
-
 returns-3 : tie.Need-returns-3
 returns-3 c =
     let a = c .before .before .before .before .before .before .before .before .before .before .before .before .args in
@@ -35,11 +29,5 @@ returns-3 c =
 pub fresh-spec : {M : Type 1} → statement M
 fresh-spec =
     tie.close
-    (tie.spec
-    returns
-    returns-2
-    fresh-words-requires
-    zero-bytes-requires
-    same-length
-    same-length-2
+    (tie.spec returns returns-2 fresh-words-requires zero-bytes-requires (λ c. search needs) (λ c. search needs)
     returns-3)

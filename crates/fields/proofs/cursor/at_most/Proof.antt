@@ -7,16 +7,10 @@ use Rattle.format.specs.ReadLaws.{checked-pass, checked-fail, checked-bad}
 use Rattle.fields.proofs.cursor.at_most.Statement.{statement}
 use Rattle.fields.proofs.cursor.at_most.Tie as tie
 
-enum-known-read : tie.Need-enum-known-read
-enum-known-read c = search needs
-
 returns : tie.Need-returns
 returns c =
     let a = c .before .before .before .before .args in
     checked-pass (a .fault) (λ n. leb n (a .most)) (a .at) (sym (ap numberOf (c .before .before .read .given .1))) (le-leb _ _ (c .if1 .taken))
-
-enum-known-read-2 : tie.Need-enum-known-read-2
-enum-known-read-2 c = search needs
 
 returns-2 : tie.Need-returns-2
 returns-2 c =
@@ -29,4 +23,5 @@ returns-3 c =
     checked-bad (a .fault) (λ n. leb n (a .most)) (a .at) (sym (ap numberOf (c .before .read2 .given .1)))
 
 pub at-most-spec : {M : Type 1} → statement M
-at-most-spec = tie.close (tie.spec enum-known-read returns enum-known-read-2 returns-2 returns-3)
+at-most-spec =
+    tie.close (tie.spec (λ c. search needs) returns (λ c. search needs) returns-2 returns-3)

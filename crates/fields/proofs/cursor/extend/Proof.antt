@@ -19,20 +19,10 @@ above-lowest n h = go (leb n highest16) refl where
 number16-requires : tie.Need-number16-requires
 number16-requires c κs = search needs
 
-add-above : tie.Need-add-above
-add-above c = search needs
-
-cast-result : tie.Need-cast-result
-cast-result c = search needs
-
-add-result : tie.Need-add-result
-add-result c = search needs
-
-cast-result-2 : tie.Need-cast-result-2
-cast-result-2 c = search needs
-
 returns : tie.Need-returns
 returns c = rw (c .number16 .ensures) (above-lowest _ (omega arith))
 
 pub extend-spec : {M : Type 1} → statement M
-extend-spec = tie.close (tie.spec number16-requires add-above cast-result add-result cast-result-2 returns)
+extend-spec =
+    tie.close
+    (tie.spec number16-requires (λ c. search needs) (λ c. search needs) (λ c. search needs) (λ c. search needs) returns)

@@ -5,14 +5,8 @@ use borrow.Author.Needs.{needs}
 use Rattle.fields.proofs.cursor.value_at.Statement.{statement}
 use Rattle.fields.proofs.cursor.value_at.Tie as tie
 
-enum-told : tie.Need-enum-told
-enum-told c = search needs
-
 half-at-requires : tie.Need-half-at-requires
 half-at-requires c κs = rw (c .enum-told .given .1) at (c .before .before .before .pre)
-
-enum-told-2 : tie.Need-enum-told-2
-enum-told-2 c = search needs
 
 word-at-requires : tie.Need-word-at-requires
 word-at-requires c κs = rw (c .enum-told2 .given .1) at (c .before .before .before .pre)
@@ -25,4 +19,5 @@ returns-2 c = rw (c .before .enum-told2 .given .1) (c .word-at .ensures)
 
 pub value-at-spec : {M : Type 1} → statement M
 value-at-spec =
-    tie.close (tie.spec enum-told half-at-requires enum-told-2 word-at-requires returns returns-2)
+    tie.close
+    (tie.spec (λ c. search needs) half-at-requires (λ c. search needs) word-at-requires returns returns-2)

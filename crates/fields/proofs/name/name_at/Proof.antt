@@ -9,31 +9,13 @@ use lib.ListN.{length-take}
 use Rattle.fields.proofs.name.name_at.Statement.{statement}
 use Rattle.fields.proofs.name.name_at.Tie as tie
 
-slice-aggregate-result : tie.Need-slice-aggregate-result
-slice-aggregate-result c = search needs
-
 returns : tie.Need-returns
 returns c =
     let a = c .before .before .args in
     sym (region-past (a .s .now) (a .at + 1) (getD (a .s .now) (a .at) 0) (omega arith))
 
-shared-slice-read-size : tie.Need-shared-slice-read-size
-shared-slice-read-size c = search needs
-
 cast-size : tie.Need-cast-size
 cast-size c = omega (arith, c .shared-slice-known .given (c .before .before .args .at))
-
-add-body : tie.Need-add-body
-add-body c = search needs
-
-sub-rest : tie.Need-sub-rest
-sub-rest c = search needs
-
-part-rest-start : tie.Need-part-rest-start
-part-rest-start c = search needs
-
-part-rest-end : tie.Need-part-rest-end
-part-rest-end c = search needs
 
 returns-2 : tie.Need-returns-2
 returns-2 c =
@@ -57,15 +39,5 @@ returns-3 c =
 pub name-at-spec : {M : Type 1} → statement M
 name-at-spec =
     tie.close
-    (tie.spec
-    slice-aggregate-result
-    returns
-    shared-slice-read-size
-    cast-size
-    add-body
-    sub-rest
-    part-rest-start
-    part-rest-end
-    returns-2
-    slice-aggregate-result-2
-    returns-3)
+    (tie.spec (λ c. search needs) returns (λ c. search needs) cast-size (λ c. search needs) (λ c. search needs)
+    (λ c. search needs) (λ c. search needs) returns-2 slice-aggregate-result-2 returns-3)

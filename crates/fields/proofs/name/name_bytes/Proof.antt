@@ -15,9 +15,6 @@ Inv-loop s from to i₀ i = nameBytes (region i (to - i) s) ≡ nameBytes (regio
 abbrev μ-loop : tie.MeasureT-loop
 μ-loop s from to i₀ i = to - i
 
-loop-holds : tie.Need-loop-holds Inv-loop μ-loop
-loop-holds c = refl
-
 returns : tie.Need-returns Inv-loop μ-loop
 unfolding nameBytes
 returns c =
@@ -25,29 +22,17 @@ returns c =
     let a = c .before .before .before .args in
     rw (region-past (a .s .now) (l .i) (a .to - l .i) (omega arith)) at (l .inv)
 
-shared-slice-read-if2 : tie.Need-shared-slice-read-if2 Inv-loop μ-loop
-shared-slice-read-if2 c = omega arith
-
 returns-2 : tie.Need-returns-2 Inv-loop μ-loop
 returns-2 c =
     let l = c .before .before .before .before .loop in
     let a = c .before .before .before .before .before .args in
     rw (lt-leb 1 (getD (a .s .now) (l .i) 0) (omega arith)) at (sym (name-turn (a .s .now) (l .i) (a .to) (omega arith) (omega arith)) ∙ l .inv)
 
-shared-slice-read-if3 : tie.Need-shared-slice-read-if3 Inv-loop μ-loop
-shared-slice-read-if3 c = omega arith
-
 returns-3 : tie.Need-returns-3 Inv-loop μ-loop
 returns-3 c =
     let l = c .before .before .before .before .before .before .loop in
     let a = c .before .before .before .before .before .before .before .args in
     rw (le-leb 1 (getD (a .s .now) (l .i) 0) (omega arith), lt-leb (getD (a .s .now) (l .i) 0) 127 (omega arith)) at (sym (name-turn (a .s .now) (l .i) (a .to) (omega arith) (omega arith)) ∙ l .inv)
-
-add-i : tie.Need-add-i Inv-loop μ-loop
-add-i c = omega arith
-
-loop-less : tie.Need-loop-less Inv-loop μ-loop
-loop-less c = omega arith
 
 loop-again : tie.Need-loop-again Inv-loop μ-loop
 loop-again c =
@@ -65,16 +50,5 @@ returns-4 c =
 pub name-bytes-spec : {M : Type 1} → statement M
 name-bytes-spec =
     tie.close
-    (tie.spec
-    Inv-loop
-    μ-loop
-    loop-holds
-    returns
-    shared-slice-read-if2
-    returns-2
-    shared-slice-read-if3
-    returns-3
-    add-i
-    loop-less
-    loop-again
-    returns-4)
+    (tie.spec Inv-loop μ-loop (λ c. refl) returns (λ c. omega arith) returns-2 (λ c. omega arith) returns-3
+    (λ c. omega arith) (λ c. omega arith) loop-again returns-4)

@@ -10,32 +10,17 @@ use Rattle.files.proofs.definition.next_definition.Tie as tie
 read-front-requires : tie.Need-read-front-requires
 read-front-requires c κs = search needs
 
-enum-known-counts : tie.Need-enum-known-counts
-enum-known-counts c = search needs
-
 count-to-requires : tie.Need-count-to-requires
 count-to-requires c κs = search needs
-
-enum-known-units : tie.Need-enum-known-units
-enum-known-units c = search needs
 
 read-units-requires : tie.Need-read-units-requires
 read-units-requires c κs = c .before .before .before .before .before .before .before .before .before .before .pre
 
-enum-known-fields : tie.Need-enum-known-fields
-enum-known-fields c = search needs
-
 short-count-to-requires : tie.Need-short-count-to-requires
 short-count-to-requires c κs = search needs
 
-enum-known-variants : tie.Need-enum-known-variants
-enum-known-variants c = search needs
-
 read-variants-requires : tie.Need-read-variants-requires
 read-variants-requires c κs = search needs
-
-enum-known-next : tie.Need-enum-known-next
-enum-known-next c = search needs
 
 wide-requires : tie.Need-wide-requires
 wide-requires c κs = search needs
@@ -48,21 +33,6 @@ add-t38 c =
     let a = c .before .before .before .before .before .before .before .before .before .before .before .before .before .before .before .before .before .before .before .before .before .before .before .args in
     let e3 = sym (rw (c .before .before .before .before .before .before .before .before .before .before .fields .given .1) at (c .before .before .before .before .before .before .before .before .before .before .before .before .read-units .ensures .0)) in
     omega (arith, c .before .before .before .before .before .before .before .before .before .before .before .before .before .before .before .before .before .before .known-told .given, units-few (a .width) _ (a .s .now) _ _ e3)
-
-enum-known-refusal : tie.Need-enum-known-refusal
-enum-known-refusal c = search needs
-
-enum-known-refusal-2 : tie.Need-enum-known-refusal-2
-enum-known-refusal-2 c = search needs
-
-enum-known-refusal-3 : tie.Need-enum-known-refusal-3
-enum-known-refusal-3 c = search needs
-
-enum-known-refusal-4 : tie.Need-enum-known-refusal-4
-enum-known-refusal-4 c = search needs
-
-enum-known-refusal-5 : tie.Need-enum-known-refusal-5
-enum-known-refusal-5 c = search needs
 
 returns : tie.Need-returns
 returns c =
@@ -117,28 +87,7 @@ returns-6 c =
 pub next-definition-spec : {M : Type 1} → statement M
 next-definition-spec =
     tie.close
-    (tie.spec
-    read-front-requires
-    enum-known-counts
-    count-to-requires
-    enum-known-units
-    read-units-requires
-    enum-known-fields
-    short-count-to-requires
-    enum-known-variants
-    read-variants-requires
-    enum-known-next
-    wide-requires
-    add-t37
-    add-t38
-    enum-known-refusal
-    enum-known-refusal-2
-    enum-known-refusal-3
-    enum-known-refusal-4
-    enum-known-refusal-5
-    returns
-    returns-2
-    returns-3
-    returns-4
-    returns-5
-    returns-6)
+    (tie.spec read-front-requires (λ c. search needs) count-to-requires (λ c. search needs) read-units-requires
+    (λ c. search needs) short-count-to-requires (λ c. search needs) read-variants-requires (λ c. search needs)
+    wide-requires add-t37 add-t38 (λ c. search needs) (λ c. search needs) (λ c. search needs) (λ c. search needs)
+    (λ c. search needs) returns returns-2 returns-3 returns-4 returns-5 returns-6)

@@ -10,12 +10,6 @@ use Rattle.files.proofs.definition.read_definition.Tie as tie
 next-definition-requires : tie.Need-next-definition-requires
 next-definition-requires c κs = search needs
 
-enum-known-fields : tie.Need-enum-known-fields
-enum-known-fields c = search needs
-
-enum-known-refusal : tie.Need-enum-known-refusal
-enum-known-refusal c = search needs
-
 returns : tie.Need-returns
 returns c =
     let a = c .before .before .before .before .before .before .args in
@@ -27,4 +21,5 @@ returns-2 c =
     ap ending (rw (c .before .refusal .given .1) at (c .before .before .before .next-definition .ensures .0)) ∙ kept-ending fieldsIn (definitionBy (a .width) (a .s .now) (a .cursor .at))
 
 pub read-definition-spec : {M : Type 1} → statement M
-read-definition-spec = tie.close (tie.spec next-definition-requires enum-known-fields enum-known-refusal returns returns-2)
+read-definition-spec =
+    tie.close (tie.spec next-definition-requires (λ c. search needs) (λ c. search needs) returns returns-2)

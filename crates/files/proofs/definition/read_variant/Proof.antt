@@ -7,14 +7,8 @@ use Rattle.files.proofs.definition.read_variant.Tie as tie
 name-requires : tie.Need-name-requires
 name-requires c κs = search needs
 
-enum-known-next : tie.Need-enum-known-next
-enum-known-next c = search needs
-
 skip-floats-requires : tie.Need-skip-floats-requires
 skip-floats-requires c κs = search needs
-
-enum-known-refusal : tie.Need-enum-known-refusal
-enum-known-refusal c = search needs
 
 returns : tie.Need-returns
 returns c =
@@ -31,10 +25,4 @@ returns-2 c =
 pub read-variant-spec : {M : Type 1} → statement M
 read-variant-spec =
     tie.close
-    (tie.spec
-    name-requires
-    enum-known-next
-    skip-floats-requires
-    enum-known-refusal
-    returns
-    returns-2)
+    (tie.spec name-requires (λ c. search needs) skip-floats-requires (λ c. search needs) returns returns-2)

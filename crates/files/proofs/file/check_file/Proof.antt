@@ -8,9 +8,6 @@ use Rattle.files.proofs.file.check_file.Tie as tie
 read-header-requires : tie.Need-read-header-requires
 read-header-requires c κs = search needs
 
-enum-known-count : tie.Need-enum-known-count
-enum-known-count c = search needs
-
 width-of-requires : tie.Need-width-of-requires
 width-of-requires c κs = search needs
 
@@ -19,20 +16,11 @@ read-definitions-requires c κs =
     let head = sym (rw (c .before .before .count .given .1) at (c .before .before .before .before .read-header .ensures)) in
     omega (arith, head-few (c .before .before .before .before .before .before .args .s .now) head .0)
 
-enum-known-next : tie.Need-enum-known-next
-enum-known-next c = search needs
-
 returns : tie.Need-returns
 returns c =
     let head = sym (rw (c .before .before .before .before .before .before .before .count .given .1) at (c .before .before .before .before .before .before .before .before .before .read-header .ensures)) in
     let read = sym (rw (c .before .before .next .given .1, c .before .before .before .before .before .width-of .ensures) at (c .before .before .before .before .read-definitions .ensures)) in
     sym (file-left (c .before .before .before .before .before .before .before .before .before .before .before .args .s .now) head read (c .if1 .taken))
-
-enum-known-refusal : tie.Need-enum-known-refusal
-enum-known-refusal c = search needs
-
-enum-known-refusal-2 : tie.Need-enum-known-refusal-2
-enum-known-refusal-2 c = search needs
 
 returns-2 : tie.Need-returns-2
 returns-2 c =
@@ -54,15 +42,5 @@ returns-4 c =
 pub check-file-spec : {M : Type 1} → statement M
 check-file-spec =
     tie.close
-    (tie.spec
-    read-header-requires
-    enum-known-count
-    width-of-requires
-    read-definitions-requires
-    enum-known-next
-    returns
-    enum-known-refusal
-    enum-known-refusal-2
-    returns-2
-    returns-3
-    returns-4)
+    (tie.spec read-header-requires (λ c. search needs) width-of-requires read-definitions-requires (λ c. search needs)
+    returns (λ c. search needs) (λ c. search needs) returns-2 returns-3 returns-4)

@@ -10,4 +10,5 @@ returns-2 : tie.Need-returns-2
 returns-2 c = rw (ne-eqb _ firstVersion (c .if1 .left))
 
 pub is-version-spec : {M : Type 1} → statement M
-is-version-spec = tie.close (tie.spec returns returns-2)
+is-version-spec =
+    tie.close (tie.spec returns returns-2)

@@ -21,9 +21,6 @@ abbrev μ-loop : tie.MeasureT-loop
 loop-holds : tie.Need-loop-holds Inv-loop μ-loop
 loop-holds c = (omega arith, refl)
 
-mul-same-names : tie.Need-mul-same-names Inv-loop μ-loop
-mul-same-names c = omega arith
-
 element-copy-out-same-names : tie.Need-element-copy-out-same-names Inv-loop μ-loop
 element-copy-out-same-names c = omega (arith, c .before .before .before .pre .0 .few)
 
@@ -37,12 +34,6 @@ returns c =
     let n = stringAt (a .s .now) (a .at) in
     let turn = among-turn n (a .s .now) (a .starts .now) (a .count) (l .i) (c .before .before .before .loop-test .taken) (c .before .before .before .before .before .before .pre .0) in
     sym (sym (l .inv .1) ∙ turn ∙ ap (λ (b : Bool). either b (among n (namesFrom (a .s .now) (drop (l .i + 1) (take (a .count) (a .starts .now)))))) (sym (c .before .same-names .ensures) ∙ c .if1 .taken))
-
-add-i : tie.Need-add-i Inv-loop μ-loop
-add-i c = omega arith
-
-loop-less : tie.Need-loop-less Inv-loop μ-loop
-loop-less c = omega arith
 
 loop-again : tie.Need-loop-again Inv-loop μ-loop
 loop-again c =
@@ -61,15 +52,5 @@ returns-2 c =
 pub name-among-spec : {M : Type 1} → statement M
 name-among-spec =
     tie.close
-    (tie.spec
-    Inv-loop
-    μ-loop
-    loop-holds
-    mul-same-names
-    element-copy-out-same-names
-    same-names-requires
-    returns
-    add-i
-    loop-less
-    loop-again
-    returns-2)
+    (tie.spec Inv-loop μ-loop loop-holds (λ c. omega arith) element-copy-out-same-names same-names-requires returns
+    (λ c. omega arith) (λ c. omega arith) loop-again returns-2)

@@ -29,17 +29,8 @@ read-fitting-requires c κs =
     let m = c .before .before .before .before .wide .ensures in
     (record { few = omega (arith, w .most, w .few); sized = w .sized }, c .before .before .before .loop .inv .1)
 
-enum-known-next : tie.Need-enum-known-next Inv-loop μ-loop
-enum-known-next c = search needs
-
-mul-starts : tie.Need-mul-starts Inv-loop μ-loop
-mul-starts c = omega arith
-
 array-write-starts : tie.Need-array-write-starts Inv-loop μ-loop
 array-write-starts c = omega (arith, c .before .before .before .before .before .before .before .loop .inv .0 .few, c .before .before .before .before .before .before .loop-test .taken, c .before .before .before .before .before .before .before .before .wide .ensures)
-
-enum-known-refusal : tie.Need-enum-known-refusal Inv-loop μ-loop
-enum-known-refusal c = search needs
 
 returns : tie.Need-returns Inv-loop μ-loop
 returns c =
@@ -47,12 +38,6 @@ returns c =
     let found = sym (rw (c .before .refusal .given .1) at (c .before .before .before .read-fitting .ensures .0)) in
     let less : c .before .before .before .before .before .before .before .loop .i < a .count = omega (arith, c .before .before .before .before .before .before .loop-test .taken, c .before .before .before .before .before .before .before .before .wide .ensures) in
     sym (walked-bad (a .width) (a .s .now) (a .cursor .at) (a .count) (c .before .before .before .before .before .before .before .loop .inv .0) less found)
-
-add-i : tie.Need-add-i Inv-loop μ-loop
-add-i c = omega arith
-
-loop-less : tie.Need-loop-less Inv-loop μ-loop
-loop-less c = omega arith
 
 loop-again : tie.Need-loop-again Inv-loop μ-loop
 loop-again c =
@@ -70,18 +55,5 @@ returns-2 c =
 pub read-definitions-spec : {M : Type 1} → statement M
 read-definitions-spec =
     tie.close
-    (tie.spec
-    Inv-loop
-    μ-loop
-    wide-requires
-    loop-holds
-    read-fitting-requires
-    enum-known-next
-    mul-starts
-    array-write-starts
-    enum-known-refusal
-    returns
-    add-i
-    loop-less
-    loop-again
-    returns-2)
+    (tie.spec Inv-loop μ-loop wide-requires loop-holds read-fitting-requires (λ c. search needs) (λ c. omega arith)
+    array-write-starts (λ c. search needs) returns (λ c. omega arith) (λ c. omega arith) loop-again returns-2)

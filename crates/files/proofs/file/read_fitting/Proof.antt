@@ -14,9 +14,6 @@ use Rattle.files.proofs.file.read_fitting.Tie as tie
 next-definition-requires : tie.Need-next-definition-requires
 next-definition-requires c κs = c .before .before .pre .1
 
-enum-known-fields : tie.Need-enum-known-fields
-enum-known-fields c = search needs
-
 too-long-requires : tie.Need-too-long-requires
 too-long-requires c κs =
     let a = c .before .before .before .before .before .before .args in
@@ -43,9 +40,6 @@ returns-2 c =
     let read = mapped-got fieldsIn (definitionBy (a .width) (a .s .now) (a .cursor .at)) (sym (rw (c .before .before .before .before .before .fields .given .1) at (c .before .before .before .before .before .before .before .next-definition .ensures .0))) .read in
     (rw (fitting-read (a .width) (a .s .now) names (a .cursor .at) read, sym (c .before .before .before .too-long .ensures _ read) ∙ c .before .before .if1 .left, sym (c .before .name-among .ensures) ∙ c .if2 .taken), c .before .before .before .before .before .before .before .next-definition .ensures .1)
 
-enum-known-refusal : tie.Need-enum-known-refusal
-enum-known-refusal c = search needs
-
 returns-3 : tie.Need-returns-3
 returns-3 c =
     let a = c .before .before .before .before .before .before .before .before .before .before .args in
@@ -64,13 +58,5 @@ returns-4 c =
 pub read-fitting-spec : {M : Type 1} → statement M
 read-fitting-spec =
     tie.close
-    (tie.spec
-    next-definition-requires
-    enum-known-fields
-    too-long-requires
-    returns
-    name-among-requires
-    returns-2
-    enum-known-refusal
-    returns-3
-    returns-4)
+    (tie.spec next-definition-requires (λ c. search needs) too-long-requires returns name-among-requires returns-2
+    (λ c. search needs) returns-3 returns-4)

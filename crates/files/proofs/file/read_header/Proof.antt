@@ -10,9 +10,6 @@ use Rattle.files.proofs.file.read_header.Tie as tie
 int32-requires : tie.Need-int32-requires
 int32-requires c κs = search needs
 
-enum-known-kind : tie.Need-enum-known-kind
-enum-known-kind c = search needs
-
 returns : tie.Need-returns
 returns c =
     let e1 = sym (rw (c .before .before .kind .given .1) at (c .before .before .before .before .int32 .ensures)) in
@@ -21,9 +18,6 @@ returns c =
 
 int32-requires-2 : tie.Need-int32-requires-2
 int32-requires-2 c κs = search needs
-
-enum-known-version : tie.Need-enum-known-version
-enum-known-version c = search needs
 
 is-version-requires : tie.Need-is-version-requires
 is-version-requires c κs = search needs
@@ -36,17 +30,8 @@ returns-2 c =
     let q2 = sym (c .before .is-version .ensures) ∙ not-true (c .before .is-version .result) (c .if2 .taken) in
     rw (e1, q1, e2, q2)
 
-cast-short-count-to : tie.Need-cast-short-count-to
-cast-short-count-to c = omega arith
-
 short-count-to-requires : tie.Need-short-count-to-requires
 short-count-to-requires c κs = search needs
-
-enum-known-refusal : tie.Need-enum-known-refusal
-enum-known-refusal c = search needs
-
-enum-known-refusal-2 : tie.Need-enum-known-refusal-2
-enum-known-refusal-2 c = search needs
 
 returns-3 : tie.Need-returns-3
 returns-3 c =
@@ -71,18 +56,6 @@ returns-5 c =
 pub read-header-spec : {M : Type 1} → statement M
 read-header-spec =
     tie.close
-    (tie.spec
-    int32-requires
-    enum-known-kind
-    returns
-    int32-requires-2
-    enum-known-version
-    is-version-requires
-    returns-2
-    cast-short-count-to
-    short-count-to-requires
-    enum-known-refusal
-    enum-known-refusal-2
-    returns-3
-    returns-4
+    (tie.spec int32-requires (λ c. search needs) returns int32-requires-2 (λ c. search needs) is-version-requires
+    returns-2 (λ c. omega arith) short-count-to-requires (λ c. search needs) (λ c. search needs) returns-3 returns-4
     returns-5)

@@ -9,9 +9,6 @@ use Rattle.files.proofs.file.same_names.Tie as tie
 shared-slice-read-name-key : tie.Need-shared-slice-read-name-key
 shared-slice-read-name-key c = omega (arith, c .before .before .before .pre .inside, c .before .before .before .pre .some)
 
-add-name-key : tie.Need-add-name-key
-add-name-key c = search needs
-
 shared-slice-read-name-key-2 : tie.Need-shared-slice-read-name-key-2
 shared-slice-read-name-key-2 c = omega (arith, c .before .before .before .before .pre .inside, c .before .before .before .before .pre .some)
 
@@ -20,9 +17,6 @@ name-key-requires c κs = search needs
 
 shared-slice-read-name-key-3 : tie.Need-shared-slice-read-name-key-3
 shared-slice-read-name-key-3 c = omega (arith, c .before .before .before .before .before .before .pre .inside, c .before .before .before .before .before .before .pre .some)
-
-add-name-key-2 : tie.Need-add-name-key-2
-add-name-key-2 c = search needs
 
 shared-slice-read-name-key-4 : tie.Need-shared-slice-read-name-key-4
 shared-slice-read-name-key-4 c = omega (arith, c .before .before .before .before .before .before .before .pre .inside, c .before .before .before .before .before .before .before .pre .some)
@@ -50,17 +44,6 @@ returns-2 c = c .same-name .ensures ∙ ap₂ sameName (c .before .before .name-
 pub same-names-spec : {M : Type 1} → statement M
 same-names-spec =
     tie.close
-    (tie.spec
-    shared-slice-read-name-key
-    add-name-key
-    shared-slice-read-name-key-2
-    name-key-requires
-    shared-slice-read-name-key-3
-    add-name-key-2
-    shared-slice-read-name-key-4
-    name-key-requires-2
-    returns
-    name-at-requires
-    name-at-requires-2
-    same-name-requires
-    returns-2)
+    (tie.spec shared-slice-read-name-key (λ c. search needs) shared-slice-read-name-key-2 name-key-requires
+    shared-slice-read-name-key-3 (λ c. search needs) shared-slice-read-name-key-4 name-key-requires-2 returns
+    name-at-requires name-at-requires-2 same-name-requires returns-2)

@@ -19,4 +19,5 @@ returns-3 : tie.Need-returns-3
 returns-3 c = rw (ne-eqb _ firstVersion (λ e. c .if2 .left (c .before .word-at .ensures ∙ e)))
 
 pub width-of-spec : {M : Type 1} → statement M
-width-of-spec = tie.close (tie.spec returns word-at-requires returns-2 returns-3)
+width-of-spec =
+    tie.close (tie.spec returns word-at-requires returns-2 returns-3)

@@ -24,27 +24,12 @@ abbrev μ-loop : tie.MeasureT-loop
 loop-holds : tie.Need-loop-holds Inv-loop μ-loop
 loop-holds c = (omega arith, omega arith, c .before .before .pre, refl)
 
-sub-left : tie.Need-sub-left Inv-loop μ-loop
-sub-left c = omega arith
-
 returns : tie.Need-returns Inv-loop μ-loop
 returns c =
     let a = c .before .before .before .before .before .args in
     let l = c .before .before .loop in
     let keeps = l .inv .2 in
     ends-none (a .nodes .now) (a .index .now) (a .count) (a .number) keeps (l .left) (l .low) (l .high) (omega arith) (l .inv .3)
-
-sub-middle : tie.Need-sub-middle Inv-loop μ-loop
-sub-middle c = omega arith
-
-add-middle : tie.Need-add-middle Inv-loop μ-loop
-add-middle c = omega arith
-
-mul-wide : tie.Need-mul-wide Inv-loop μ-loop
-mul-wide c = omega arith
-
-shared-slice-read-wide : tie.Need-shared-slice-read-wide Inv-loop μ-loop
-shared-slice-read-wide c = omega arith
 
 wide-requires : tie.Need-wide-requires Inv-loop μ-loop
 wide-requires c κs = tt
@@ -78,21 +63,12 @@ returns-2 c =
     ends-found (a .nodes .now) (a .index .now) (a .count) (a .number) keeps (c .before .before .wide .result)
     (turn-found (a .nodes .now) (a .index .now) (a .count) (a .number) keeps (l .left) (l .low) (l .high) (c .before .before .wide .result) _ (omega arith) (omega arith) (omega arith) (c .before .before .wide .ensures) (l .inv .3) (c .if2 .taken))
 
-add-low : tie.Need-add-low Inv-loop μ-loop
-add-low c = omega arith
-
-loop-less : tie.Need-loop-less Inv-loop μ-loop
-loop-less c = omega arith
-
 loop-again : tie.Need-loop-again Inv-loop μ-loop
 loop-again c =
     let a = c .before .before .before .before .before .before .before .before .before .before .args in
     let l = c .before .before .before .before .before .before .before .loop in
     let keeps = l .inv .2 in
     (omega arith, omega arith, keeps, turn-up (a .nodes .now) (a .index .now) (a .count) (a .number) keeps (l .left) (l .low) (l .high) (c .before .before .before .wide .result) _ (omega arith) (omega arith) (omega arith) (c .before .before .before .wide .ensures) (l .inv .3) (c .before .if2 .left) (omega arith))
-
-loop-less-2 : tie.Need-loop-less-2 Inv-loop μ-loop
-loop-less-2 c = omega arith
 
 loop-again-2 : tie.Need-loop-again-2 Inv-loop μ-loop
 loop-again-2 c =
@@ -111,24 +87,6 @@ returns-3 c =
 pub find-indexed-spec : {M : Type 1} → statement M
 find-indexed-spec =
     tie.close
-    (tie.spec
-    Inv-loop
-    μ-loop
-    loop-holds
-    sub-left
-    returns
-    sub-middle
-    add-middle
-    mul-wide
-    shared-slice-read-wide
-    wide-requires
-    mul-stored
-    mul-stored-2
-    shared-slice-read-stored
-    returns-2
-    add-low
-    loop-less
-    loop-again
-    loop-less-2
-    loop-again-2
-    returns-3)
+    (tie.spec Inv-loop μ-loop loop-holds (λ c. omega arith) returns (λ c. omega arith) (λ c. omega arith)
+    (λ c. omega arith) (λ c. omega arith) wide-requires mul-stored mul-stored-2 shared-slice-read-stored returns-2
+    (λ c. omega arith) (λ c. omega arith) loop-again (λ c. omega arith) loop-again-2 returns-3)

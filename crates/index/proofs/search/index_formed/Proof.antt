@@ -22,12 +22,6 @@ loop-holds c =
     let a = c .before .before .args in
     (omega arith, omega arith, c .before .before .pre, rises-first (a .nodes .now) (a .index .now) (a .count) (c .before .before .pre))
 
-mul-wide : tie.Need-mul-wide Inv-loop μ-loop
-mul-wide c = omega arith
-
-shared-slice-read-wide : tie.Need-shared-slice-read-wide Inv-loop μ-loop
-shared-slice-read-wide c = omega arith
-
 wide-requires : tie.Need-wide-requires Inv-loop μ-loop
 wide-requires c κs = tt
 
@@ -37,15 +31,6 @@ returns c =
     let l = c .before .before .before .before .loop in
     let fits = l .inv .2 in
     rises-past (a .nodes .now) (a .index .now) (a .count) fits (l .least) (l .i) (c .before .wide .result) (omega arith) (c .before .wide .ensures) (l .inv .3) (omega arith)
-
-mul-wide-2 : tie.Need-mul-wide-2 Inv-loop μ-loop
-mul-wide-2 c = omega arith
-
-mul-wide-3 : tie.Need-mul-wide-3 Inv-loop μ-loop
-mul-wide-3 c = omega arith
-
-shared-slice-read-wide-2 : tie.Need-shared-slice-read-wide-2 Inv-loop μ-loop
-shared-slice-read-wide-2 c = omega arith
 
 wide-requires-2 : tie.Need-wide-requires-2 Inv-loop μ-loop
 wide-requires-2 c κs = tt
@@ -61,12 +46,6 @@ add-least : tie.Need-add-least Inv-loop μ-loop
 add-least c =
     let number : c .before .wide2 .result < 4294967296 = omega (arith, c .before .before .shared-slice-known4 .given (5 * c .before .before .before .before .wide .result)) in
     omega arith
-
-add-i : tie.Need-add-i Inv-loop μ-loop
-add-i c = omega arith
-
-loop-less : tie.Need-loop-less Inv-loop μ-loop
-loop-less c = omega arith
 
 loop-again : tie.Need-loop-again Inv-loop μ-loop
 loop-again c =
@@ -86,21 +65,6 @@ returns-3 c =
 pub index-formed-spec : {M : Type 1} → statement M
 index-formed-spec =
     tie.close
-    (tie.spec
-    Inv-loop
-    μ-loop
-    loop-holds
-    mul-wide
-    shared-slice-read-wide
-    wide-requires
-    returns
-    mul-wide-2
-    mul-wide-3
-    shared-slice-read-wide-2
-    wide-requires-2
-    returns-2
-    add-least
-    add-i
-    loop-less
-    loop-again
-    returns-3)
+    (tie.spec Inv-loop μ-loop loop-holds (λ c. omega arith) (λ c. omega arith) wide-requires returns (λ c. omega arith)
+    (λ c. omega arith) (λ c. omega arith) wide-requires-2 returns-2 add-least (λ c. omega arith) (λ c. omega arith)
+    loop-again returns-3)

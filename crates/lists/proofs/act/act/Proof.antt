@@ -29,12 +29,6 @@ words-act-requires c κs =
     let two = c .before .before .match .rest .1 in
     (s .pre .0, (omega arith, s .pre .1))
 
-same-length : tie.Need-same-length
-same-length c = search needs
-
-same-length-2 : tie.Need-same-length-2
-same-length-2 c = search needs
-
 returns : tie.Need-returns
 returns c =
     let s = c .before .before .before .before .before .before .before .before .before .before .before in
@@ -44,12 +38,6 @@ returns c =
     let step = c .before .before .before .before .definition-step in
     definitions-acted (commandOf (a .op) (a .a) (a .b) (a .c) (a .d) (a .e)) (a .bytes .now) (a .words .now) (a .arena .now) (step .result) (λ i. lent i .fits) (λ i. kept i .fits) (s .pre .0) _ _ _
     (sym (op-is 1 (a .op) (a .a) (a .b) (a .c) (a .d) (a .e) (c .before .before .before .before .before .before .before .match .keys1))) (step .ensures)
-
-same-length-3 : tie.Need-same-length-3
-same-length-3 c = search needs
-
-same-length-4 : tie.Need-same-length-4
-same-length-4 c = search needs
 
 returns-2 : tie.Need-returns-2
 returns-2 c =
@@ -61,28 +49,9 @@ returns-2 c =
     definitions-acted (commandOf (a .op) (a .a) (a .b) (a .c) (a .d) (a .e)) (a .bytes .now) (a .words .now) (a .arena .now) (step .result) (λ i. lent i .fits) (λ i. kept i .fits) (s .pre .0) _ _ _
     (sym (op-is 2 (a .op) (a .a) (a .b) (a .c) (a .d) (a .e) (c .before .before .before .before .before .before .before .match .keys2))) (step .ensures)
 
-same-length-5 : tie.Need-same-length-5
-same-length-5 c = search needs
-
-same-length-6 : tie.Need-same-length-6
-same-length-6 c = search needs
-
-returns-3 : tie.Need-returns-3
-returns-3 c = search needs
-
 pub act-spec : {M : Type 1} → statement M
 act-spec =
     tie.close
-    (tie.spec
-    definition-step-requires
-    definition-step-requires-2
-    words-act-requires
-    same-length
-    same-length-2
-    returns
-    same-length-3
-    same-length-4
-    returns-2
-    same-length-5
-    same-length-6
-    returns-3)
+    (tie.spec definition-step-requires definition-step-requires-2 words-act-requires (λ c. search needs)
+    (λ c. search needs) returns (λ c. search needs) (λ c. search needs) returns-2 (λ c. search needs)
+    (λ c. search needs) (λ c. search needs))

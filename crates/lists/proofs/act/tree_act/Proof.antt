@@ -41,9 +41,6 @@ move-tail-requires c κs = search needs
 run-node-requires : tie.Need-run-node-requires
 run-node-requires c κs = search needs
 
-same-length : tie.Need-same-length
-same-length c = search needs
-
 returns : tie.Need-returns
 returns c =
     let s = c .before .before .before .before .before .before .before .before in
@@ -52,9 +49,6 @@ returns c =
     tree-goes (a .op) (a .a) (a .b) (a .c) (a .bytes .now) (a .words .now) (a .arena .now) (step .result) _ (tree.NewSynth (a .a) (a .b) (argument (a .c)))
     (λ d e. sym (op-is 3 (a .op) (a .a) (a .b) (a .c) d e (c .before .before .before .before .match .keys1)))
     (step .ensures)
-
-same-length-2 : tie.Need-same-length-2
-same-length-2 c = search needs
 
 returns-2 : tie.Need-returns-2
 returns-2 c =
@@ -65,9 +59,6 @@ returns-2 c =
     (λ d e. sym (op-is 4 (a .op) (a .a) (a .b) (a .c) d e (c .before .before .before .before .match .keys2)))
     (step .ensures (a .bytes .now) (a .arena .now))
 
-same-length-3 : tie.Need-same-length-3
-same-length-3 c = search needs
-
 returns-3 : tie.Need-returns-3
 returns-3 c =
     let s = c .before .before .before .before .before .before .before .before in
@@ -76,9 +67,6 @@ returns-3 c =
     tree-goes (a .op) (a .a) (a .b) (a .c) (a .bytes .now) (a .words .now) (a .arena .now) (step .result) _ (tree.Free (argument (a .a)))
     (λ d e. sym (op-is 5 (a .op) (a .a) (a .b) (a .c) d e (c .before .before .before .before .match .keys3)))
     (step .ensures (a .bytes .now) (a .arena .now))
-
-same-length-4 : tie.Need-same-length-4
-same-length-4 c = search needs
 
 returns-4 : tie.Need-returns-4
 returns-4 c =
@@ -89,9 +77,6 @@ returns-4 c =
     (λ d e. sym (op-is 6 (a .op) (a .a) (a .b) (a .c) d e (c .before .before .before .before .match .keys4)))
     (step .ensures (a .bytes .now) (a .arena .now))
 
-same-length-5 : tie.Need-same-length-5
-same-length-5 c = search needs
-
 returns-5 : tie.Need-returns-5
 returns-5 c =
     let s = c .before .before .before .before .before .before .before .before in
@@ -100,9 +85,6 @@ returns-5 c =
     tree-goes (a .op) (a .a) (a .b) (a .c) (a .bytes .now) (a .words .now) (a .arena .now) (step .result) _ (tree.DeepFree (argument (a .a)))
     (λ d e. sym (op-is 7 (a .op) (a .a) (a .b) (a .c) d e (c .before .before .before .before .match .keys5)))
     (step .ensures (a .bytes .now) (a .arena .now))
-
-same-length-6 : tie.Need-same-length-6
-same-length-6 c = search needs
 
 returns-6 : tie.Need-returns-6
 returns-6 c =
@@ -113,9 +95,6 @@ returns-6 c =
     (λ d e. sym (op-is 8 (a .op) (a .a) (a .b) (a .c) d e (c .before .before .before .before .match .keys6)))
     (step .ensures (a .bytes .now) (a .arena .now))
 
-same-length-7 : tie.Need-same-length-7
-same-length-7 c = search needs
-
 returns-7 : tie.Need-returns-7
 returns-7 c =
     let s = c .before .before .before .before .before .before .before .before in
@@ -124,9 +103,6 @@ returns-7 c =
     tree-goes (a .op) (a .a) (a .b) (a .c) (a .bytes .now) (a .words .now) (a .arena .now) (step .result) _ (tree.After (argument (a .a)) (argument (a .b)))
     (λ d e. sym (op-is 9 (a .op) (a .a) (a .b) (a .c) d e (c .before .before .before .before .match .keys7)))
     (step .ensures (a .bytes .now) (a .arena .now))
-
-same-length-8 : tie.Need-same-length-8
-same-length-8 c = search needs
 
 returns-8 : tie.Need-returns-8
 returns-8 c =
@@ -137,9 +113,6 @@ returns-8 c =
     (λ d e. sym (op-is 10 (a .op) (a .a) (a .b) (a .c) d e (c .before .before .before .before .match .keys8)))
     (step .ensures (a .bytes .now) (a .arena .now))
 
-same-length-9 : tie.Need-same-length-9
-same-length-9 c = search needs
-
 returns-9 : tie.Need-returns-9
 returns-9 c =
     let s = c .before .before .before .before .before .before .before .before in
@@ -148,9 +121,6 @@ returns-9 c =
     tree-goes (a .op) (a .a) (a .b) (a .c) (a .bytes .now) (a .words .now) (a .arena .now) (step .result) _ (tree.Tail (argument (a .a)) (argument (a .b)))
     (λ d e. sym (op-is 11 (a .op) (a .a) (a .b) (a .c) d e (c .before .before .before .before .match .keys9)))
     (step .ensures (a .bytes .now) (a .arena .now))
-
-same-length-10 : tie.Need-same-length-10
-same-length-10 c = search needs
 
 returns-10 : tie.Need-returns-10
 returns-10 c =
@@ -168,34 +138,8 @@ returns-10 c =
 pub tree-act-spec : {M : Type 1} → statement M
 tree-act-spec =
     tie.close
-    (tie.spec
-    new-synth-requires
-    new-group-requires
-    free-node-requires
-    free-all-requires
-    deep-free-requires
-    move-before-requires
-    move-after-requires
-    move-head-requires
-    move-tail-requires
-    run-node-requires
-    same-length
-    returns
-    same-length-2
-    returns-2
-    same-length-3
-    returns-3
-    same-length-4
-    returns-4
-    same-length-5
-    returns-5
-    same-length-6
-    returns-6
-    same-length-7
-    returns-7
-    same-length-8
-    returns-8
-    same-length-9
-    returns-9
-    same-length-10
-    returns-10)
+    (tie.spec new-synth-requires new-group-requires free-node-requires free-all-requires deep-free-requires
+    move-before-requires move-after-requires move-head-requires move-tail-requires run-node-requires (λ c. search needs)
+    returns (λ c. search needs) returns-2 (λ c. search needs) returns-3 (λ c. search needs) returns-4
+    (λ c. search needs) returns-5 (λ c. search needs) returns-6 (λ c. search needs) returns-7 (λ c. search needs)
+    returns-8 (λ c. search needs) returns-9 (λ c. search needs) returns-10)

@@ -9,4 +9,5 @@ returns-2 : tie.Need-returns-2
 returns-2 c = rw (ne-eqb (c .before .args .kind) 0 (c .if1 .left))
 
 pub value-of-spec : {M : Type 1} → statement M
-value-of-spec = tie.close (tie.spec returns returns-2)
+value-of-spec =
+    tie.close (tie.spec returns returns-2)

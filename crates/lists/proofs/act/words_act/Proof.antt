@@ -67,9 +67,6 @@ tree-act-requires c κs =
     let high : a .op < 13 = below 13 (a .op) (below 14 (a .op) (below 15 (a .op) (below 16 (a .op) (below 17 (a .op) (below 18 (a .op) (below 19 (a .op) (below 20 (a .op) (ops .1) (r .1)) (r .0 .1)) (r .0 .0 .1)) (r .0 .0 .0 .1)) (r .0 .0 .0 .0 .1)) (r .0 .0 .0 .0 .0 .1)) (r .0 .0 .0 .0 .0 .0 .1)) (r .0 .0 .0 .0 .0 .0 .0 .1) in
     (known (a .words .now) (a .arena .now) (s .pre .0), (s .pre .1 .0, high))
 
-same-length : tie.Need-same-length
-same-length c = search needs
-
 returns : tie.Need-returns
 returns c =
     let s = c .before .before .before .before .before .before .before .before .before in
@@ -81,9 +78,6 @@ returns c =
     controls-acted p (a .bytes .now) (a .words .now) (a .arena .now) (step .result) (λ i. lent i .fits) (λ i. kept i .fits) (s .pre .0) (controls.Set (argument (a .a)) (Index (a .b)) (c .before .before .before .before .before .value-of .result)) _
     (valued-is p (a .d) (a .e) (setting (argument (a .a)) (Index (a .b))) (c .before .before .before .before .before .value-of .result) (op-is 13 (a .op) (a .a) (a .b) (a .c) (a .d) (a .e) (c .before .before .before .before .match .keys1)) (s .pre .1 .1) (c .before .before .before .before .before .value-of .ensures))
     (set-filled _ _ _ _ _ _ _ _ (step .ensures))
-
-same-length-2 : tie.Need-same-length-2
-same-length-2 c = search needs
 
 returns-2 : tie.Need-returns-2
 returns-2 c =
@@ -97,9 +91,6 @@ returns-2 c =
     (valued-is p (a .d) (a .e) (setting (argument (a .a)) Name) (c .before .before .before .before .before .value-of .result) (op-is 14 (a .op) (a .a) (a .b) (a .c) (a .d) (a .e) (c .before .before .before .before .match .keys2)) (s .pre .1 .1) (c .before .before .before .before .before .value-of .ensures))
     (set-filled _ _ _ _ _ _ _ _ (step .ensures))
 
-same-length-3 : tie.Need-same-length-3
-same-length-3 c = search needs
-
 returns-3 : tie.Need-returns-3
 returns-3 c =
     let s = c .before .before .before .before .before .before .before .before .before in
@@ -111,9 +102,6 @@ returns-3 c =
     controls-acted p (a .bytes .now) (a .words .now) (a .arena .now) (step .result) (λ i. lent i .fits) (λ i. kept i .fits) (s .pre .0) (controls.Fill (argument (a .a)) (Index (a .b)) (a .c) (c .before .before .before .before .before .value-of .result)) _
     (valued-is p (a .d) (a .e) (filling (argument (a .a)) (Index (a .b)) (a .c)) (c .before .before .before .before .before .value-of .result) (op-is 15 (a .op) (a .a) (a .b) (a .c) (a .d) (a .e) (c .before .before .before .before .match .keys3)) (s .pre .1 .1) (c .before .before .before .before .before .value-of .ensures))
     (step .ensures)
-
-same-length-4 : tie.Need-same-length-4
-same-length-4 c = search needs
 
 returns-4 : tie.Need-returns-4
 returns-4 c =
@@ -127,9 +115,6 @@ returns-4 c =
     (valued-is p (a .d) (a .e) (filling (argument (a .a)) Name (a .c)) (c .before .before .before .before .before .value-of .result) (op-is 16 (a .op) (a .a) (a .b) (a .c) (a .d) (a .e) (c .before .before .before .before .match .keys4)) (s .pre .1 .1) (c .before .before .before .before .before .value-of .ensures))
     (step .ensures)
 
-same-length-5 : tie.Need-same-length-5
-same-length-5 c = search needs
-
 returns-5 : tie.Need-returns-5
 returns-5 c =
     let s = c .before .before .before .before .before .before .before .before .before in
@@ -141,9 +126,6 @@ returns-5 c =
     controls-acted p (a .bytes .now) (a .words .now) (a .arena .now) (step .result) (λ i. lent i .fits) (λ i. kept i .fits) (s .pre .0) (controls.Map (argument (a .a)) (Index (a .b)) (a .c)) _
     (sym (op-is 17 (a .op) (a .a) (a .b) (a .c) (a .d) (a .e) (c .before .before .before .before .match .keys5)))
     (step .ensures)
-
-same-length-6 : tie.Need-same-length-6
-same-length-6 c = search needs
 
 returns-6 : tie.Need-returns-6
 returns-6 c =
@@ -157,9 +139,6 @@ returns-6 c =
     (sym (op-is 18 (a .op) (a .a) (a .b) (a .c) (a .d) (a .e) (c .before .before .before .before .match .keys6)))
     (step .ensures)
 
-same-length-7 : tie.Need-same-length-7
-same-length-7 c = search needs
-
 returns-7 : tie.Need-returns-7
 returns-7 c =
     let s = c .before .before .before .before .before .before .before .before .before in
@@ -172,9 +151,6 @@ returns-7 c =
     (valued-is p (a .d) (a .e) (busSetting (a .a)) (c .before .before .before .before .before .value-of .result) (op-is 19 (a .op) (a .a) (a .b) (a .c) (a .d) (a .e) (c .before .before .before .before .match .keys7)) (s .pre .1 .1) (c .before .before .before .before .before .value-of .ensures))
     (step .ensures (a .bytes .now) (a .arena .now))
 
-same-length-8 : tie.Need-same-length-8
-same-length-8 c = search needs
-
 returns-8 : tie.Need-returns-8
 returns-8 c =
     let s = c .before .before .before .before .before .before .before .before .before in
@@ -186,9 +162,6 @@ returns-8 c =
     buses-acted p (a .bytes .now) (a .words .now) (a .arena .now) (step .result) (λ i. lent i .fits) (λ i. kept i .fits) (s .pre .0) (buses.Fill (a .a) (a .c) (c .before .before .before .before .before .value-of .result)) _
     (valued-is p (a .d) (a .e) (busFilling (a .a) (a .c)) (c .before .before .before .before .before .value-of .result) (op-is 20 (a .op) (a .a) (a .b) (a .c) (a .d) (a .e) (c .before .before .before .before .match .keys8)) (s .pre .1 .1) (c .before .before .before .before .before .value-of .ensures))
     (step .ensures (a .bytes .now) (a .arena .now))
-
-same-length-9 : tie.Need-same-length-9
-same-length-9 c = search needs
 
 returns-9 : tie.Need-returns-9
 returns-9 c =
@@ -205,32 +178,8 @@ returns-9 c =
 pub words-act-spec : {M : Type 1} → statement M
 words-act-spec =
     tie.close
-    (tie.spec
-    value-of-requires
-    fill-controls-requires
-    fill-controls-requires-2
-    fill-controls-requires-3
-    fill-controls-requires-4
-    map-control-requires
-    map-control-requires-2
-    bus-step-requires
-    bus-step-requires-2
-    tree-act-requires
-    same-length
-    returns
-    same-length-2
-    returns-2
-    same-length-3
-    returns-3
-    same-length-4
-    returns-4
-    same-length-5
-    returns-5
-    same-length-6
-    returns-6
-    same-length-7
-    returns-7
-    same-length-8
-    returns-8
-    same-length-9
-    returns-9)
+    (tie.spec value-of-requires fill-controls-requires fill-controls-requires-2 fill-controls-requires-3
+    fill-controls-requires-4 map-control-requires map-control-requires-2 bus-step-requires bus-step-requires-2
+    tree-act-requires (λ c. search needs) returns (λ c. search needs) returns-2 (λ c. search needs) returns-3
+    (λ c. search needs) returns-4 (λ c. search needs) returns-5 (λ c. search needs) returns-6 (λ c. search needs)
+    returns-7 (λ c. search needs) returns-8 (λ c. search needs) returns-9)

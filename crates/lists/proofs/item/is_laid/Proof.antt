@@ -38,11 +38,4 @@ returns-3 c =
 
 pub is-laid-spec : {M : Type 1} → statement M
 is-laid-spec =
-    tie.close
-    (tie.spec
-    later-zero-requires
-    returns
-    part-start-requires
-    part-size-requires
-    returns-2
-    returns-3)
+    tie.close (tie.spec later-zero-requires returns part-start-requires part-size-requires returns-2 returns-3)

@@ -68,13 +68,5 @@ returns-4 c =
 pub item-kind-spec : {M : Type 1} → statement M
 item-kind-spec =
     tie.close
-    (tie.spec
-    is-laid-requires
-    returns
-    word-requires
-    kind-limit-requires
-    word-requires-2
-    wide-requires
-    returns-2
-    returns-3
-    returns-4)
+    (tie.spec is-laid-requires returns word-requires kind-limit-requires word-requires-2 wide-requires returns-2
+    returns-3 returns-4)

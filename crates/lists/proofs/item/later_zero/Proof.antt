@@ -36,12 +36,4 @@ returns-4 c = ap (λ (n : ℕ). eqb n 0) (c .word4 .ensures) ∙ zeros-4 (getD (
 pub later-zero-spec : {M : Type 1} → statement M
 later-zero-spec =
     tie.close
-    (tie.spec
-    word-requires
-    returns
-    word-requires-2
-    returns-2
-    word-requires-3
-    returns-3
-    word-requires-4
-    returns-4)
+    (tie.spec word-requires returns word-requires-2 returns-2 word-requires-3 returns-3 word-requires-4 returns-4)

@@ -55,9 +55,6 @@ returns-2 c =
 still-fit-requires : tie.Need-still-fit-requires Inv-loop μ-loop
 still-fit-requires c κs = tt
 
-add-i : tie.Need-add-i Inv-loop μ-loop
-add-i c = omega arith
-
 loop-less : tie.Need-loop-less Inv-loop μ-loop
 loop-less c =
     let less = c .before .before .before .before .loop-test .taken in
@@ -91,19 +88,5 @@ returns-4 c =
 pub judge-spec : {M : Type 1} → statement M
 judge-spec =
     tie.close
-    (tie.spec
-    Inv-loop
-    μ-loop
-    returns
-    is-short-requires
-    loop-holds
-    mul-item-kind
-    item-kind-requires
-    is-item-requires
-    returns-2
-    still-fit-requires
-    add-i
-    loop-less
-    loop-again
-    returns-3
-    returns-4)
+    (tie.spec Inv-loop μ-loop returns is-short-requires loop-holds mul-item-kind item-kind-requires is-item-requires
+    returns-2 still-fit-requires (λ c. omega arith) loop-less loop-again returns-3 returns-4)

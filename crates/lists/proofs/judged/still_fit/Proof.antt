@@ -9,15 +9,6 @@ use borrow.Author.Needs.{needs}
 use Rattle.lists.proofs.judged.still_fit.Statement.{statement}
 use Rattle.lists.proofs.judged.still_fit.Tie as tie
 
-enum-told : tie.Need-enum-told
-enum-told c = search needs
-
-enum-told-2 : tie.Need-enum-told-2
-enum-told-2 c = search needs
-
-enum-told-3 : tie.Need-enum-told-3
-enum-told-3 c = search needs
-
 returns : tie.Need-returns
 returns c = both-none (c .before .before .args .fit) ∙ ap (λ (k : Kind). both (c .before .before .args .fit) (acts k)) (sym (c .enum-told .given .1))
 
@@ -28,4 +19,5 @@ returns-3 : tie.Need-returns-3
 returns-3 c = sym (both-right (c .before .before .args .fit)) ∙ ap (λ (k : Kind). both (c .before .before .args .fit) (acts k)) (sym (c .enum-told3 .given .1))
 
 pub still-fit-spec : {M : Type 1} → statement M
-still-fit-spec = tie.close (tie.spec enum-told enum-told-2 enum-told-3 returns returns-2 returns-3)
+still-fit-spec =
+    tie.close (tie.spec (λ c. search needs) (λ c. search needs) (λ c. search needs) returns returns-2 returns-3)

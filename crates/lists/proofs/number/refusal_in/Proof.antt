@@ -6,29 +6,11 @@ use borrow.Author.Needs.{needs}
 use Rattle.lists.proofs.number.refusal_in.Statement.{statement}
 use Rattle.lists.proofs.number.refusal_in.Tie as tie
 
-enum-told : tie.Need-enum-told
-enum-told c = search needs
-
-enum-known-answer : tie.Need-enum-known-answer
-enum-known-answer c = search needs
-
-enum-known-answer-2 : tie.Need-enum-known-answer-2
-enum-known-answer-2 c = search needs
-
 refusal-number-requires : tie.Need-refusal-number-requires
 refusal-number-requires c κs = search needs
 
-enum-known-answer-3 : tie.Need-enum-known-answer-3
-enum-known-answer-3 c = search needs
-
 fault-number-requires : tie.Need-fault-number-requires
 fault-number-requires c κs = search needs
-
-returns : tie.Need-returns
-returns c = search needs
-
-returns-2 : tie.Need-returns-2
-returns-2 c = search needs
 
 returns-3 : tie.Need-returns-3
 returns-3 c = c .refusal-number .ensures ∙ ap refusalIn (sym (c .before .before .answer2 .given .1))
@@ -39,14 +21,5 @@ returns-4 c = c .fault-number .ensures ∙ ap refusalIn (sym (c .before .before 
 pub refusal-in-spec : {M : Type 1} → statement M
 refusal-in-spec =
     tie.close
-    (tie.spec
-    enum-told
-    enum-known-answer
-    enum-known-answer-2
-    refusal-number-requires
-    enum-known-answer-3
-    fault-number-requires
-    returns
-    returns-2
-    returns-3
-    returns-4)
+    (tie.spec (λ c. search needs) (λ c. search needs) (λ c. search needs) refusal-number-requires (λ c. search needs)
+    fault-number-requires (λ c. search needs) (λ c. search needs) returns-3 returns-4)

@@ -44,12 +44,6 @@ word-requires-5 c κs = search needs
 word-requires-6 : tie.Need-word-requires-6
 word-requires-6 c κs = search needs
 
-sub-act : tie.Need-sub-act
-sub-act c = search needs
-
-part-act-start : tie.Need-part-act-start
-part-act-start c = search needs
-
 part-act-end : tie.Need-part-act-end
 part-act-end c =
     let s = c .before .before .before .before .before .before .before .before .before .before .before .before in
@@ -64,12 +58,6 @@ act-requires c κs =
     let s = c .before .before .before .before .before .before .before .before .before .before .before .before .before .before .before in
     let i = itemIn (drop (s .args .at) (s .args .items .now)) in
     (s .pre .1 .1, ap ofParsed (parsed-by i (c .before .before .before .before .before .before .before .before .word .result) (c .before .before .before .before .before .before .before .word2 .result) (c .before .before .before .before .before .before .word3 .result) (c .before .before .before .before .before .word4 .result) (c .before .before .before .before .word5 .result) (c .before .before .before .word6 .result) (c .before .before .before .before .before .before .before .before .word .ensures) (c .before .before .before .before .before .before .before .word2 .ensures) (c .before .before .before .before .before .before .word3 .ensures) (c .before .before .before .before .before .word4 .ensures) (c .before .before .before .before .word5 .ensures) (c .before .before .before .word6 .ensures)) ∙ acts-kind (length (s .args .bytes .now)) i (s .pre .1 .0))
-
-same-length : tie.Need-same-length
-same-length c = search needs
-
-same-length-2 : tie.Need-same-length-2
-same-length-2 c = search needs
 
 returns : tie.Need-returns
 returns c =
@@ -87,20 +75,6 @@ returns c =
 pub item-step-spec : {M : Type 1} → statement M
 item-step-spec =
     tie.close
-    (tie.spec
-    part-start-requires
-    part-size-requires
-    add-end
-    word-requires
-    word-requires-2
-    word-requires-3
-    word-requires-4
-    word-requires-5
-    word-requires-6
-    sub-act
-    part-act-start
-    part-act-end
-    act-requires
-    same-length
-    same-length-2
-    returns)
+    (tie.spec part-start-requires part-size-requires add-end word-requires word-requires-2 word-requires-3
+    word-requires-4 word-requires-5 word-requires-6 (λ c. search needs) (λ c. search needs) part-act-end act-requires
+    (λ c. search needs) (λ c. search needs) returns)

@@ -10,20 +10,8 @@ use Rattle.lists.proofs.run.list.Tie as tie
 judge-requires : tie.Need-judge-requires
 judge-requires c κs = search needs
 
-enum-told : tie.Need-enum-told
-enum-told c = search needs
-
-enum-told-2 : tie.Need-enum-told-2
-enum-told-2 c = search needs
-
 well-formed-requires : tie.Need-well-formed-requires
 well-formed-requires c κs = search needs
-
-same-length : tie.Need-same-length
-same-length c = search needs
-
-same-length-2 : tie.Need-same-length-2
-same-length-2 c = search needs
 
 returns : tie.Need-returns
 returns c =
@@ -33,17 +21,8 @@ returns c =
     let check = c .before .well-formed in
     lists-unfit-bad (a .items .now) (a .bytes .now) (a .words .now) (a .arena .now) (λ i. lent i .fits) (λ i. kept i .fits) (sym (c .before .before .before .before .before .before .judge .ensures) ∙ c .before .before .before .before .enum-told2 .given .1) (sym (check .ensures) ∙ not-true (check .result) (c .if1 .taken))
 
-enum-told-3 : tie.Need-enum-told-3
-enum-told-3 c = search needs
-
 well-formed-requires-2 : tie.Need-well-formed-requires-2
 well-formed-requires-2 c κs = search needs
-
-same-length-3 : tie.Need-same-length-3
-same-length-3 c = search needs
-
-same-length-4 : tie.Need-same-length-4
-same-length-4 c = search needs
 
 returns-2 : tie.Need-returns-2
 returns-2 c =
@@ -65,12 +44,6 @@ returns-3 c =
     let kept = c .before .before .before .slice-known2 .given in
     lists-none (a .items .now) (a .bytes .now) (a .words .now) (a .arena .now) (λ i. lent i .fits) (λ i. kept i .fits) (sym (c .before .before .judge .ensures) ∙ c .enum-told .given .1)
 
-same-length-5 : tie.Need-same-length-5
-same-length-5 c = search needs
-
-same-length-6 : tie.Need-same-length-6
-same-length-6 c = search needs
-
 returns-4 : tie.Need-returns-4
 returns-4 c =
     let a = c .before .before .before .before .before .before .before .before .before .before .before .args in
@@ -78,12 +51,6 @@ returns-4 c =
     let kept = c .before .before .before .before .before .before .before .slice-known2 .given in
     let check = c .before .well-formed in
     lists-unfit (a .items .now) (a .bytes .now) (a .words .now) (a .arena .now) (λ i. lent i .fits) (λ i. kept i .fits) (sym (c .before .before .before .before .before .before .judge .ensures) ∙ c .before .before .before .before .enum-told2 .given .1) (sym (check .ensures) ∙ not-false (check .result) (c .if1 .left))
-
-same-length-7 : tie.Need-same-length-7
-same-length-7 c = search needs
-
-same-length-8 : tie.Need-same-length-8
-same-length-8 c = search needs
 
 returns-5 : tie.Need-returns-5
 returns-5 c =
@@ -97,24 +64,7 @@ returns-5 c =
 pub list-spec : {M : Type 1} → statement M
 list-spec =
     tie.close
-    (tie.spec
-    judge-requires
-    enum-told
-    enum-told-2
-    well-formed-requires
-    same-length
-    same-length-2
-    returns
-    enum-told-3
-    well-formed-requires-2
-    same-length-3
-    same-length-4
-    returns-2
-    run-requires
-    returns-3
-    same-length-5
-    same-length-6
-    returns-4
-    same-length-7
-    same-length-8
-    returns-5)
+    (tie.spec judge-requires (λ c. search needs) (λ c. search needs) well-formed-requires (λ c. search needs)
+    (λ c. search needs) returns (λ c. search needs) well-formed-requires-2 (λ c. search needs) (λ c. search needs)
+    returns-2 run-requires returns-3 (λ c. search needs) (λ c. search needs) returns-4 (λ c. search needs)
+    (λ c. search needs) returns-5)

@@ -57,9 +57,6 @@ returns c =
     let one = c .before .is-accepted in
     run-stops (a .items .now) (a .bytes .now) (a .words .now) (a .arena .now) (l .i) (l .words) (l .arena) (l .inv) (c .before .before .before .before .before .before .before .before .before .loop-test .taken) (g .result) _ _ (g .ensures) (sym (one .ensures) ∙ not-true (one .result) (c .if1 .taken))
 
-add-i : tie.Need-add-i Inv-loop μ-loop
-add-i c = omega arith
-
 loop-less : tie.Need-loop-less Inv-loop μ-loop
 loop-less c =
     let less = c .before .before .before .before .before .before .before .before .before .loop-test .taken in
@@ -94,19 +91,5 @@ returns-2 c =
 pub run-spec : {M : Type 1} → statement M
 run-spec =
     tie.close
-    (tie.spec
-    Inv-loop
-    μ-loop
-    loop-holds
-    mul-item-step
-    item-step-requires
-    is-accepted-requires
-    same-length
-    same-length-2
-    returns
-    add-i
-    loop-less
-    loop-again
-    same-length-3
-    same-length-4
-    returns-2)
+    (tie.spec Inv-loop μ-loop loop-holds mul-item-step item-step-requires is-accepted-requires same-length same-length-2
+    returns (λ c. omega arith) loop-less loop-again same-length-3 same-length-4 returns-2)

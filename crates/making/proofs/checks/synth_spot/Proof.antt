@@ -27,9 +27,6 @@ returns-3 c =
     let a = c .before .before .before .before .before .before .args in
     synth-absent (a .number) (a .action) (a .target) (a .slot) (a .words .now) (sym (c .before .before .before .before .bad-number .ensures) ∙ c .before .before .before .if1 .left) (sym (c .before .before .is-live .ensures) ∙ c .before .if2 .left) (c .if3 .taken)
 
-shared-slice-read-wide : tie.Need-shared-slice-read-wide
-shared-slice-read-wide c = search needs
-
 wide-requires : tie.Need-wide-requires
 wide-requires c κs = search needs
 
@@ -48,9 +45,6 @@ returns-5 : tie.Need-returns-5
 returns-5 c =
     let a = c .before .before .before .before .before .before .before .before .before .before .before .before .args in
     synth-kind (a .number) (a .action) (a .target) (a .slot) (a .words .now) (sym (c .before .before .before .before .before .before .before .before .before .before .bad-number .ensures) ∙ c .before .before .before .before .before .before .before .before .before .if1 .left) (sym (c .before .before .before .before .before .before .before .before .is-live .ensures) ∙ c .before .before .before .before .before .before .before .if2 .left) (omega arith) (c .before .before .before .before .before .before .before .before .before .before .before .before .pre) (c .before .before .before .before .wide .result) (c .before .before .before .before .wide .ensures) (c .before .before .before .node-place .result) (c .before .before .before .node-place .ensures) (omega arith) (sym (c .before .bad-target .ensures) ∙ c .if5 .taken)
-
-shared-slice-read-is-spent : tie.Need-shared-slice-read-is-spent
-shared-slice-read-is-spent c = search needs
 
 is-spent-requires : tie.Need-is-spent-requires
 is-spent-requires c κs = search needs
@@ -76,21 +70,6 @@ returns-8 c =
 pub synth-spot-spec : {M : Type 1} → statement M
 synth-spot-spec =
     tie.close
-    (tie.spec
-    bad-number-requires
-    returns
-    is-live-requires
-    returns-2
-    returns-3
-    shared-slice-read-wide
-    wide-requires
-    node-place-requires
-    returns-4
-    bad-target-requires
-    returns-5
-    shared-slice-read-is-spent
-    is-spent-requires
-    returns-6
-    is-full-requires
-    returns-7
-    returns-8)
+    (tie.spec bad-number-requires returns is-live-requires returns-2 returns-3 (λ c. search needs) wide-requires
+    node-place-requires returns-4 bad-target-requires returns-5 (λ c. search needs) is-spent-requires returns-6
+    is-full-requires returns-7 returns-8)

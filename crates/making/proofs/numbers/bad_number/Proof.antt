@@ -11,7 +11,4 @@ returns-2 c = rw (le-leb 2147483648 (c .before .args .number) (c .if1 .left))
 
 pub bad-number-spec : {M : Type 1} → statement M
 bad-number-spec =
-    tie.close
-    (tie.spec
-    returns
-    returns-2)
+    tie.close (tie.spec returns returns-2)

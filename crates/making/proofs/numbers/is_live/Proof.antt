@@ -8,9 +8,6 @@ use Rattle.making.proofs.numbers.is_live.Tie as tie
 returns : tie.Need-returns
 returns c = rw (eq-eqb (c .before .before .args .number) 4294967295 (c .if1 .taken))
 
-shared-slice-read-wide : tie.Need-shared-slice-read-wide
-shared-slice-read-wide c = search needs
-
 wide-requires : tie.Need-wide-requires
 wide-requires c κs = search needs
 
@@ -25,10 +22,4 @@ returns-2 c =
 
 pub is-live-spec : {M : Type 1} → statement M
 is-live-spec =
-    tie.close
-    (tie.spec
-    returns
-    shared-slice-read-wide
-    wide-requires
-    place-of-requires
-    returns-2)
+    tie.close (tie.spec returns (λ c. search needs) wide-requires place-of-requires returns-2)

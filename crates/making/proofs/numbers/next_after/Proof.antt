@@ -4,9 +4,6 @@ use borrow.Author.Tests.{eq-eqb, ne-eqb}
 use Rattle.making.proofs.numbers.next_after.Statement.{statement}
 use Rattle.making.proofs.numbers.next_after.Tie as tie
 
-sub-result : tie.Need-sub-result
-sub-result c = search needs
-
 returns : tie.Need-returns
 returns c = rw (eq-eqb (c .before .args .number) 4294967295 (c .if1 .taken))
 
@@ -15,8 +12,4 @@ returns-2 c = rw (ne-eqb (c .before .args .number) 4294967295 (c .if1 .left))
 
 pub next-after-spec : {M : Type 1} → statement M
 next-after-spec =
-    tie.close
-    (tie.spec
-    sub-result
-    returns
-    returns-2)
+    tie.close (tie.spec (λ c. search needs) returns returns-2)

@@ -11,7 +11,4 @@ returns-2 c = rw (ne-eqb (c .before .args .number) 4294967295 (c .if1 .left))
 
 pub number-for-spec : {M : Type 1} → statement M
 number-for-spec =
-    tie.close
-    (tie.spec
-    returns
-    returns-2)
+    tie.close (tie.spec returns returns-2)

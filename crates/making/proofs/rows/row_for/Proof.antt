@@ -6,14 +6,8 @@ use Rattle.tree.specs.declared.action.Action.the-variants.{Put, Replace}
 use Rattle.making.proofs.rows.row_for.Statement.{statement}
 use Rattle.making.proofs.rows.row_for.Tie as tie
 
-enum-known-action : tie.Need-enum-known-action
-enum-known-action c = search needs
-
 free-row-requires : tie.Need-free-row-requires
 free-row-requires c κs = let p = c .before .before .before .before .pre in record { room = omega (arith, p .size, p .few); few = p .few }
-
-enum-told : tie.Need-enum-told
-enum-told c = search needs
 
 row-without-requires : tie.Need-row-without-requires
 row-without-requires c κs = search needs
@@ -30,4 +24,6 @@ returns-2 c =
     rw case (c .row-without .ensures)
 
 pub row-for-spec : {M : Type 1} → statement M
-row-for-spec = tie.close (tie.spec enum-known-action free-row-requires enum-told row-without-requires returns returns-2)
+row-for-spec =
+    tie.close
+    (tie.spec (λ c. search needs) free-row-requires (λ c. search needs) row-without-requires returns returns-2)

@@ -9,14 +9,8 @@ use Rattle.making.specs.Rows.{left-sized, free-left}
 use Rattle.making.proofs.rows.row_without.Statement.{statement}
 use Rattle.making.proofs.rows.row_without.Tie as tie
 
-slice-aggregate-copy-words : tie.Need-slice-aggregate-copy-words
-slice-aggregate-copy-words c = search needs
-
 copy-words-requires : tie.Need-copy-words-requires
 copy-words-requires c κs = let p = c .before .before .pre in (omega (arith, p .size), omega arith)
-
-slice-aggregate-cut : tie.Need-slice-aggregate-cut
-slice-aggregate-cut c = search needs
 
 cut-requires : tie.Need-cut-requires
 cut-requires c κs =
@@ -25,9 +19,6 @@ cut-requires c κs =
     let copy = c .before .before .copy-words in
     let same : copy .last .0 ≡ us = copy .ensures ∙ paste-whole (replicate 1280 0) us (length us) refl (length-replicate {A = ℕ} 1280 0 ∙ sym (s .pre .size)) in
     rw same (record { room = omega (arith, s .pre .size, s .pre .few); few = s .pre .few; live = s .pre .live })
-
-slice-aggregate-free-row : tie.Need-slice-aggregate-free-row
-slice-aggregate-free-row c = search needs
 
 free-row-requires : tie.Need-free-row-requires
 free-row-requires c κs =
@@ -50,11 +41,5 @@ returns c =
 pub row-without-spec : {M : Type 1} → statement M
 row-without-spec =
     tie.close
-    (tie.spec
-    slice-aggregate-copy-words
-    copy-words-requires
-    slice-aggregate-cut
-    cut-requires
-    slice-aggregate-free-row
-    free-row-requires
-    returns)
+    (tie.spec (λ c. search needs) copy-words-requires (λ c. search needs) cut-requires (λ c. search needs)
+    free-row-requires returns)

@@ -9,12 +9,6 @@ use Rattle.making.specs.Synth.{synth-refused, meant-lent, table-formed}
 use Rattle.making.proofs.synth.add_synth.Statement.{statement}
 use Rattle.making.proofs.synth.add_synth.Tie as tie
 
-sub-find-resident : tie.Need-sub-find-resident
-sub-find-resident c = search needs
-
-part-find-resident-start : tie.Need-part-find-resident-start
-part-find-resident-start c = search needs
-
 part-find-resident-end : tie.Need-part-find-resident-end
 part-find-resident-end c = omega (arith, c .before .before .before .before .pre .size)
 
@@ -23,9 +17,6 @@ find-resident-requires c κs = table-formed (c .before .before .before .before .
 
 synth-spot-requires : tie.Need-synth-spot-requires
 synth-spot-requires c κs = ready (c .before .before .before .before .before .before .before .args .words .now) (c .before .before .before .before .before .before .before .args .arena .now) (c .before .before .before .before .before .before .before .pre)
-
-enum-known-spot : tie.Need-enum-known-spot
-enum-known-spot c = search needs
 
 put-synth-requires : tie.Need-put-synth-requires
 put-synth-requires c κs =
@@ -38,12 +29,6 @@ put-synth-requires c κs =
       ground = record { known = c .before .before .before .before .before .before .before .before .before .before .before .before .pre; meant = meant-lent (c .before .before .before .before .before .before .find-resident .result) (a .bytes .now) (a .words .now) (a .arena .now) (c .before .before .before .before .before .before .find-resident .ensures); clear = clear };
     }
 
-enum-known-spot-2 : tie.Need-enum-known-spot-2
-enum-known-spot-2 c = search needs
-
-same-length : tie.Need-same-length
-same-length c = search needs
-
 returns : tie.Need-returns
 returns c =
     let a = c .before .before .before .before .before .before .before .before .before .before .before .before .before .before .before .args in
@@ -51,9 +36,6 @@ returns c =
     let clear : Clear (a .number) (a .action) (a .target) (c .before .before .before .before .before .before .before .before .before .find-resident .result) (a .words .now) (c .before .before .before .before .before .spot .given .0 .0) = rw fact at (c .before .before .before .before .before .before .before .synth-spot .ensures) in
     c .before .before .put-synth .ensures (a .target) (a .bytes .now)
     (record { known = c .before .before .before .before .before .before .before .before .before .before .before .before .before .before .before .pre; meant = meant-lent (c .before .before .before .before .before .before .before .before .before .find-resident .result) (a .bytes .now) (a .words .now) (a .arena .now) (c .before .before .before .before .before .before .before .before .before .find-resident .ensures); clear = clear })
-
-same-length-2 : tie.Need-same-length-2
-same-length-2 c = search needs
 
 returns-2 : tie.Need-returns-2
 returns-2 c =
@@ -65,16 +47,5 @@ returns-2 c =
 pub add-synth-spec : {M : Type 1} → statement M
 add-synth-spec =
     tie.close
-    (tie.spec
-    sub-find-resident
-    part-find-resident-start
-    part-find-resident-end
-    find-resident-requires
-    synth-spot-requires
-    enum-known-spot
-    put-synth-requires
-    enum-known-spot-2
-    same-length
-    returns
-    same-length-2
-    returns-2)
+    (tie.spec (λ c. search needs) (λ c. search needs) part-find-resident-end find-resident-requires synth-spot-requires
+    (λ c. search needs) put-synth-requires (λ c. search needs) (λ c. search needs) returns (λ c. search needs) returns-2)

@@ -10,17 +10,8 @@ use Rattle.making.proofs.synth.new_synth.Tie as tie
 add-action-requires : tie.Need-add-action-requires
 add-action-requires c κs = search needs
 
-enum-known-asked : tie.Need-enum-known-asked
-enum-known-asked c = search needs
-
 add-synth-requires : tie.Need-add-synth-requires
 add-synth-requires c κs = search needs
-
-enum-known-asked-2 : tie.Need-enum-known-asked-2
-enum-known-asked-2 c = search needs
-
-same-length : tie.Need-same-length
-same-length c = search needs
 
 returns : tie.Need-returns
 returns c =
@@ -38,4 +29,7 @@ returns-2 c =
     rw (refused .1) (synth-unasked (a .number) (a .action) (a .target) (a .bytes .now) (a .words .now) (a .arena .now) (refused .0))
 
 pub new-synth-spec : {M : Type 1} → statement M
-new-synth-spec = tie.close (tie.spec add-action-requires enum-known-asked add-synth-requires enum-known-asked-2 same-length returns returns-2)
+new-synth-spec =
+    tie.close
+    (tie.spec add-action-requires (λ c. search needs) add-synth-requires (λ c. search needs) (λ c. search needs) returns
+    returns-2)

@@ -33,12 +33,6 @@ slot-bytes-requires c κs =
     let g = c .before .before .before .before .before .before .before .pre .ground in
     (g .known .size, rw (c .wide2 .ensures) (g .clear .there))
 
-sub-row-for : tie.Need-sub-row-for
-sub-row-for c = search needs
-
-part-row-for-start : tie.Need-part-row-for-start
-part-row-for-start c = search needs
-
 part-row-for-end : tie.Need-part-row-for-end
 part-row-for-end c = omega (arith, c .before .before .before .before .before .before .before .before .before .pre .ground .known .size, c .before .before .before .before .before .before .before .before .before .pre .ground .clear .there)
 
@@ -51,12 +45,6 @@ row-for-requires c κs =
 number-for-requires : tie.Need-number-for-requires
 number-for-requires c κs = search needs
 
-sub-edit-by : tie.Need-sub-edit-by
-sub-edit-by c = search needs
-
-part-edit-by-start : tie.Need-part-edit-by-start
-part-edit-by-start c = search needs
-
 part-edit-by-end : tie.Need-part-edit-by-end
 part-edit-by-end c = omega (arith, c .before .before .before .before .before .before .before .before .before .before .before .before .before .pre .ground .known .size)
 
@@ -67,12 +55,6 @@ edit-by-requires c κs =
     let count = c .before .before .before .before .before .before .before .before .before .before .wide in
     let there = standing (a .number) (a .action) (p .target) (a .at) (a .slot) (p .bytes) (a .words .now) (a .arena .now) (p .ground) (count .result) (count .ensures) in
     record { room = omega (arith, there .size, there .few); few = there .few; live = there .live }
-
-sub-add-node : tie.Need-sub-add-node
-sub-add-node c = search needs
-
-part-add-node-start : tie.Need-part-add-node-start
-part-add-node-start c = search needs
 
 part-add-node-end : tie.Need-part-add-node-end
 part-add-node-end c = omega (arith, c .before .before .before .before .before .before .before .before .before .before .before .before .before .before .before .pre .ground .known .size)
@@ -97,12 +79,6 @@ settle-requires c κs =
     let edit = c .before .before .before .before .before .before .edit-by in
     rw (edit .ensures)
     (synth-ready (a .number) (a .action) (p .target) (a .at) (a .slot) (p .bytes) (a .words .now) (a .arena .now) (p .ground) (count .result) (count .ensures) (row .result) (row .ensures) (getD (a .words .now) 2 0) refl (given .result) (given .ensures) (add .last .0) (add .result) (add .ensures))
-
-sub-initial-row : tie.Need-sub-initial-row
-sub-initial-row c = search needs
-
-part-initial-row-start : tie.Need-part-initial-row-start
-part-initial-row-start c = search needs
 
 part-initial-row-end : tie.Need-part-initial-row-end
 part-initial-row-end c =
@@ -164,30 +140,8 @@ returns c =
 pub put-synth-spec : {M : Type 1} → statement M
 put-synth-spec =
     tie.close
-    (tie.spec
-    slice-read-wide
-    wide-requires
-    slice-read-next
-    wide-requires-2
-    slot-bytes-requires
-    sub-row-for
-    part-row-for-start
-    part-row-for-end
-    row-for-requires
-    number-for-requires
-    sub-edit-by
-    part-edit-by-start
-    part-edit-by-end
-    edit-by-requires
-    sub-add-node
-    part-add-node-start
-    part-add-node-end
-    add-node-requires
-    next-after-requires
-    settle-requires
-    sub-initial-row
-    part-initial-row-start
-    part-initial-row-end
-    initial-row-requires
-    same-length
-    returns)
+    (tie.spec slice-read-wide wide-requires slice-read-next wide-requires-2 slot-bytes-requires (λ c. search needs)
+    (λ c. search needs) part-row-for-end row-for-requires number-for-requires (λ c. search needs) (λ c. search needs)
+    part-edit-by-end edit-by-requires (λ c. search needs) (λ c. search needs) part-add-node-end add-node-requires
+    next-after-requires settle-requires (λ c. search needs) (λ c. search needs) part-initial-row-end
+    initial-row-requires same-length returns)

@@ -8,41 +8,14 @@ use Rattle.messageread.proofs.address.candidate.Tie as tie
 returns : tie.Need-returns
 returns c = rw (lt-ltb (length (c .before .before .args .address .now)) 6 (c .if1 .taken))
 
-sub-last : tie.Need-sub-last
-sub-last c = search needs
-
-shared-slice-read-wide : tie.Need-shared-slice-read-wide
-shared-slice-read-wide c = search needs
-
 wide-requires : tie.Need-wide-requires
 wide-requires c κs = search needs
-
-mul-first-op : tie.Need-mul-first-op
-mul-first-op c = search needs
-
-shared-slice-read-wide-2 : tie.Need-shared-slice-read-wide-2
-shared-slice-read-wide-2 c = search needs
 
 wide-requires-2 : tie.Need-wide-requires-2
 wide-requires-2 c κs = search needs
 
-mul-first-op-2 : tie.Need-mul-first-op-2
-mul-first-op-2 c = search needs
-
-add-first-op : tie.Need-add-first-op
-add-first-op c = search needs
-
-shared-slice-read-wide-3 : tie.Need-shared-slice-read-wide-3
-shared-slice-read-wide-3 c = search needs
-
 wide-requires-3 : tie.Need-wide-requires-3
 wide-requires-3 c κs = search needs
-
-mul-first-op-3 : tie.Need-mul-first-op-3
-mul-first-op-3 c = search needs
-
-add-first-op-2 : tie.Need-add-first-op-2
-add-first-op-2 c = search needs
 
 first-op-requires : tie.Need-first-op-requires
 first-op-requires c κs = search needs
@@ -55,19 +28,6 @@ returns-2 c =
 pub candidate-spec : {M : Type 1} → statement M
 candidate-spec =
     tie.close
-    (tie.spec
-    returns
-    sub-last
-    shared-slice-read-wide
-    wide-requires
-    mul-first-op
-    shared-slice-read-wide-2
-    wide-requires-2
-    mul-first-op-2
-    add-first-op
-    shared-slice-read-wide-3
-    wide-requires-3
-    mul-first-op-3
-    add-first-op-2
-    first-op-requires
-    returns-2)
+    (tie.spec returns (λ c. search needs) (λ c. search needs) wide-requires (λ c. search needs) (λ c. search needs)
+    wide-requires-2 (λ c. search needs) (λ c. search needs) (λ c. search needs) wide-requires-3 (λ c. search needs)
+    (λ c. search needs) first-op-requires returns-2)

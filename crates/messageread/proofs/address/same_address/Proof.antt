@@ -89,17 +89,5 @@ returns-5 c =
 pub same-address-spec : {M : Type 1} → statement M
 same-address-spec =
     tie.close
-    (tie.spec
-    address-length-requires
-    returns
-    quad-requires
-    address-start-requires
-    returns-2
-    sub-quad
-    quad-requires-2
-    address-end-requires
-    returns-3
-    returns-4
-    quad-requires-3
-    address-middle-requires
-    returns-5)
+    (tie.spec address-length-requires returns quad-requires address-start-requires returns-2 sub-quad quad-requires-2
+    address-end-requires returns-3 returns-4 quad-requires-3 address-middle-requires returns-5)

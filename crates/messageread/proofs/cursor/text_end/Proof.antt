@@ -14,9 +14,6 @@ abbrev μ-loop : tie.MeasureT-loop
 loop-holds : tie.Need-loop-holds Inv-loop μ-loop
 loop-holds c = none-passed (c .args .message .now) (c .args .at)
 
-shared-slice-read-byte : tie.Need-shared-slice-read-byte Inv-loop μ-loop
-shared-slice-read-byte c = omega arith
-
 returns : tie.Need-returns Inv-loop μ-loop
 returns c =
     let a = c .before .before .before .before .args in
@@ -28,12 +25,6 @@ returns-2 c =
     let a = c .before .before .before .before .before .args in
     let l = c .before .before .before .before .loop in
     ends-high (a .message .now) (a .at) (l .i) (l .inv) (omega arith) (c .before .if1 .left) (c .if2 .taken)
-
-add-i : tie.Need-add-i Inv-loop μ-loop
-add-i c = omega arith
-
-loop-less : tie.Need-loop-less Inv-loop μ-loop
-loop-less c = omega arith
 
 loop-again : tie.Need-loop-again Inv-loop μ-loop
 loop-again c =
@@ -50,4 +41,5 @@ returns-3 c =
 pub text-end-spec : {M : Type 1} → statement M
 text-end-spec =
     tie.close
-    (tie.spec Inv-loop μ-loop loop-holds shared-slice-read-byte returns returns-2 add-i loop-less loop-again returns-3)
+    (tie.spec Inv-loop μ-loop loop-holds (λ c. omega arith) returns returns-2 (λ c. omega arith) (λ c. omega arith)
+    loop-again returns-3)

@@ -6,14 +6,8 @@ use Rattle.messageread.specs.StepLaws.{number-step, no-step, numberTaken
 use Rattle.messageread.proofs.keep.keep_number.Statement.{statement}
 use Rattle.messageread.proofs.keep.keep_number.Tie as tie
 
-enum-known-read : tie.Need-enum-known-read
-enum-known-read c = search needs
-
 keep-requires : tie.Need-keep-requires
 keep-requires c κs = search needs
-
-enum-told : tie.Need-enum-told
-enum-told c = search needs
 
 returns : tie.Need-returns
 returns c =
@@ -27,4 +21,5 @@ returns-2 c =
     λ s op. no-step s op (a .kept) (numberOf (a .read)) (numberTaken (a .code) (a .kind) (given s op (a .kept))) (sym (ap numberOf (c .enum-told .given .1)))
 
 pub keep-number-spec : {M : Type 1} → statement M
-keep-number-spec = tie.close (tie.spec enum-known-read keep-requires enum-told returns returns-2)
+keep-number-spec =
+    tie.close (tie.spec (λ c. search needs) keep-requires (λ c. search needs) returns returns-2)

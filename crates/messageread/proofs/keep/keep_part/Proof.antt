@@ -8,14 +8,8 @@ use Rattle.messageread.specs.StepLaws.{part-step, no-step, partTaken}
 use Rattle.messageread.proofs.keep.keep_part.Statement.{statement}
 use Rattle.messageread.proofs.keep.keep_part.Tie as tie
 
-enum-known-read : tie.Need-enum-known-read
-enum-known-read c = search needs
-
 keep-requires : tie.Need-keep-requires
 keep-requires c κs = search needs
-
-enum-told : tie.Need-enum-told
-enum-told c = search needs
 
 returns : tie.Need-returns
 returns c =
@@ -31,4 +25,5 @@ returns-2 c =
     λ s op within. no-step s op (a .kept) (textOf s (a .read)) (partTaken (a .code) (given s op (a .kept))) (sym (ap (λ (t : Text). textOf s t) (c .enum-told .given .1)))
 
 pub keep-part-spec : {M : Type 1} → statement M
-keep-part-spec = tie.close (tie.spec enum-known-read keep-requires enum-told returns returns-2)
+keep-part-spec =
+    tie.close (tie.spec (λ c. search needs) keep-requires (λ c. search needs) returns returns-2)

@@ -7,9 +7,6 @@ use Rattle.messageread.proofs.rows.find.Tie as tie
 candidate-requires : tie.Need-candidate-requires
 candidate-requires c κs = search needs
 
-cast-first : tie.Need-cast-first
-cast-first c = search needs
-
 meets-row-requires : tie.Need-meets-row-requires
 meets-row-requires c κs = search needs
 
@@ -17,9 +14,6 @@ returns : tie.Need-returns
 returns c =
     let a = c .before .before .before .before .before .args in
     find-first (a .address .now) (a .tags .now) (c .before .before .candidate .result) (c .before .before .candidate .ensures) (sym (c .before .meets-row .ensures) ∙ c .if1 .taken)
-
-add-second : tie.Need-add-second
-add-second c = search needs
 
 meets-row-requires-2 : tie.Need-meets-row-requires-2
 meets-row-requires-2 c κs = search needs
@@ -37,12 +31,5 @@ returns-3 c =
 pub find-spec : {M : Type 1} → statement M
 find-spec =
     tie.close
-    (tie.spec
-    candidate-requires
-    cast-first
-    meets-row-requires
-    returns
-    add-second
-    meets-row-requires-2
-    returns-2
-    returns-3)
+    (tie.spec candidate-requires (λ c. search needs) meets-row-requires returns (λ c. search needs) meets-row-requires-2
+    returns-2 returns-3)

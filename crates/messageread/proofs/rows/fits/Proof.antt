@@ -25,17 +25,8 @@ slot-codes-requires c κs = search needs
 loop-holds : tie.Need-loop-holds Inv-loop μ-loop
 loop-holds c = (omega arith, (refl, c .slot-codes .ensures))
 
-shared-slice-read-takes : tie.Need-shared-slice-read-takes Inv-loop μ-loop
-shared-slice-read-takes c = omega arith
-
 takes-requires : tie.Need-takes-requires Inv-loop μ-loop
 takes-requires c κs = search needs
-
-add-k : tie.Need-add-k Inv-loop μ-loop
-add-k c = omega arith
-
-loop-less : tie.Need-loop-less Inv-loop μ-loop
-loop-less c = omega arith
 
 loop-again : tie.Need-loop-again Inv-loop μ-loop
 loop-again c =
@@ -65,15 +56,5 @@ returns-2 c =
 pub fits-spec : {M : Type 1} → statement M
 fits-spec =
     tie.close
-    (tie.spec
-    Inv-loop
-    μ-loop
-    slot-codes-requires
-    loop-holds
-    shared-slice-read-takes
-    takes-requires
-    add-k
-    loop-less
-    loop-again
-    returns
-    returns-2)
+    (tie.spec Inv-loop μ-loop slot-codes-requires loop-holds (λ c. omega arith) takes-requires (λ c. omega arith)
+    (λ c. omega arith) loop-again returns returns-2)

@@ -31,4 +31,5 @@ returns-6 c =
     rw (ne-eqb (a .code) 0 (c .before .before .before .if1 .left), ne-eqb (a .code) 4 (c .before .before .if2 .left), ne-eqb (a .code) 5 (c .before .if4 .left), ne-eqb (a .code) 6 (c .if5 .left))
 
 pub takes-spec : {M : Type 1} → statement M
-takes-spec = tie.close (tie.spec returns returns-2 returns-3 returns-4 returns-5 returns-6)
+takes-spec =
+    tie.close (tie.spec returns returns-2 returns-3 returns-4 returns-5 returns-6)

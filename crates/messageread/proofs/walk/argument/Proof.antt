@@ -68,17 +68,5 @@ returns-5 c op slots k coded =
 pub argument-spec : {M : Type 1} → statement M
 argument-spec =
     tie.close
-    (tie.spec
-    number-requires
-    keep-number-requires
-    returns
-    number-requires-2
-    keep-number-requires-2
-    returns-2
-    text-requires
-    keep-part-requires
-    returns-3
-    blob-requires
-    keep-part-requires-2
-    returns-4
-    returns-5)
+    (tie.spec number-requires keep-number-requires returns number-requires-2 keep-number-requires-2 returns-2
+    text-requires keep-part-requires returns-3 blob-requires keep-part-requires-2 returns-4 returns-5)

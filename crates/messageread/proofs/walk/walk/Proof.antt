@@ -25,17 +25,8 @@ loop-holds c =
     let a = c .before .before .before .args in
     (walk-begins (a .message .now) (a .tags .now) (a .from) (a .op), c .slot-codes .ensures)
 
-shared-slice-read-argument : tie.Need-shared-slice-read-argument Inv-loop μ-loop
-shared-slice-read-argument c = omega arith
-
 argument-requires : tie.Need-argument-requires Inv-loop μ-loop
 argument-requires c κs = search needs
-
-enum-known-more : tie.Need-enum-known-more Inv-loop μ-loop
-enum-known-more c = search needs
-
-enum-told : tie.Need-enum-told Inv-loop μ-loop
-enum-told c = search needs
 
 returns : tie.Need-returns Inv-loop μ-loop
 returns c =
@@ -44,12 +35,6 @@ returns c =
     let coded = ap (λ (n : ℕ). n % 16) (l .inv .1) ∙ packed-code (slotsOf (a .op)) (l .k) in
     let found = rw (c .enum-told .given .1) at (c .before .before .argument .ensures (a .op) (slotsOf (a .op)) (l .k) coded .reads) in
     walk-stops (a .message .now) (a .tags .now) (a .from) (a .op) (l .kept) (l .at .at) (l .k) (l .inv .0) (c .before .before .before .before .loop-test .taken) found
-
-add-k : tie.Need-add-k Inv-loop μ-loop
-add-k c = omega arith
-
-loop-less : tie.Need-loop-less Inv-loop μ-loop
-loop-less c = omega arith
 
 loop-again : tie.Need-loop-again Inv-loop μ-loop
 loop-again c =
@@ -71,17 +56,5 @@ returns-2 c =
 pub walk-spec : {M : Type 1} → statement M
 walk-spec =
     tie.close
-    (tie.spec
-    Inv-loop
-    μ-loop
-    slot-codes-requires
-    loop-holds
-    shared-slice-read-argument
-    argument-requires
-    enum-known-more
-    enum-told
-    returns
-    add-k
-    loop-less
-    loop-again
-    returns-2)
+    (tie.spec Inv-loop μ-loop slot-codes-requires loop-holds (λ c. omega arith) argument-requires (λ c. search needs)
+    (λ c. search needs) returns (λ c. omega arith) (λ c. omega arith) loop-again returns-2)

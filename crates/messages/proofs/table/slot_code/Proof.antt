@@ -11,18 +11,6 @@ use Rattle.messages.proofs.table.slot_code.Tie as tie
 slot-codes-requires : tie.Need-slot-codes-requires
 slot-codes-requires c κs = search needs
 
-cast-result : tie.Need-cast-result
-cast-result c = search needs
-
-cast-result-2 : tie.Need-cast-result-2
-cast-result-2 c = search needs
-
-cast-result-3 : tie.Need-cast-result-3
-cast-result-3 c = search needs
-
-cast-result-4 : tie.Need-cast-result-4
-cast-result-4 c = search needs
-
 returns : tie.Need-returns
 returns c =
     let a = c .before .before .args in
@@ -50,4 +38,7 @@ returns-5 c =
     slot-none (a .op) (a .k) (past 3 (a .k) (c .match .rest))
 
 pub slot-code-spec : {M : Type 1} → statement M
-slot-code-spec = tie.close (tie.spec slot-codes-requires cast-result cast-result-2 cast-result-3 cast-result-4 returns returns-2 returns-3 returns-4 returns-5)
+slot-code-spec =
+    tie.close
+    (tie.spec slot-codes-requires (λ c. search needs) (λ c. search needs) (λ c. search needs) (λ c. search needs)
+    returns returns-2 returns-3 returns-4 returns-5)

@@ -26,9 +26,6 @@ put-int-requires-2 c κs =
     let long = some-address (a .op) (omega arith) in
     omega arith
 
-same-length : tie.Need-same-length
-same-length c = search needs
-
 returns : tie.Need-returns
 returns c =
     let a = c .before .before .before .before .before .before .before .before .before .before .before .before .args in
@@ -43,9 +40,6 @@ address-third-requires c κs = search needs
 put-int-requires-3 : tie.Need-put-int-requires-3
 put-int-requires-3 c κs = search needs
 
-same-length-2 : tie.Need-same-length-2
-same-length-2 c = search needs
-
 returns-2 : tie.Need-returns-2
 returns-2 c =
     let a = c .before .before .before .before .before .before .before .before .before .before .before .before .before .before .before .before .before .before .args in
@@ -56,9 +50,6 @@ returns-2 c =
 
 put-int-requires-4 : tie.Need-put-int-requires-4
 put-int-requires-4 c κs = search needs
-
-same-length-3 : tie.Need-same-length-3
-same-length-3 c = search needs
 
 returns-3 : tie.Need-returns-3
 returns-3 c =
@@ -71,17 +62,6 @@ returns-3 c =
 pub put-address-spec : {M : Type 1} → statement M
 put-address-spec =
     tie.close
-    (tie.spec
-    address-start-requires
-    put-int-requires
-    address-middle-requires
-    put-int-requires-2
-    same-length
-    returns
-    address-third-requires
-    put-int-requires-3
-    same-length-2
-    returns-2
-    put-int-requires-4
-    same-length-3
-    returns-3)
+    (tie.spec address-start-requires put-int-requires address-middle-requires put-int-requires-2 (λ c. search needs)
+    returns address-third-requires put-int-requires-3 (λ c. search needs) returns-2 put-int-requires-4
+    (λ c. search needs) returns-3)

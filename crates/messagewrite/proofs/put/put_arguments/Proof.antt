@@ -40,9 +40,6 @@ loop-holds c =
 slot-code-requires : tie.Need-slot-code-requires Inv-loop μ-loop
 slot-code-requires c κs = tt
 
-sub-argument-size : tie.Need-sub-argument-size Inv-loop μ-loop
-sub-argument-size c = omega arith
-
 argument-size-requires : tie.Need-argument-size-requires Inv-loop μ-loop
 argument-size-requires c κs = tt
 
@@ -72,12 +69,6 @@ add-at c =
     let is : c .before .before .before .before .argument-size .result ≡ sizeBy (c .before .before .before .before .before .slot-code .result) n = c .before .before .before .before .argument-size .ensures ∙ fits (sizeBy (c .before .before .before .before .before .slot-code .result) n) (length (l .out) - l .at) (omega arith) in
     omega arith
 
-add-k : tie.Need-add-k Inv-loop μ-loop
-add-k c = omega arith
-
-loop-less : tie.Need-loop-less Inv-loop μ-loop
-loop-less c = omega arith
-
 loop-again : tie.Need-loop-again Inv-loop μ-loop
 loop-again c =
     let a = c .before .before .before .before .before .before .before .before .before .before .args in
@@ -105,9 +96,6 @@ loop-again c =
     two-parts (a .start) done part us (l .out) o (l .at) (i .3) (i .1) put (omega arith) ∙ ap (λ (p : List ℕ). over (a .start) p us) (sym step) in
     (omega arith, more, ap length more ∙ over-length (a .start) (arguments (take (k + 1) (giveAll slots g))) us (omega arith), omega arith, omega arith, apart .1)
 
-same-length : tie.Need-same-length Inv-loop μ-loop
-same-length c = search needs
-
 returns : tie.Need-returns Inv-loop μ-loop
 returns c =
     let a = c .before .before .before .before .args in
@@ -118,17 +106,5 @@ returns c =
 pub put-arguments-spec : {M : Type 1} → statement M
 put-arguments-spec =
     tie.close
-    (tie.spec
-    Inv-loop
-    μ-loop
-    loop-holds
-    slot-code-requires
-    sub-argument-size
-    argument-size-requires
-    put-argument-requires
-    add-at
-    add-k
-    loop-less
-    loop-again
-    same-length
-    returns)
+    (tie.spec Inv-loop μ-loop loop-holds slot-code-requires (λ c. omega arith) argument-size-requires
+    put-argument-requires add-at (λ c. omega arith) (λ c. omega arith) loop-again (λ c. search needs) returns)

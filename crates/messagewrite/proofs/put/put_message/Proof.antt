@@ -20,14 +20,8 @@ address-length-requires c κs = search needs
 padded-length-requires : tie.Need-padded-length-requires
 padded-length-requires c κs = search needs
 
-add-padded-length : tie.Need-add-padded-length
-add-padded-length c = search needs
-
 padded-length-requires-2 : tie.Need-padded-length-requires-2
 padded-length-requires-2 c κs = search needs
-
-add-front : tie.Need-add-front
-add-front c = search needs
 
 put-address-requires : tie.Need-put-address-requires
 put-address-requires c κs = search needs
@@ -52,9 +46,6 @@ put-arguments-requires c κs =
     let second : c .before .before .before .before .before .before .before .before .before .padded-length2 .result ≡ length (slotsOf op) + 1 + (4 - (length (slotsOf op) + 1) % 4) = c .before .before .before .before .before .before .before .before .before .padded-length2 .ensures ∙ ap (λ (k : ℕ). k + 1 + (4 - (k + 1) % 4)) (p .is) in
     record { is = p .is; fit = p .fit; room = omega arith }
 
-same-length : tie.Need-same-length
-same-length c = search needs
-
 returns : tie.Need-returns
 returns c =
     let a = c .before .before .before .before .before .before .before .before .before .before .before .before .before .before .before .before .before .args in
@@ -75,14 +66,5 @@ returns c =
 pub put-message-spec : {M : Type 1} → statement M
 put-message-spec =
     tie.close
-    (tie.spec
-    address-length-requires
-    padded-length-requires
-    add-padded-length
-    padded-length-requires-2
-    add-front
-    put-address-requires
-    put-tag-string-requires
-    put-arguments-requires
-    same-length
-    returns)
+    (tie.spec address-length-requires padded-length-requires (λ c. search needs) padded-length-requires-2
+    (λ c. search needs) put-address-requires put-tag-string-requires put-arguments-requires (λ c. search needs) returns)

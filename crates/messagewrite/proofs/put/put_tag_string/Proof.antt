@@ -18,29 +18,11 @@ use Rattle.messagewrite.proofs.put.put_tag_string.Tie as tie
 put-byte-requires : tie.Need-put-byte-requires
 put-byte-requires c κs = search needs
 
-add-put-tags : tie.Need-add-put-tags
-add-put-tags c = search needs
-
 put-tags-requires : tie.Need-put-tags-requires
 put-tags-requires c κs = search needs
 
-add-put-zeros : tie.Need-add-put-zeros
-add-put-zeros c = search needs
-
-add-put-zeros-2 : tie.Need-add-put-zeros-2
-add-put-zeros-2 c = search needs
-
-add-put-zeros-3 : tie.Need-add-put-zeros-3
-add-put-zeros-3 c = search needs
-
-sub-put-zeros : tie.Need-sub-put-zeros
-sub-put-zeros c = search needs
-
 put-zeros-requires : tie.Need-put-zeros-requires
 put-zeros-requires c κs = search needs
-
-same-length : tie.Need-same-length
-same-length c = search needs
 
 returns : tie.Need-returns
 returns c =
@@ -59,14 +41,5 @@ returns c =
 pub put-tag-string-spec : {M : Type 1} → statement M
 put-tag-string-spec =
     tie.close
-    (tie.spec
-    put-byte-requires
-    add-put-tags
-    put-tags-requires
-    add-put-zeros
-    add-put-zeros-2
-    add-put-zeros-3
-    sub-put-zeros
-    put-zeros-requires
-    same-length
-    returns)
+    (tie.spec put-byte-requires (λ c. search needs) put-tags-requires (λ c. search needs) (λ c. search needs)
+    (λ c. search needs) (λ c. search needs) put-zeros-requires (λ c. search needs) returns)

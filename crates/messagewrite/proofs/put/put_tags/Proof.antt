@@ -25,9 +25,6 @@ loop-holds : tie.Need-loop-holds Inv-loop μ-loop
 unfolding tags
 loop-holds c = (omega arith, (λ bytes. sym (over-none (c .before .args .at) (c .before .args .out .now))), refl)
 
-add-put-byte : tie.Need-add-put-byte Inv-loop μ-loop
-add-put-byte c = omega arith
-
 slot-code-requires : tie.Need-slot-code-requires Inv-loop μ-loop
 slot-code-requires c κs = tt
 
@@ -36,12 +33,6 @@ argument-tag-requires c κs = tt
 
 put-byte-requires : tie.Need-put-byte-requires Inv-loop μ-loop
 put-byte-requires c κs = omega arith
-
-add-k : tie.Need-add-k Inv-loop μ-loop
-add-k c = omega arith
-
-loop-less : tie.Need-loop-less Inv-loop μ-loop
-loop-less c = omega arith
 
 loop-again : tie.Need-loop-again Inv-loop μ-loop
 loop-again c =
@@ -64,9 +55,6 @@ loop-again c =
     let g = given (a .numbers) [] in
     (omega arith, more, ap length (more []) ∙ over-length (a .at) (tags (take (k + 1) (giveAll slots g))) us (omega (arith, tags-taken slots g (k + 1) (omega arith))))
 
-same-length : tie.Need-same-length Inv-loop μ-loop
-same-length c = search needs
-
 returns : tie.Need-returns Inv-loop μ-loop
 returns c =
     let a = c .before .before .before .args in
@@ -77,16 +65,5 @@ returns c =
 pub put-tags-spec : {M : Type 1} → statement M
 put-tags-spec =
     tie.close
-    (tie.spec
-    Inv-loop
-    μ-loop
-    loop-holds
-    add-put-byte
-    slot-code-requires
-    argument-tag-requires
-    put-byte-requires
-    add-k
-    loop-less
-    loop-again
-    same-length
-    returns)
+    (tie.spec Inv-loop μ-loop loop-holds (λ c. omega arith) slot-code-requires argument-tag-requires put-byte-requires
+    (λ c. omega arith) (λ c. omega arith) loop-again (λ c. search needs) returns)

@@ -35,12 +35,6 @@ returns c =
     let turn = unfit-turn s slots (l .k) (omega arith) in
     rw u at (sym turn ∙ l .inv .1)
 
-add-k : tie.Need-add-k Inv-loop μ-loop
-add-k c = omega arith
-
-loop-less : tie.Need-loop-less Inv-loop μ-loop
-loop-less c = omega arith
-
 loop-again : tie.Need-loop-again Inv-loop μ-loop
 loop-again c =
     let a = c .before .before .before .before .before .before .args in
@@ -59,14 +53,5 @@ returns-2 c =
 pub any-unfit-spec : {M : Type 1} → statement M
 any-unfit-spec =
     tie.close
-    (tie.spec
-    Inv-loop
-    μ-loop
-    loop-holds
-    slot-code-requires
-    is-unfit-requires
-    returns
-    add-k
-    loop-less
-    loop-again
-    returns-2)
+    (tie.spec Inv-loop μ-loop loop-holds slot-code-requires is-unfit-requires returns (λ c. omega arith)
+    (λ c. omega arith) loop-again returns-2)

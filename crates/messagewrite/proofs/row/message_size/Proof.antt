@@ -51,9 +51,6 @@ loop-holds c =
 slot-code-requires : tie.Need-slot-code-requires Inv-loop μ-loop
 slot-code-requires c κs = tt
 
-sub-argument-size : tie.Need-sub-argument-size Inv-loop μ-loop
-sub-argument-size c = omega arith
-
 argument-size-requires : tie.Need-argument-size-requires Inv-loop μ-loop
 argument-size-requires c κs = tt
 
@@ -83,9 +80,6 @@ add-at-2 c =
 add-k : tie.Need-add-k Inv-loop μ-loop
 add-k c = omega (arith, few-slots (c .before .before .before .before .before .before .before .before .before .args .op))
 
-loop-less : tie.Need-loop-less Inv-loop μ-loop
-loop-less c = omega arith
-
 loop-again : tie.Need-loop-again Inv-loop μ-loop
 loop-again c =
     let a = c .before .before .before .before .before .before .before .before .before .args in
@@ -110,22 +104,6 @@ returns-3 c =
 pub message-size-spec : {M : Type 1} → statement M
 message-size-spec =
     tie.close
-    (tie.spec
-    Inv-loop
-    μ-loop
-    address-length-requires
-    padded-length-requires
-    add-padded-length
-    padded-length-requires-2
-    add-at
-    returns
-    loop-holds
-    slot-code-requires
-    sub-argument-size
-    argument-size-requires
-    returns-2
-    add-at-2
-    add-k
-    loop-less
-    loop-again
-    returns-3)
+    (tie.spec Inv-loop μ-loop address-length-requires padded-length-requires add-padded-length padded-length-requires-2
+    add-at returns loop-holds slot-code-requires (λ c. omega arith) argument-size-requires returns-2 add-at-2 add-k
+    (λ c. omega arith) loop-again returns-3)

@@ -14,20 +14,11 @@ Inv-loop op k₀ k = (k ≤ length (slotsOf op)) × (k ≤ 4)
 abbrev μ-loop : tie.MeasureT-loop
 μ-loop op k₀ k = 4 - k
 
-loop-holds : tie.Need-loop-holds Inv-loop μ-loop
-loop-holds c = omega arith
-
 slot-code-requires : tie.Need-slot-code-requires Inv-loop μ-loop
 slot-code-requires c κs = tt
 
 returns : tie.Need-returns Inv-loop μ-loop
 returns c = omega (arith, code-none (slotsOf (c .before .before .before .before .args .op)) (c .before .before .before .loop .k) (sym (c .before .slot-code .ensures) ∙ c .if1 .taken))
-
-add-k : tie.Need-add-k Inv-loop μ-loop
-add-k c = omega arith
-
-loop-less : tie.Need-loop-less Inv-loop μ-loop
-loop-less c = omega arith
 
 loop-again : tie.Need-loop-again Inv-loop μ-loop
 loop-again c = omega (arith, code-more (slotsOf (c .before .before .before .before .args .op)) (c .before .before .before .loop .k) (λ z. c .if1 .left (c .before .slot-code .ensures ∙ z)))
@@ -38,13 +29,5 @@ returns-2 c = omega (arith, few-slots (c .before .before .args .op))
 pub slot-count-spec : {M : Type 1} → statement M
 slot-count-spec =
     tie.close
-    (tie.spec
-    Inv-loop
-    μ-loop
-    loop-holds
-    slot-code-requires
-    returns
-    add-k
-    loop-less
-    loop-again
-    returns-2)
+    (tie.spec Inv-loop μ-loop (λ c. omega arith) slot-code-requires returns (λ c. omega arith) (λ c. omega arith)
+    loop-again returns-2)

@@ -11,20 +11,11 @@ returns c =
     let s = sizeBy (a .code) (a .size) in
     sym (exceeds s (a .room) (omega (arith, size-name (a .code) (a .size) (c .before .if1 .taken))))
 
-sub-if3 : tie.Need-sub-if3
-sub-if3 c = search needs
-
 returns-2 : tie.Need-returns-2
 returns-2 c =
     let a = c .before .before .before .args in
     let s = sizeBy (a .code) (a .size) in
     sym (exceeds s (a .room) (omega (arith, size-name (a .code) (a .size) (c .before .before .if1 .taken))))
-
-sub-result : tie.Need-sub-result
-sub-result c = search needs
-
-add-result : tie.Need-add-result
-add-result c = search needs
 
 returns-3 : tie.Need-returns-3
 returns-3 c =
@@ -45,26 +36,11 @@ returns-5 c =
     let s = sizeBy (a .code) (a .size) in
     sym (exceeds s (a .room) (omega (arith, size-file (a .code) (a .size) (c .before .if5 .taken))))
 
-sub-if7 : tie.Need-sub-if7
-sub-if7 c = search needs
-
-sub-if7-2 : tie.Need-sub-if7-2
-sub-if7-2 c = search needs
-
 returns-6 : tie.Need-returns-6
 returns-6 c =
     let a = c .before .before .before .before .before .args in
     let s = sizeBy (a .code) (a .size) in
     sym (exceeds s (a .room) (omega (arith, size-file (a .code) (a .size) (c .before .before .if5 .taken))))
-
-add-result-2 : tie.Need-add-result-2
-add-result-2 c = search needs
-
-sub-result-2 : tie.Need-sub-result-2
-sub-result-2 c = search needs
-
-add-result-3 : tie.Need-add-result-3
-add-result-3 c = search needs
 
 returns-7 : tie.Need-returns-7
 returns-7 c =
@@ -84,20 +60,6 @@ returns-8 c =
 pub argument-size-spec : {M : Type 1} → statement M
 argument-size-spec =
     tie.close
-    (tie.spec
-    returns
-    sub-if3
-    returns-2
-    sub-result
-    add-result
-    returns-3
-    returns-4
-    returns-5
-    sub-if7
-    sub-if7-2
-    returns-6
-    add-result-2
-    sub-result-2
-    add-result-3
-    returns-7
-    returns-8)
+    (tie.spec returns (λ c. search needs) returns-2 (λ c. search needs) (λ c. search needs) returns-3 returns-4
+    returns-5 (λ c. search needs) (λ c. search needs) returns-6 (λ c. search needs) (λ c. search needs)
+    (λ c. search needs) returns-7 returns-8)

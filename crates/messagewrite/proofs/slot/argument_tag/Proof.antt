@@ -28,4 +28,5 @@ returns-4 c =
     λ bytes. sym (ap tagOf (rw f at (argument-number (a .code) (c .before .before .before .if1 .left) (c .before .before .if2 .left) (given (a .numbers) bytes))))
 
 pub argument-tag-spec : {M : Type 1} → statement M
-argument-tag-spec = tie.close (tie.spec returns returns-2 is-float-requires returns-3 returns-4)
+argument-tag-spec =
+    tie.close (tie.spec returns returns-2 is-float-requires returns-3 returns-4)

@@ -9,4 +9,5 @@ returns-2 : tie.Need-returns-2
 returns-2 c = rw (ne-eqb (c .before .args .code) 4 (c .if1 .left))
 
 pub is-float-spec : {M : Type 1} → statement M
-is-float-spec = tie.close (tie.spec returns returns-2)
+is-float-spec =
+    tie.close (tie.spec returns returns-2)

@@ -33,4 +33,5 @@ unfolding unfitBy
 returns-3 c = rw (ne-eqb (c .before .before .before .args .code) 5 (c .before .if1 .left), ne-eqb (c .before .before .before .args .code) 6 (c .if2 .left))
 
 pub is-unfit-spec : {M : Type 1} → statement M
-is-unfit-spec = tie.close (tie.spec name-bytes-requires returns returns-2 returns-3)
+is-unfit-spec =
+    tie.close (tie.spec name-bytes-requires returns returns-2 returns-3)

@@ -15,4 +15,5 @@ returns-4 : tie.Need-returns-4
 returns-4 c = rw (ne-eqb (c .before .before .before .args .code) 1 (c .before .before .if1 .left), ne-eqb (c .before .before .before .args .code) 2 (c .before .if2 .left), ne-eqb (c .before .before .before .args .code) 3 (c .if3 .left))
 
 pub number-in-spec : {M : Type 1} → statement M
-number-in-spec = tie.close (tie.spec returns returns-2 returns-3 returns-4)
+number-in-spec =
+    tie.close (tie.spec returns returns-2 returns-3 returns-4)

@@ -15,9 +15,6 @@ use Rattle.messagewrite.proofs.slot.put_argument.Tie as tie
 put-padded-requires : tie.Need-put-padded-requires
 put-padded-requires c κs = omega (arith, c .before .before .before .before .pre .room, padded-size (c .before .before .before .before .args .bytes .now), size-name (c .before .before .before .before .args .code) (length (c .before .before .before .before .args .bytes .now)) (c .before .if1 .taken))
 
-same-length : tie.Need-same-length
-same-length c = search needs
-
 returns : tie.Need-returns
 returns c =
     let a = c .before .before .before .before .before .before .before .args in
@@ -27,9 +24,6 @@ put-blob-requires : tie.Need-put-blob-requires
 put-blob-requires c κs =
     let a = c .before .before .before .before .before .args in
     record { small = file-fit (a .code) (a .bytes .now) (c .before .if2 .taken) (c .before .before .before .before .before .pre .fit); room = omega (arith, c .before .before .before .before .before .pre .room, size-file (a .code) (length (a .bytes .now)) (c .before .if2 .taken)) }
-
-same-length-2 : tie.Need-same-length-2
-same-length-2 c = search needs
 
 returns-2 : tie.Need-returns-2
 returns-2 c =
@@ -42,9 +36,6 @@ number-in-requires c κs = search needs
 put-int-requires : tie.Need-put-int-requires
 put-int-requires c κs = omega (arith, c .before .before .before .before .before .before .pre .room, size-number (c .before .before .before .before .before .before .args .code) (c .before .before .before .if1 .left) (c .before .before .if2 .left) (length (c .before .before .before .before .before .before .args .bytes .now)))
 
-same-length-3 : tie.Need-same-length-3
-same-length-3 c = search needs
-
 returns-3 : tie.Need-returns-3
 returns-3 c =
     let a = c .before .before .before .before .before .before .before .before .before .args in
@@ -55,14 +46,5 @@ returns-3 c =
 pub put-argument-spec : {M : Type 1} → statement M
 put-argument-spec =
     tie.close
-    (tie.spec
-    put-padded-requires
-    same-length
-    returns
-    put-blob-requires
-    same-length-2
-    returns-2
-    number-in-requires
-    put-int-requires
-    same-length-3
-    returns-3)
+    (tie.spec put-padded-requires (λ c. search needs) returns put-blob-requires (λ c. search needs) returns-2
+    number-in-requires put-int-requires (λ c. search needs) returns-3)

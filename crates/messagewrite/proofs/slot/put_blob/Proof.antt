@@ -8,32 +8,14 @@ use Rattle.messagewrite.specs.Pieces.{three-parts}
 use Rattle.messagewrite.proofs.slot.put_blob.Statement.{statement}
 use Rattle.messagewrite.proofs.slot.put_blob.Tie as tie
 
-cast-put-int : tie.Need-cast-put-int
-cast-put-int c = search needs
-
 put-int-requires : tie.Need-put-int-requires
 put-int-requires c κs = search needs
-
-add-put-bytes : tie.Need-add-put-bytes
-add-put-bytes c = search needs
 
 put-bytes-requires : tie.Need-put-bytes-requires
 put-bytes-requires c κs = search needs
 
-add-put-zeros : tie.Need-add-put-zeros
-add-put-zeros c = search needs
-
-add-put-zeros-2 : tie.Need-add-put-zeros-2
-add-put-zeros-2 c = search needs
-
-sub-put-zeros : tie.Need-sub-put-zeros
-sub-put-zeros c = search needs
-
 put-zeros-requires : tie.Need-put-zeros-requires
 put-zeros-requires c κs = search needs
-
-same-length : tie.Need-same-length
-same-length c = search needs
 
 returns : tie.Need-returns
 returns c =
@@ -47,14 +29,5 @@ returns c =
 pub put-blob-spec : {M : Type 1} → statement M
 put-blob-spec =
     tie.close
-    (tie.spec
-    cast-put-int
-    put-int-requires
-    add-put-bytes
-    put-bytes-requires
-    add-put-zeros
-    add-put-zeros-2
-    sub-put-zeros
-    put-zeros-requires
-    same-length
-    returns)
+    (tie.spec (λ c. search needs) put-int-requires (λ c. search needs) put-bytes-requires (λ c. search needs)
+    (λ c. search needs) (λ c. search needs) put-zeros-requires (λ c. search needs) returns)

@@ -23,32 +23,11 @@ returns c =
     reply-refused (query.Bus (a .bus)) (a .bytes .now) (a .words .now) (a .arena .now) (a .out .now) NoBus
     (bus-fires (a .bus) (a .bytes .now) (decode (a .words .now) (a .arena .now)) (sym (b .ensures) ∙ not-true (b .result) (c .if1 .taken)))
 
-sub-read-bus : tie.Need-sub-read-bus
-sub-read-bus c = search needs
-
-part-read-bus-start : tie.Need-part-read-bus-start
-part-read-bus-start c = search needs
-
-part-read-bus-end : tie.Need-part-read-bus-end
-part-read-bus-end c = search needs
-
 read-bus-requires : tie.Need-read-bus-requires
 read-bus-requires c κs = search needs
 
-slice-aggregate-send-words : tie.Need-slice-aggregate-send-words
-slice-aggregate-send-words c = search needs
-
-slice-aggregate-send-words-2 : tie.Need-slice-aggregate-send-words-2
-slice-aggregate-send-words-2 c = search needs
-
-slice-aggregate-send-words-3 : tie.Need-slice-aggregate-send-words-3
-slice-aggregate-send-words-3 c = search needs
-
 send-words-requires : tie.Need-send-words-requires
 send-words-requires c κs = search needs
-
-same-length : tie.Need-same-length
-same-length c = search needs
 
 returns-2 : tie.Need-returns-2
 returns-2 c =
@@ -65,16 +44,5 @@ returns-2 c =
 pub bus-query-spec : {M : Type 1} → statement M
 bus-query-spec =
     tie.close
-    (tie.spec
-    is-bus-requires
-    returns
-    sub-read-bus
-    part-read-bus-start
-    part-read-bus-end
-    read-bus-requires
-    slice-aggregate-send-words
-    slice-aggregate-send-words-2
-    slice-aggregate-send-words-3
-    send-words-requires
-    same-length
-    returns-2)
+    (tie.spec is-bus-requires returns (λ c. search needs) (λ c. search needs) (λ c. search needs) read-bus-requires
+    (λ c. search needs) (λ c. search needs) (λ c. search needs) send-words-requires (λ c. search needs) returns-2)

@@ -20,9 +20,6 @@ use Rattle.queries.proofs.control.control_query.Tie as tie
 node-place-requires : tie.Need-node-place-requires
 node-place-requires c κs = search needs
 
-shared-slice-read-wide : tie.Need-shared-slice-read-wide
-shared-slice-read-wide c = search needs
-
 wide-requires : tie.Need-wide-requires
 wide-requires c κs = search needs
 
@@ -62,23 +59,8 @@ returns-3 c =
 read-key-requires : tie.Need-read-key-requires
 read-key-requires c κs = (ready _ _ (c .before .before .before .before .before .before .before .before .before .before .before .before .pre), omega (arith, c .before .before .before .before .before .wide .ensures), sym (c .before .before .before .node-is-group .ensures) ∙ c .before .before .if2 .left)
 
-mul-number : tie.Need-mul-number
-mul-number c = search needs
-
-add-number : tie.Need-add-number
-add-number c = search needs
-
-mul-number-2 : tie.Need-mul-number-2
-mul-number-2 c = search needs
-
-shared-slice-read-number : tie.Need-shared-slice-read-number
-shared-slice-read-number c = search needs
-
 send-control-requires : tie.Need-send-control-requires
 send-control-requires c κs = search needs
-
-same-length : tie.Need-same-length
-same-length c = search needs
 
 returns-4 : tie.Need-returns-4
 returns-4 c =
@@ -103,20 +85,6 @@ returns-4 c =
 pub control-query-spec : {M : Type 1} → statement M
 control-query-spec =
     tie.close
-    (tie.spec
-    node-place-requires
-    shared-slice-read-wide
-    wide-requires
-    returns
-    node-is-group-requires
-    returns-2
-    controls-missing-requires
-    returns-3
-    read-key-requires
-    mul-number
-    add-number
-    mul-number-2
-    shared-slice-read-number
-    send-control-requires
-    same-length
-    returns-4)
+    (tie.spec node-place-requires (λ c. search needs) wide-requires returns node-is-group-requires returns-2
+    controls-missing-requires returns-3 read-key-requires (λ c. search needs) (λ c. search needs) (λ c. search needs)
+    (λ c. search needs) send-control-requires (λ c. search needs) returns-4)

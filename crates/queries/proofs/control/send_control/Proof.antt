@@ -10,29 +10,17 @@ use Rattle.queries.specs.Control.{name-message}
 use Rattle.queries.proofs.control.send_control.Statement.{statement}
 use Rattle.queries.proofs.control.send_control.Tie as tie
 
-enum-known-key : tie.Need-enum-known-key
-enum-known-key c = search needs
-
 send-index-requires : tie.Need-send-index-requires
 send-index-requires c κs = search needs
 
-enum-told : tie.Need-enum-told
-enum-told c = search needs
-
 send-named-requires : tie.Need-send-named-requires
 send-named-requires c κs = search needs
-
-same-length : tie.Need-same-length
-same-length c = search needs
 
 returns : tie.Need-returns
 returns c =
     let a = c .before .before .before .before .before .before .before .before .before .args in
     let r = c .before .before .send-index in
     subst (λ (k : Key). Sends (message setAddress (int (a .number) ∷ (keyArgument k (a .name .now) ∷ (float (a .value) ∷ [])))) (a .out .now) (r .result) (r .last .0)) (sym (c .before .before .before .before .before .key .given .1)) (r .ensures)
-
-same-length-2 : tie.Need-same-length-2
-same-length-2 c = search needs
 
 returns-2 : tie.Need-returns-2
 returns-2 c =
@@ -44,12 +32,5 @@ returns-2 c =
 pub send-control-spec : {M : Type 1} → statement M
 send-control-spec =
     tie.close
-    (tie.spec
-    enum-known-key
-    send-index-requires
-    enum-told
-    send-named-requires
-    same-length
-    returns
-    same-length-2
-    returns-2)
+    (tie.spec (λ c. search needs) send-index-requires (λ c. search needs) send-named-requires (λ c. search needs)
+    returns (λ c. search needs) returns-2)

@@ -7,20 +7,8 @@ use Rattle.queries.specs.Control.{index-message}
 use Rattle.queries.proofs.control.send_index.Statement.{statement}
 use Rattle.queries.proofs.control.send_index.Tie as tie
 
-slice-aggregate-send-words : tie.Need-slice-aggregate-send-words
-slice-aggregate-send-words c = search needs
-
-slice-aggregate-send-words-2 : tie.Need-slice-aggregate-send-words-2
-slice-aggregate-send-words-2 c = search needs
-
-slice-aggregate-send-words-3 : tie.Need-slice-aggregate-send-words-3
-slice-aggregate-send-words-3 c = search needs
-
 send-words-requires : tie.Need-send-words-requires
 send-words-requires c κs = search needs
-
-same-length : tie.Need-same-length
-same-length c = search needs
 
 returns : tie.Need-returns
 returns c =
@@ -31,10 +19,5 @@ returns c =
 pub send-index-spec : {M : Type 1} → statement M
 send-index-spec =
     tie.close
-    (tie.spec
-    slice-aggregate-send-words
-    slice-aggregate-send-words-2
-    slice-aggregate-send-words-3
-    send-words-requires
-    same-length
+    (tie.spec (λ c. search needs) (λ c. search needs) (λ c. search needs) send-words-requires (λ c. search needs)
     returns)

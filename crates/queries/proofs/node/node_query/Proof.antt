@@ -24,9 +24,6 @@ use Rattle.queries.proofs.node.node_query.Tie as tie
 node-place-requires : tie.Need-node-place-requires
 node-place-requires c κs = search needs
 
-shared-slice-read-wide : tie.Need-shared-slice-read-wide
-shared-slice-read-wide c = search needs
-
 wide-requires : tie.Need-wide-requires
 wide-requires c κs = search needs
 
@@ -37,24 +34,6 @@ returns c =
     reply-refused (query.Node (a .node)) (a .bytes .now) (a .words .now) (a .arena .now) (a .out .now) NoNode
     (node-fires (a .node) (a .bytes .now) (a .words .now) (a .arena .now) (n .result) (n .ensures) (omega (arith, c .before .wide .ensures)))
 
-sub-nodes : tie.Need-sub-nodes
-sub-nodes c = search needs
-
-part-nodes-start : tie.Need-part-nodes-start
-part-nodes-start c = search needs
-
-part-nodes-end : tie.Need-part-nodes-end
-part-nodes-end c = search needs
-
-mul-number : tie.Need-mul-number
-mul-number c = search needs
-
-mul-number-2 : tie.Need-mul-number-2
-mul-number-2 c = search needs
-
-shared-slice-read-number : tie.Need-shared-slice-read-number
-shared-slice-read-number c = search needs
-
 parent-of-requires : tie.Need-parent-of-requires
 parent-of-requires c κs = search needs
 
@@ -64,38 +43,14 @@ previous-of-requires c κs = search needs
 next-of-requires : tie.Need-next-of-requires
 next-of-requires c κs = search needs
 
-mul-if2 : tie.Need-mul-if2
-mul-if2 c = search needs
-
-add-if2 : tie.Need-add-if2
-add-if2 c = search needs
-
-mul-if2-2 : tie.Need-mul-if2-2
-mul-if2-2 c = search needs
-
-shared-slice-read-if2 : tie.Need-shared-slice-read-if2
-shared-slice-read-if2 c = search needs
-
 head-of-requires : tie.Need-head-of-requires
 head-of-requires c κs = search needs
 
 tail-of-requires : tie.Need-tail-of-requires
 tail-of-requires c κs = search needs
 
-slice-aggregate-send-words : tie.Need-slice-aggregate-send-words
-slice-aggregate-send-words c = search needs
-
-slice-aggregate-send-words-2 : tie.Need-slice-aggregate-send-words-2
-slice-aggregate-send-words-2 c = search needs
-
-slice-aggregate-send-words-3 : tie.Need-slice-aggregate-send-words-3
-slice-aggregate-send-words-3 c = search needs
-
 send-words-requires : tie.Need-send-words-requires
 send-words-requires c κs = search needs
-
-same-length : tie.Need-same-length
-same-length c = search needs
 
 returns-2 : tie.Need-returns-2
 returns-2 c =
@@ -122,20 +77,8 @@ returns-2 c =
     (group-info (s .args .node) (s .args .bytes .now) ws bs at (n .ensures) a (eq-eqb (getD us (5 * at + 3) 0) groupSlot (c .before .before .before .before .before .before .before .before .before .if2 .taken)) (c .before .before .before .before .before .before .before .before .before .before .before .before .before .parent-of .result) (c .before .before .before .before .before .before .before .before .before .before .before .before .previous-of .result) (c .before .before .before .before .before .before .before .before .before .before .before .next-of .result) (c .before .before .before .before .before .before .before .before .head-of .result) (c .before .before .before .before .before .before .before .tail-of .result) around head tail)
     (c .before .before .send-words .ensures)
 
-slice-aggregate-send-words-4 : tie.Need-slice-aggregate-send-words-4
-slice-aggregate-send-words-4 c = search needs
-
-slice-aggregate-send-words-5 : tie.Need-slice-aggregate-send-words-5
-slice-aggregate-send-words-5 c = search needs
-
-slice-aggregate-send-words-6 : tie.Need-slice-aggregate-send-words-6
-slice-aggregate-send-words-6 c = search needs
-
 send-words-requires-2 : tie.Need-send-words-requires-2
 send-words-requires-2 c κs = search needs
-
-same-length-2 : tie.Need-same-length-2
-same-length-2 c = search needs
 
 returns-3 : tie.Need-returns-3
 returns-3 c =
@@ -162,35 +105,9 @@ returns-3 c =
 pub node-query-spec : {M : Type 1} → statement M
 node-query-spec =
     tie.close
-    (tie.spec
-    node-place-requires
-    shared-slice-read-wide
-    wide-requires
-    returns
-    sub-nodes
-    part-nodes-start
-    part-nodes-end
-    mul-number
-    mul-number-2
-    shared-slice-read-number
-    parent-of-requires
-    previous-of-requires
-    next-of-requires
-    mul-if2
-    add-if2
-    mul-if2-2
-    shared-slice-read-if2
-    head-of-requires
-    tail-of-requires
-    slice-aggregate-send-words
-    slice-aggregate-send-words-2
-    slice-aggregate-send-words-3
-    send-words-requires
-    same-length
-    returns-2
-    slice-aggregate-send-words-4
-    slice-aggregate-send-words-5
-    slice-aggregate-send-words-6
-    send-words-requires-2
-    same-length-2
-    returns-3)
+    (tie.spec node-place-requires (λ c. search needs) wide-requires returns (λ c. search needs) (λ c. search needs)
+    (λ c. search needs) (λ c. search needs) (λ c. search needs) (λ c. search needs) parent-of-requires
+    previous-of-requires next-of-requires (λ c. search needs) (λ c. search needs) (λ c. search needs)
+    (λ c. search needs) head-of-requires tail-of-requires (λ c. search needs) (λ c. search needs) (λ c. search needs)
+    send-words-requires (λ c. search needs) returns-2 (λ c. search needs) (λ c. search needs) (λ c. search needs)
+    send-words-requires-2 (λ c. search needs) returns-3)

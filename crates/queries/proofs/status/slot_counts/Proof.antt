@@ -66,18 +66,5 @@ returns c =
 pub slot-counts-spec : {M : Type 1} → statement M
 slot-counts-spec =
     tie.close
-    (tie.spec
-    Inv-loop
-    μ-loop
-    shared-slice-read-wide
-    wide-requires
-    loop-holds
-    node-slot-requires
-    mul-counts
-    array-read-counts
-    add-counts
-    array-write-counts
-    add-i
-    loop-less
-    loop-again
-    returns)
+    (tie.spec Inv-loop μ-loop shared-slice-read-wide wide-requires loop-holds node-slot-requires mul-counts
+    array-read-counts add-counts array-write-counts add-i loop-less loop-again returns)

@@ -24,46 +24,16 @@ slot-counts-requires c κs = let s = c .before .before .before .before in slotte
 unit-count-requires : tie.Need-unit-count-requires
 unit-count-requires c κs = (c .before .before .before .before .before .before .pre, c .before .slot-counts .ensures)
 
-array-read-groups : tie.Need-array-read-groups
-array-read-groups c = search needs
-
-shared-slice-read-synths : tie.Need-shared-slice-read-synths
-shared-slice-read-synths c = search needs
-
 sub-synths : tie.Need-sub-synths
 sub-synths c =
     let a = c .before .before .before .before .before .before .before .before .args in
     omega (arith, c .before .before .before .slot-counts .ensures groupSlot (omega arith), groups-all (a .words .now) (a .arena .now), kinds-all (a .words .now) (a .arena .now))
 
-sub-resident-count : tie.Need-sub-resident-count
-sub-resident-count c = search needs
-
-part-resident-count-start : tie.Need-part-resident-count-start
-part-resident-count-start c = search needs
-
-part-resident-count-end : tie.Need-part-resident-count-end
-part-resident-count-end c = search needs
-
 resident-count-requires : tie.Need-resident-count-requires
 resident-count-requires c κs = let s = c .before .before .before .before .before .before .before .before .before in length-take-le 64 (drop 4 (s .args .words .now)) (simp length-drop (omega (arith, s .pre .size)))
 
-cast-t17 : tie.Need-cast-t17
-cast-t17 c = search needs
-
-slice-aggregate-send-words : tie.Need-slice-aggregate-send-words
-slice-aggregate-send-words c = search needs
-
-slice-aggregate-send-words-2 : tie.Need-slice-aggregate-send-words-2
-slice-aggregate-send-words-2 c = search needs
-
-slice-aggregate-send-words-3 : tie.Need-slice-aggregate-send-words-3
-slice-aggregate-send-words-3 c = search needs
-
 send-words-requires : tie.Need-send-words-requires
 send-words-requires c κs = search needs
-
-same-length : tie.Need-same-length
-same-length c = search needs
 
 returns : tie.Need-returns
 returns c =
@@ -87,20 +57,6 @@ returns c =
 pub status-query-spec : {M : Type 1} → statement M
 status-query-spec =
     tie.close
-    (tie.spec
-    slot-counts-requires
-    unit-count-requires
-    array-read-groups
-    shared-slice-read-synths
-    sub-synths
-    sub-resident-count
-    part-resident-count-start
-    part-resident-count-end
-    resident-count-requires
-    cast-t17
-    slice-aggregate-send-words
-    slice-aggregate-send-words-2
-    slice-aggregate-send-words-3
-    send-words-requires
-    same-length
-    returns)
+    (tie.spec slot-counts-requires unit-count-requires (λ c. search needs) (λ c. search needs) sub-synths
+    (λ c. search needs) (λ c. search needs) (λ c. search needs) resident-count-requires (λ c. search needs)
+    (λ c. search needs) (λ c. search needs) (λ c. search needs) send-words-requires (λ c. search needs) returns)

@@ -23,12 +23,6 @@ abbrev μ-loop : tie.MeasureT-loop
 loop-holds : tie.Need-loop-holds Inv-loop μ-loop
 loop-holds c = (omega arith, omega arith, sym (units-to-none (c .before .before .args .words .now) (c .before .before .args .arena .now)))
 
-mul-many : tie.Need-mul-many Inv-loop μ-loop
-mul-many c = omega arith
-
-element-copy-out-many : tie.Need-element-copy-out-many Inv-loop μ-loop
-element-copy-out-many c = omega arith
-
 wide-requires : tie.Need-wide-requires Inv-loop μ-loop
 wide-requires c κs = tt
 
@@ -62,12 +56,6 @@ add-units c =
     let low : c .wide2 .result < 4294967296 = omega (arith, c .wide2 .ensures, c .before .units) in
     omega (arith, units-few (c .before .before .before .wide .result) (c .wide2 .result) many low)
 
-add-k : tie.Need-add-k Inv-loop μ-loop
-add-k c = omega arith
-
-loop-less : tie.Need-loop-less Inv-loop μ-loop
-loop-less c = omega arith
-
 loop-again : tie.Need-loop-again Inv-loop μ-loop
 loop-again c =
     let s = c .before .before .before .before .before .before in
@@ -94,19 +82,5 @@ returns c =
 pub unit-count-spec : {M : Type 1} → statement M
 unit-count-spec =
     tie.close
-    (tie.spec
-    Inv-loop
-    μ-loop
-    loop-holds
-    mul-many
-    element-copy-out-many
-    wide-requires
-    slot-bytes-requires
-    units-requires
-    wide-requires-2
-    mul-units
-    add-units
-    add-k
-    loop-less
-    loop-again
-    returns)
+    (tie.spec Inv-loop μ-loop loop-holds (λ c. omega arith) (λ c. omega arith) wide-requires slot-bytes-requires
+    units-requires wide-requires-2 mul-units add-units (λ c. omega arith) (λ c. omega arith) loop-again returns)

@@ -53,12 +53,6 @@ add-at c =
     let t = entries-turn (a .args .s .now) mostParameters (a .args .count) (l .i) (l .at) (omega arith) (l .inv .1) in
     omega (arith, t .within)
 
-add-i : tie.Need-add-i Inv-loop μ-loop
-add-i c = omega arith
-
-sub-same-name : tie.Need-sub-same-name Inv-loop μ-loop
-sub-same-name c = omega arith
-
 part-same-name-start : tie.Need-part-same-name-start Inv-loop μ-loop
 part-same-name-start c =
     let a = c .before .before .before .before .before in
@@ -83,9 +77,6 @@ word-at-requires c κs =
     let t = entries-turn (a .args .s .now) mostParameters (a .args .count) (l .i) (l .at) (omega arith) (l .inv .1) in
     t .within
 
-loop-less : tie.Need-loop-less Inv-loop μ-loop
-loop-less c = omega arith
-
 loop-again : tie.Need-loop-again Inv-loop μ-loop
 loop-again c =
     let a = c .before .before .before .before .before .before .before .before .before in
@@ -100,9 +91,6 @@ loop-again c =
           ∙ sym first
           ∙ l .inv .3,
     )
-
-loop-less-2 : tie.Need-loop-less-2 Inv-loop μ-loop
-loop-less-2 c = omega arith
 
 loop-again-2 : tie.Need-loop-again-2 Inv-loop μ-loop
 loop-again-2 c =
@@ -126,23 +114,6 @@ returns c =
 pub find-entry-spec : {M : Type 1} → statement M
 find-entry-spec =
     tie.close
-    (tie.spec
-    Inv-loop
-    μ-loop
-    loop-holds
-    shared-slice-read-size
-    cast-size
-    add-start
-    add-end
-    add-at
-    add-i
-    sub-same-name
-    part-same-name-start
-    part-same-name-end
-    same-name-requires
-    word-at-requires
-    loop-less
-    loop-again
-    loop-less-2
-    loop-again-2
-    returns)
+    (tie.spec Inv-loop μ-loop loop-holds shared-slice-read-size cast-size add-start add-end add-at (λ c. omega arith)
+    (λ c. omega arith) part-same-name-start part-same-name-end same-name-requires word-at-requires (λ c. omega arith)
+    loop-again (λ c. omega arith) loop-again-2 returns)

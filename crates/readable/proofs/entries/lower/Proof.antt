@@ -19,4 +19,5 @@ returns-3 c =
     rw (lt-ltb (a .i) (a .index) (omega arith), lt-ltb (a .index) (a .end) (omega arith))
 
 pub lower-spec : {M : Type 1} → statement M
-lower-spec = tie.close (tie.spec returns returns-2 returns-3)
+lower-spec =
+    tie.close (tie.spec returns returns-2 returns-3)

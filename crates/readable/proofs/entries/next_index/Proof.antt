@@ -61,12 +61,6 @@ add-at c =
     let t = entries-turn (a .args .s .now) mostParameters (a .args .count) (l .k) (l .at) (omega arith) (l .inv .1) in
     omega (arith, t .within)
 
-add-k : tie.Need-add-k Inv-loop μ-loop
-add-k c = omega arith
-
-loop-less : tie.Need-loop-less Inv-loop μ-loop
-loop-less c = omega arith
-
 loop-again : tie.Need-loop-again Inv-loop μ-loop
 loop-again c =
     let a = c .before .before .before .before .before .before .args in
@@ -90,18 +84,5 @@ returns c =
 pub next-index-spec : {M : Type 1} → statement M
 next-index-spec =
     tie.close
-    (tie.spec
-    Inv-loop
-    μ-loop
-    loop-holds
-    shared-slice-read-size
-    cast-size
-    add-place
-    add-place-2
-    word-at-requires
-    lower-requires
-    add-at
-    add-k
-    loop-less
-    loop-again
-    returns)
+    (tie.spec Inv-loop μ-loop loop-holds shared-slice-read-size cast-size add-place add-place-2 word-at-requires
+    lower-requires add-at (λ c. omega arith) (λ c. omega arith) loop-again returns)

@@ -49,12 +49,6 @@ add-at-3 c =
     let t = entries-turn (a .args .s .now) mostParameters (a .args .count) (l .i) (l .at) (omega arith) (l .inv .1) in
     omega (arith, t .within)
 
-add-i : tie.Need-add-i Inv-loop μ-loop
-add-i c = omega arith
-
-loop-less : tie.Need-loop-less Inv-loop μ-loop
-loop-less c = omega arith
-
 loop-again : tie.Need-loop-again Inv-loop μ-loop
 loop-again c =
     let a = c .before .before .before in
@@ -71,16 +65,5 @@ returns c =
 pub skip-entries-spec : {M : Type 1} → statement M
 skip-entries-spec =
     tie.close
-    (tie.spec
-    Inv-loop
-    μ-loop
-    loop-holds
-    shared-slice-read-size
-    cast-size
-    add-at
-    add-at-2
-    add-at-3
-    add-i
-    loop-less
-    loop-again
-    returns)
+    (tie.spec Inv-loop μ-loop loop-holds shared-slice-read-size cast-size add-at add-at-2 add-at-3 (λ c. omega arith)
+    (λ c. omega arith) loop-again returns)

@@ -29,4 +29,5 @@ returns c =
     labels-front (a .args .s .now) (c .labels-from .result) (k .reads) (omega arith) (front-entries (a .args .s .now) k) (rw (first, many) at (c .labels-from .ensures))
 
 pub labels-spec : {M : Type 1} → statement M
-labels-spec = tie.close (tie.spec counts-requires labels-from-requires returns)
+labels-spec =
+    tie.close (tie.spec counts-requires labels-from-requires returns)

@@ -52,12 +52,6 @@ word-at-requires c κs =
     let t = entries-turn (a .args .s .now) mostParameters (a .args .count) (l .i) (l .at) (omega arith) (l .inv .left) in
     t .within
 
-cast-index : tie.Need-cast-index Inv-loop μ-loop
-cast-index c = omega arith
-
-mul-if1 : tie.Need-mul-if1 Inv-loop μ-loop
-mul-if1 c = omega arith
-
 array-read-if1 : tie.Need-array-read-if1 Inv-loop μ-loop
 array-read-if1 c =
     let a = c .before .before .before .before .before in
@@ -73,9 +67,6 @@ cast-table c =
     let size = a .pre .1 in
     omega (arith, t .within)
 
-mul-table : tie.Need-mul-table Inv-loop μ-loop
-mul-table c = omega arith
-
 array-write-table : tie.Need-array-write-table Inv-loop μ-loop
 array-write-table c =
     let a = c .before .before .before .before .before .before in
@@ -90,12 +81,6 @@ add-at c =
     let t = entries-turn (a .args .s .now) mostParameters (a .args .count) (l .i) (l .at) (omega arith) (l .inv .left) in
     let size = a .pre .1 in
     omega (arith, t .within)
-
-add-i : tie.Need-add-i Inv-loop μ-loop
-add-i c = omega arith
-
-loop-less : tie.Need-loop-less Inv-loop μ-loop
-loop-less c = omega arith
 
 loop-again : tie.Need-loop-again Inv-loop μ-loop
 loop-again c =
@@ -118,23 +103,6 @@ returns c =
 pub labels-from-spec : {M : Type 1} → statement M
 labels-from-spec =
     tie.close
-    (tie.spec
-    Inv-loop
-    μ-loop
-    loop-holds
-    shared-slice-read-size
-    cast-size
-    add-end
-    add-end-2
-    word-at-requires
-    cast-index
-    mul-if1
-    array-read-if1
-    cast-table
-    mul-table
-    array-write-table
-    add-at
-    add-i
-    loop-less
-    loop-again
-    returns)
+    (tie.spec Inv-loop μ-loop loop-holds shared-slice-read-size cast-size add-end add-end-2 word-at-requires
+    (λ c. omega arith) (λ c. omega arith) array-read-if1 cast-table (λ c. omega arith) array-write-table add-at
+    (λ c. omega arith) (λ c. omega arith) loop-again returns)

@@ -13,4 +13,5 @@ returns c =
     c .name-at .ensures ∙ name-fact (c .before .before .args .s .now) k
 
 pub name-spec : {M : Type 1} → statement M
-name-spec = tie.close (tie.spec name-at-requires returns)
+name-spec =
+    tie.close (tie.spec name-at-requires returns)

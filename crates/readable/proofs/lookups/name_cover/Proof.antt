@@ -18,9 +18,6 @@ find-entry-requires c κs =
     let e = c .counts .ensures (k .front) (k .past) (k .reads) in
     rw (ap (λ (p : Counts). p .first) e, ap (λ (p : Counts). p .names) e) (front-entries (a .args .s .now) k)
 
-enum-known-index : tie.Need-enum-known-index
-enum-known-index c = search needs
-
 next-index-requires : tie.Need-next-index-requires
 next-index-requires c κs =
     let a = c .before .before .before .before .before .before .before in
@@ -38,9 +35,6 @@ sub-t8 c =
       next-past (a .args .s .now) (a .args .name .now) k _ _ _ (ap (λ (p : Counts). p .parameters) e) (ap (λ (p : Counts). p .names) e) (ap (λ (p : Counts). p .first) e) _ _
           (ap foundAt (sym (c .before .before .index .given .1)) ∙ c .before .before .before .before .find-entry .ensures) (c .next-index .ensures),
     )
-
-enum-told : tie.Need-enum-told
-enum-told c = search needs
 
 returns : tie.Need-returns
 returns c =
@@ -62,12 +56,5 @@ returns-2 c =
 pub name-cover-spec : {M : Type 1} → statement M
 name-cover-spec =
     tie.close
-    (tie.spec
-    counts-requires
-    find-entry-requires
-    enum-known-index
-    next-index-requires
-    sub-t8
-    enum-told
-    returns
-    returns-2)
+    (tie.spec counts-requires find-entry-requires (λ c. search needs) next-index-requires sub-t8 (λ c. search needs)
+    returns returns-2)

@@ -15,4 +15,5 @@ returns c =
     rw (k .reads) (ap (λ (p : Counts). atNumber (p .parameters)) e)
 
 pub parameters-spec : {M : Type 1} → statement M
-parameters-spec = tie.close (tie.spec counts-requires returns)
+parameters-spec =
+    tie.close (tie.spec counts-requires returns)

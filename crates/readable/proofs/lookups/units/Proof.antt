@@ -37,4 +37,5 @@ returns c =
     ap atNumber (c .word-at .ensures ∙ ap (word (a .args .s .now)) (here ∙ sym (parts (a .args .s .now) (u .reads) .past))) ∙ w .same
 
 pub units-spec : {M : Type 1} → statement M
-units-spec = tie.close (tie.spec counts-requires skip-entries-requires word-at-requires returns)
+units-spec =
+    tie.close (tie.spec counts-requires skip-entries-requires word-at-requires returns)

@@ -15,4 +15,5 @@ returns c =
     rw (k .reads) (ap (λ (p : Counts). At (p .values) (p .parameters)) e)
 
 pub values-spec : {M : Type 1} → statement M
-values-spec = tie.close (tie.spec counts-requires returns)
+values-spec =
+    tie.close (tie.spec counts-requires returns)

@@ -28,9 +28,6 @@ add-before c = omega (arith, c .before .shared-slice-known2 .given 0)
 wide-requires : tie.Need-wide-requires
 wide-requires c κs = search needs
 
-mul-before : tie.Need-mul-before
-mul-before c = search needs
-
 add-before-2 : tie.Need-add-before-2
 add-before-2 c =
     let a = c .before .before .before .before in
@@ -56,9 +53,6 @@ add-values c =
 
 wide-requires-2 : tie.Need-wide-requires-2
 wide-requires-2 c κs = search needs
-
-mul-behind : tie.Need-mul-behind
-mul-behind c = search needs
 
 add-behind : tie.Need-add-behind
 add-behind c =
@@ -110,20 +104,6 @@ returns c f end e =
 pub counts-spec : {M : Type 1} → statement M
 counts-spec =
     tie.close
-    (tie.spec
-    shared-slice-read-size
-    cast-size
-    add-past
-    word-at-requires
-    add-before
-    wide-requires
-    mul-before
-    add-before-2
-    word-at-requires-2
-    add-values
-    wide-requires-2
-    mul-behind
-    add-behind
-    word-at-requires-3
-    add-t13
+    (tie.spec shared-slice-read-size cast-size add-past word-at-requires add-before wide-requires (λ c. search needs)
+    add-before-2 word-at-requires-2 add-values wide-requires-2 (λ c. search needs) add-behind word-at-requires-3 add-t13
     returns)

@@ -7,14 +7,8 @@ use Rattle.reader.proofs.places.bytes_at.Tie as tie
 definition-at-requires : tie.Need-definition-at-requires
 definition-at-requires c κs = search needs
 
-enum-known-next : tie.Need-enum-known-next
-enum-known-next c = search needs
-
 part-requires : tie.Need-part-requires
 part-requires c κs = search needs
-
-enum-known-refusal : tie.Need-enum-known-refusal
-enum-known-refusal c = search needs
 
 part-requires-2 : tie.Need-part-requires-2
 part-requires-2 c κs = search needs
@@ -34,11 +28,5 @@ returns-2 c =
 pub bytes-at-spec : {M : Type 1} → statement M
 bytes-at-spec =
     tie.close
-    (tie.spec
-    definition-at-requires
-    enum-known-next
-    part-requires
-    enum-known-refusal
-    part-requires-2
-    returns
+    (tie.spec definition-at-requires (λ c. search needs) part-requires (λ c. search needs) part-requires-2 returns
     returns-2)

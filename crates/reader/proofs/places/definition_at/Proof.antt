@@ -12,4 +12,5 @@ returns : tie.Need-returns
 returns c = rw (c .before .width-of .ensures) at (c .read-definition .ensures)
 
 pub definition-at-spec : {M : Type 1} → statement M
-definition-at-spec = tie.close (tie.spec width-of-requires read-definition-requires returns)
+definition-at-spec =
+    tie.close (tie.spec width-of-requires read-definition-requires returns)

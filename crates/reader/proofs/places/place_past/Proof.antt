@@ -27,12 +27,6 @@ returns c =
 place-after-requires : tie.Need-place-after-requires Inv-loop μ-loop
 place-after-requires c κs = search needs
 
-add-i : tie.Need-add-i Inv-loop μ-loop
-add-i c = omega arith
-
-loop-less : tie.Need-loop-less Inv-loop μ-loop
-loop-less c = omega arith
-
 loop-again : tie.Need-loop-again Inv-loop μ-loop
 loop-again c =
     let a = c .before .before .before .before .before .args in
@@ -48,13 +42,5 @@ returns-2 c =
 pub place-past-spec : {M : Type 1} → statement M
 place-past-spec =
     tie.close
-    (tie.spec
-    Inv-loop
-    μ-loop
-    loop-holds
-    returns
-    place-after-requires
-    add-i
-    loop-less
-    loop-again
+    (tie.spec Inv-loop μ-loop loop-holds returns place-after-requires (λ c. omega arith) (λ c. omega arith) loop-again
     returns-2)

@@ -7,12 +7,6 @@ use Rattle.reader.proofs.places.span_at.Tie as tie
 definition-at-requires : tie.Need-definition-at-requires
 definition-at-requires c κs = search needs
 
-enum-known-next : tie.Need-enum-known-next
-enum-known-next c = search needs
-
-enum-known-refusal : tie.Need-enum-known-refusal
-enum-known-refusal c = search needs
-
 returns : tie.Need-returns
 returns c =
     let a = c .before .before .before .before .before .args in
@@ -26,4 +20,5 @@ returns-2 c =
     sym (span-bad (a .s .now) (a .at) fact)
 
 pub span-at-spec : {M : Type 1} → statement M
-span-at-spec = tie.close (tie.spec definition-at-requires enum-known-next enum-known-refusal returns returns-2)
+span-at-spec =
+    tie.close (tie.spec definition-at-requires (λ c. search needs) (λ c. search needs) returns returns-2)

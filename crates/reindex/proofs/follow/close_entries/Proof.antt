@@ -26,12 +26,6 @@ loop-holds : tie.Need-loop-holds Inv-loop μ-loop
 unfolding followed
 loop-holds c = (omega arith, omega arith, refl, refl, refl)
 
-mul-closed-place : tie.Need-mul-closed-place Inv-loop μ-loop
-mul-closed-place c = omega arith
-
-slice-read-closed-place : tie.Need-slice-read-closed-place Inv-loop μ-loop
-slice-read-closed-place c = omega arith
-
 closed-place-requires : tie.Need-closed-place-requires Inv-loop μ-loop
 closed-place-requires c κs =
     let s = c .before .before .before .before in
@@ -39,21 +33,6 @@ closed-place-requires c κs =
     let l = c .before .before .loop in
     let read = follow-read (closed (a .from) (a .to) (a .by)) (a .index .now) (l .index) (l .i) (l .left) (omega (arith, s .pre .1 .1 .many)) (l .inv .1) (l .inv .2) (l .inv .3) in
     (s .pre .0, (s .pre .1 .0, omega (arith, read, s .pre .1 .1 .below (l .i) (omega arith))))
-
-add-i : tie.Need-add-i Inv-loop μ-loop
-add-i c = omega arith
-
-mul-index : tie.Need-mul-index Inv-loop μ-loop
-mul-index c = omega arith
-
-slice-write-index : tie.Need-slice-write-index Inv-loop μ-loop
-slice-write-index c = omega arith
-
-add-left : tie.Need-add-left Inv-loop μ-loop
-add-left c = omega arith
-
-loop-less : tie.Need-loop-less Inv-loop μ-loop
-loop-less c = omega arith
 
 loop-again : tie.Need-loop-again Inv-loop μ-loop
 loop-again c =
@@ -67,9 +46,6 @@ loop-again c =
     let read = follow-read to w (l .index) (l .i) (l .left) long (l .inv .1) (l .inv .2) (l .inv .3) in
     let is : v ≡ to (getD w (l .i) 0) = c .before .closed-place .ensures ∙ ap (λ (p : ℕ). to p) read in
     (omega arith, omega arith, follow-size to w (l .index) (l .i) (l .left) long (l .inv .1) (l .inv .2) (l .inv .3) v is (omega arith), follow-kept to w (l .index) (l .i) (l .left) long (l .inv .1) (l .inv .2) (l .inv .3) v is (omega arith), simp length-set (l .inv .4))
-
-loop-less-2 : tie.Need-loop-less-2 Inv-loop μ-loop
-loop-less-2 c = omega arith
 
 loop-again-2 : tie.Need-loop-again-2 Inv-loop μ-loop
 loop-again-2 c =
@@ -85,9 +61,6 @@ loop-again-2 c =
     let less = follow-gone to w (l .index) (l .i) (l .left) long (l .inv .1) (l .inv .2) (l .inv .3) v is (omega arith) in
     (omega arith, omega arith, l .inv .2 ∙ ap (λ (x : List ℕ). length x) (sym less), l .inv .3 ∙ ap (λ (x : List ℕ). x ++ drop (l .left) w) (sym less), l .inv .4)
 
-same-length : tie.Need-same-length Inv-loop μ-loop
-same-length c = search needs
-
 returns : tie.Need-returns Inv-loop μ-loop
 returns c =
     let a = c .before .before .before .args in
@@ -102,20 +75,6 @@ returns c =
 pub close-entries-spec : {M : Type 1} → statement M
 close-entries-spec =
     tie.close
-    (tie.spec
-    Inv-loop
-    μ-loop
-    loop-holds
-    mul-closed-place
-    slice-read-closed-place
-    closed-place-requires
-    add-i
-    mul-index
-    slice-write-index
-    add-left
-    loop-less
-    loop-again
-    loop-less-2
-    loop-again-2
-    same-length
-    returns)
+    (tie.spec Inv-loop μ-loop loop-holds (λ c. omega arith) (λ c. omega arith) closed-place-requires (λ c. omega arith)
+    (λ c. omega arith) (λ c. omega arith) (λ c. omega arith) (λ c. omega arith) loop-again (λ c. omega arith)
+    loop-again-2 (λ c. search needs) returns)

@@ -15,15 +15,6 @@ returns-2 c =
     let a = c .before .before .args in
     rw (le-ltb (a .place) (a .from) (omega arith), lt-ltb (a .place) (a .to) (omega arith))
 
-sub-result : tie.Need-sub-result
-sub-result c = search needs
-
-sub-result-2 : tie.Need-sub-result-2
-sub-result-2 c = search needs
-
-add-result : tie.Need-add-result
-add-result c = search needs
-
 returns-3 : tie.Need-returns-3
 returns-3 c =
     let a = c .before .before .args in
@@ -31,4 +22,4 @@ returns-3 c =
 
 pub closed-place-spec : {M : Type 1} → statement M
 closed-place-spec =
-    tie.close (tie.spec returns returns-2 sub-result sub-result-2 add-result returns-3)
+    tie.close (tie.spec returns returns-2 (λ c. search needs) (λ c. search needs) (λ c. search needs) returns-3)

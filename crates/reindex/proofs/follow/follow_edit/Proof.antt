@@ -9,9 +9,6 @@ use Rattle.reindex.specs.Edits.{newPlace, Bounded}
 use Rattle.reindex.proofs.follow.follow_edit.Statement.{statement}
 use Rattle.reindex.proofs.follow.follow_edit.Tie as tie
 
-enum-known-edit : tie.Need-enum-known-edit
-enum-known-edit c = search needs
-
 cast-close-entries : tie.Need-cast-close-entries
 cast-close-entries c =
     let s = c .before .before .before .before .before in
@@ -36,9 +33,6 @@ close-entries-requires c κs =
     let bounds : Bounded (Cut (at .0 .0) (at .0 .1 .0)) = subst (λ (x : Edit). Bounded x) fact (s .pre .0) in
     (bounds .0, (omega arith, s .pre .1))
 
-enum-known-edit-2 : tie.Need-enum-known-edit-2
-enum-known-edit-2 c = search needs
-
 cast-close-entries-3 : tie.Need-cast-close-entries-3
 cast-close-entries-3 c =
     let s = c .before .before .before .before .before in
@@ -62,9 +56,6 @@ close-entries-requires-2 c κs =
     let fact : s .args .edit ≡ Put (at .0 .0) (at .0 .1 .0) = at .1 in
     let bounds : Bounded (Put (at .0 .0) (at .0 .1 .0)) = subst (λ (x : Edit). Bounded x) fact (s .pre .0) in
     (bounds .0, (omega arith, s .pre .1))
-
-enum-known-edit-3 : tie.Need-enum-known-edit-3
-enum-known-edit-3 c = search needs
 
 cast-swap-entries : tie.Need-cast-swap-entries
 cast-swap-entries c =
@@ -98,9 +89,6 @@ swap-entries-requires c κs =
     let bounds : Bounded (Swap (at .0 .0) (at .0 .1 .0) (at .0 .1 .1 .0)) = subst (λ (x : Edit). Bounded x) fact (s .pre .0) in
     (bounds .0, (bounds .1 .0, (bounds .1 .1, s .pre .1)))
 
-same-length : tie.Need-same-length
-same-length c = search needs
-
 returns : tie.Need-returns
 returns c =
     let a = c .before .before .before .before .before .before .before .before .args in
@@ -109,9 +97,6 @@ returns c =
     let done = c .before .before .close-entries in
     subst (λ (x : Edit). Followed (newPlace x) (a .index .now) (a .count) (done .last .0) (done .result)) (sym fact) (done .ensures)
 
-same-length-2 : tie.Need-same-length-2
-same-length-2 c = search needs
-
 returns-2 : tie.Need-returns-2
 returns-2 c =
     let a = c .before .before .before .before .before .before .before .before .args in
@@ -119,9 +104,6 @@ returns-2 c =
     let fact : a .edit ≡ Put (at .0 .0) (at .0 .1 .0) = at .1 in
     let done = c .before .before .close-entries2 in
     subst (λ (x : Edit). Followed (newPlace x) (a .index .now) (a .count) (done .last .0) (done .result)) (sym fact) (done .ensures)
-
-same-length-3 : tie.Need-same-length-3
-same-length-3 c = search needs
 
 returns-3 : tie.Need-returns-3
 returns-3 c =
@@ -134,23 +116,7 @@ returns-3 c =
 pub follow-edit-spec : {M : Type 1} → statement M
 follow-edit-spec =
     tie.close
-    (tie.spec
-    enum-known-edit
-    cast-close-entries
-    cast-close-entries-2
-    close-entries-requires
-    enum-known-edit-2
-    cast-close-entries-3
-    cast-close-entries-4
-    close-entries-requires-2
-    enum-known-edit-3
-    cast-swap-entries
-    cast-swap-entries-2
-    cast-swap-entries-3
-    swap-entries-requires
-    same-length
-    returns
-    same-length-2
-    returns-2
-    same-length-3
-    returns-3)
+    (tie.spec (λ c. search needs) cast-close-entries cast-close-entries-2 close-entries-requires (λ c. search needs)
+    cast-close-entries-3 cast-close-entries-4 close-entries-requires-2 (λ c. search needs) cast-swap-entries
+    cast-swap-entries-2 cast-swap-entries-3 swap-entries-requires (λ c. search needs) returns (λ c. search needs)
+    returns-2 (λ c. search needs) returns-3)

@@ -25,12 +25,6 @@ loop-holds : tie.Need-loop-holds Inv-loop μ-loop
 unfolding followed
 loop-holds c = (omega arith, refl, refl, refl)
 
-mul-swapped-place : tie.Need-mul-swapped-place Inv-loop μ-loop
-mul-swapped-place c = omega arith
-
-slice-read-swapped-place : tie.Need-slice-read-swapped-place Inv-loop μ-loop
-slice-read-swapped-place c = omega arith
-
 swapped-place-requires : tie.Need-swapped-place-requires Inv-loop μ-loop
 swapped-place-requires c κs =
     let s = c .before .before .before .before in
@@ -38,18 +32,6 @@ swapped-place-requires c κs =
     let l = c .before .before .loop in
     let read = follow-read (swapped (a .a) (a .b) (a .c)) (a .index .now) (l .index) (l .i) (l .i) (omega (arith, s .pre .1 .1 .1 .many)) (omega arith) (l .inv .1) (l .inv .2) in
     (s .pre .0, (s .pre .1 .0, (s .pre .1 .1 .0, omega (arith, read, s .pre .1 .1 .1 .below (l .i) (omega arith)))))
-
-mul-index : tie.Need-mul-index Inv-loop μ-loop
-mul-index c = omega arith
-
-slice-write-index : tie.Need-slice-write-index Inv-loop μ-loop
-slice-write-index c = omega arith
-
-add-i : tie.Need-add-i Inv-loop μ-loop
-add-i c = omega arith
-
-loop-less : tie.Need-loop-less Inv-loop μ-loop
-loop-less c = omega arith
 
 loop-again : tie.Need-loop-again Inv-loop μ-loop
 loop-again c =
@@ -65,9 +47,6 @@ loop-again c =
     let low : v < 256 = omega (arith, is, swapped-low (a .a) (a .b) (a .c) (getD w (l .i) 0) (s .pre .0) (s .pre .1 .0) (s .pre .1 .1 .0) (s .pre .1 .1 .1 .below (l .i) (omega arith))) in
     (omega arith, follow-size to w (l .index) (l .i) (l .i) long (omega arith) (l .inv .1) (l .inv .2) v is low, follow-kept to w (l .index) (l .i) (l .i) long (omega arith) (l .inv .1) (l .inv .2) v is low, simp length-set (l .inv .3))
 
-same-length : tie.Need-same-length Inv-loop μ-loop
-same-length c = search needs
-
 returns : tie.Need-returns Inv-loop μ-loop
 returns c =
     let a = c .before .before .before .args in
@@ -82,17 +61,5 @@ returns c =
 pub swap-entries-spec : {M : Type 1} → statement M
 swap-entries-spec =
     tie.close
-    (tie.spec
-    Inv-loop
-    μ-loop
-    loop-holds
-    mul-swapped-place
-    slice-read-swapped-place
-    swapped-place-requires
-    mul-index
-    slice-write-index
-    add-i
-    loop-less
-    loop-again
-    same-length
-    returns)
+    (tie.spec Inv-loop μ-loop loop-holds (λ c. omega arith) (λ c. omega arith) swapped-place-requires (λ c. omega arith)
+    (λ c. omega arith) (λ c. omega arith) (λ c. omega arith) loop-again (λ c. search needs) returns)

@@ -10,22 +10,10 @@ returns c =
     let a = c .before .args in
     rw (lt-ltb (a .place) (a .a) (omega arith))
 
-sub-result : tie.Need-sub-result
-sub-result c = search needs
-
-add-result : tie.Need-add-result
-add-result c = search needs
-
 returns-2 : tie.Need-returns-2
 returns-2 c =
     let a = c .before .before .args in
     rw (le-ltb (a .place) (a .a) (omega arith), lt-ltb (a .place) (a .b) (omega arith))
-
-sub-result-2 : tie.Need-sub-result-2
-sub-result-2 c = search needs
-
-sub-result-3 : tie.Need-sub-result-3
-sub-result-3 c = search needs
 
 returns-3 : tie.Need-returns-3
 returns-3 c =
@@ -40,12 +28,5 @@ returns-4 c =
 pub swapped-place-spec : {M : Type 1} → statement M
 swapped-place-spec =
     tie.close
-    (tie.spec
-    returns
-    sub-result
-    add-result
-    returns-2
-    sub-result-2
-    sub-result-3
-    returns-3
-    returns-4)
+    (tie.spec returns (λ c. search needs) (λ c. search needs) returns-2 (λ c. search needs) (λ c. search needs)
+    returns-3 returns-4)

@@ -26,32 +26,11 @@ loop-holds : tie.Need-loop-holds Inv-loop μ-loop
 unfolding followed
 loop-holds c = (omega arith, omega arith, refl, refl, refl)
 
-mul-wide : tie.Need-mul-wide Inv-loop μ-loop
-mul-wide c = omega arith
-
-slice-read-wide : tie.Need-slice-read-wide Inv-loop μ-loop
-slice-read-wide c = omega arith
-
 wide-requires : tie.Need-wide-requires Inv-loop μ-loop
 wide-requires c κs = tt
 
 place-in-requires : tie.Need-place-in-requires Inv-loop μ-loop
 place-in-requires c κs = tt
-
-add-i : tie.Need-add-i Inv-loop μ-loop
-add-i c = omega arith
-
-mul-index : tie.Need-mul-index Inv-loop μ-loop
-mul-index c = omega arith
-
-slice-write-index : tie.Need-slice-write-index Inv-loop μ-loop
-slice-write-index c = omega arith
-
-add-left : tie.Need-add-left Inv-loop μ-loop
-add-left c = omega arith
-
-loop-less : tie.Need-loop-less Inv-loop μ-loop
-loop-less c = omega arith
 
 loop-again : tie.Need-loop-again Inv-loop μ-loop
 loop-again c =
@@ -64,9 +43,6 @@ loop-again c =
     let is : v ≡ placeIn to (getD w (l .i) 0) = c .before .place-in .ensures ∙ ap (λ (p : ℕ). placeIn to p) (c .before .before .wide .ensures ∙ read) in
     (omega arith, omega arith, follow-size (placeIn to) w (l .index) (l .i) (l .left) (omega arith) (l .inv .1) (l .inv .2) (l .inv .3) v is (omega arith), follow-kept (placeIn to) w (l .index) (l .i) (l .left) (omega arith) (l .inv .1) (l .inv .2) (l .inv .3) v is (omega arith), simp length-set (l .inv .4))
 
-loop-less-2 : tie.Need-loop-less-2 Inv-loop μ-loop
-loop-less-2 c = omega arith
-
 loop-again-2 : tie.Need-loop-again-2 Inv-loop μ-loop
 loop-again-2 c =
     let a = c .before .before .before .before .before .before .before .before .args in
@@ -78,9 +54,6 @@ loop-again-2 c =
     let is : v ≡ placeIn to (getD w (l .i) 0) = c .before .place-in .ensures ∙ ap (λ (p : ℕ). placeIn to p) (c .before .before .wide .ensures ∙ read) in
     let less = follow-gone (placeIn to) w (l .index) (l .i) (l .left) (omega arith) (l .inv .1) (l .inv .2) (l .inv .3) v is (omega arith) in
     (omega arith, omega arith, l .inv .2 ∙ ap (λ (x : List ℕ). length x) (sym less), l .inv .3 ∙ ap (λ (x : List ℕ). x ++ drop (l .left) w) (sym less), l .inv .4)
-
-same-length : tie.Need-same-length Inv-loop μ-loop
-same-length c = search needs
 
 returns : tie.Need-returns Inv-loop μ-loop
 returns c =
@@ -96,21 +69,6 @@ returns c =
 pub follow-places-spec : {M : Type 1} → statement M
 follow-places-spec =
     tie.close
-    (tie.spec
-    Inv-loop
-    μ-loop
-    loop-holds
-    mul-wide
-    slice-read-wide
-    wide-requires
-    place-in-requires
-    add-i
-    mul-index
-    slice-write-index
-    add-left
-    loop-less
-    loop-again
-    loop-less-2
-    loop-again-2
-    same-length
-    returns)
+    (tie.spec Inv-loop μ-loop loop-holds (λ c. omega arith) (λ c. omega arith) wide-requires place-in-requires
+    (λ c. omega arith) (λ c. omega arith) (λ c. omega arith) (λ c. omega arith) (λ c. omega arith) loop-again
+    (λ c. omega arith) loop-again-2 (λ c. search needs) returns)

@@ -5,12 +5,6 @@ use Rattle.reindex.specs.Kept.{place-word, place-past}
 use Rattle.reindex.proofs.kept.place_in.Statement.{statement}
 use Rattle.reindex.proofs.kept.place_in.Tie as tie
 
-mul-result : tie.Need-mul-result
-mul-result c = search needs
-
-shared-slice-read-result : tie.Need-shared-slice-read-result
-shared-slice-read-result c = search needs
-
 returns : tie.Need-returns
 returns c =
     let a = c .before .before .args in
@@ -22,4 +16,5 @@ returns-2 c =
     place-past (a .places .now) (a .place) (omega arith)
 
 pub place-in-spec : {M : Type 1} → statement M
-place-in-spec = tie.close (tie.spec mul-result shared-slice-read-result returns returns-2)
+place-in-spec =
+    tie.close (tie.spec (λ c. search needs) (λ c. search needs) returns returns-2)

@@ -15,18 +15,6 @@ returns-2 c =
     let a = c .before .before .args in
     rw (le-ltb (a .at) (a .from) (omega arith), le-leb (a .to) (a .at) (omega arith))
 
-mul-result : tie.Need-mul-result
-mul-result c = search needs
-
-add-result : tie.Need-add-result
-add-result c = search needs
-
-mul-result-2 : tie.Need-mul-result-2
-mul-result-2 c = search needs
-
-shared-slice-read-result : tie.Need-shared-slice-read-result
-shared-slice-read-result c = search needs
-
 returns-3 : tie.Need-returns-3
 returns-3 c =
     let a = c .before .before .before .args in
@@ -35,11 +23,5 @@ returns-3 c =
 pub stays-at-spec : {M : Type 1} → statement M
 stays-at-spec =
     tie.close
-    (tie.spec
-    returns
-    returns-2
-    mul-result
-    add-result
-    mul-result-2
-    shared-slice-read-result
+    (tie.spec returns returns-2 (λ c. search needs) (λ c. search needs) (λ c. search needs) (λ c. search needs)
     returns-3)

@@ -12,18 +12,6 @@ use Rattle.reindex.proofs.spot.put_entry.Tie as tie
 open-entry-requires : tie.Need-open-entry-requires
 open-entry-requires c κs = search needs
 
-cast-index : tie.Need-cast-index
-cast-index c = search needs
-
-mul-index : tie.Need-mul-index
-mul-index c = search needs
-
-slice-write-index : tie.Need-slice-write-index
-slice-write-index c = search needs
-
-same-length : tie.Need-same-length
-same-length c = search needs
-
 returns : tie.Need-returns
 returns c =
     let a = c .before .before .before .before .before .args in
@@ -33,4 +21,5 @@ returns c =
 pub put-entry-spec : {M : Type 1} → statement M
 put-entry-spec =
     tie.close
-    (tie.spec open-entry-requires cast-index mul-index slice-write-index same-length returns)
+    (tie.spec open-entry-requires (λ c. search needs) (λ c. search needs) (λ c. search needs) (λ c. search needs)
+    returns)

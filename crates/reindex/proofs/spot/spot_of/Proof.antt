@@ -27,9 +27,6 @@ loop-holds c =
     let a = s .args in
     (omega arith, between-all (a .nodes .now) (a .index .now) (a .count) (getD (a .nodes .now) (5 * a .at) 0) (s .pre .0))
 
-sub-middle : tie.Need-sub-middle Inv-loop μ-loop
-sub-middle c = omega arith
-
 add-middle : tie.Need-add-middle Inv-loop μ-loop
 add-middle c = omega (arith, c .before .before .before .before .before .pre .0 .few, c .before .loop .inv .1 .near)
 
@@ -63,9 +60,6 @@ shared-slice-read-if1 c =
     let middle = l .low + (l .high - l .low) / 2 in
     omega (arith, s .pre .0 .room, s .pre .0 .few, s .pre .0 .below middle (omega (arith, l .inv .1 .near)))
 
-loop-less : tie.Need-loop-less Inv-loop μ-loop
-loop-less c = omega arith
-
 loop-again : tie.Need-loop-again Inv-loop μ-loop
 loop-again c =
     let s = c .before .before .before .before .before .before .before .before .before in
@@ -77,9 +71,6 @@ loop-again c =
 
 add-low : tie.Need-add-low Inv-loop μ-loop
 add-low c = omega (arith, c .before .before .before .before .before .before .before .before .before .pre .0 .few, c .before .before .before .before .before .loop .inv .1 .near)
-
-loop-less-2 : tie.Need-loop-less-2 Inv-loop μ-loop
-loop-less-2 c = omega arith
 
 loop-again-2 : tie.Need-loop-again-2 Inv-loop μ-loop
 loop-again-2 c =
@@ -100,24 +91,6 @@ returns c =
 pub spot-of-spec : {M : Type 1} → statement M
 spot-of-spec =
     tie.close
-    (tie.spec
-    Inv-loop
-    μ-loop
-    mul-number
-    mul-number-2
-    shared-slice-read-number
-    loop-holds
-    sub-middle
-    add-middle
-    mul-wide
-    shared-slice-read-wide
-    wide-requires
-    mul-if1
-    mul-if1-2
-    shared-slice-read-if1
-    loop-less
-    loop-again
-    add-low
-    loop-less-2
-    loop-again-2
-    returns)
+    (tie.spec Inv-loop μ-loop mul-number mul-number-2 shared-slice-read-number loop-holds (λ c. omega arith) add-middle
+    mul-wide shared-slice-read-wide wide-requires mul-if1 mul-if1-2 shared-slice-read-if1 (λ c. omega arith) loop-again
+    add-low (λ c. omega arith) loop-again-2 returns)

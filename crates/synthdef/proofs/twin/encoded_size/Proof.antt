@@ -8,9 +8,6 @@ use borrow.Author.Needs.{needs}
 use Rattle.synthdef.proofs.twin.encoded_size.Statement.{statement}
 use Rattle.synthdef.proofs.twin.encoded_size.Tie as tie
 
-slice-aggregate-widen : tie.Need-slice-aggregate-widen
-slice-aggregate-widen c = search needs
-
 widen-requires : tie.Need-widen-requires
 widen-requires c κs =
     let h = c .before .before .pre in
@@ -20,4 +17,5 @@ returns : tie.Need-returns
 returns c = λ d e. omega (arith, c .before .widen .ensures d e .end)
 
 pub encoded-size-spec : {M : Type 1} → statement M
-encoded-size-spec = tie.close (tie.spec slice-aggregate-widen widen-requires returns)
+encoded-size-spec =
+    tie.close (tie.spec (λ c. search needs) widen-requires returns)

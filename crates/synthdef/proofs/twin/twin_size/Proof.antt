@@ -40,12 +40,6 @@ add-size c =
     let size = c .encoded-size .ensures (x .here .definition) (rw (c .before .before .before .before .width-of .ensures, end) (x .here .read)) in
     omega (arith, x .behind .few, size)
 
-add-i : tie.Need-add-i Inv-loop μ-loop
-add-i c = omega arith
-
-loop-less : tie.Need-loop-less Inv-loop μ-loop
-loop-less c = omega arith
-
 loop-again : tie.Need-loop-again Inv-loop μ-loop
 loop-again c =
     let x = reading-next (c .before .before .before .loop .inv) (c .before .before .loop-test .taken) in
@@ -59,15 +53,5 @@ returns c = reading-last (c .before .loop .inv) (c .loop-test .left)
 pub twin-size-spec : {M : Type 1} → statement M
 twin-size-spec =
     tie.close
-    (tie.spec
-    Inv-loop
-    μ-loop
-    width-of-requires
-    loop-holds
-    place-after-requires
-    encoded-size-requires
-    add-size
-    add-i
-    loop-less
-    loop-again
-    returns)
+    (tie.spec Inv-loop μ-loop width-of-requires loop-holds place-after-requires encoded-size-requires add-size
+    (λ c. omega arith) (λ c. omega arith) loop-again returns)

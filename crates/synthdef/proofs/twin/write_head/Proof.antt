@@ -18,20 +18,11 @@ put-int-requires c κs = search needs
 put-int-requires-2 : tie.Need-put-int-requires-2
 put-int-requires-2 c κs = search needs
 
-cast-put-byte : tie.Need-cast-put-byte
-cast-put-byte c = search needs
-
 put-byte-requires : tie.Need-put-byte-requires
 put-byte-requires c κs = search needs
 
-cast-put-byte-2 : tie.Need-cast-put-byte-2
-cast-put-byte-2 c = search needs
-
 put-byte-requires-2 : tie.Need-put-byte-requires-2
 put-byte-requires-2 c κs = search needs
-
-same-length : tie.Need-same-length
-same-length c = search needs
 
 returns : tie.Need-returns
 returns c =
@@ -49,12 +40,5 @@ returns c =
 pub write-head-spec : {M : Type 1} → statement M
 write-head-spec =
     tie.close
-    (tie.spec
-    put-int-requires
-    put-int-requires-2
-    cast-put-byte
-    put-byte-requires
-    cast-put-byte-2
-    put-byte-requires-2
-    same-length
-    returns)
+    (tie.spec put-int-requires put-int-requires-2 (λ c. search needs) put-byte-requires (λ c. search needs)
+    put-byte-requires-2 (λ c. search needs) returns)

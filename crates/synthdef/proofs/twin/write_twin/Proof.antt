@@ -41,12 +41,6 @@ widen-requires c κs =
     let room : length (twin (c .before .before .before .before .before .before .before .before .before .before .before .args .file .now)) ≤ length (c .before .before .before .before .before .before .before .write-head .last .0) = omega (arith, c .before .before .before .before .before .before .before .before .before .before .before .pre .1) in
     rw (c .before .before .before .before .width-of .ensures, end) (record { readable = record { definition = x .here .definition; read = x .here .read }; room = writing-room (c .before .before .before .loop .inv) room (c .before .before .loop-test .taken) })
 
-add-i : tie.Need-add-i Inv-loop μ-loop
-add-i c = omega arith
-
-loop-less : tie.Need-loop-less Inv-loop μ-loop
-loop-less c = omega arith
-
 loop-again : tie.Need-loop-again Inv-loop μ-loop
 loop-again c =
     let x = reading-next (c .before .before .before .before .before .before .loop .inv .reading) (c .before .before .before .before .before .loop-test .taken) in
@@ -70,16 +64,5 @@ returns c =
 pub write-twin-spec : {M : Type 1} → statement M
 write-twin-spec =
     tie.close
-    (tie.spec
-    Inv-loop
-    μ-loop
-    write-head-requires
-    width-of-requires
-    loop-holds
-    place-after-requires
-    widen-requires
-    add-i
-    loop-less
-    loop-again
-    same-length
-    returns)
+    (tie.spec Inv-loop μ-loop write-head-requires width-of-requires loop-holds place-after-requires widen-requires
+    (λ c. omega arith) (λ c. omega arith) loop-again same-length returns)

@@ -33,4 +33,5 @@ returns-6 c =
     let case : n ≡ suc (suc (suc (suc (suc (n - 5))))) = omega arith in rw case
 
 pub add-action-spec : {M : Type 1} → statement M
-add-action-spec = tie.close (tie.spec returns returns-2 returns-3 returns-4 returns-5 returns-6)
+add-action-spec =
+    tie.close (tie.spec returns returns-2 returns-3 returns-4 returns-5 returns-6)

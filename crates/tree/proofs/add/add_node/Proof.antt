@@ -15,9 +15,6 @@ use borrow.Author.Needs.{needs}
 use Rattle.tree.proofs.add.add_node.Statement.{statement}
 use Rattle.tree.proofs.add.add_node.Tie as tie
 
-enum-known-action : tie.Need-enum-known-action
-enum-known-action c = search needs
-
 place-by-requires : tie.Need-place-by-requires
 place-by-requires c κs = search needs
 
@@ -35,14 +32,8 @@ insert-requires c κs =
     let inside = place-most (a .count) (a .nodes .now) (a .at) (omega arith) p in
     (rw same inside, omega arith)
 
-enum-told : tie.Need-enum-told
-enum-told c = search needs
-
 replace-requires : tie.Need-replace-requires
 replace-requires c κs = search needs
-
-same-length : tie.Need-same-length
-same-length c = search needs
 
 returns : tie.Need-returns
 returns c =
@@ -59,9 +50,6 @@ returns c =
     ∙ ap (λ (l : List Node). putIn (to .result .at) l t) (lift-one (to .result .depth) (a .node) ∙ ap (λ (r : Node). r ∷ []) (sym (c .before .before .before .at-depth .ensures))) in
     rw (case, meant) (c .before .before .insert .ensures)
 
-same-length-2 : tie.Need-same-length-2
-same-length-2 c = search needs
-
 returns-2 : tie.Need-returns-2
 returns-2 c =
     let case : c .before .before .before .before .before .before .before .args .action ≡ Replace = cc in
@@ -70,14 +58,5 @@ returns-2 c =
 pub add-node-spec : {M : Type 1} → statement M
 add-node-spec =
     tie.close
-    (tie.spec
-    enum-known-action
-    place-by-requires
-    at-depth-requires
-    insert-requires
-    enum-told
-    replace-requires
-    same-length
-    returns
-    same-length-2
-    returns-2)
+    (tie.spec (λ c. search needs) place-by-requires at-depth-requires insert-requires (λ c. search needs)
+    replace-requires (λ c. search needs) returns (λ c. search needs) returns-2)

@@ -16,18 +16,6 @@ use Rattle.tree.specs.Add.{lift-one}
 use Rattle.tree.proofs.add.replace.Statement.{statement}
 use Rattle.tree.proofs.add.replace.Tie as tie
 
-mul-depth : tie.Need-mul-depth
-mul-depth c = search needs
-
-add-depth : tie.Need-add-depth
-add-depth c = search needs
-
-mul-depth-2 : tie.Need-mul-depth-2
-mul-depth-2 c = search needs
-
-slice-read-depth : tie.Need-slice-read-depth
-slice-read-depth c = search needs
-
 subtree-end-requires : tie.Need-subtree-end-requires
 subtree-end-requires c κs = search needs
 
@@ -47,9 +35,6 @@ insert-requires c κs =
     let most = end-most (a .count) (a .nodes .now) (getD (a .nodes .now) (width * a .at + 1) 0) (a .at + 1) (omega arith) in
     let left : b .remove .result ≡ a .count - (e - a .at) = b .remove .ensures .size ∙ simp (length-append, length-take, length-drop, rows-length) (omega arith) in
     omega arith
-
-same-length : tie.Need-same-length
-same-length c = search needs
 
 returns : tie.Need-returns
 returns c =
@@ -76,14 +61,5 @@ returns c =
 pub replace-spec : {M : Type 1} → statement M
 replace-spec =
     tie.close
-    (tie.spec
-    mul-depth
-    add-depth
-    mul-depth-2
-    slice-read-depth
-    subtree-end-requires
-    remove-requires
-    at-depth-requires
-    insert-requires
-    same-length
-    returns)
+    (tie.spec (λ c. search needs) (λ c. search needs) (λ c. search needs) (λ c. search needs) subtree-end-requires
+    remove-requires at-depth-requires insert-requires (λ c. search needs) returns)

@@ -18,9 +18,6 @@ remove-requires c κs =
     let a = c .before .before .before .before .args in
     omega (arith, end-most (a .count) (a .nodes .now) (getD (a .nodes .now) (width * a .at + 1) 0) (a .at + 1) (omega arith))
 
-same-length : tie.Need-same-length
-same-length c = search needs
-
 returns : tie.Need-returns
 returns c =
     let a = c .before .before .before .before .before .before .before .args in
@@ -30,4 +27,5 @@ returns c =
     rw (cut-at (a .count) us (a .at) (omega arith) d (e .result) refl (e .ensures)) (c .before .before .remove .ensures)
 
 pub cut-spec : {M : Type 1} → statement M
-cut-spec = tie.close (tie.spec subtree-end-requires remove-requires same-length returns)
+cut-spec =
+    tie.close (tie.spec subtree-end-requires remove-requires (λ c. search needs) returns)

@@ -13,16 +13,10 @@ use Rattle.tree.proofs.change.cut_below.Tie as tie
 subtree-end-requires : tie.Need-subtree-end-requires
 subtree-end-requires c κs = search needs
 
-add-remove : tie.Need-add-remove
-add-remove c = search needs
-
 remove-requires : tie.Need-remove-requires
 remove-requires c κs =
     let a = c .before .before .before .before .args in
     omega (arith, end-most (a .count) (a .nodes .now) (getD (a .nodes .now) (width * a .at + 1) 0) (a .at + 1) (omega arith))
-
-same-length : tie.Need-same-length
-same-length c = search needs
 
 returns : tie.Need-returns
 returns c =
@@ -34,4 +28,4 @@ returns c =
 
 pub cut-below-spec : {M : Type 1} → statement M
 cut-below-spec =
-    tie.close (tie.spec subtree-end-requires add-remove remove-requires same-length returns)
+    tie.close (tie.spec subtree-end-requires (λ c. search needs) remove-requires (λ c. search needs) returns)

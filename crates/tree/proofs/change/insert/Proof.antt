@@ -9,23 +9,11 @@ use Rattle.nodes.specs.Table.{width, wordsOf, over, rows-length, insert-words}
 use Rattle.tree.proofs.change.insert.Statement.{statement}
 use Rattle.tree.proofs.change.insert.Tie as tie
 
-mul-open-gap : tie.Need-mul-open-gap
-mul-open-gap c = search needs
-
-mul-open-gap-2 : tie.Need-mul-open-gap-2
-mul-open-gap-2 c = search needs
-
 open-gap-requires : tie.Need-open-gap-requires
 open-gap-requires c κs = search needs
 
 put-node-requires : tie.Need-put-node-requires
 put-node-requires c κs = search needs
-
-add-result : tie.Need-add-result
-add-result c = search needs
-
-same-length : tie.Need-same-length
-same-length c = search needs
 
 returns : tie.Need-returns
 returns c =
@@ -42,11 +30,5 @@ returns c =
 pub insert-spec : {M : Type 1} → statement M
 insert-spec =
     tie.close
-    (tie.spec
-    mul-open-gap
-    mul-open-gap-2
-    open-gap-requires
-    put-node-requires
-    add-result
-    same-length
-    returns)
+    (tie.spec (λ c. search needs) (λ c. search needs) open-gap-requires put-node-requires (λ c. search needs)
+    (λ c. search needs) returns)

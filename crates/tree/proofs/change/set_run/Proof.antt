@@ -18,9 +18,6 @@ node-at-requires c κs = search needs
 put-node-requires : tie.Need-put-node-requires
 put-node-requires c κs = search needs
 
-same-length : tie.Need-same-length
-same-length c = search needs
-
 returns : tie.Need-returns
 returns c =
     let a = c .before .before .before .before .before .before .before .args in
@@ -31,4 +28,5 @@ returns c =
     ∙ ap (λ (l : List Node). fill us l) (sym (setRun-at (a .count) us (a .at) (omega arith) (a .flag)))
 
 pub set-run-spec : {M : Type 1} → statement M
-set-run-spec = tie.close (tie.spec node-at-requires put-node-requires same-length returns)
+set-run-spec =
+    tie.close (tie.spec node-at-requires put-node-requires (λ c. search needs) returns)

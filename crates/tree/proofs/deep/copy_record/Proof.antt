@@ -13,13 +13,11 @@ node-at-requires c κs = search needs
 put-node-requires : tie.Need-put-node-requires
 put-node-requires c κs = search needs
 
-same-length : tie.Need-same-length
-same-length c = search needs
-
 returns : tie.Need-returns
 returns c =
     let a = c .before .before .before .before .before .before .before .args in
     c .before .before .put-node .ensures ∙ ap (λ (r : Node). over (width * a .to) (wordsOf r) (a .nodes .now)) (c .before .before .before .before .node-at .ensures)
 
 pub copy-record-spec : {M : Type 1} → statement M
-copy-record-spec = tie.close (tie.spec node-at-requires put-node-requires same-length returns)
+copy-record-spec =
+    tie.close (tie.spec node-at-requires put-node-requires (λ c. search needs) returns)

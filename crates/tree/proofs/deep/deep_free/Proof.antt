@@ -10,24 +10,6 @@ use Rattle.tree.specs.Deep.{left-leaves, deep-at}
 use Rattle.tree.proofs.deep.deep_free.Statement.{statement}
 use Rattle.tree.proofs.deep.deep_free.Tie as tie
 
-mul-depth : tie.Need-mul-depth
-mul-depth c = omega arith
-
-add-depth : tie.Need-add-depth
-add-depth c = omega arith
-
-mul-depth-2 : tie.Need-mul-depth-2
-mul-depth-2 c = omega arith
-
-slice-read-depth : tie.Need-slice-read-depth
-slice-read-depth c = omega arith
-
-add-first : tie.Need-add-first
-add-first c = omega arith
-
-sub-sweep : tie.Need-sub-sweep
-sub-sweep c = omega arith
-
 sweep-requires : tie.Need-sweep-requires
 sweep-requires c κs = omega arith
 
@@ -38,9 +20,6 @@ remove-requires c κs =
     let ends : Ends (a .nodes .now) (a .count) (a .at + 1) (b .sweep .last .0) (b .sweep .result .read) (b .sweep .result .write) =
     swept-ends (omega arith) (omega arith) (omega arith) (b .sweep .ensures) in
     (omega arith, (omega arith, omega arith))
-
-same-length : tie.Need-same-length
-same-length c = search needs
 
 returns : tie.Need-returns
 returns c =
@@ -59,14 +38,5 @@ returns c =
 pub deep-free-spec : {M : Type 1} → statement M
 deep-free-spec =
     tie.close
-    (tie.spec
-    mul-depth
-    add-depth
-    mul-depth-2
-    slice-read-depth
-    add-first
-    sub-sweep
-    sweep-requires
-    remove-requires
-    same-length
-    returns)
+    (tie.spec (λ c. omega arith) (λ c. omega arith) (λ c. omega arith) (λ c. omega arith) (λ c. omega arith)
+    (λ c. omega arith) sweep-requires remove-requires (λ c. search needs) returns)

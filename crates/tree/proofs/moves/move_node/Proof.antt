@@ -21,13 +21,11 @@ move-to-requires c κs =
     let a = s .args in
     rw (c .before .place-by .ensures) (move-place (a .nodes .now) (a .count) (a .a) (a .b) (s .pre) (a .position))
 
-same-length : tie.Need-same-length
-same-length c = search needs
-
 returns : tie.Need-returns
 returns c =
     let a = c .before .before .before .before .before .before .before .args in
     c .before .before .move-to .ensures ∙ ap (λ (p : Place). fill (a .nodes .now) (movedTo (a .count) (a .nodes .now) (a .a) p)) (c .before .before .before .before .place-by .ensures)
 
 pub move-node-spec : {M : Type 1} → statement M
-move-node-spec = tie.close (tie.spec place-by-requires move-to-requires same-length returns)
+move-node-spec =
+    tie.close (tie.spec place-by-requires move-to-requires (λ c. search needs) returns)

@@ -11,20 +11,8 @@ use Rattle.tree.proofs.moves.move_run.Tie as tie
 set-depths-requires : tie.Need-set-depths-requires
 set-depths-requires c κs = search needs
 
-mul-move-words : tie.Need-mul-move-words
-mul-move-words c = search needs
-
-mul-move-words-2 : tie.Need-mul-move-words-2
-mul-move-words-2 c = search needs
-
-mul-move-words-3 : tie.Need-mul-move-words-3
-mul-move-words-3 c = search needs
-
 move-words-requires : tie.Need-move-words-requires
 move-words-requires c κs = search needs
-
-same-length : tie.Need-same-length
-same-length c = search needs
 
 returns : tie.Need-returns
 returns c =
@@ -35,11 +23,5 @@ returns c =
 pub move-run-spec : {M : Type 1} → statement M
 move-run-spec =
     tie.close
-    (tie.spec
-    set-depths-requires
-    mul-move-words
-    mul-move-words-2
-    mul-move-words-3
-    move-words-requires
-    same-length
-    returns)
+    (tie.spec set-depths-requires (λ c. search needs) (λ c. search needs) (λ c. search needs) move-words-requires
+    (λ c. search needs) returns)

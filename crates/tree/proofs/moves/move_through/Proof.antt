@@ -11,38 +11,14 @@ use Rattle.tree.specs.Moves.{put-between}
 use Rattle.tree.proofs.moves.move_through.Statement.{statement}
 use Rattle.tree.proofs.moves.move_through.Tie as tie
 
-mul-copy-words : tie.Need-mul-copy-words
-mul-copy-words c = search needs
-
-sub-copy-words : tie.Need-sub-copy-words
-sub-copy-words c = search needs
-
-part-copy-words-start : tie.Need-part-copy-words-start
-part-copy-words-start c = search needs
-
-part-copy-words-end : tie.Need-part-copy-words-end
-part-copy-words-end c = search needs
-
-sub-copy-words-2 : tie.Need-sub-copy-words-2
-sub-copy-words-2 c = search needs
-
 copy-words-requires : tie.Need-copy-words-requires
 copy-words-requires c κs = search needs
 
 make-room-requires : tie.Need-make-room-requires
 make-room-requires c κs = search needs
 
-sub-copy-words-3 : tie.Need-sub-copy-words-3
-sub-copy-words-3 c = search needs
-
 copy-words-requires-2 : tie.Need-copy-words-requires-2
 copy-words-requires-2 c κs = search needs
-
-same-length : tie.Need-same-length
-same-length c = search needs
-
-same-length-2 : tie.Need-same-length-2
-same-length-2 c = search needs
 
 returns : tie.Need-returns
 returns c =
@@ -60,16 +36,6 @@ returns c =
 pub move-through-spec : {M : Type 1} → statement M
 move-through-spec =
     tie.close
-    (tie.spec
-    mul-copy-words
-    sub-copy-words
-    part-copy-words-start
-    part-copy-words-end
-    sub-copy-words-2
-    copy-words-requires
-    make-room-requires
-    sub-copy-words-3
-    copy-words-requires-2
-    same-length
-    same-length-2
-    returns)
+    (tie.spec (λ c. search needs) (λ c. search needs) (λ c. search needs) (λ c. search needs) (λ c. search needs)
+    copy-words-requires make-room-requires (λ c. search needs) copy-words-requires-2 (λ c. search needs)
+    (λ c. search needs) returns)

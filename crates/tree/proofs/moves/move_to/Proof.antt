@@ -14,18 +14,6 @@ use Rattle.tree.proofs.moves.move_to.Tie as tie
 subtree-end-requires : tie.Need-subtree-end-requires
 subtree-end-requires c κs = search needs
 
-mul-old : tie.Need-mul-old
-mul-old c = search needs
-
-add-old : tie.Need-add-old
-add-old c = search needs
-
-mul-old-2 : tie.Need-mul-old-2
-mul-old-2 c = search needs
-
-slice-read-old : tie.Need-slice-read-old
-slice-read-old c = search needs
-
 place-without-requires : tie.Need-place-without-requires
 place-without-requires c κs =
     let s = c .before .before .before .before in
@@ -48,9 +36,6 @@ move-run-requires c κs =
       most = λ i h g. omega (arith, s .pre .shallow i (omega (arith, e .ensures)));
     }
 
-same-length : tie.Need-same-length
-same-length c = search needs
-
 returns : tie.Need-returns
 returns c =
     let f = c .before .before .before .before in
@@ -67,13 +52,5 @@ returns c =
 pub move-to-spec : {M : Type 1} → statement M
 move-to-spec =
     tie.close
-    (tie.spec
-    subtree-end-requires
-    mul-old
-    add-old
-    mul-old-2
-    slice-read-old
-    place-without-requires
-    move-run-requires
-    same-length
-    returns)
+    (tie.spec subtree-end-requires (λ c. search needs) (λ c. search needs) (λ c. search needs) (λ c. search needs)
+    place-without-requires move-run-requires (λ c. search needs) returns)

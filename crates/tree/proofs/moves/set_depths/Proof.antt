@@ -23,18 +23,6 @@ abbrev μ-loop : tie.MeasureT-loop
 loop-holds : tie.Need-loop-holds Inv-loop μ-loop
 loop-holds c = (omega arith, omega arith, releveled-start (c .args .old) (c .args .new) (c .args .nodes .now) (c .args .from), refl)
 
-mul-at : tie.Need-mul-at Inv-loop μ-loop
-mul-at c = omega arith
-
-add-at : tie.Need-add-at Inv-loop μ-loop
-add-at c = omega arith
-
-mul-nodes : tie.Need-mul-nodes Inv-loop μ-loop
-mul-nodes c = omega arith
-
-slice-read-nodes : tie.Need-slice-read-nodes Inv-loop μ-loop
-slice-read-nodes c = omega arith
-
 sub-nodes : tie.Need-sub-nodes Inv-loop μ-loop
 sub-nodes c =
     let b = c .before .before in
@@ -51,18 +39,6 @@ add-nodes c =
     let i = b .loop .i in
     omega (arith, read (a .old) (a .new) (a .from) i (a .nodes .now) (b .loop .nodes) (b .loop .inv .2) (omega arith) (omega arith), s .pre .most i (omega arith) (omega arith))
 
-mul-nodes-2 : tie.Need-mul-nodes-2 Inv-loop μ-loop
-mul-nodes-2 c = omega arith
-
-slice-write-nodes : tie.Need-slice-write-nodes Inv-loop μ-loop
-slice-write-nodes c = omega arith
-
-add-i : tie.Need-add-i Inv-loop μ-loop
-add-i c = omega arith
-
-loop-less : tie.Need-loop-less Inv-loop μ-loop
-loop-less c = omega arith
-
 loop-again : tie.Need-loop-again Inv-loop μ-loop
 loop-again c =
     let b = c .before .before in
@@ -78,9 +54,6 @@ loop-again c =
       simp length-set (inv .3),
     )
 
-same-length : tie.Need-same-length Inv-loop μ-loop
-same-length c = search needs
-
 returns : tie.Need-returns Inv-loop μ-loop
 returns c =
     let a = c .before .before .args in
@@ -90,20 +63,6 @@ returns c =
 pub set-depths-spec : {M : Type 1} → statement M
 set-depths-spec =
     tie.close
-    (tie.spec
-    Inv-loop
-    μ-loop
-    loop-holds
-    mul-at
-    add-at
-    mul-nodes
-    slice-read-nodes
-    sub-nodes
-    add-nodes
-    mul-nodes-2
-    slice-write-nodes
-    add-i
-    loop-less
-    loop-again
-    same-length
-    returns)
+    (tie.spec Inv-loop μ-loop loop-holds (λ c. omega arith) (λ c. omega arith) (λ c. omega arith) (λ c. omega arith)
+    sub-nodes add-nodes (λ c. omega arith) (λ c. omega arith) (λ c. omega arith) (λ c. omega arith) loop-again
+    (λ c. search needs) returns)

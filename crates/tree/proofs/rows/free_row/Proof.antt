@@ -39,12 +39,6 @@ returns c =
     let clear : rowTaken row t ≡ false = sym (l .before .taken-rows .ensures row (omega arith)) ∙ ap (λ (k : ℕ). getD (l .before .taken-rows .result) k false) (sym (c .before .wide .ensures)) ∙ not-true _ (c .if1 .taken) in
     sym (free-here (255 - row) row t clear) ∙ ap (λ (k : ℕ). freeRowFrom k row t) (sym more) ∙ l .loop .inv .1
 
-add-row : tie.Need-add-row Inv-loop μ-loop
-add-row c = omega arith
-
-loop-less : tie.Need-loop-less Inv-loop μ-loop
-loop-less c = omega arith
-
 loop-again : tie.Need-loop-again Inv-loop μ-loop
 loop-again c =
     let l = c .before .before .before in
@@ -68,15 +62,5 @@ returns-2 c =
 pub free-row-spec : {M : Type 1} → statement M
 free-row-spec =
     tie.close
-    (tie.spec
-    Inv-loop
-    μ-loop
-    taken-rows-requires
-    loop-holds
-    wide-requires
-    array-read-if1
-    returns
-    add-row
-    loop-less
-    loop-again
-    returns-2)
+    (tie.spec Inv-loop μ-loop taken-rows-requires loop-holds wide-requires array-read-if1 returns (λ c. omega arith)
+    (λ c. omega arith) loop-again returns-2)

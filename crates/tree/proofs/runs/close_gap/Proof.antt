@@ -26,35 +26,8 @@ Inv-loop words₀ from to end count i₀ words i = (i ≤ count) × (words ≡ p
 abbrev μ-loop : tie.MeasureT-loop
 μ-loop words₀ from to end count i₀ words i = count - i
 
-sub-count : tie.Need-sub-count Inv-loop μ-loop
-sub-count c = omega arith
-
 loop-holds : tie.Need-loop-holds Inv-loop μ-loop
 loop-holds c = (omega arith, paste-zero (c .args .words .now) (c .args .from) (drop (c .args .to) (c .args .words .now)), refl)
-
-add-words : tie.Need-add-words Inv-loop μ-loop
-add-words c = omega arith
-
-mul-words : tie.Need-mul-words Inv-loop μ-loop
-mul-words c = omega arith
-
-slice-read-words : tie.Need-slice-read-words Inv-loop μ-loop
-slice-read-words c = omega arith
-
-add-words-2 : tie.Need-add-words-2 Inv-loop μ-loop
-add-words-2 c = omega arith
-
-mul-words-2 : tie.Need-mul-words-2 Inv-loop μ-loop
-mul-words-2 c = omega arith
-
-slice-write-words : tie.Need-slice-write-words Inv-loop μ-loop
-slice-write-words c = omega arith
-
-add-i : tie.Need-add-i Inv-loop μ-loop
-add-i c = omega arith
-
-loop-less : tie.Need-loop-less Inv-loop μ-loop
-loop-less c = omega arith
 
 loop-again : tie.Need-loop-again Inv-loop μ-loop
 loop-again c =
@@ -73,9 +46,6 @@ loop-again c =
       simp length-set (inv .2),
     )
 
-same-length : tie.Need-same-length Inv-loop μ-loop
-same-length c = search needs
-
 returns : tie.Need-returns Inv-loop μ-loop
 returns c =
     let a = c .before .before .args in
@@ -85,19 +55,6 @@ returns c =
 pub close-gap-spec : {M : Type 1} → statement M
 close-gap-spec =
     tie.close
-    (tie.spec
-    Inv-loop
-    μ-loop
-    sub-count
-    loop-holds
-    add-words
-    mul-words
-    slice-read-words
-    add-words-2
-    mul-words-2
-    slice-write-words
-    add-i
-    loop-less
-    loop-again
-    same-length
-    returns)
+    (tie.spec Inv-loop μ-loop (λ c. omega arith) loop-holds (λ c. omega arith) (λ c. omega arith) (λ c. omega arith)
+    (λ c. omega arith) (λ c. omega arith) (λ c. omega arith) (λ c. omega arith) (λ c. omega arith) loop-again
+    (λ c. search needs) returns)

@@ -16,35 +16,8 @@ Inv-loop nodes count at depth i₀ i = (i ≤ count) × (i + deeper depth (drop 
 abbrev μ-loop : tie.MeasureT-loop
 μ-loop nodes count at depth i₀ i = count - i
 
-mul-depth : tie.Need-mul-depth Inv-loop μ-loop
-mul-depth c = omega arith
-
-add-depth : tie.Need-add-depth Inv-loop μ-loop
-add-depth c = omega arith
-
-mul-depth-2 : tie.Need-mul-depth-2 Inv-loop μ-loop
-mul-depth-2 c = omega arith
-
-shared-slice-read-depth : tie.Need-shared-slice-read-depth Inv-loop μ-loop
-shared-slice-read-depth c = omega arith
-
-add-i : tie.Need-add-i Inv-loop μ-loop
-add-i c = omega arith
-
 loop-holds : tie.Need-loop-holds Inv-loop μ-loop
 loop-holds c = (omega arith, refl)
-
-mul-is-deeper : tie.Need-mul-is-deeper Inv-loop μ-loop
-mul-is-deeper c = omega arith
-
-add-is-deeper : tie.Need-add-is-deeper Inv-loop μ-loop
-add-is-deeper c = omega arith
-
-mul-is-deeper-2 : tie.Need-mul-is-deeper-2 Inv-loop μ-loop
-mul-is-deeper-2 c = omega arith
-
-shared-slice-read-is-deeper : tie.Need-shared-slice-read-is-deeper Inv-loop μ-loop
-shared-slice-read-is-deeper c = omega arith
 
 is-deeper-requires : tie.Need-is-deeper-requires Inv-loop μ-loop
 is-deeper-requires c κs = search needs
@@ -57,12 +30,6 @@ returns c =
     let here : deeper d (drop i (rows (a .count) (a .nodes .now))) ≡ 0 =
     rw (sym (c .before .is-deeper .ensures) ∙ not-true (c .before .is-deeper .result) (c .if1 .taken)) at (deeper-turn (a .count) (a .nodes .now) d i (omega arith)) in
     omega arith
-
-add-i-2 : tie.Need-add-i-2 Inv-loop μ-loop
-add-i-2 c = omega arith
-
-loop-less : tie.Need-loop-less Inv-loop μ-loop
-loop-less c = omega arith
 
 loop-again : tie.Need-loop-again Inv-loop μ-loop
 loop-again c =
@@ -83,22 +50,6 @@ returns-2 c =
 pub subtree-end-spec : {M : Type 1} → statement M
 subtree-end-spec =
     tie.close
-    (tie.spec
-    Inv-loop
-    μ-loop
-    mul-depth
-    add-depth
-    mul-depth-2
-    shared-slice-read-depth
-    add-i
-    loop-holds
-    mul-is-deeper
-    add-is-deeper
-    mul-is-deeper-2
-    shared-slice-read-is-deeper
-    is-deeper-requires
-    returns
-    add-i-2
-    loop-less
-    loop-again
-    returns-2)
+    (tie.spec Inv-loop μ-loop (λ c. omega arith) (λ c. omega arith) (λ c. omega arith) (λ c. omega arith)
+    (λ c. omega arith) loop-holds (λ c. omega arith) (λ c. omega arith) (λ c. omega arith) (λ c. omega arith)
+    is-deeper-requires returns (λ c. omega arith) (λ c. omega arith) loop-again returns-2)

@@ -16,35 +16,8 @@ Inv-loop nodes count at depth i₀ i = (i ≤ count) × (firstOr noNode (childNu
 abbrev μ-loop : tie.MeasureT-loop
 μ-loop nodes count at depth i₀ i = count - i
 
-mul-depth : tie.Need-mul-depth Inv-loop μ-loop
-mul-depth c = omega arith
-
-add-depth : tie.Need-add-depth Inv-loop μ-loop
-add-depth c = omega arith
-
-mul-depth-2 : tie.Need-mul-depth-2 Inv-loop μ-loop
-mul-depth-2 c = omega arith
-
-shared-slice-read-depth : tie.Need-shared-slice-read-depth Inv-loop μ-loop
-shared-slice-read-depth c = omega arith
-
-add-i : tie.Need-add-i Inv-loop μ-loop
-add-i c = omega arith
-
 loop-holds : tie.Need-loop-holds Inv-loop μ-loop
 loop-holds c = (omega arith, refl)
-
-mul-other : tie.Need-mul-other Inv-loop μ-loop
-mul-other c = omega arith
-
-add-other : tie.Need-add-other Inv-loop μ-loop
-add-other c = omega arith
-
-mul-other-2 : tie.Need-mul-other-2 Inv-loop μ-loop
-mul-other-2 c = omega arith
-
-shared-slice-read-other : tie.Need-shared-slice-read-other Inv-loop μ-loop
-shared-slice-read-other c = omega arith
 
 returns : tie.Need-returns Inv-loop μ-loop
 unfolding firstOr
@@ -56,18 +29,6 @@ returns c =
     ap (λ (k : List ℕ). firstOr noNode k) (sym (childNumbers-stop (a .count) us d (l .loop .i) (omega arith) (c .if1 .taken)))
     ∙ l .loop .inv .1
 
-sub-if2 : tie.Need-sub-if2 Inv-loop μ-loop
-sub-if2 c = omega arith
-
-mul-result : tie.Need-mul-result Inv-loop μ-loop
-mul-result c = omega arith
-
-mul-result-2 : tie.Need-mul-result-2 Inv-loop μ-loop
-mul-result-2 c = omega arith
-
-shared-slice-read-result : tie.Need-shared-slice-read-result Inv-loop μ-loop
-shared-slice-read-result c = omega arith
-
 returns-2 : tie.Need-returns-2 Inv-loop μ-loop
 unfolding firstOr
 returns-2 c =
@@ -77,12 +38,6 @@ returns-2 c =
     let d = getD us (5 * a .at + 1) 0 in
     ap (λ (k : List ℕ). firstOr noNode k) (sym (childNumbers-child (a .count) us d (l .loop .i) (omega arith) (omega arith) (c .before .if2 .taken)))
     ∙ l .loop .inv .1
-
-add-i-2 : tie.Need-add-i-2 Inv-loop μ-loop
-add-i-2 c = omega arith
-
-loop-less : tie.Need-loop-less Inv-loop μ-loop
-loop-less c = omega arith
 
 loop-again : tie.Need-loop-again Inv-loop μ-loop
 loop-again c =
@@ -105,26 +60,7 @@ returns-3 c =
 pub head-of-spec : {M : Type 1} → statement M
 head-of-spec =
     tie.close
-    (tie.spec
-    Inv-loop
-    μ-loop
-    mul-depth
-    add-depth
-    mul-depth-2
-    shared-slice-read-depth
-    add-i
-    loop-holds
-    mul-other
-    add-other
-    mul-other-2
-    shared-slice-read-other
-    returns
-    sub-if2
-    mul-result
-    mul-result-2
-    shared-slice-read-result
-    returns-2
-    add-i-2
-    loop-less
-    loop-again
-    returns-3)
+    (tie.spec Inv-loop μ-loop (λ c. omega arith) (λ c. omega arith) (λ c. omega arith) (λ c. omega arith)
+    (λ c. omega arith) loop-holds (λ c. omega arith) (λ c. omega arith) (λ c. omega arith) (λ c. omega arith) returns
+    (λ c. omega arith) (λ c. omega arith) (λ c. omega arith) (λ c. omega arith) returns-2 (λ c. omega arith)
+    (λ c. omega arith) loop-again returns-3)

@@ -22,4 +22,5 @@ returns-2 c =
     rw (le-leb (a .b) (a .a) (omega arith)) (ap (λ (e : ℕ). ltb (a .a) e) (c .subtree-end .ensures))
 
 pub lies-below-spec : {M : Type 1} → statement M
-lies-below-spec = tie.close (tie.spec returns subtree-end-requires returns-2)
+lies-below-spec =
+    tie.close (tie.spec returns subtree-end-requires returns-2)

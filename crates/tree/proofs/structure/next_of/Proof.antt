@@ -15,39 +15,6 @@ use Rattle.tree.proofs.structure.next_of.Tie as tie
 subtree-end-requires : tie.Need-subtree-end-requires
 subtree-end-requires c κs = search needs
 
-mul-if2 : tie.Need-mul-if2
-mul-if2 c = search needs
-
-add-if2 : tie.Need-add-if2
-add-if2 c = search needs
-
-mul-if2-2 : tie.Need-mul-if2-2
-mul-if2-2 c = search needs
-
-shared-slice-read-if2 : tie.Need-shared-slice-read-if2
-shared-slice-read-if2 c = search needs
-
-mul-if2-3 : tie.Need-mul-if2-3
-mul-if2-3 c = search needs
-
-add-if2-2 : tie.Need-add-if2-2
-add-if2-2 c = search needs
-
-mul-if2-4 : tie.Need-mul-if2-4
-mul-if2-4 c = search needs
-
-shared-slice-read-if2-2 : tie.Need-shared-slice-read-if2-2
-shared-slice-read-if2-2 c = search needs
-
-mul-result : tie.Need-mul-result
-mul-result c = search needs
-
-mul-result-2 : tie.Need-mul-result-2
-mul-result-2 c = search needs
-
-shared-slice-read-result : tie.Need-shared-slice-read-result
-shared-slice-read-result c = search needs
-
 returns : tie.Need-returns
 returns c =
     let e = c .before .before .before .before .before .subtree-end in
@@ -72,19 +39,6 @@ returns-3 c =
 pub next-of-spec : {M : Type 1} → statement M
 next-of-spec =
     tie.close
-    (tie.spec
-    subtree-end-requires
-    mul-if2
-    add-if2
-    mul-if2-2
-    shared-slice-read-if2
-    mul-if2-3
-    add-if2-2
-    mul-if2-4
-    shared-slice-read-if2-2
-    mul-result
-    mul-result-2
-    shared-slice-read-result
-    returns
-    returns-2
-    returns-3)
+    (tie.spec subtree-end-requires (λ c. search needs) (λ c. search needs) (λ c. search needs) (λ c. search needs)
+    (λ c. search needs) (λ c. search needs) (λ c. search needs) (λ c. search needs) (λ c. search needs)
+    (λ c. search needs) (λ c. search needs) returns returns-2 returns-3)

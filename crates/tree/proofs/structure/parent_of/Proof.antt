@@ -16,44 +16,8 @@ Inv-loop nodes at depth i₀ i = (i ≤ at) × (along (above depth) noNode (rows
 abbrev μ-loop : tie.MeasureT-loop
 μ-loop nodes at depth i₀ i = i
 
-mul-depth : tie.Need-mul-depth Inv-loop μ-loop
-mul-depth c = omega arith
-
-add-depth : tie.Need-add-depth Inv-loop μ-loop
-add-depth c = omega arith
-
-mul-depth-2 : tie.Need-mul-depth-2 Inv-loop μ-loop
-mul-depth-2 c = omega arith
-
-shared-slice-read-depth : tie.Need-shared-slice-read-depth Inv-loop μ-loop
-shared-slice-read-depth c = omega arith
-
 loop-holds : tie.Need-loop-holds Inv-loop μ-loop
 loop-holds c = (omega arith, refl)
-
-sub-i : tie.Need-sub-i Inv-loop μ-loop
-sub-i c = omega arith
-
-mul-if1 : tie.Need-mul-if1 Inv-loop μ-loop
-mul-if1 c = omega arith
-
-add-if1 : tie.Need-add-if1 Inv-loop μ-loop
-add-if1 c = omega arith
-
-mul-if1-2 : tie.Need-mul-if1-2 Inv-loop μ-loop
-mul-if1-2 c = omega arith
-
-shared-slice-read-if1 : tie.Need-shared-slice-read-if1 Inv-loop μ-loop
-shared-slice-read-if1 c = omega arith
-
-mul-result : tie.Need-mul-result Inv-loop μ-loop
-mul-result c = omega arith
-
-mul-result-2 : tie.Need-mul-result-2 Inv-loop μ-loop
-mul-result-2 c = omega arith
-
-shared-slice-read-result : tie.Need-shared-slice-read-result Inv-loop μ-loop
-shared-slice-read-result c = omega arith
 
 returns : tie.Need-returns Inv-loop μ-loop
 returns c =
@@ -64,9 +28,6 @@ returns c =
     let step : along (above d) noNode (rows (l .loop .i) us) ≡ getD us (5 * (l .loop .i - 1)) 0 =
     rw (lt-ltb (getD us (5 * (l .loop .i - 1) + 1) 0) d (c .before .if1 .taken)) at (along-back (above d) noNode (l .loop .i) us (omega arith)) in
     sym step ∙ l .loop .inv .1
-
-loop-less : tie.Need-loop-less Inv-loop μ-loop
-loop-less c = omega arith
 
 loop-again : tie.Need-loop-again Inv-loop μ-loop
 loop-again c =
@@ -89,23 +50,6 @@ returns-2 c =
 pub parent-of-spec : {M : Type 1} → statement M
 parent-of-spec =
     tie.close
-    (tie.spec
-    Inv-loop
-    μ-loop
-    mul-depth
-    add-depth
-    mul-depth-2
-    shared-slice-read-depth
-    loop-holds
-    sub-i
-    mul-if1
-    add-if1
-    mul-if1-2
-    shared-slice-read-if1
-    mul-result
-    mul-result-2
-    shared-slice-read-result
-    returns
-    loop-less
-    loop-again
-    returns-2)
+    (tie.spec Inv-loop μ-loop (λ c. omega arith) (λ c. omega arith) (λ c. omega arith) (λ c. omega arith) loop-holds
+    (λ c. omega arith) (λ c. omega arith) (λ c. omega arith) (λ c. omega arith) (λ c. omega arith) (λ c. omega arith)
+    (λ c. omega arith) (λ c. omega arith) returns (λ c. omega arith) loop-again returns-2)

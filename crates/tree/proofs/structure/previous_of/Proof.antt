@@ -16,35 +16,8 @@ Inv-loop nodes at depth i₀ i = (i ≤ at) × (along (beside depth) noNode (row
 abbrev μ-loop : tie.MeasureT-loop
 μ-loop nodes at depth i₀ i = i
 
-mul-depth : tie.Need-mul-depth Inv-loop μ-loop
-mul-depth c = omega arith
-
-add-depth : tie.Need-add-depth Inv-loop μ-loop
-add-depth c = omega arith
-
-mul-depth-2 : tie.Need-mul-depth-2 Inv-loop μ-loop
-mul-depth-2 c = omega arith
-
-shared-slice-read-depth : tie.Need-shared-slice-read-depth Inv-loop μ-loop
-shared-slice-read-depth c = omega arith
-
 loop-holds : tie.Need-loop-holds Inv-loop μ-loop
 loop-holds c = (omega arith, refl)
-
-sub-i : tie.Need-sub-i Inv-loop μ-loop
-sub-i c = omega arith
-
-mul-other : tie.Need-mul-other Inv-loop μ-loop
-mul-other c = omega arith
-
-add-other : tie.Need-add-other Inv-loop μ-loop
-add-other c = omega arith
-
-mul-other-2 : tie.Need-mul-other-2 Inv-loop μ-loop
-mul-other-2 c = omega arith
-
-shared-slice-read-other : tie.Need-shared-slice-read-other Inv-loop μ-loop
-shared-slice-read-other c = omega arith
 
 returns : tie.Need-returns Inv-loop μ-loop
 returns c =
@@ -56,15 +29,6 @@ returns c =
     rw (lt-ltb (getD us (5 * (l .loop .i - 1) + 1) 0) d (c .if1 .taken)) at (along-back (beside d) noNode (l .loop .i) us (omega arith)) in
     sym step ∙ l .loop .inv .1
 
-mul-result : tie.Need-mul-result Inv-loop μ-loop
-mul-result c = omega arith
-
-mul-result-2 : tie.Need-mul-result-2 Inv-loop μ-loop
-mul-result-2 c = omega arith
-
-shared-slice-read-result : tie.Need-shared-slice-read-result Inv-loop μ-loop
-shared-slice-read-result c = omega arith
-
 returns-2 : tie.Need-returns-2 Inv-loop μ-loop
 returns-2 c =
     let l = c .before .before .before .before .before in
@@ -75,9 +39,6 @@ returns-2 c =
     let step : along (beside d) noNode (rows (l .loop .i) us) ≡ getD us (5 * (l .loop .i - 1)) 0 =
     rw (le-ltb other d (omega arith), eq-eqb other d (c .before .if2 .taken)) at (along-back (beside d) noNode (l .loop .i) us (omega arith)) in
     sym step ∙ l .loop .inv .1
-
-loop-less : tie.Need-loop-less Inv-loop μ-loop
-loop-less c = omega arith
 
 loop-again : tie.Need-loop-again Inv-loop μ-loop
 loop-again c =
@@ -101,24 +62,6 @@ returns-3 c =
 pub previous-of-spec : {M : Type 1} → statement M
 previous-of-spec =
     tie.close
-    (tie.spec
-    Inv-loop
-    μ-loop
-    mul-depth
-    add-depth
-    mul-depth-2
-    shared-slice-read-depth
-    loop-holds
-    sub-i
-    mul-other
-    add-other
-    mul-other-2
-    shared-slice-read-other
-    returns
-    mul-result
-    mul-result-2
-    shared-slice-read-result
-    returns-2
-    loop-less
-    loop-again
-    returns-3)
+    (tie.spec Inv-loop μ-loop (λ c. omega arith) (λ c. omega arith) (λ c. omega arith) (λ c. omega arith) loop-holds
+    (λ c. omega arith) (λ c. omega arith) (λ c. omega arith) (λ c. omega arith) (λ c. omega arith) returns
+    (λ c. omega arith) (λ c. omega arith) (λ c. omega arith) returns-2 (λ c. omega arith) loop-again returns-3)

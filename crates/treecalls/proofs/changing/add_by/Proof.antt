@@ -11,9 +11,6 @@ use Rattle.treecalls.proofs.changing.add_by.Tie as tie
 place-of-requires : tie.Need-place-of-requires
 place-of-requires c κs = search needs
 
-same-length : tie.Need-same-length
-same-length c = search needs
-
 returns : tie.Need-returns
 returns c =
     let a = c .before .before .before .before .args in
@@ -32,9 +29,6 @@ mul-if2-2 c = let a = c .before .before .before .before .args in let at = c .bef
 slice-read-if2 : tie.Need-slice-read-if2
 slice-read-if2 c = let a = c .before .before .before .before .before .args in let at = c .before .before .place-of in let s = stands (a .nodes .now) (a .count) (a .target) (at .result) (at .ensures) (omega arith) in omega (arith, s .room, s .live)
 
-same-length-2 : tie.Need-same-length-2
-same-length-2 c = search needs
-
 returns-2 : tie.Need-returns-2
 returns-2 c =
     let a = c .before .before .before .before .before .before .args in
@@ -48,9 +42,6 @@ has-room-requires c κs =
     let at = c .before .before .before .place-of in
     let s = stands (a .nodes .now) (a .count) (a .target) (at .result) (at .ensures) (omega arith) in
     (s .few, s .room)
-
-same-length-3 : tie.Need-same-length-3
-same-length-3 c = search needs
 
 returns-3 : tie.Need-returns-3
 returns-3 c =
@@ -66,9 +57,6 @@ add-node-requires c κs =
     let s = stands (a .nodes .now) (a .count) (a .target) (at .result) (at .ensures) (omega arith) in
     add-ready (a .nodes .now) (a .count) (a .target) (at .result) (a .action) (a .node) s (omega arith) (sym (c .before .before .has-room .ensures) ∙ not-false (c .before .before .has-room .result) (c .before .if3 .left))
 
-same-length-4 : tie.Need-same-length-4
-same-length-4 c = search needs
-
 returns-4 : tie.Need-returns-4
 returns-4 c =
     let a = c .before .before .before .before .before .before .before .before .before .before .before .before .args in
@@ -77,4 +65,7 @@ returns-4 c =
     add-done (a .nodes .now) (a .count) (a .target) (at .result) (a .action) (a .node) s (omega arith) (sym (c .before .before .before .before .before .has-room .ensures) ∙ not-false (c .before .before .before .before .before .has-room .result) (c .before .before .before .before .if3 .left)) (c .before .before .add-node .last .0) (c .before .before .add-node .result) (c .before .before .add-node .ensures)
 
 pub add-by-spec : {M : Type 1} → statement M
-add-by-spec = tie.close (tie.spec place-of-requires same-length returns mul-if2 add-if2 mul-if2-2 slice-read-if2 same-length-2 returns-2 has-room-requires same-length-3 returns-3 add-node-requires same-length-4 returns-4)
+add-by-spec =
+    tie.close
+    (tie.spec place-of-requires (λ c. search needs) returns mul-if2 add-if2 mul-if2-2 slice-read-if2 (λ c. search needs)
+    returns-2 has-room-requires (λ c. search needs) returns-3 add-node-requires (λ c. search needs) returns-4)

@@ -7,50 +7,26 @@ use borrow.Author.Needs.{needs}
 use Rattle.treecalls.proofs.changing.change_at.Statement.{statement}
 use Rattle.treecalls.proofs.changing.change_at.Tie as tie
 
-enum-told : tie.Need-enum-told
-enum-told c = search needs
-
 cut-requires : tie.Need-cut-requires
 cut-requires c κs = search needs
-
-enum-told-2 : tie.Need-enum-told-2
-enum-told-2 c = search needs
 
 cut-below-requires : tie.Need-cut-below-requires
 cut-below-requires c κs = search needs
 
-enum-told-3 : tie.Need-enum-told-3
-enum-told-3 c = search needs
-
 deep-free-requires : tie.Need-deep-free-requires
 deep-free-requires c κs = search needs
-
-enum-known-change : tie.Need-enum-known-change
-enum-known-change c = search needs
 
 set-run-requires : tie.Need-set-run-requires
 set-run-requires c κs = search needs
 
-same-length : tie.Need-same-length
-same-length c = search needs
-
 returns : tie.Need-returns
 returns c = let case : c .before .before .before .before .before .before .before .args .change ≡ Free = cc in rw case (c .before .before .cut .ensures)
-
-same-length-2 : tie.Need-same-length-2
-same-length-2 c = search needs
 
 returns-2 : tie.Need-returns-2
 returns-2 c = let case : c .before .before .before .before .before .before .before .args .change ≡ FreeAll = cc in rw case (c .before .before .cut-below .ensures)
 
-same-length-3 : tie.Need-same-length-3
-same-length-3 c = search needs
-
 returns-3 : tie.Need-returns-3
 returns-3 c = let case : c .before .before .before .before .before .before .before .args .change ≡ DeepFree = cc in rw case (c .before .before .deep-free .ensures)
-
-same-length-4 : tie.Need-same-length-4
-same-length-4 c = search needs
 
 returns-4 : tie.Need-returns-4
 returns-4 c =
@@ -62,20 +38,6 @@ returns-4 c =
 pub change-at-spec : {M : Type 1} → statement M
 change-at-spec =
     tie.close
-    (tie.spec
-    enum-told
-    cut-requires
-    enum-told-2
-    cut-below-requires
-    enum-told-3
-    deep-free-requires
-    enum-known-change
-    set-run-requires
-    same-length
-    returns
-    same-length-2
-    returns-2
-    same-length-3
-    returns-3
-    same-length-4
-    returns-4)
+    (tie.spec (λ c. search needs) cut-requires (λ c. search needs) cut-below-requires (λ c. search needs)
+    deep-free-requires (λ c. search needs) set-run-requires (λ c. search needs) returns (λ c. search needs) returns-2
+    (λ c. search needs) returns-3 (λ c. search needs) returns-4)

@@ -9,9 +9,6 @@ use Rattle.treecalls.proofs.changing.change_node.Tie as tie
 place-of-requires : tie.Need-place-of-requires
 place-of-requires c κs = search needs
 
-same-length : tie.Need-same-length
-same-length c = search needs
-
 returns : tie.Need-returns
 returns c =
     let a = c .before .before .before .before .args in
@@ -24,9 +21,6 @@ change-at-requires c κs =
     let at = c .before .before .place-of in
     placed (stands (a .nodes .now) (a .count) (a .number) (at .result) (at .ensures) (omega arith))
 
-same-length-2 : tie.Need-same-length-2
-same-length-2 c = search needs
-
 returns-2 : tie.Need-returns-2
 returns-2 c =
     let a = c .before .before .before .before .before .before .before .before .args in
@@ -35,4 +29,6 @@ returns-2 c =
     edit-done (a .nodes .now) (a .count) (a .number) (at .result) (changeHere (a .change)) (stands (a .nodes .now) (a .count) (a .number) (at .result) (at .ensures) (omega arith)) (done .last .0) (done .result) (done .ensures)
 
 pub change-node-spec : {M : Type 1} → statement M
-change-node-spec = tie.close (tie.spec place-of-requires same-length returns change-at-requires same-length-2 returns-2)
+change-node-spec =
+    tie.close
+    (tie.spec place-of-requires (λ c. search needs) returns change-at-requires (λ c. search needs) returns-2)

@@ -9,18 +9,6 @@ use borrow.Author.Needs.{needs}
 use Rattle.treecalls.proofs.changing.has_room.Statement.{statement}
 use Rattle.treecalls.proofs.changing.has_room.Tie as tie
 
-enum-known-action : tie.Need-enum-known-action
-enum-known-action c = search needs
-
-mul-result : tie.Need-mul-result
-mul-result c = search needs
-
-add-result : tie.Need-add-result
-add-result c = search needs
-
-enum-told : tie.Need-enum-told
-enum-told c = search needs
-
 returns : tie.Need-returns
 returns c = let case : c .before .before .before .args .action ≡ Put (c .before .action .given .0 .0) = cc in rw case
 
@@ -32,4 +20,5 @@ returns-2 c =
 
 pub has-room-spec : {M : Type 1} → statement M
 has-room-spec =
-    tie.close (tie.spec enum-known-action mul-result add-result enum-told returns returns-2)
+    tie.close
+    (tie.spec (λ c. search needs) (λ c. search needs) (λ c. search needs) (λ c. search needs) returns returns-2)

@@ -11,17 +11,8 @@ use Rattle.treecalls.proofs.changing.tree_add.Tie as tie
 add-action-requires : tie.Need-add-action-requires
 add-action-requires c κs = search needs
 
-enum-known-asked : tie.Need-enum-known-asked
-enum-known-asked c = search needs
-
 add-by-requires : tie.Need-add-by-requires
 add-by-requires c κs = search needs
-
-enum-known-asked-2 : tie.Need-enum-known-asked-2
-enum-known-asked-2 c = search needs
-
-same-length : tie.Need-same-length
-same-length c = search needs
 
 returns : tie.Need-returns
 returns c =
@@ -40,11 +31,5 @@ returns-2 c =
 pub tree-add-spec : {M : Type 1} → statement M
 tree-add-spec =
     tie.close
-    (tie.spec
-    add-action-requires
-    enum-known-asked
-    add-by-requires
-    enum-known-asked-2
-    same-length
-    returns
+    (tie.spec add-action-requires (λ c. search needs) add-by-requires (λ c. search needs) (λ c. search needs) returns
     returns-2)

@@ -23,4 +23,5 @@ returns-2 c =
     rw (eq-eqb (length (a .nodes .now)) 1280 (omega arith)) (c .answer-bit .ensures ∙ ap bit (c .before .nodes-formed .ensures))
 
 pub tree-formed-spec : {M : Type 1} → statement M
-tree-formed-spec = tie.close (tie.spec returns nodes-formed-requires answer-bit-requires returns-2)
+tree-formed-spec =
+    tie.close (tie.spec returns nodes-formed-requires answer-bit-requires returns-2)

@@ -29,13 +29,13 @@ running-order-requires c κs =
 write-order-requires : tie.Need-write-order-requires
 write-order-requires c κs = omega arith
 
-same-length : tie.Need-same-length
-same-length c = search needs
-
 returns-3 : tie.Need-returns-3
 returns-3 c =
     let a = c .before .before .before .before .before .before .before .before .before .before .args in
     order-done (a .nodes .now) (a .count) (a .order .now) (sym (c .before .before .before .before .before .before .before .has-table .ensures) ∙ not-false (c .before .before .before .before .before .before .before .has-table .result) (c .before .before .before .before .before .before .if1 .left)) (omega arith) (c .before .before .before .before .running-order .result) (c .before .before .before .before .running-order .ensures) (c .before .before .write-order .last .0) (c .before .before .write-order .ensures)
 
 pub tree-order-spec : {M : Type 1} → statement M
-tree-order-spec = tie.close (tie.spec has-table-requires returns returns-2 running-order-requires write-order-requires same-length returns-3)
+tree-order-spec =
+    tie.close
+    (tie.spec has-table-requires returns returns-2 running-order-requires write-order-requires (λ c. search needs)
+    returns-3)

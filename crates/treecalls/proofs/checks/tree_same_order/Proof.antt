@@ -36,4 +36,5 @@ returns-3 c =
     rw (order-ready (a .nodes .now) (a .count) (a .kept .now) (sym (c .before .before .before .before .has-table .ensures) ∙ not-false (c .before .before .before .before .has-table .result) (c .before .before .before .if1 .left)) (omega arith)) (c .answer-bit .ensures ∙ ap bit (c .before .same-order .ensures))
 
 pub tree-same-order-spec : {M : Type 1} → statement M
-tree-same-order-spec = tie.close (tie.spec has-table-requires returns returns-2 same-order-requires answer-bit-requires returns-3)
+tree-same-order-spec =
+    tie.close (tie.spec has-table-requires returns returns-2 same-order-requires answer-bit-requires returns-3)

@@ -28,4 +28,5 @@ returns-2 c =
     look-done (a .question) (a .nodes .now) (a .count) (a .number) (at .result) (stands (a .nodes .now) (a .count) (a .number) (at .result) (at .ensures) (omega arith)) (c .look-at .result) (c .look-at .ensures)
 
 pub look-spec : {M : Type 1} → statement M
-look-spec = tie.close (tie.spec place-of-requires returns look-at-requires returns-2)
+look-spec =
+    tie.close (tie.spec place-of-requires returns look-at-requires returns-2)

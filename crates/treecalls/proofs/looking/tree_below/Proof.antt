@@ -42,4 +42,6 @@ returns-3 c =
     below-done (a .nodes .now) (a .count) (a .a) (a .b) (c .before .before .before .before .before .place-of .result) (c .before .before .before .place-of2 .result) s t (c .before .lies-below .result) (c .before .lies-below .ensures) (c .answer-bit .result) (c .answer-bit .ensures)
 
 pub tree-below-spec : {M : Type 1} → statement M
-tree-below-spec = tie.close (tie.spec place-of-requires returns place-of-requires-2 returns-2 lies-below-requires answer-bit-requires returns-3)
+tree-below-spec =
+    tie.close
+    (tie.spec place-of-requires returns place-of-requires-2 returns-2 lies-below-requires answer-bit-requires returns-3)

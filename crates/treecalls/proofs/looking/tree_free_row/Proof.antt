@@ -24,4 +24,5 @@ returns-2 : tie.Need-returns-2
 returns-2 c = rw (sym (c .before .before .before .has-table .ensures) ∙ not-false (c .before .before .before .has-table .result) (c .before .before .if1 .left)) (c .answer .ensures ∙ c .before .free-row .ensures)
 
 pub tree-free-row-spec : {M : Type 1} → statement M
-tree-free-row-spec = tie.close (tie.spec has-table-requires returns free-row-requires answer-requires returns-2)
+tree-free-row-spec =
+    tie.close (tie.spec has-table-requires returns free-row-requires answer-requires returns-2)

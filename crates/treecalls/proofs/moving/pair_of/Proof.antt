@@ -68,4 +68,7 @@ returns-5 c =
     clear (a .nodes .now) (a .count) (a .a) (a .b) (i .result) (j .result) s t (c .before .before .before .lies-below .result) (c .before .before .before .lies-below .ensures) (c .before .before .if3 .left) (sym (c .before .all-shallow .ensures) ∙ not-false (c .before .all-shallow .result) (c .if4 .left))
 
 pub pair-of-spec : {M : Type 1} → statement M
-pair-of-spec = tie.close (tie.spec place-of-requires returns place-of-requires-2 returns-2 lies-below-requires returns-3 all-shallow-requires returns-4 returns-5)
+pair-of-spec =
+    tie.close
+    (tie.spec place-of-requires returns place-of-requires-2 returns-2 lies-below-requires returns-3 all-shallow-requires
+    returns-4 returns-5)

@@ -10,14 +10,8 @@ use Rattle.treecalls.proofs.moving.tree_move.Tie as tie
 way-of-requires : tie.Need-way-of-requires
 way-of-requires c κs = search needs
 
-enum-known-way : tie.Need-enum-known-way
-enum-known-way c = search needs
-
 pair-of-requires : tie.Need-pair-of-requires
 pair-of-requires c κs = search needs
-
-enum-known-pair : tie.Need-enum-known-pair
-enum-known-pair c = search needs
 
 move-node-requires : tie.Need-move-node-requires
 move-node-requires c κs =
@@ -27,15 +21,6 @@ move-node-requires c κs =
     let fact : c .before .before .before .before .pair-of .result ≡ pair.At i j = c .before .before .pair .given .1 in
     let clear : Clear (a .nodes .now) (a .count) (a .a) (a .b) i j = rw fact at (c .before .before .before .before .pair-of .ensures) in
     clear .moving
-
-enum-told : tie.Need-enum-told
-enum-told c = search needs
-
-enum-told-2 : tie.Need-enum-told-2
-enum-told-2 c = search needs
-
-same-length : tie.Need-same-length
-same-length c = search needs
 
 returns : tie.Need-returns
 returns c =
@@ -47,9 +32,6 @@ returns c =
     let fact : c .before .before .before .before .before .before .before .pair-of .result ≡ pair.At i j = c .before .before .before .before .before .pair .given .1 in
     let clear : Clear (a .nodes .now) (a .count) (a .a) (a .b) i j = rw fact at (c .before .before .before .before .before .before .before .pair-of .ensures) in
     move-done (a .how) (a .nodes .now) (a .count) (a .a) (a .b) p way i j clear (c .before .before .move-node .last .0) (c .before .before .move-node .ensures)
-
-same-length-2 : tie.Need-same-length-2
-same-length-2 c = search needs
 
 returns-2 : tie.Need-returns-2
 returns-2 c =
@@ -68,16 +50,5 @@ returns-3 c =
 pub tree-move-spec : {M : Type 1} → statement M
 tree-move-spec =
     tie.close
-    (tie.spec
-    way-of-requires
-    enum-known-way
-    pair-of-requires
-    enum-known-pair
-    move-node-requires
-    enum-told
-    enum-told-2
-    same-length
-    returns
-    same-length-2
-    returns-2
-    returns-3)
+    (tie.spec way-of-requires (λ c. search needs) pair-of-requires (λ c. search needs) move-node-requires
+    (λ c. search needs) (λ c. search needs) (λ c. search needs) returns (λ c. search needs) returns-2 returns-3)

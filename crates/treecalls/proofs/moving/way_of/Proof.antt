@@ -24,4 +24,5 @@ returns-5 c =
     rw case
 
 pub way-of-spec : {M : Type 1} → statement M
-way-of-spec = tie.close (tie.spec returns returns-2 returns-3 returns-4 returns-5)
+way-of-spec =
+    tie.close (tie.spec returns returns-2 returns-3 returns-4 returns-5)

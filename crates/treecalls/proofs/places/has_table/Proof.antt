@@ -8,11 +8,9 @@ use Rattle.treecalls.proofs.places.has_table.Tie as tie
 returns : tie.Need-returns
 returns c = rw (lt-leb (c .before .args .count) 256 (c .if1 .taken))
 
-mul-result : tie.Need-mul-result
-mul-result c = search needs
-
 returns-2 : tie.Need-returns-2
 returns-2 c = rw (le-leb (c .before .args .count) 256 (omega arith))
 
 pub has-table-spec : {M : Type 1} → statement M
-has-table-spec = tie.close (tie.spec returns mul-result returns-2)
+has-table-spec =
+    tie.close (tie.spec returns (λ c. search needs) returns-2)

@@ -25,4 +25,5 @@ returns-2 c =
     rw (sym (c .before .before .has-table .ensures) ∙ not-false (c .before .before .has-table .result) (c .before .if1 .left)) (c .find .ensures)
 
 pub place-of-spec : {M : Type 1} → statement M
-place-of-spec = tie.close (tie.spec has-table-requires returns find-requires returns-2)
+place-of-spec =
+    tie.close (tie.spec has-table-requires returns find-requires returns-2)

@@ -6,29 +6,11 @@ use borrow.Author.Needs.{needs}
 use Rattle.treecommands.proofs.adding.bad_target.Statement.{statement}
 use Rattle.treecommands.proofs.adding.bad_target.Tie as tie
 
-enum-known-action : tie.Need-enum-known-action
-enum-known-action c = search needs
-
-enum-told : tie.Need-enum-told
-enum-told c = search needs
-
 is-synth-requires : tie.Need-is-synth-requires
 is-synth-requires c κs = search needs
 
-enum-told-2 : tie.Need-enum-told-2
-enum-told-2 c = search needs
-
 is-synth-requires-2 : tie.Need-is-synth-requires-2
 is-synth-requires-2 c κs = search needs
-
-enum-told-3 : tie.Need-enum-told-3
-enum-told-3 c = search needs
-
-enum-told-4 : tie.Need-enum-told-4
-enum-told-4 c = search needs
-
-enum-told-5 : tie.Need-enum-told-5
-enum-told-5 c = search needs
 
 returns : tie.Need-returns
 returns c =
@@ -58,17 +40,5 @@ returns-5 c =
 pub bad-target-spec : {M : Type 1} → statement M
 bad-target-spec =
     tie.close
-    (tie.spec
-    enum-known-action
-    enum-told
-    is-synth-requires
-    enum-told-2
-    is-synth-requires-2
-    enum-told-3
-    enum-told-4
-    enum-told-5
-    returns
-    returns-2
-    returns-3
-    returns-4
-    returns-5)
+    (tie.spec (λ c. search needs) (λ c. search needs) is-synth-requires (λ c. search needs) is-synth-requires-2
+    (λ c. search needs) (λ c. search needs) (λ c. search needs) returns returns-2 returns-3 returns-4 returns-5)

@@ -23,9 +23,6 @@ renew-header-requires c κs =
     let there = order-changed (a .edit) (a .count) (a .words .now) (first .pre) (order .last .0) (order .ensures .0) in
     edited-sorted (a .edit) (a .count) (order .last .0) there (index .last .0) (index .ensures)
 
-same-length : tie.Need-same-length
-same-length c = search needs
-
 returns : tie.Need-returns
 returns c =
     let first = c .before .before .before .before .before .before .before .before .before .before .before .before .before in
@@ -38,4 +35,4 @@ returns c =
 pub renew-spec : {M : Type 1} → statement M
 renew-spec =
     tie.close
-    (tie.spec renew-order-requires renew-index-requires renew-header-requires same-length returns)
+    (tie.spec renew-order-requires renew-index-requires renew-header-requires (λ c. search needs) returns)

@@ -14,9 +14,6 @@ renew-header-requires c κs =
     let order = c .before .before .before .renew-order in
     order-sorted (a .count) (a .words .now) (first .pre) (order .last .0) (order .ensures .0)
 
-same-length : tie.Need-same-length
-same-length c = search needs
-
 returns : tie.Need-returns
 returns c =
     let first = c .before .before .before .before .before .before .before .before .before in
@@ -27,4 +24,4 @@ returns c =
 
 pub renew-in-place-spec : {M : Type 1} → statement M
 renew-in-place-spec =
-    tie.close (tie.spec renew-order-requires renew-header-requires same-length returns)
+    tie.close (tie.spec renew-order-requires renew-header-requires (λ c. search needs) returns)

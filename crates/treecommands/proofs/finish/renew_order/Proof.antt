@@ -10,26 +10,8 @@ use Rattle.treecommands.specs.Settle.{order-by, many-few}
 use Rattle.treecommands.proofs.finish.renew_order.Statement.{statement}
 use Rattle.treecommands.proofs.finish.renew_order.Tie as tie
 
-sub-running-order : tie.Need-sub-running-order
-sub-running-order c = search needs
-
-part-running-order-start : tie.Need-part-running-order-start
-part-running-order-start c = search needs
-
-part-running-order-end : tie.Need-part-running-order-end
-part-running-order-end c = search needs
-
 running-order-requires : tie.Need-running-order-requires
 running-order-requires c κs = search needs
-
-sub-copy-words : tie.Need-sub-copy-words
-sub-copy-words c = search needs
-
-part-copy-words-start : tie.Need-part-copy-words-start
-part-copy-words-start c = search needs
-
-part-copy-words-end : tie.Need-part-copy-words-end
-part-copy-words-end c = search needs
 
 copy-words-requires : tie.Need-copy-words-requires
 copy-words-requires c κs = search needs
@@ -39,9 +21,6 @@ cast-result c =
     let a = c .before .before .before .before .before .before .before .before .before .before .before .args in
     let order = c .before .before .before .before .before .before .before .running-order in
     omega (arith, many-few (a .count) (a .words .now) (order .result) (order .ensures))
-
-same-length : tie.Need-same-length
-same-length c = search needs
 
 returns : tie.Need-returns
 returns c =
@@ -56,15 +35,5 @@ returns c =
 pub renew-order-spec : {M : Type 1} → statement M
 renew-order-spec =
     tie.close
-    (tie.spec
-    sub-running-order
-    part-running-order-start
-    part-running-order-end
-    running-order-requires
-    sub-copy-words
-    part-copy-words-start
-    part-copy-words-end
-    copy-words-requires
-    cast-result
-    same-length
-    returns)
+    (tie.spec (λ c. search needs) (λ c. search needs) (λ c. search needs) running-order-requires (λ c. search needs)
+    (λ c. search needs) (λ c. search needs) copy-words-requires cast-result (λ c. search needs) returns)

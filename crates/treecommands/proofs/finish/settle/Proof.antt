@@ -21,9 +21,6 @@ cast-write-header c = omega (arith, c .before .before .before .before .before .b
 write-header-requires : tie.Need-write-header-requires
 write-header-requires c κs = search needs
 
-same-length : tie.Need-same-length
-same-length c = search needs
-
 returns : tie.Need-returns
 returns c =
     let first = c .before .before .before .before .before .before .before .before .before .before .before .before .before in
@@ -36,10 +33,5 @@ returns c =
 pub settle-spec : {M : Type 1} → statement M
 settle-spec =
     tie.close
-    (tie.spec
-    renew-order-requires
-    renew-index-requires
-    cast-write-header
-    write-header-requires
-    same-length
+    (tie.spec renew-order-requires renew-index-requires cast-write-header write-header-requires (λ c. search needs)
     returns)

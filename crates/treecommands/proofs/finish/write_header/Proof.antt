@@ -6,20 +6,11 @@ use Rattle.treecommands.specs.Settle.{header-sets}
 use Rattle.treecommands.proofs.finish.write_header.Statement.{statement}
 use Rattle.treecommands.proofs.finish.write_header.Tie as tie
 
-slice-write-words : tie.Need-slice-write-words
-slice-write-words c = search needs
-
 slice-write-words-2 : tie.Need-slice-write-words-2
 slice-write-words-2 c = simp length-set (omega arith)
 
 slice-write-words-3 : tie.Need-slice-write-words-3
 slice-write-words-3 c = simp length-set (omega arith)
-
-slice-write-words-4 : tie.Need-slice-write-words-4
-slice-write-words-4 c = search needs
-
-same-length : tie.Need-same-length
-same-length c = search needs
 
 returns : tie.Need-returns
 returns c =
@@ -29,10 +20,5 @@ returns c =
 pub write-header-spec : {M : Type 1} → statement M
 write-header-spec =
     tie.close
-    (tie.spec
-    slice-write-words
-    slice-write-words-2
-    slice-write-words-3
-    slice-write-words-4
-    same-length
+    (tie.spec (λ c. search needs) slice-write-words-2 slice-write-words-3 (λ c. search needs) (λ c. search needs)
     returns)

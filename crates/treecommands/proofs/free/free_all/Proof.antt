@@ -8,17 +8,11 @@ use Rattle.treecommands.specs.Emptying.{all-unknown, all-wrong, all-read
 use Rattle.treecommands.proofs.free.free_all.Statement.{statement}
 use Rattle.treecommands.proofs.free.free_all.Tie as tie
 
-slice-read-wide : tie.Need-slice-read-wide
-slice-read-wide c = search needs
-
 wide-requires : tie.Need-wide-requires
 wide-requires c κs = search needs
 
 node-place-requires : tie.Need-node-place-requires
 node-place-requires c κs = search needs
-
-same-length : tie.Need-same-length
-same-length c = search needs
 
 returns : tie.Need-returns
 returns c =
@@ -29,29 +23,14 @@ returns c =
 is-synth-requires : tie.Need-is-synth-requires
 is-synth-requires c κs = search needs
 
-same-length-2 : tie.Need-same-length-2
-same-length-2 c = search needs
-
 returns-2 : tie.Need-returns-2
 returns-2 c =
     let s = c .before .before .before .before .before .before .before .before .before in
     let a = s .args in
     all-wrong (a .group) (a .words .now) (s .pre) (c .before .before .before .before .before .before .wide .result) (c .before .before .before .before .before .before .wide .ensures) (c .before .before .before .before .node-place .result) (c .before .before .before .before .node-place .ensures) (omega arith) (sym (c .before .is-synth .ensures) ∙ c .if2 .taken)
 
-sub-cut-below : tie.Need-sub-cut-below
-sub-cut-below c = search needs
-
-part-cut-below-start : tie.Need-part-cut-below-start
-part-cut-below-start c = search needs
-
-part-cut-below-end : tie.Need-part-cut-below-end
-part-cut-below-end c = search needs
-
 cut-below-requires : tie.Need-cut-below-requires
 cut-below-requires c κs = search needs
-
-add-first : tie.Need-add-first
-add-first c = search needs
 
 sub-end : tie.Need-sub-end
 sub-end c =
@@ -80,9 +59,6 @@ renew-requires c κs =
     let cut = c .before .before .before .cut-below in
     all-ready (a .group) (a .words .now) (s .pre) (count .result) (count .ensures) (at .result) (at .ensures) (omega arith) (cut .last .0) (cut .result) (cut .ensures)
 
-same-length-3 : tie.Need-same-length-3
-same-length-3 c = search needs
-
 returns-3 : tie.Need-returns-3
 returns-3 c =
     let s = c .before .before .before .before .before .before .before .before .before .before .before .before .before .before .before .before .before in
@@ -96,22 +72,6 @@ returns-3 c =
 pub free-all-spec : {M : Type 1} → statement M
 free-all-spec =
     tie.close
-    (tie.spec
-    slice-read-wide
-    wide-requires
-    node-place-requires
-    same-length
-    returns
-    is-synth-requires
-    same-length-2
-    returns-2
-    sub-cut-below
-    part-cut-below-start
-    part-cut-below-end
-    cut-below-requires
-    add-first
-    sub-end
-    add-end
-    renew-requires
-    same-length-3
-    returns-3)
+    (tie.spec (λ c. search needs) wide-requires node-place-requires (λ c. search needs) returns is-synth-requires
+    (λ c. search needs) returns-2 (λ c. search needs) (λ c. search needs) (λ c. search needs) cut-below-requires
+    (λ c. search needs) sub-end add-end renew-requires (λ c. search needs) returns-3)

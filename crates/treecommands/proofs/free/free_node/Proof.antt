@@ -7,17 +7,11 @@ use Rattle.treecommands.specs.Freeing.{free-unknown, free-root, free-rea
 use Rattle.treecommands.proofs.free.free_node.Statement.{statement}
 use Rattle.treecommands.proofs.free.free_node.Tie as tie
 
-slice-read-wide : tie.Need-slice-read-wide
-slice-read-wide c = search needs
-
 wide-requires : tie.Need-wide-requires
 wide-requires c κs = search needs
 
 node-place-requires : tie.Need-node-place-requires
 node-place-requires c κs = search needs
-
-same-length : tie.Need-same-length
-same-length c = search needs
 
 returns : tie.Need-returns
 returns c =
@@ -25,23 +19,11 @@ returns c =
     let a = s .args in
     free-unknown (a .node) (a .words .now) (s .pre) (c .before .before .before .wide .result) (c .before .before .before .wide .ensures) (c .before .node-place .result) (c .before .node-place .ensures) (c .if1 .taken)
 
-same-length-2 : tie.Need-same-length-2
-same-length-2 c = search needs
-
 returns-2 : tie.Need-returns-2
 returns-2 c =
     let s = c .before .before .before .before .before .before .before in
     let a = s .args in
     free-root (a .node) (a .words .now) (s .pre) (c .before .before .before .before .wide .result) (c .before .before .before .before .wide .ensures) (c .before .before .node-place .result) (c .before .before .node-place .ensures) (omega arith) (c .if2 .taken)
-
-sub-cut : tie.Need-sub-cut
-sub-cut c = search needs
-
-part-cut-start : tie.Need-part-cut-start
-part-cut-start c = search needs
-
-part-cut-end : tie.Need-part-cut-end
-part-cut-end c = search needs
 
 cut-requires : tie.Need-cut-requires
 cut-requires c κs = search needs
@@ -73,9 +55,6 @@ renew-requires c κs =
     let cut = c .before .before .before .cut in
     free-ready (a .node) (a .words .now) (s .pre) (count .result) (count .ensures) (at .result) (at .ensures) (omega arith) (cut .last .0) (cut .result) (cut .ensures)
 
-same-length-3 : tie.Need-same-length-3
-same-length-3 c = search needs
-
 returns-3 : tie.Need-returns-3
 returns-3 c =
     let s = c .before .before .before .before .before .before .before .before .before .before .before .before .before .before .before in
@@ -89,20 +68,6 @@ returns-3 c =
 pub free-node-spec : {M : Type 1} → statement M
 free-node-spec =
     tie.close
-    (tie.spec
-    slice-read-wide
-    wide-requires
-    node-place-requires
-    same-length
-    returns
-    same-length-2
-    returns-2
-    sub-cut
-    part-cut-start
-    part-cut-end
-    cut-requires
-    sub-end
-    add-end
-    renew-requires
-    same-length-3
-    returns-3)
+    (tie.spec (λ c. search needs) wide-requires node-place-requires (λ c. search needs) returns (λ c. search needs)
+    returns-2 (λ c. search needs) (λ c. search needs) (λ c. search needs) cut-requires sub-end add-end renew-requires
+    (λ c. search needs) returns-3)

@@ -10,32 +10,17 @@ returns c =
     let a = c .before .before .args in
     run-flag (a .node) (a .flag) (a .words .now) (c .if1 .taken)
 
-slice-read-wide : tie.Need-slice-read-wide
-slice-read-wide c = search needs
-
 wide-requires : tie.Need-wide-requires
 wide-requires c κs = search needs
 
 node-place-requires : tie.Need-node-place-requires
 node-place-requires c κs = search needs
 
-same-length : tie.Need-same-length
-same-length c = search needs
-
 returns-2 : tie.Need-returns-2
 returns-2 c =
     let s = c .before .before .before .before .before .before .before in
     let a = s .args in
     run-unknown (a .node) (a .flag) (a .words .now) (s .pre) (c .before .before .before .wide .result) (c .before .before .before .wide .ensures) (c .before .node-place .result) (c .before .node-place .ensures) (omega arith) (c .if2 .taken)
-
-sub-set-run : tie.Need-sub-set-run
-sub-set-run c = search needs
-
-part-set-run-start : tie.Need-part-set-run-start
-part-set-run-start c = search needs
-
-part-set-run-end : tie.Need-part-set-run-end
-part-set-run-end c = search needs
 
 set-run-requires : tie.Need-set-run-requires
 set-run-requires c κs = search needs
@@ -49,9 +34,6 @@ renew-in-place-requires c κs =
     let run = c .before .before .before .set-run in
     run-sorted (a .node) (a .flag) (a .words .now) (s .pre) (count .result) (count .ensures) (at .result) (at .ensures) (omega arith) (run .last .0) (omega arith) (run .ensures)
 
-same-length-2 : tie.Need-same-length-2
-same-length-2 c = search needs
-
 returns-3 : tie.Need-returns-3
 returns-3 c =
     let s = c .before .before .before .before .before .before .before .before .before .before .before .before .before .before .before in
@@ -62,17 +44,6 @@ returns-3 c =
 pub run-node-spec : {M : Type 1} → statement M
 run-node-spec =
     tie.close
-    (tie.spec
-    returns
-    slice-read-wide
-    wide-requires
-    node-place-requires
-    same-length
-    returns-2
-    sub-set-run
-    part-set-run-start
-    part-set-run-end
-    set-run-requires
-    renew-in-place-requires
-    same-length-2
-    returns-3)
+    (tie.spec returns (λ c. search needs) wide-requires node-place-requires (λ c. search needs) returns-2
+    (λ c. search needs) (λ c. search needs) (λ c. search needs) set-run-requires renew-in-place-requires
+    (λ c. search needs) returns-3)

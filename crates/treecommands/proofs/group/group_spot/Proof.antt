@@ -12,9 +12,6 @@ returns c =
     let a = s .args in
     group-negative (a .number) (a .action) (a .target) (a .words .now) (c .if1 .taken)
 
-shared-slice-read-wide : tie.Need-shared-slice-read-wide
-shared-slice-read-wide c = search needs
-
 wide-requires : tie.Need-wide-requires
 wide-requires c κs = search needs
 
@@ -77,16 +74,5 @@ returns-6 c =
 pub group-spot-spec : {M : Type 1} → statement M
 group-spot-spec =
     tie.close
-    (tie.spec
-    returns
-    shared-slice-read-wide
-    wide-requires
-    place-of-requires
-    returns-2
-    node-place-requires
-    returns-3
-    bad-target-requires
-    returns-4
-    is-full-requires
-    returns-5
-    returns-6)
+    (tie.spec returns (λ c. search needs) wide-requires place-of-requires returns-2 node-place-requires returns-3
+    bad-target-requires returns-4 is-full-requires returns-5 returns-6)

@@ -10,17 +10,8 @@ use Rattle.treecommands.proofs.group.new_group.Tie as tie
 add-action-requires : tie.Need-add-action-requires
 add-action-requires c κs = search needs
 
-enum-known-asked : tie.Need-enum-known-asked
-enum-known-asked c = search needs
-
 add-group-requires : tie.Need-add-group-requires
 add-group-requires c κs = search needs
-
-enum-known-asked-2 : tie.Need-enum-known-asked-2
-enum-known-asked-2 c = search needs
-
-same-length : tie.Need-same-length
-same-length c = search needs
 
 returns : tie.Need-returns
 returns c =
@@ -38,4 +29,7 @@ returns-2 c =
     rw (refused .1) (group-unasked (a .number) (a .action) (a .target) (a .words .now) (refused .0))
 
 pub new-group-spec : {M : Type 1} → statement M
-new-group-spec = tie.close (tie.spec add-action-requires enum-known-asked add-group-requires enum-known-asked-2 same-length returns returns-2)
+new-group-spec =
+    tie.close
+    (tie.spec add-action-requires (λ c. search needs) add-group-requires (λ c. search needs) (λ c. search needs) returns
+    returns-2)

@@ -7,14 +7,8 @@ use Rattle.tree.specs.declared.action.Action.the-variants.{Put, Replace}
 use Rattle.treecommands.proofs.indexing.edit_by.Statement.{statement}
 use Rattle.treecommands.proofs.indexing.edit_by.Tie as tie
 
-enum-known-action : tie.Need-enum-known-action
-enum-known-action c = search needs
-
 place-at-requires : tie.Need-place-at-requires
 place-at-requires c κs = search needs
-
-enum-told : tie.Need-enum-told
-enum-told c = search needs
 
 subtree-end-requires : tie.Need-subtree-end-requires
 subtree-end-requires c κs = search needs
@@ -35,4 +29,4 @@ returns-2 c =
 pub edit-by-spec : {M : Type 1} → statement M
 edit-by-spec =
     tie.close
-    (tie.spec enum-known-action place-at-requires enum-told subtree-end-requires returns returns-2)
+    (tie.spec (λ c. search needs) place-at-requires (λ c. search needs) subtree-end-requires returns returns-2)

@@ -27,4 +27,5 @@ returns-2 c =
     rw (sym (place .ensures), sym (end .ensures), lt-leb (place .result) (a .a) (omega arith))
 
 pub move-edit-spec : {M : Type 1} → statement M
-move-edit-spec = tie.close (tie.spec subtree-end-requires place-at-requires returns returns-2)
+move-edit-spec =
+    tie.close (tie.spec subtree-end-requires place-at-requires returns returns-2)

@@ -5,23 +5,8 @@ use Rattle.tree.specs.declared.action.Position.the-variants.{Head, Tail, Before
 use Rattle.treecommands.proofs.indexing.place_at.Statement.{statement}
 use Rattle.treecommands.proofs.indexing.place_at.Tie as tie
 
-enum-told : tie.Need-enum-told
-enum-told c = search needs
-
-add-result : tie.Need-add-result
-add-result c = search needs
-
-enum-told-2 : tie.Need-enum-told-2
-enum-told-2 c = search needs
-
 subtree-end-requires : tie.Need-subtree-end-requires
 subtree-end-requires c κs = search needs
-
-enum-told-3 : tie.Need-enum-told-3
-enum-told-3 c = search needs
-
-enum-told-4 : tie.Need-enum-told-4
-enum-told-4 c = search needs
 
 subtree-end-requires-2 : tie.Need-subtree-end-requires-2
 subtree-end-requires-2 c κs = search needs
@@ -41,15 +26,5 @@ returns-4 c = let case : c .before .before .before .before .args .position ≡ A
 pub place-at-spec : {M : Type 1} → statement M
 place-at-spec =
     tie.close
-    (tie.spec
-    enum-told
-    add-result
-    enum-told-2
-    subtree-end-requires
-    enum-told-3
-    enum-told-4
-    subtree-end-requires-2
-    returns
-    returns-2
-    returns-3
-    returns-4)
+    (tie.spec (λ c. search needs) (λ c. search needs) (λ c. search needs) subtree-end-requires (λ c. search needs)
+    (λ c. search needs) subtree-end-requires-2 returns returns-2 returns-3 returns-4)

@@ -13,35 +13,8 @@ use Rattle.treecommands.specs.Settle.{indexRegion}
 use Rattle.treecommands.proofs.indexing.put_new.Statement.{statement}
 use Rattle.treecommands.proofs.indexing.put_new.Tie as tie
 
-sub-spot-of : tie.Need-sub-spot-of
-sub-spot-of c = search needs
-
-part-spot-of-start : tie.Need-part-spot-of-start
-part-spot-of-start c = search needs
-
-part-spot-of-end : tie.Need-part-spot-of-end
-part-spot-of-end c = search needs
-
-sub-spot-of-2 : tie.Need-sub-spot-of-2
-sub-spot-of-2 c = search needs
-
-part-spot-of-start-2 : tie.Need-part-spot-of-start-2
-part-spot-of-start-2 c = search needs
-
-part-spot-of-end-2 : tie.Need-part-spot-of-end-2
-part-spot-of-end-2 c = search needs
-
 spot-of-requires : tie.Need-spot-of-requires
 spot-of-requires c κs = search needs
-
-sub-put-entry : tie.Need-sub-put-entry
-sub-put-entry c = search needs
-
-part-put-entry-start : tie.Need-part-put-entry-start
-part-put-entry-start c = search needs
-
-part-put-entry-end : tie.Need-part-put-entry-end
-part-put-entry-end c = search needs
 
 put-entry-requires : tie.Need-put-entry-requires
 put-entry-requires c κs =
@@ -52,9 +25,6 @@ put-entry-requires c κs =
     let near = spot-near (nodeWords ws) (indexRegion ws) (a .count) (getD (nodeWords ws) (5 * a .at) 0) reads in
     let spot = c .before .spot-of in
     (omega (arith, spot .ensures, near), (reads .entries, omega (arith, s .pre .1 .1, reads .few)))
-
-same-length : tie.Need-same-length
-same-length c = search needs
 
 returns : tie.Need-returns
 returns c =
@@ -68,17 +38,6 @@ returns c =
 pub put-new-spec : {M : Type 1} → statement M
 put-new-spec =
     tie.close
-    (tie.spec
-    sub-spot-of
-    part-spot-of-start
-    part-spot-of-end
-    sub-spot-of-2
-    part-spot-of-start-2
-    part-spot-of-end-2
-    spot-of-requires
-    sub-put-entry
-    part-put-entry-start
-    part-put-entry-end
-    put-entry-requires
-    same-length
-    returns)
+    (tie.spec (λ c. search needs) (λ c. search needs) (λ c. search needs) (λ c. search needs) (λ c. search needs)
+    (λ c. search needs) spot-of-requires (λ c. search needs) (λ c. search needs) (λ c. search needs) put-entry-requires
+    (λ c. search needs) returns)

@@ -13,31 +13,13 @@ use Rattle.treecommands.specs.Indexing.{changed-follows, cut-index, swap
 use Rattle.treecommands.proofs.indexing.renew_index.Statement.{statement}
 use Rattle.treecommands.proofs.indexing.renew_index.Tie as tie
 
-slice-read-wide : tie.Need-slice-read-wide
-slice-read-wide c = search needs
-
 wide-requires : tie.Need-wide-requires
 wide-requires c κs = search needs
-
-sub-follow-edit : tie.Need-sub-follow-edit
-sub-follow-edit c = search needs
-
-part-follow-edit-start : tie.Need-part-follow-edit-start
-part-follow-edit-start c = search needs
-
-part-follow-edit-end : tie.Need-part-follow-edit-end
-part-follow-edit-end c = search needs
 
 follow-edit-requires : tie.Need-follow-edit-requires
 follow-edit-requires c κs =
     let s = c .before .before .before .before in
     rw (c .before .wide .ensures) (changed-follows (s .args .edit) (s .args .count) (s .args .words .now) (s .pre))
-
-enum-known-edit : tie.Need-enum-known-edit
-enum-known-edit c = search needs
-
-enum-known-edit-2 : tie.Need-enum-known-edit-2
-enum-known-edit-2 c = search needs
 
 put-new-requires : tie.Need-put-new-requires
 put-new-requires c κs =
@@ -52,12 +34,6 @@ put-new-requires c κs =
     subst₂ (λ (x : Edit) (n : ℕ). Followed (newPlace x) (indexRegion ws) n (follow .last .0) (follow .result)) fact (c .before .before .before .before .before .before .before .before .wide .ensures) (follow .ensures) in
     let same : length (follow .last .0) ≡ length (indexRegion ws) = search needs in
     (mid-size (a .count) ws (follow .last .0) (follow .result) (at .0 .0) (at .0 .1 .0) changed followed same, (new-reads (a .count) ws (follow .last .0) (follow .result) (at .0 .0) (at .0 .1 .0) changed followed same, new-place (a .count) ws (follow .last .0) (follow .result) (at .0 .0) (at .0 .1 .0) changed followed same))
-
-enum-known-edit-3 : tie.Need-enum-known-edit-3
-enum-known-edit-3 c = search needs
-
-same-length : tie.Need-same-length
-same-length c = search needs
 
 returns : tie.Need-returns
 returns c =
@@ -100,9 +76,6 @@ returns-2 c =
     let same : length (follow .last .0) ≡ length (indexRegion ws) = search needs in
     new-index (a .count) ws (follow .last .0) (follow .result) (at .0 .0) (at .0 .1 .0) changed followed same (c .before .before .put-new .last .0) (c .before .before .put-new .ensures)
 
-same-length-3 : tie.Need-same-length-3
-same-length-3 c = search needs
-
 returns-3 : tie.Need-returns-3
 returns-3 c =
     let s = c .before .before .before .before .before .before .before .before .before .before in
@@ -119,20 +92,6 @@ returns-3 c =
 pub renew-index-spec : {M : Type 1} → statement M
 renew-index-spec =
     tie.close
-    (tie.spec
-    slice-read-wide
-    wide-requires
-    sub-follow-edit
-    part-follow-edit-start
-    part-follow-edit-end
-    follow-edit-requires
-    enum-known-edit
-    enum-known-edit-2
-    put-new-requires
-    enum-known-edit-3
-    same-length
-    returns
-    same-length-2
-    returns-2
-    same-length-3
-    returns-3)
+    (tie.spec (λ c. search needs) wide-requires (λ c. search needs) (λ c. search needs) (λ c. search needs)
+    follow-edit-requires (λ c. search needs) (λ c. search needs) put-new-requires (λ c. search needs)
+    (λ c. search needs) returns same-length-2 returns-2 (λ c. search needs) returns-3)

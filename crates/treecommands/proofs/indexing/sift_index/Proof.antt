@@ -4,26 +4,11 @@ use Rattle.treecommands.specs.Indexing.{sifted-index}
 use Rattle.treecommands.proofs.indexing.sift_index.Statement.{statement}
 use Rattle.treecommands.proofs.indexing.sift_index.Tie as tie
 
-slice-read-wide : tie.Need-slice-read-wide
-slice-read-wide c = search needs
-
 wide-requires : tie.Need-wide-requires
 wide-requires c κs = search needs
 
-sub-follow-places : tie.Need-sub-follow-places
-sub-follow-places c = search needs
-
-part-follow-places-start : tie.Need-part-follow-places-start
-part-follow-places-start c = search needs
-
-part-follow-places-end : tie.Need-part-follow-places-end
-part-follow-places-end c = search needs
-
 follow-places-requires : tie.Need-follow-places-requires
 follow-places-requires c κs = search needs
-
-same-length : tie.Need-same-length
-same-length c = search needs
 
 returns : tie.Need-returns
 returns c =
@@ -36,12 +21,5 @@ returns c =
 pub sift-index-spec : {M : Type 1} → statement M
 sift-index-spec =
     tie.close
-    (tie.spec
-    slice-read-wide
-    wide-requires
-    sub-follow-places
-    part-follow-places-start
-    part-follow-places-end
-    follow-places-requires
-    same-length
-    returns)
+    (tie.spec (λ c. search needs) wide-requires (λ c. search needs) (λ c. search needs) (λ c. search needs)
+    follow-places-requires (λ c. search needs) returns)

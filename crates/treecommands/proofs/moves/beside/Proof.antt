@@ -5,9 +5,6 @@ use Rattle.treecommands.specs.Sighting.{beside-first, beside-second, bes
 use Rattle.treecommands.proofs.moves.beside.Statement.{statement}
 use Rattle.treecommands.proofs.moves.beside.Tie as tie
 
-shared-slice-read-wide : tie.Need-shared-slice-read-wide
-shared-slice-read-wide c = search needs
-
 wide-requires : tie.Need-wide-requires
 wide-requires c κs = search needs
 
@@ -41,15 +38,6 @@ returns-4 c =
     let a = s .args in
     beside-root-2 (a .node) (a .place) (a .words .now) (s .pre) (c .before .before .before .before .before .before .wide .result) (c .before .before .before .before .before .before .wide .ensures) (c .before .before .before .before .before .node-place .result) (c .before .before .before .before .before .node-place .ensures) (omega arith) (c .before .before .before .node-place2 .result) (c .before .before .before .node-place2 .ensures) (omega arith) (c .before .if3 .left) (c .if4 .taken)
 
-sub-lies-below : tie.Need-sub-lies-below
-sub-lies-below c = search needs
-
-part-lies-below-start : tie.Need-part-lies-below-start
-part-lies-below-start c = search needs
-
-part-lies-below-end : tie.Need-part-lies-below-end
-part-lies-below-end c = search needs
-
 lies-below-requires : tie.Need-lies-below-requires
 lies-below-requires c κs = search needs
 
@@ -68,18 +56,5 @@ returns-6 c =
 pub beside-spec : {M : Type 1} → statement M
 beside-spec =
     tie.close
-    (tie.spec
-    shared-slice-read-wide
-    wide-requires
-    node-place-requires
-    returns
-    node-place-requires-2
-    returns-2
-    returns-3
-    returns-4
-    sub-lies-below
-    part-lies-below-start
-    part-lies-below-end
-    lies-below-requires
-    returns-5
-    returns-6)
+    (tie.spec (λ c. search needs) wide-requires node-place-requires returns node-place-requires-2 returns-2 returns-3
+    returns-4 (λ c. search needs) (λ c. search needs) (λ c. search needs) lies-below-requires returns-5 returns-6)

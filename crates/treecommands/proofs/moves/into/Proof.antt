@@ -6,9 +6,6 @@ use Rattle.treecommands.specs.SightingInto.{into-first, into-second, int
 use Rattle.treecommands.proofs.moves.into.Statement.{statement}
 use Rattle.treecommands.proofs.moves.into.Tie as tie
 
-shared-slice-read-wide : tie.Need-shared-slice-read-wide
-shared-slice-read-wide c = search needs
-
 wide-requires : tie.Need-wide-requires
 wide-requires c κs = search needs
 
@@ -45,15 +42,6 @@ returns-4 c =
     let a = s .args in
     into-root (a .group) (a .node) (a .words .now) (s .pre) (c .before .before .before .before .before .before .before .wide .result) (c .before .before .before .before .before .before .before .wide .ensures) (c .before .before .before .before .before .before .node-place .result) (c .before .before .before .before .before .before .node-place .ensures) (omega arith) (c .before .before .before .before .node-place2 .result) (c .before .before .before .before .node-place2 .ensures) (omega arith) (sym (c .before .before .is-synth .ensures) ∙ c .before .if3 .left) (c .if4 .taken)
 
-sub-lies-below : tie.Need-sub-lies-below
-sub-lies-below c = search needs
-
-part-lies-below-start : tie.Need-part-lies-below-start
-part-lies-below-start c = search needs
-
-part-lies-below-end : tie.Need-part-lies-below-end
-part-lies-below-end c = search needs
-
 lies-below-requires : tie.Need-lies-below-requires
 lies-below-requires c κs = search needs
 
@@ -72,19 +60,6 @@ returns-6 c =
 pub into-spec : {M : Type 1} → statement M
 into-spec =
     tie.close
-    (tie.spec
-    shared-slice-read-wide
-    wide-requires
-    node-place-requires
-    returns
-    node-place-requires-2
-    returns-2
-    is-synth-requires
-    returns-3
-    returns-4
-    sub-lies-below
-    part-lies-below-start
-    part-lies-below-end
-    lies-below-requires
-    returns-5
-    returns-6)
+    (tie.spec (λ c. search needs) wide-requires node-place-requires returns node-place-requires-2 returns-2
+    is-synth-requires returns-3 returns-4 (λ c. search needs) (λ c. search needs) (λ c. search needs)
+    lies-below-requires returns-5 returns-6)

@@ -8,23 +8,8 @@ use Rattle.treecommands.specs.Moving.{Movable, Goes, gone, gone-ready}
 use Rattle.treecommands.proofs.moves.move_pair.Statement.{statement}
 use Rattle.treecommands.proofs.moves.move_pair.Tie as tie
 
-enum-known-pair : tie.Need-enum-known-pair
-enum-known-pair c = search needs
-
-slice-read-wide : tie.Need-slice-read-wide
-slice-read-wide c = search needs
-
 wide-requires : tie.Need-wide-requires
 wide-requires c κs = search needs
-
-sub-move-edit : tie.Need-sub-move-edit
-sub-move-edit c = search needs
-
-part-move-edit-start : tie.Need-part-move-edit-start
-part-move-edit-start c = search needs
-
-part-move-edit-end : tie.Need-part-move-edit-end
-part-move-edit-end c = search needs
 
 move-edit-requires : tie.Need-move-edit-requires
 move-edit-requires c κs =
@@ -34,15 +19,6 @@ move-edit-requires c κs =
     let moving : Movable (pair.At (found .0 .0) (found .0 .1 .0)) (s .args .position) (s .args .words .now) = subst (λ (x : Pair). Movable x (s .args .position) (s .args .words .now)) fact (s .pre .1) in
     let m = moving .0 in
     rw (c .before .before .wide .ensures) (record { room = m .room; few = m .few; live = m .live; other = m .target })
-
-sub-move-node : tie.Need-sub-move-node
-sub-move-node c = search needs
-
-part-move-node-start : tie.Need-part-move-node-start
-part-move-node-start c = search needs
-
-part-move-node-end : tie.Need-part-move-node-end
-part-move-node-end c = search needs
 
 move-node-requires : tie.Need-move-node-requires
 move-node-requires c κs =
@@ -62,12 +38,6 @@ renew-requires c κs =
     let edit = c .before .before .before .before .before .move-edit in
     let moved = c .before .before .before .move-node in
     gone-ready (found .0 .0) (found .0 .1 .0) (s .args .position) (s .args .words .now) (wide .result) (wide .ensures) (moved .last .0) (moved .ensures) moving (edit .result) (edit .ensures)
-
-enum-known-pair-2 : tie.Need-enum-known-pair-2
-enum-known-pair-2 c = search needs
-
-same-length : tie.Need-same-length
-same-length c = search needs
 
 returns : tie.Need-returns
 returns c =
@@ -90,20 +60,6 @@ returns-2 c =
 pub move-pair-spec : {M : Type 1} → statement M
 move-pair-spec =
     tie.close
-    (tie.spec
-    enum-known-pair
-    slice-read-wide
-    wide-requires
-    sub-move-edit
-    part-move-edit-start
-    part-move-edit-end
-    move-edit-requires
-    sub-move-node
-    part-move-node-start
-    part-move-node-end
-    move-node-requires
-    renew-requires
-    enum-known-pair-2
-    same-length
-    returns
-    returns-2)
+    (tie.spec (λ c. search needs) (λ c. search needs) wide-requires (λ c. search needs) (λ c. search needs)
+    (λ c. search needs) move-edit-requires (λ c. search needs) (λ c. search needs) (λ c. search needs)
+    move-node-requires renew-requires (λ c. search needs) (λ c. search needs) returns returns-2)

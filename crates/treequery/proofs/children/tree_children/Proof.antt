@@ -18,9 +18,6 @@ Inv-loop words at end children₀ below₀ i₀ children below i =
 abbrev μ-loop : tie.MeasureT-loop
 μ-loop words at end children₀ below₀ i₀ children below i = i
 
-sub-i : tie.Need-sub-i Inv-loop μ-loop
-sub-i c = omega arith
-
 loop-holds : tie.Need-loop-holds Inv-loop μ-loop
 loop-holds c =
     let s = c .before in
@@ -31,21 +28,6 @@ loop-holds c =
       λ bs j h l. absurd (omega arith),
       rw on (known-none (s .args .words .now) (s .args .end)),
     )
-
-mul-wide : tie.Need-mul-wide Inv-loop μ-loop
-mul-wide c = omega arith
-
-add-wide : tie.Need-add-wide Inv-loop μ-loop
-add-wide c = omega arith
-
-add-wide-2 : tie.Need-add-wide-2 Inv-loop μ-loop
-add-wide-2 c = omega arith
-
-mul-wide-2 : tie.Need-mul-wide-2 Inv-loop μ-loop
-mul-wide-2 c = omega arith
-
-shared-slice-read-wide : tie.Need-shared-slice-read-wide Inv-loop μ-loop
-shared-slice-read-wide c = omega arith
 
 wide-requires : tie.Need-wide-requires Inv-loop μ-loop
 wide-requires c κs = tt
@@ -111,12 +93,6 @@ array-write-below-2 c =
     let deep = s .pre .below (l .i) (omega arith) (omega arith) in
     omega arith
 
-sub-i-2 : tie.Need-sub-i-2 Inv-loop μ-loop
-sub-i-2 c = omega arith
-
-loop-less : tie.Need-loop-less Inv-loop μ-loop
-loop-less c = omega arith
-
 loop-again : tie.Need-loop-again Inv-loop μ-loop
 loop-again c =
     let s = c .before .before .before .before .before in
@@ -131,21 +107,6 @@ loop-again c =
       λ bs. rw on (families-more (s .args .words .now) bs (s .args .end) (l .i) (getD (l .below) (c .wide .result) 0) (l .children) (omega (arith, l .inv .2, n .few)) (ap (λ (d : ℕ). getD (l .below) d 0) same ∙ l .inv .4 .same bs (depthAt (s .args .words .now) (l .i)) low) (l .inv .3 bs)),
       rw on (known-more (s .args .words .now) (s .args .at) (s .args .end) n (l .i) (omega arith) (omega arith) (c .wide .result) same (l .below) (l .inv .4)),
     )
-
-mul-wide-3 : tie.Need-mul-wide-3 Inv-loop μ-loop
-mul-wide-3 c = omega arith
-
-add-wide-3 : tie.Need-add-wide-3 Inv-loop μ-loop
-add-wide-3 c = omega arith
-
-add-wide-4 : tie.Need-add-wide-4 Inv-loop μ-loop
-add-wide-4 c = omega arith
-
-mul-wide-4 : tie.Need-mul-wide-4 Inv-loop μ-loop
-mul-wide-4 c = omega arith
-
-shared-slice-read-wide-2 : tie.Need-shared-slice-read-wide-2 Inv-loop μ-loop
-shared-slice-read-wide-2 c = omega arith
 
 wide-requires-2 : tie.Need-wide-requires-2 Inv-loop μ-loop
 wide-requires-2 c κs = tt
@@ -181,33 +142,8 @@ returns c =
 pub tree-children-spec : {M : Type 1} → statement M
 tree-children-spec =
     tie.close
-    (tie.spec
-    Inv-loop
-    μ-loop
-    sub-i
-    loop-holds
-    mul-wide
-    add-wide
-    add-wide-2
-    mul-wide-2
-    shared-slice-read-wide
-    wide-requires
-    array-read-children
-    array-write-children
-    array-write-below
-    sub-below
-    array-read-below
-    add-below
-    array-write-below-2
-    sub-i-2
-    loop-less
-    loop-again
-    mul-wide-3
-    add-wide-3
-    add-wide-4
-    mul-wide-4
-    shared-slice-read-wide-2
-    wide-requires-2
-    array-read-children-2
-    array-write-children-2
-    returns)
+    (tie.spec Inv-loop μ-loop (λ c. omega arith) loop-holds (λ c. omega arith) (λ c. omega arith) (λ c. omega arith)
+    (λ c. omega arith) (λ c. omega arith) wide-requires array-read-children array-write-children array-write-below
+    sub-below array-read-below add-below array-write-below-2 (λ c. omega arith) (λ c. omega arith) loop-again
+    (λ c. omega arith) (λ c. omega arith) (λ c. omega arith) (λ c. omega arith) (λ c. omega arith) wide-requires-2
+    array-read-children-2 array-write-children-2 returns)

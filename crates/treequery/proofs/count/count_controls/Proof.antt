@@ -110,18 +110,5 @@ returns c =
 pub count-controls-spec : {M : Type 1} → statement M
 count-controls-spec =
     tie.close
-    (tie.spec
-    Inv-loop
-    μ-loop
-    node-definition-requires
-    synth-at-requires
-    count-piece-requires
-    loop-holds
-    label-at-requires
-    count-piece-requires-2
-    value-at-requires
-    count-piece-requires-3
-    add-j
-    loop-less
-    loop-again
-    returns)
+    (tie.spec Inv-loop μ-loop node-definition-requires synth-at-requires count-piece-requires loop-holds
+    label-at-requires count-piece-requires-2 value-at-requires count-piece-requires-3 add-j loop-less loop-again returns)

@@ -124,13 +124,5 @@ returns-3 c =
 pub count-row-spec : {M : Type 1} → statement M
 count-row-spec =
     tie.close
-    (tie.spec
-    count-pair-requires
-    node-is-group-requires
-    returns
-    node-definition-requires
-    string-at-requires
-    count-piece-requires
-    count-controls-requires
-    returns-2
-    returns-3)
+    (tie.spec count-pair-requires node-is-group-requires returns node-definition-requires string-at-requires
+    count-piece-requires count-controls-requires returns-2 returns-3)

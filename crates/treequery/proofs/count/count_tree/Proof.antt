@@ -34,12 +34,6 @@ count-row-requires c κs =
     let less : i < end = omega (arith, c .loop-test .taken) in
     (row-of shown ws bs (s .args .shapes .now) (s .args .from) end i (s .pre) (inv .0) less, counting-some (rowArguments shown ws bs end i) (leftRows shown ws bs end (i + 1)) (inv .2) (rows-turn shown ws bs end i less))
 
-add-i : tie.Need-add-i Inv-loop μ-loop
-add-i c = omega arith
-
-loop-less : tie.Need-loop-less Inv-loop μ-loop
-loop-less c = omega arith
-
 loop-again : tie.Need-loop-again Inv-loop μ-loop
 loop-again c =
     let s = c .before .before .before .before .before in
@@ -67,4 +61,4 @@ returns c =
 pub count-tree-spec : {M : Type 1} → statement M
 count-tree-spec =
     tie.close
-    (tie.spec Inv-loop μ-loop loop-holds count-row-requires add-i loop-less loop-again returns)
+    (tie.spec Inv-loop μ-loop loop-holds count-row-requires (λ c. omega arith) (λ c. omega arith) loop-again returns)

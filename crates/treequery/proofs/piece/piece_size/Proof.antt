@@ -8,23 +8,11 @@ use Rattle.treequery.specs.Pieces.{pieceArgument, mappedText, digits-few
 use Rattle.treequery.proofs.piece.piece_size.Statement.{statement}
 use Rattle.treequery.proofs.piece.piece_size.Tie as tie
 
-enum-known-piece : tie.Need-enum-known-piece
-enum-known-piece c = search needs
-
-enum-known-piece-2 : tie.Need-enum-known-piece-2
-enum-known-piece-2 c = search needs
-
-enum-known-piece-3 : tie.Need-enum-known-piece-3
-enum-known-piece-3 c = search needs
-
 part-requires : tie.Need-part-requires
 part-requires c κs = search needs
 
 padded-length-requires : tie.Need-padded-length-requires
 padded-length-requires c κs = search needs
-
-enum-known-piece-4 : tie.Need-enum-known-piece-4
-enum-known-piece-4 c = search needs
 
 decimal-length-requires : tie.Need-decimal-length-requires
 decimal-length-requires c κs = search needs
@@ -34,12 +22,6 @@ add-padded-length c = omega (arith, c .decimal-length .ensures, digits-few (c .b
 
 padded-length-requires-2 : tie.Need-padded-length-requires-2
 padded-length-requires-2 c κs = omega (arith, c .decimal-length .ensures, digits-few (c .before .before .piece4 .given .0 .0))
-
-returns : tie.Need-returns
-returns c = search needs
-
-returns-2 : tie.Need-returns-2
-returns-2 c = search needs
 
 returns-3 : tie.Need-returns-3
 returns-3 c =
@@ -59,17 +41,6 @@ returns-4 c =
 pub piece-size-spec : {M : Type 1} → statement M
 piece-size-spec =
     tie.close
-    (tie.spec
-    enum-known-piece
-    enum-known-piece-2
-    enum-known-piece-3
-    part-requires
-    padded-length-requires
-    enum-known-piece-4
-    decimal-length-requires
-    add-padded-length
-    padded-length-requires-2
-    returns
-    returns-2
-    returns-3
-    returns-4)
+    (tie.spec (λ c. search needs) (λ c. search needs) (λ c. search needs) part-requires padded-length-requires
+    (λ c. search needs) decimal-length-requires add-padded-length padded-length-requires-2 (λ c. search needs)
+    (λ c. search needs) returns-3 returns-4)

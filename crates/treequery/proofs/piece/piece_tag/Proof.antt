@@ -6,18 +6,6 @@ use Rattle.treequery.specs.Pieces.{pieceArgument}
 use Rattle.treequery.proofs.piece.piece_tag.Statement.{statement}
 use Rattle.treequery.proofs.piece.piece_tag.Tie as tie
 
-enum-known-piece : tie.Need-enum-known-piece
-enum-known-piece c = search needs
-
-enum-known-piece-2 : tie.Need-enum-known-piece-2
-enum-known-piece-2 c = search needs
-
-enum-known-piece-3 : tie.Need-enum-known-piece-3
-enum-known-piece-3 c = search needs
-
-enum-known-piece-4 : tie.Need-enum-known-piece-4
-enum-known-piece-4 c = search needs
-
 returns : tie.Need-returns
 returns c = λ s. sym (ap (λ (p : Piece). tagOf (pieceArgument s p)) (c .before .piece .given .1))
 
@@ -33,12 +21,5 @@ returns-4 c = λ s. sym (ap (λ (p : Piece). tagOf (pieceArgument s p)) (c .befo
 pub piece-tag-spec : {M : Type 1} → statement M
 piece-tag-spec =
     tie.close
-    (tie.spec
-    enum-known-piece
-    enum-known-piece-2
-    enum-known-piece-3
-    enum-known-piece-4
-    returns
-    returns-2
-    returns-3
-    returns-4)
+    (tie.spec (λ c. search needs) (λ c. search needs) (λ c. search needs) (λ c. search needs) returns returns-2
+    returns-3 returns-4)

@@ -11,14 +11,8 @@ decimal-length-requires c κs = search needs
 put-byte-requires : tie.Need-put-byte-requires
 put-byte-requires c κs = search needs
 
-add-put-decimal : tie.Need-add-put-decimal
-add-put-decimal c = search needs
-
 put-decimal-requires : tie.Need-put-decimal-requires
 put-decimal-requires c κs = record { small = c .before .before .before .before .before .before .before .pre .small; room = omega (arith, c .before .before .before .before .before .decimal-length .ensures, padded-size (mappedText (c .before .before .before .before .before .before .before .args .bus)), digits-few (c .before .before .before .before .before .before .before .args .bus)) }
-
-add-put-zeros : tie.Need-add-put-zeros
-add-put-zeros c = search needs
 
 add-put-zeros-2 : tie.Need-add-put-zeros-2
 add-put-zeros-2 c = omega (arith, c .before .before .before .before .before .before .before .before .before .decimal-length .ensures, padded-size (mappedText (c .before .before .before .before .before .before .before .before .before .before .before .args .bus)), digits-few (c .before .before .before .before .before .before .before .before .before .before .before .args .bus))
@@ -26,14 +20,8 @@ add-put-zeros-2 c = omega (arith, c .before .before .before .before .before .bef
 add-put-zeros-3 : tie.Need-add-put-zeros-3
 add-put-zeros-3 c = omega (arith, c .before .before .before .before .before .before .before .before .before .decimal-length .ensures, padded-size (mappedText (c .before .before .before .before .before .before .before .before .before .before .before .args .bus)), digits-few (c .before .before .before .before .before .before .before .before .before .before .before .args .bus))
 
-sub-put-zeros : tie.Need-sub-put-zeros
-sub-put-zeros c = search needs
-
 put-zeros-requires : tie.Need-put-zeros-requires
 put-zeros-requires c κs = omega (arith, c .before .before .before .before .before .before .before .before .before .decimal-length .ensures, padded-size (mappedText (c .before .before .before .before .before .before .before .before .before .before .before .args .bus)), digits-few (c .before .before .before .before .before .before .before .before .before .before .before .args .bus))
-
-same-length : tie.Need-same-length
-same-length c = search needs
 
 returns : tie.Need-returns
 returns c =
@@ -44,15 +32,5 @@ returns c =
 pub put-mapped-spec : {M : Type 1} → statement M
 put-mapped-spec =
     tie.close
-    (tie.spec
-    decimal-length-requires
-    put-byte-requires
-    add-put-decimal
-    put-decimal-requires
-    add-put-zeros
-    add-put-zeros-2
-    add-put-zeros-3
-    sub-put-zeros
-    put-zeros-requires
-    same-length
-    returns)
+    (tie.spec decimal-length-requires put-byte-requires (λ c. search needs) put-decimal-requires (λ c. search needs)
+    add-put-zeros-2 add-put-zeros-3 (λ c. search needs) put-zeros-requires (λ c. search needs) returns)

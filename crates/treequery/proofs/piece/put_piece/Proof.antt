@@ -11,20 +11,11 @@ use Rattle.treequery.specs.Pieces.{pieceBytes, isSmall}
 use Rattle.treequery.proofs.piece.put_piece.Statement.{statement}
 use Rattle.treequery.proofs.piece.put_piece.Tie as tie
 
-enum-known-piece : tie.Need-enum-known-piece
-enum-known-piece c = search needs
-
 put-int-requires : tie.Need-put-int-requires
 put-int-requires c κs = omega (arith, ap (length {A = ℕ}) (ap (pieceBytes (c .before .before .before .before .before .before .args .definition .now)) (c .before .before .piece .given .1)))
 
-enum-known-piece-2 : tie.Need-enum-known-piece-2
-enum-known-piece-2 c = search needs
-
 put-int-requires-2 : tie.Need-put-int-requires-2
 put-int-requires-2 c κs = omega (arith, ap (length {A = ℕ}) (ap (pieceBytes (c .before .before .before .before .before .before .args .definition .now)) (c .before .before .piece2 .given .1)))
-
-enum-known-piece-3 : tie.Need-enum-known-piece-3
-enum-known-piece-3 c = search needs
 
 part-requires : tie.Need-part-requires
 part-requires c κs = search needs
@@ -32,41 +23,26 @@ part-requires c κs = search needs
 put-padded-requires : tie.Need-put-padded-requires
 put-padded-requires c κs = omega (arith, ap (length {A = ℕ}) (ap (pieceBytes (c .before .before .before .before .before .before .before .args .definition .now)) (c .before .before .before .piece3 .given .1)), ap (λ (l : List ℕ). length (padded l)) (c .part .ensures))
 
-enum-known-piece-4 : tie.Need-enum-known-piece-4
-enum-known-piece-4 c = search needs
-
 put-mapped-requires : tie.Need-put-mapped-requires
 put-mapped-requires c κs = record {
   small = ltb-true (c .before .before .piece4 .given .0 .0) 10000 (sym (ap isSmall (c .before .before .piece4 .given .1)) ∙ c .before .before .before .before .before .before .pre .small);
   room = omega (arith, ap (length {A = ℕ}) (ap (pieceBytes (c .before .before .before .before .before .before .args .definition .now)) (c .before .before .piece4 .given .1)));
 }
 
-same-length : tie.Need-same-length
-same-length c = search needs
-
 returns : tie.Need-returns
 returns c =
     let a = c .before .before .before .before .before .before .before .before .before .args in
     c .before .before .put-int .ensures ∙ ap (λ (l : List ℕ). over (a .at) l (a .out .now)) (sym (ap (pieceBytes (c .before .before .before .before .before .before .before .before .before .args .definition .now)) (c .before .before .before .before .before .piece .given .1)))
-
-same-length-2 : tie.Need-same-length-2
-same-length-2 c = search needs
 
 returns-2 : tie.Need-returns-2
 returns-2 c =
     let a = c .before .before .before .before .before .before .before .before .before .args in
     c .before .before .put-int2 .ensures ∙ ap (λ (l : List ℕ). over (a .at) l (a .out .now)) (sym (ap (pieceBytes (c .before .before .before .before .before .before .before .before .before .args .definition .now)) (c .before .before .before .before .before .piece2 .given .1)))
 
-same-length-3 : tie.Need-same-length-3
-same-length-3 c = search needs
-
 returns-3 : tie.Need-returns-3
 returns-3 c =
     let a = c .before .before .before .before .before .before .before .before .before .before .args in
     c .before .before .put-padded .ensures ∙ ap (λ (l : List ℕ). over (a .at) (padded l) (a .out .now)) (c .before .before .before .part .ensures) ∙ ap (λ (l : List ℕ). over (a .at) l (a .out .now)) (sym (ap (pieceBytes (c .before .before .before .before .before .before .before .before .before .before .args .definition .now)) (c .before .before .before .before .before .before .piece3 .given .1)))
-
-same-length-4 : tie.Need-same-length-4
-same-length-4 c = search needs
 
 returns-4 : tie.Need-returns-4
 returns-4 c =
@@ -76,21 +52,6 @@ returns-4 c =
 pub put-piece-spec : {M : Type 1} → statement M
 put-piece-spec =
     tie.close
-    (tie.spec
-    enum-known-piece
-    put-int-requires
-    enum-known-piece-2
-    put-int-requires-2
-    enum-known-piece-3
-    part-requires
-    put-padded-requires
-    enum-known-piece-4
-    put-mapped-requires
-    same-length
-    returns
-    same-length-2
-    returns-2
-    same-length-3
-    returns-3
-    same-length-4
-    returns-4)
+    (tie.spec (λ c. search needs) put-int-requires (λ c. search needs) put-int-requires-2 (λ c. search needs)
+    part-requires put-padded-requires (λ c. search needs) put-mapped-requires (λ c. search needs) returns
+    (λ c. search needs) returns-2 (λ c. search needs) returns-3 (λ c. search needs) returns-4)

@@ -6,12 +6,6 @@ use Rattle.treequery.proofs.places.count_piece.Tie as tie
 piece-size-requires : tie.Need-piece-size-requires
 piece-size-requires c κs = c .before .pre .short
 
-add-t5 : tie.Need-add-t5
-add-t5 c = omega arith
-
-add-t6 : tie.Need-add-t6
-add-t6 c = omega arith
-
 returns : tie.Need-returns
 returns c =
     let s = c .before .before .before .before in
@@ -22,4 +16,5 @@ returns c =
     record { moved = record { tag = omega arith; byte = omega arith }; fair = omega arith }
 
 pub count-piece-spec : {M : Type 1} → statement M
-count-piece-spec = tie.close (tie.spec piece-size-requires add-t5 add-t6 returns)
+count-piece-spec =
+    tie.close (tie.spec piece-size-requires (λ c. omega arith) (λ c. omega arith) returns)

@@ -29,9 +29,6 @@ add-t15 c =
     let size = piece-bytes-size (s .args .definition .now) (s .args .piece) in
     omega (arith, s .pre .room .room, c .before .before .before .before .before .before .before .before .before .piece-size .ensures .is)
 
-same-length : tie.Need-same-length
-same-length c = search needs
-
 returns : tie.Need-returns
 returns c =
     let s = c .before .before .before .before .before .before .before .before .before .before .before .before in
@@ -42,12 +39,5 @@ returns c =
 pub put-argument-spec : {M : Type 1} → statement M
 put-argument-spec =
     tie.close
-    (tie.spec
-    piece-size-requires
-    piece-tag-requires
-    put-byte-requires
-    put-piece-requires
-    add-t14
-    add-t15
-    same-length
-    returns)
+    (tie.spec piece-size-requires piece-tag-requires put-byte-requires put-piece-requires add-t14 add-t15
+    (λ c. search needs) returns)

@@ -8,29 +8,14 @@ use Rattle.treequery.proofs.places.put_pair.Tie as tie
 put-byte-requires : tie.Need-put-byte-requires
 put-byte-requires c κs = search needs
 
-add-put-byte : tie.Need-add-put-byte
-add-put-byte c = search needs
-
 put-byte-requires-2 : tie.Need-put-byte-requires-2
 put-byte-requires-2 c κs = search needs
 
 put-int-requires : tie.Need-put-int-requires
 put-int-requires c κs = omega (arith, pair-size (c .before .before .before .before .before .before .before .before .before .before .args .first) (c .before .before .before .before .before .before .before .before .before .before .args .second), c .before .before .before .before .before .before .before .before .before .before .pre .room)
 
-add-put-int : tie.Need-add-put-int
-add-put-int c = search needs
-
 put-int-requires-2 : tie.Need-put-int-requires-2
 put-int-requires-2 c κs = omega (arith, pair-size (c .before .before .before .before .before .before .before .before .before .before .before .before .before .before .args .first) (c .before .before .before .before .before .before .before .before .before .before .before .before .before .before .args .second), c .before .before .before .before .before .before .before .before .before .before .before .before .before .before .pre .room)
-
-add-t12 : tie.Need-add-t12
-add-t12 c = search needs
-
-add-t17 : tie.Need-add-t17
-add-t17 c = search needs
-
-same-length : tie.Need-same-length
-same-length c = search needs
 
 returns : tie.Need-returns
 returns c =
@@ -41,14 +26,5 @@ returns c =
 pub put-pair-spec : {M : Type 1} → statement M
 put-pair-spec =
     tie.close
-    (tie.spec
-    put-byte-requires
-    add-put-byte
-    put-byte-requires-2
-    put-int-requires
-    add-put-int
-    put-int-requires-2
-    add-t12
-    add-t17
-    same-length
-    returns)
+    (tie.spec put-byte-requires (λ c. search needs) put-byte-requires-2 put-int-requires (λ c. search needs)
+    put-int-requires-2 (λ c. search needs) (λ c. search needs) (λ c. search needs) returns)

@@ -12,17 +12,8 @@ use native.Mathlib.Nat.{pos-of-ne-zero}
 use Rattle.treequery.proofs.row.label_at.Statement.{statement}
 use Rattle.treequery.proofs.row.label_at.Tie as tie
 
-add-wide : tie.Need-add-wide
-add-wide c = search needs
-
 wide-requires : tie.Need-wide-requires
 wide-requires c κs = search needs
-
-add-wide-2 : tie.Need-add-wide-2
-add-wide-2 c = search needs
-
-mul-wide : tie.Need-mul-wide
-mul-wide c = search needs
 
 element-copy-out-wide : tie.Need-element-copy-out-wide
 element-copy-out-wide c = omega (arith, c .wide .ensures, c .before .before .pre .low, c .before .before .pre .inside)
@@ -54,13 +45,5 @@ returns-2 c =
 pub label-at-spec : {M : Type 1} → statement M
 label-at-spec =
     tie.close
-    (tie.spec
-    add-wide
-    wide-requires
-    add-wide-2
-    mul-wide
-    element-copy-out-wide
-    wide-requires-2
-    returns
-    string-at-requires
-    returns-2)
+    (tie.spec (λ c. search needs) wide-requires (λ c. search needs) (λ c. search needs) element-copy-out-wide
+    wide-requires-2 returns string-at-requires returns-2)

@@ -6,14 +6,8 @@ use Rattle.treequery.specs.Shown.{shown-own, shown-bus}
 use Rattle.treequery.proofs.row.shown_piece.Statement.{statement}
 use Rattle.treequery.proofs.row.shown_piece.Tie as tie
 
-enum-told : tie.Need-enum-told
-enum-told c = search needs
-
 own-word-requires : tie.Need-own-word-requires
 own-word-requires c κs = search needs
-
-enum-known-mapping : tie.Need-enum-known-mapping
-enum-known-mapping c = search needs
 
 returns : tie.Need-returns
 returns c =
@@ -27,4 +21,4 @@ returns-2 c =
 
 pub shown-piece-spec : {M : Type 1} → statement M
 shown-piece-spec =
-    tie.close (tie.spec enum-told own-word-requires enum-known-mapping returns returns-2)
+    tie.close (tie.spec (λ c. search needs) own-word-requires (λ c. search needs) returns returns-2)

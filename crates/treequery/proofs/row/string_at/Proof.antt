@@ -8,18 +8,6 @@ use Rattle.osc.specs.Message.{text}
 use Rattle.treequery.proofs.row.string_at.Statement.{statement}
 use Rattle.treequery.proofs.row.string_at.Tie as tie
 
-add-start : tie.Need-add-start
-add-start c = search needs
-
-shared-slice-read-size : tie.Need-shared-slice-read-size
-shared-slice-read-size c = search needs
-
-cast-size : tie.Need-cast-size
-cast-size c = search needs
-
-add-t7 : tie.Need-add-t7
-add-t7 c = search needs
-
 returns : tie.Need-returns
 returns c =
     let s = c .before .args .definition .now in
@@ -28,4 +16,5 @@ returns c =
     (ap (λ (k : ℕ). text (region (at + 1) k s)) size, refl)
 
 pub string-at-spec : {M : Type 1} → statement M
-string-at-spec = tie.close (tie.spec add-start shared-slice-read-size cast-size add-t7 returns)
+string-at-spec =
+    tie.close (tie.spec (λ c. search needs) (λ c. search needs) (λ c. search needs) (λ c. search needs) returns)

@@ -9,44 +9,11 @@ use Rattle.treequery.specs.Shown.{Shown}
 use Rattle.treequery.proofs.row.value_at.Statement.{statement}
 use Rattle.treequery.proofs.row.value_at.Tie as tie
 
-sub-controls : tie.Need-sub-controls
-sub-controls c = search needs
-
-part-controls-start : tie.Need-part-controls-start
-part-controls-start c = search needs
-
-part-controls-end : tie.Need-part-controls-end
-part-controls-end c = search needs
-
 wide-requires : tie.Need-wide-requires
 wide-requires c κs = search needs
 
-mul-at : tie.Need-mul-at
-mul-at c = search needs
-
 wide-requires-2 : tie.Need-wide-requires-2
 wide-requires-2 c κs = search needs
-
-mul-at-2 : tie.Need-mul-at-2
-mul-at-2 c = search needs
-
-add-at : tie.Need-add-at
-add-at c = search needs
-
-mul-from-words : tie.Need-mul-from-words
-mul-from-words c = search needs
-
-shared-slice-read-from-words : tie.Need-shared-slice-read-from-words
-shared-slice-read-from-words c = search needs
-
-add-from-words : tie.Need-add-from-words
-add-from-words c = search needs
-
-mul-from-words-2 : tie.Need-mul-from-words-2
-mul-from-words-2 c = search needs
-
-shared-slice-read-from-words-2 : tie.Need-shared-slice-read-from-words-2
-shared-slice-read-from-words-2 c = search needs
 
 from-words-requires : tie.Need-from-words-requires
 from-words-requires c κs = search needs
@@ -66,20 +33,6 @@ returns c =
 pub value-at-spec : {M : Type 1} → statement M
 value-at-spec =
     tie.close
-    (tie.spec
-    sub-controls
-    part-controls-start
-    part-controls-end
-    wide-requires
-    mul-at
-    wide-requires-2
-    mul-at-2
-    add-at
-    mul-from-words
-    shared-slice-read-from-words
-    add-from-words
-    mul-from-words-2
-    shared-slice-read-from-words-2
-    from-words-requires
-    shown-piece-requires
-    returns)
+    (tie.spec (λ c. search needs) (λ c. search needs) (λ c. search needs) wide-requires (λ c. search needs)
+    wide-requires-2 (λ c. search needs) (λ c. search needs) (λ c. search needs) (λ c. search needs) (λ c. search needs)
+    (λ c. search needs) (λ c. search needs) from-words-requires shown-piece-requires returns)

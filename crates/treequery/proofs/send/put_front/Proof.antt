@@ -8,26 +8,11 @@ use Rattle.treequery.specs.TreeMessage.{firstTags, tagZeros, treeFront}
 use Rattle.treequery.proofs.send.put_front.Statement.{statement}
 use Rattle.treequery.proofs.send.put_front.Tie as tie
 
-slice-aggregate-put-padded : tie.Need-slice-aggregate-put-padded
-slice-aggregate-put-padded c = search needs
-
 put-padded-requires : tie.Need-put-padded-requires
 put-padded-requires c κs = search needs
 
-slice-aggregate-put-bytes : tie.Need-slice-aggregate-put-bytes
-slice-aggregate-put-bytes c = search needs
-
 put-bytes-requires : tie.Need-put-bytes-requires
 put-bytes-requires c κs = search needs
-
-add-put-zeros : tie.Need-add-put-zeros
-add-put-zeros c = search needs
-
-add-put-zeros-2 : tie.Need-add-put-zeros-2
-add-put-zeros-2 c = search needs
-
-sub-put-zeros : tie.Need-sub-put-zeros
-sub-put-zeros c = search needs
 
 put-zeros-requires : tie.Need-put-zeros-requires
 put-zeros-requires c κs = search needs
@@ -35,14 +20,8 @@ put-zeros-requires c κs = search needs
 flag-number-requires : tie.Need-flag-number-requires
 flag-number-requires c κs = search needs
 
-slice-aggregate-put-words : tie.Need-slice-aggregate-put-words
-slice-aggregate-put-words c = search needs
-
 put-words-requires : tie.Need-put-words-requires
 put-words-requires c κs = search needs
-
-same-length : tie.Need-same-length
-same-length c = search needs
 
 returns : tie.Need-returns
 returns c =
@@ -59,17 +38,6 @@ returns c =
 pub put-front-spec : {M : Type 1} → statement M
 put-front-spec =
     tie.close
-    (tie.spec
-    slice-aggregate-put-padded
-    put-padded-requires
-    slice-aggregate-put-bytes
-    put-bytes-requires
-    add-put-zeros
-    add-put-zeros-2
-    sub-put-zeros
-    put-zeros-requires
-    flag-number-requires
-    slice-aggregate-put-words
-    put-words-requires
-    same-length
-    returns)
+    (tie.spec (λ c. search needs) put-padded-requires (λ c. search needs) put-bytes-requires (λ c. search needs)
+    (λ c. search needs) (λ c. search needs) put-zeros-requires flag-number-requires (λ c. search needs)
+    put-words-requires (λ c. search needs) returns)

@@ -29,20 +29,8 @@ tree-shapes-requires c κs = search needs
 count-tree-requires : tie.Need-count-tree-requires
 count-tree-requires c κs = search needs
 
-add-padded-length : tie.Need-add-padded-length
-add-padded-length c = omega arith
-
 padded-length-requires : tie.Need-padded-length-requires
 padded-length-requires c κs = omega arith
-
-add-front : tie.Need-add-front
-add-front c = omega arith
-
-add-whole : tie.Need-add-whole
-add-whole c = omega arith
-
-add-whole-2 : tie.Need-add-whole-2
-add-whole-2 c = omega arith
 
 returns : tie.Need-returns
 returns c =
@@ -80,9 +68,6 @@ shared-slice-read-number c = let s = c .before .before .before .before .before .
 array-read-put-front : tie.Need-array-read-put-front
 array-read-put-front c = let s = c .before .before .before .before .before .before .before .before .before .before .before .before in omega (arith, s .pre .order, s .pre .ends, s .pre .state .few)
 
-cast-put-front : tie.Need-cast-put-front
-cast-put-front c = search needs
-
 put-front-requires : tie.Need-put-front-requires
 put-front-requires c κs =
     let s = c .before .before .before .before .before .before .before .before .before .before .before .before in
@@ -97,12 +82,6 @@ put-front-requires c κs =
     let front = 20 + c .before .before .before .before .before .padded-length .result in
     let f : front ≡ frontAt many = ap (λ (k : ℕ). 20 + k) (c .before .before .before .before .before .padded-length .ensures) in
     record { few = size .ensures .few; is = f; room = omega (arith, c .before .before .before .if1 .left) }
-
-add-t18 : tie.Need-add-t18
-add-t18 c = search needs
-
-slice-aggregate-put-tree : tie.Need-slice-aggregate-put-tree
-slice-aggregate-put-tree c = search needs
 
 put-tree-requires : tie.Need-put-tree-requires
 put-tree-requires c κs =
@@ -124,9 +103,6 @@ put-tree-requires c κs =
       λ i h l. c .before .before .before .before .before .before .before .before .tree-children .ensures bs i (omega arith) l,
       record { apart = omega (arith, tags-size left); room = omega (arith, c .before .before .before .before .before .before .before .before .before .if1 .left) },
     )
-
-same-length : tie.Need-same-length
-same-length c = search needs
 
 returns-2 : tie.Need-returns-2
 returns-2 c =
@@ -158,26 +134,7 @@ returns-2 c =
 pub send-tree-spec : {M : Type 1} → statement M
 send-tree-spec =
     tie.close
-    (tie.spec
-    add-from
-    tree-shapes-requires
-    count-tree-requires
-    add-padded-length
-    padded-length-requires
-    add-front
-    add-whole
-    add-whole-2
-    returns
-    tree-children-requires
-    mul-number
-    add-number
-    mul-number-2
-    shared-slice-read-number
-    array-read-put-front
-    cast-put-front
-    put-front-requires
-    add-t18
-    slice-aggregate-put-tree
-    put-tree-requires
-    same-length
-    returns-2)
+    (tie.spec add-from tree-shapes-requires count-tree-requires (λ c. omega arith) padded-length-requires
+    (λ c. omega arith) (λ c. omega arith) (λ c. omega arith) returns tree-children-requires mul-number add-number
+    mul-number-2 shared-slice-read-number array-read-put-front (λ c. search needs) put-front-requires
+    (λ c. search needs) (λ c. search needs) put-tree-requires (λ c. search needs) returns-2)

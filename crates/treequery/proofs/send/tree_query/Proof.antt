@@ -18,9 +18,6 @@ use Rattle.treequery.proofs.send.tree_query.Tie as tie
 node-place-requires : tie.Need-node-place-requires
 node-place-requires c κs = search needs
 
-shared-slice-read-wide : tie.Need-shared-slice-read-wide
-shared-slice-read-wide c = search needs
-
 wide-requires : tie.Need-wide-requires
 wide-requires c κs = search needs
 
@@ -47,15 +44,6 @@ returns-2 c =
     reply-refused (query.Tree (a .group) (a .flag)) (a .bytes .now) ws bs (a .out .now) WrongKind
     (tree-synth (a .group) (a .bytes .now) ws bs (n .result) (n .ensures) (record { state = s .pre; live = omega (arith, c .before .before .before .wide .ensures) }) (a .flag) (sym (c .before .node-is-group .ensures) ∙ not-true (c .before .node-is-group .result) (c .if2 .taken)))
 
-sub-subtree-end : tie.Need-sub-subtree-end
-sub-subtree-end c = search needs
-
-part-subtree-end-start : tie.Need-part-subtree-end-start
-part-subtree-end-start c = search needs
-
-part-subtree-end-end : tie.Need-part-subtree-end-end
-part-subtree-end-end c = search needs
-
 subtree-end-requires : tie.Need-subtree-end-requires
 subtree-end-requires c κs = search needs
 
@@ -74,9 +62,6 @@ send-tree-requires c κs =
       order = omega (arith, e .ensures);
       ends = omega (arith, e .ensures, w .ensures, end-most (w .result) (n .result) us (omega arith));
     }
-
-same-length : tie.Need-same-length
-same-length c = search needs
 
 returns-3 : tie.Need-returns-3
 returns-3 c =
@@ -101,18 +86,6 @@ returns-3 c =
 pub tree-query-spec : {M : Type 1} → statement M
 tree-query-spec =
     tie.close
-    (tie.spec
-    node-place-requires
-    shared-slice-read-wide
-    wide-requires
-    returns
-    node-is-group-requires
-    returns-2
-    sub-subtree-end
-    part-subtree-end-start
-    part-subtree-end-end
-    subtree-end-requires
-    is-shown-requires
-    send-tree-requires
-    same-length
-    returns-3)
+    (tie.spec node-place-requires (λ c. search needs) wide-requires returns node-is-group-requires returns-2
+    (λ c. search needs) (λ c. search needs) (λ c. search needs) subtree-end-requires is-shown-requires
+    send-tree-requires (λ c. search needs) returns-3)

@@ -16,17 +16,11 @@ abbrev μ-loop : tie.MeasureT-loop
 labels-requires : tie.Need-labels-requires Inv-loop μ-loop
 labels-requires c κs = c .before .pre .2
 
-mul-first : tie.Need-mul-first Inv-loop μ-loop
-mul-first c = omega arith
-
 parameter-count-requires : tie.Need-parameter-count-requires Inv-loop μ-loop
 parameter-count-requires c κs = c .before .before .pre .2
 
 add-shapes : tie.Need-add-shapes Inv-loop μ-loop
 add-shapes c = omega (arith, c .parameter-count .ensures, values-few (c .before .before .before .args .definition .now))
-
-mul-shapes : tie.Need-mul-shapes Inv-loop μ-loop
-mul-shapes c = omega arith
 
 element-write-shapes : tie.Need-element-write-shapes Inv-loop μ-loop
 element-write-shapes c = omega (arith, c .before .before .before .pre .0)
@@ -37,29 +31,8 @@ loop-holds c =
     let table = set (s .args .shapes .now) (33 * s .args .slot) (c .parameter-count .result + 1) in
     (omega arith, filling-none (s .args .slot) table (c .before .labels .result) (length-set (s .args .shapes .now) (33 * s .args .slot) (c .parameter-count .result + 1) ∙ s .pre .1))
 
-mul-shapes-2 : tie.Need-mul-shapes-2 Inv-loop μ-loop
-mul-shapes-2 c = omega arith
-
-array-read-shapes : tie.Need-array-read-shapes Inv-loop μ-loop
-array-read-shapes c = omega arith
-
-add-shapes-2 : tie.Need-add-shapes-2 Inv-loop μ-loop
-add-shapes-2 c = omega arith
-
-add-shapes-3 : tie.Need-add-shapes-3 Inv-loop μ-loop
-add-shapes-3 c = omega arith
-
-mul-shapes-3 : tie.Need-mul-shapes-3 Inv-loop μ-loop
-mul-shapes-3 c = omega arith
-
 element-write-shapes-2 : tie.Need-element-write-shapes-2 Inv-loop μ-loop
 element-write-shapes-2 c = omega (arith, c .before .before .before .before .before .pre .0)
-
-add-j : tie.Need-add-j Inv-loop μ-loop
-add-j c = omega arith
-
-loop-less : tie.Need-loop-less Inv-loop μ-loop
-loop-less c = omega arith
 
 loop-again : tie.Need-loop-again Inv-loop μ-loop
 loop-again c =
@@ -78,23 +51,6 @@ returns c =
 pub look-up-spec : {M : Type 1} → statement M
 look-up-spec =
     tie.close
-    (tie.spec
-    Inv-loop
-    μ-loop
-    labels-requires
-    mul-first
-    parameter-count-requires
-    add-shapes
-    mul-shapes
-    element-write-shapes
-    loop-holds
-    mul-shapes-2
-    array-read-shapes
-    add-shapes-2
-    add-shapes-3
-    mul-shapes-3
-    element-write-shapes-2
-    add-j
-    loop-less
-    loop-again
-    returns)
+    (tie.spec Inv-loop μ-loop labels-requires (λ c. omega arith) parameter-count-requires add-shapes (λ c. omega arith)
+    element-write-shapes loop-holds (λ c. omega arith) (λ c. omega arith) (λ c. omega arith) (λ c. omega arith)
+    (λ c. omega arith) element-write-shapes-2 (λ c. omega arith) (λ c. omega arith) loop-again returns)

@@ -77,14 +77,5 @@ returns-3 c =
 pub look-up-row-spec : {M : Type 1} → statement M
 look-up-row-spec =
     tie.close
-    (tie.spec
-    node-is-group-requires
-    returns
-    node-slot-requires
-    mul-if2
-    mul-if2-2
-    element-copy-out-if2
-    returns-2
-    node-definition-requires
-    look-up-requires
-    returns-3)
+    (tie.spec node-is-group-requires returns node-slot-requires mul-if2 mul-if2-2 element-copy-out-if2 returns-2
+    node-definition-requires look-up-requires returns-3)

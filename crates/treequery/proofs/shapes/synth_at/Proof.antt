@@ -45,11 +45,4 @@ returns c =
 pub synth-at-spec : {M : Type 1} → statement M
 synth-at-spec =
     tie.close
-    (tie.spec
-    node-row-requires
-    node-slot-requires
-    mul-first
-    mul-t7
-    element-copy-out-t10
-    sub-t11
-    returns)
+    (tie.spec node-row-requires node-slot-requires mul-first mul-t7 element-copy-out-t10 sub-t11 returns)

@@ -34,12 +34,6 @@ look-up-row-requires c κs =
     let s = c .before .before .before .before .before .before in
     (run-at (s .args .words .now) (s .args .arena .now) (s .args .from) (s .args .end) (c .before .before .loop .i) (s .pre) (omega arith), c .before .before .loop .inv .2)
 
-add-i : tie.Need-add-i Inv-loop μ-loop
-add-i c = omega arith
-
-loop-less : tie.Need-loop-less Inv-loop μ-loop
-loop-less c = omega arith
-
 loop-again : tie.Need-loop-again Inv-loop μ-loop
 loop-again c =
     let s = c .before .before .before .before .before .before .before in
@@ -60,13 +54,5 @@ returns-2 c = λ on.
 pub tree-shapes-spec : {M : Type 1} → statement M
 tree-shapes-spec =
     tie.close
-    (tie.spec
-    Inv-loop
-    μ-loop
-    returns
-    loop-holds
-    look-up-row-requires
-    add-i
-    loop-less
-    loop-again
+    (tie.spec Inv-loop μ-loop returns loop-holds look-up-row-requires (λ c. omega arith) (λ c. omega arith) loop-again
     returns-2)

@@ -100,9 +100,6 @@ loop-again c =
     let value = c .before .before .before .value-at in
     (omega arith, k, left-less (pieceArgument d (value .result) ∷ []) rest (left-less (pieceArgument d (c .before .before .before .before .before .before .before .before .label-at .result) ∷ []) (valueOf ws row j ∷ rest) (c .before .before .before .before .before .before .before .before .before .before .before .loop .inv .2) (control-turn k j less (c .before .before .before .before .before .before .before .before .label-at .result) (c .before .before .before .before .before .before .before .before .label-at .ensures .0)) (c .before .before .before .before .before .before .before .put-argument2 .ensures)) (ap (λ (x : Argument). x ∷ rest) (sym (value .ensures .is d))) (c .before .before .put-argument3 .ensures))
 
-same-length : tie.Need-same-length Inv-loop μ-loop
-same-length c = search needs
-
 returns : tie.Need-returns Inv-loop μ-loop
 returns c =
     let k = c .before .loop .inv .1 in
@@ -114,19 +111,6 @@ returns c =
 pub put-controls-spec : {M : Type 1} → statement M
 put-controls-spec =
     tie.close
-    (tie.spec
-    Inv-loop
-    μ-loop
-    node-definition-requires
-    synth-at-requires
-    put-argument-requires
-    loop-holds
-    label-at-requires
-    put-argument-requires-2
-    value-at-requires
-    put-argument-requires-3
-    add-j
-    loop-less
-    loop-again
-    same-length
-    returns)
+    (tie.spec Inv-loop μ-loop node-definition-requires synth-at-requires put-argument-requires loop-holds
+    label-at-requires put-argument-requires-2 value-at-requires put-argument-requires-3 add-j loop-less loop-again
+    (λ c. search needs) returns)

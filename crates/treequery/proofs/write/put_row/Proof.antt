@@ -18,18 +18,6 @@ use Rattle.treequery.specs.Rows.{group-turn, number-fact}
 use Rattle.treequery.proofs.write.put_row.Statement.{statement}
 use Rattle.treequery.proofs.write.put_row.Tie as tie
 
-mul-number : tie.Need-mul-number
-mul-number c = search needs
-
-add-number : tie.Need-add-number
-add-number c = search needs
-
-mul-number-2 : tie.Need-mul-number-2
-mul-number-2 c = search needs
-
-shared-slice-read-number : tie.Need-shared-slice-read-number
-shared-slice-read-number c = search needs
-
 node-is-group-requires : tie.Need-node-is-group-requires
 node-is-group-requires c κs = search needs
 
@@ -40,9 +28,6 @@ put-pair-requires c κs =
     let bs = s .args .arena .now in
     let i = s .args .place in
     rw (sym (group-turn (s .args .shown) ws bs (s .args .end) i (getD ws (nodesPlace + 5 * i) 0) (s .args .children) (sym (c .before .before .node-is-group .ensures) ∙ c .before .if1 .taken) (number-fact ws bs i (s .pre .0 .at)) (s .pre .1))) (s .pre .2)
-
-same-length : tie.Need-same-length
-same-length c = search needs
 
 returns : tie.Need-returns
 returns c =
@@ -117,9 +102,6 @@ put-controls-requires c κs =
     let h2 = left-less (pieceArgument d p ∷ []) shown h1 refl (c .before .before .before .before .put-argument .ensures) in
     (record { at = at; single = one; shape = s .pre .0 .shape (c .before .if2 .taken) one }, rw (c .before .if2 .taken) at (h2 .room))
 
-same-length-2 : tie.Need-same-length-2
-same-length-2 c = search needs
-
 returns-2 : tie.Need-returns-2
 returns-2 c =
     let s = c .before .before .before .before .before .before .before .before .before .before .before .before .before .before .before .before .before .before .before .before .before in
@@ -137,9 +119,6 @@ returns-2 c =
     let h2 = left-less (pieceArgument d p ∷ []) shown h1 refl (c .before .before .before .before .before .before .before .put-argument .ensures) in
     let whole = controlsShown ws bs i true in
     left-none (left-less whole [] h2 (ap (controlsShown ws bs i) (c .before .before .before .before .if2 .taken) ∙ sym (append-nil whole)) (c .before .before .put-controls .ensures)) refl
-
-same-length-3 : tie.Need-same-length-3
-same-length-3 c = search needs
 
 returns-3 : tie.Need-returns-3
 returns-3 c =
@@ -161,21 +140,6 @@ returns-3 c =
 pub put-row-spec : {M : Type 1} → statement M
 put-row-spec =
     tie.close
-    (tie.spec
-    mul-number
-    add-number
-    mul-number-2
-    shared-slice-read-number
-    node-is-group-requires
-    put-pair-requires
-    same-length
-    returns
-    put-pair-requires-2
-    node-definition-requires
-    string-at-requires
-    put-argument-requires
-    put-controls-requires
-    same-length-2
-    returns-2
-    same-length-3
-    returns-3)
+    (tie.spec (λ c. search needs) (λ c. search needs) (λ c. search needs) (λ c. search needs) node-is-group-requires
+    put-pair-requires (λ c. search needs) returns put-pair-requires-2 node-definition-requires string-at-requires
+    put-argument-requires put-controls-requires (λ c. search needs) returns-2 (λ c. search needs) returns-3)

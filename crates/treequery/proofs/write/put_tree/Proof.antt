@@ -42,12 +42,6 @@ put-row-requires c κs =
       left-some (rowArguments shown ws bs end i) (leftRows shown ws bs end (i + 1)) (inv .2) (rows-turn shown ws bs end i less),
     )
 
-add-i : tie.Need-add-i Inv-loop μ-loop
-add-i c = omega arith
-
-loop-less : tie.Need-loop-less Inv-loop μ-loop
-loop-less c = omega arith
-
 loop-again : tie.Need-loop-again Inv-loop μ-loop
 loop-again c =
     let s = c .before .before .before .before .before .before .before .before .before .before .before in
@@ -59,9 +53,6 @@ loop-again c =
     let inv = c .before .before .before .before .before .before .loop .inv in
     let less : i < end = omega (arith, c .before .before .before .before .before .loop-test .taken) in
     (omega arith, omega arith, left-less (rowArguments shown ws bs end i) (leftRows shown ws bs end (i + 1)) (inv .2) (rows-turn shown ws bs end i less) (c .before .before .put-row .ensures))
-
-same-length : tie.Need-same-length Inv-loop μ-loop
-same-length c = search needs
 
 returns : tie.Need-returns Inv-loop μ-loop
 returns c =
@@ -77,15 +68,5 @@ returns c =
 pub put-tree-spec : {M : Type 1} → statement M
 put-tree-spec =
     tie.close
-    (tie.spec
-    Inv-loop
-    μ-loop
-    loop-holds
-    shared-slice-read-many
-    cast-many
-    put-row-requires
-    add-i
-    loop-less
-    loop-again
-    same-length
-    returns)
+    (tie.spec Inv-loop μ-loop loop-holds shared-slice-read-many cast-many put-row-requires (λ c. omega arith)
+    (λ c. omega arith) loop-again (λ c. search needs) returns)

@@ -12,4 +12,5 @@ returns : tie.Need-returns
 returns c = rw (c .before .mapping-of .ensures) at (c .new .ensures)
 
 pub from-words-spec : {M : Type 1} → statement M
-from-words-spec = tie.close (tie.spec mapping-of-requires new-requires returns)
+from-words-spec =
+    tie.close (tie.spec mapping-of-requires new-requires returns)

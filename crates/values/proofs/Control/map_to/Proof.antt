@@ -12,4 +12,5 @@ returns : tie.Need-returns
 returns c = rw (c .before .own-word .ensures) at (c .new .ensures)
 
 pub map-to-spec : {M : Type 1} → statement M
-map-to-spec = tie.close (tie.spec own-word-requires new-requires returns)
+map-to-spec =
+    tie.close (tie.spec own-word-requires new-requires returns)

@@ -11,4 +11,5 @@ unfolding seen
 returns c = c .word-of .ensures
 
 pub mapping-word-spec : {M : Type 1} → statement M
-mapping-word-spec = tie.close (tie.spec word-of-requires returns)
+mapping-word-spec =
+    tie.close (tie.spec word-of-requires returns)

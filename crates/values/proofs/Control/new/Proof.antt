@@ -12,4 +12,5 @@ returns-2 : tie.Need-returns-2
 returns-2 c = holds-number (c .before .args .own) (c .before .args .mapping) (c .before .fits .own .fits) (c .if1 .left)
 
 pub new-spec : {M : Type 1} → statement M
-new-spec = tie.close (tie.spec returns float-from-bits-t5 returns-2)
+new-spec =
+    tie.close (tie.spec returns float-from-bits-t5 returns-2)

@@ -16,4 +16,5 @@ returns-3 : tie.Need-returns-3
 returns-3 c = sym (seen-number (c .before .before .before .args .self) (c .before .if1 .left))
 
 pub own-word-spec : {M : Type 1} → statement M
-own-word-spec = tie.close (tie.spec returns returns-2 float-to-bits-result returns-3)
+own-word-spec =
+    tie.close (tie.spec returns returns-2 float-to-bits-result returns-3)

@@ -3,14 +3,8 @@ use Rattle.values.specs.Controls.{seen}
 use Rattle.values.proofs.Control.read.Statement.{statement}
 use Rattle.values.proofs.Control.read.Tie as tie
 
-enum-told : tie.Need-enum-told
-enum-told c = search needs
-
 own-word-requires : tie.Need-own-word-requires
 own-word-requires c κs = search needs
-
-enum-known-mapping : tie.Need-enum-known-mapping
-enum-known-mapping c = search needs
 
 bus-at-requires : tie.Need-bus-at-requires
 bus-at-requires c κs = search needs
@@ -26,4 +20,4 @@ returns-2 c = rw (c .before .before .mapping .given .1) (c .bus-at .ensures)
 pub read-spec : {M : Type 1} → statement M
 read-spec =
     tie.close
-    (tie.spec enum-told own-word-requires enum-known-mapping bus-at-requires returns returns-2)
+    (tie.spec (λ c. search needs) own-word-requires (λ c. search needs) bus-at-requires returns returns-2)

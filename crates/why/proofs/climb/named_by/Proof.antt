@@ -10,4 +10,5 @@ returns-2 : tie.Need-returns-2
 returns-2 c = rw (ne-eqb (c .before .args .run) 1 (c .if1 .left))
 
 pub named-by-spec : {M : Type 1} → statement M
-named-by-spec = tie.close (tie.spec returns returns-2)
+named-by-spec =
+    tie.close (tie.spec returns returns-2)

@@ -15,56 +15,8 @@ Inv-loop nodes at depth₀ named₀ i₀ depth named i = (i ≤ at) × (climb de
 abbrev μ-loop : tie.MeasureT-loop
 μ-loop nodes at depth₀ named₀ i₀ depth named i = i
 
-mul-depth : tie.Need-mul-depth Inv-loop μ-loop
-mul-depth c = omega arith
-
-add-depth : tie.Need-add-depth Inv-loop μ-loop
-add-depth c = omega arith
-
-mul-depth-2 : tie.Need-mul-depth-2 Inv-loop μ-loop
-mul-depth-2 c = omega arith
-
-shared-slice-read-depth : tie.Need-shared-slice-read-depth Inv-loop μ-loop
-shared-slice-read-depth c = omega arith
-
 loop-holds : tie.Need-loop-holds Inv-loop μ-loop
 loop-holds c = ((omega arith), refl)
-
-sub-i : tie.Need-sub-i Inv-loop μ-loop
-sub-i c = omega arith
-
-mul-up : tie.Need-mul-up Inv-loop μ-loop
-mul-up c = omega arith
-
-add-up : tie.Need-add-up Inv-loop μ-loop
-add-up c = omega arith
-
-mul-up-2 : tie.Need-mul-up-2 Inv-loop μ-loop
-mul-up-2 c = omega arith
-
-shared-slice-read-up : tie.Need-shared-slice-read-up Inv-loop μ-loop
-shared-slice-read-up c = omega arith
-
-mul-named-by : tie.Need-mul-named-by Inv-loop μ-loop
-mul-named-by c = omega arith
-
-add-named-by : tie.Need-add-named-by Inv-loop μ-loop
-add-named-by c = omega arith
-
-mul-named-by-2 : tie.Need-mul-named-by-2 Inv-loop μ-loop
-mul-named-by-2 c = omega arith
-
-shared-slice-read-named-by : tie.Need-shared-slice-read-named-by Inv-loop μ-loop
-shared-slice-read-named-by c = omega arith
-
-mul-named-by-3 : tie.Need-mul-named-by-3 Inv-loop μ-loop
-mul-named-by-3 c = omega arith
-
-mul-named-by-4 : tie.Need-mul-named-by-4 Inv-loop μ-loop
-mul-named-by-4 c = omega arith
-
-shared-slice-read-named-by-2 : tie.Need-shared-slice-read-named-by-2 Inv-loop μ-loop
-shared-slice-read-named-by-2 c = omega arith
 
 named-by-requires : tie.Need-named-by-requires Inv-loop μ-loop
 named-by-requires c κs = search needs
@@ -81,9 +33,6 @@ returns c =
     ∙ climb-up us (l .i) (l .depth) (l .named) (omega arith) (omega arith)
     ∙ l .inv .1
 
-loop-less : tie.Need-loop-less Inv-loop μ-loop
-loop-less c = omega arith
-
 loop-again : tie.Need-loop-again Inv-loop μ-loop
 loop-again c =
     let us = c .before .before .before .before .before .before .before .before .before .before .args .nodes .now in
@@ -94,9 +43,6 @@ loop-again c =
           ∙ climb-up us (l .i) (l .depth) (l .named) (omega arith) (omega arith)
           ∙ l .inv .1,
     )
-
-loop-less-2 : tie.Need-loop-less-2 Inv-loop μ-loop
-loop-less-2 c = omega arith
 
 loop-again-2 : tie.Need-loop-again-2 Inv-loop μ-loop
 loop-again-2 c =
@@ -114,30 +60,7 @@ returns-2 c =
 pub off-above-spec : {M : Type 1} → statement M
 off-above-spec =
     tie.close
-    (tie.spec
-    Inv-loop
-    μ-loop
-    mul-depth
-    add-depth
-    mul-depth-2
-    shared-slice-read-depth
-    loop-holds
-    sub-i
-    mul-up
-    add-up
-    mul-up-2
-    shared-slice-read-up
-    mul-named-by
-    add-named-by
-    mul-named-by-2
-    shared-slice-read-named-by
-    mul-named-by-3
-    mul-named-by-4
-    shared-slice-read-named-by-2
-    named-by-requires
-    returns
-    loop-less
-    loop-again
-    loop-less-2
-    loop-again-2
-    returns-2)
+    (tie.spec Inv-loop μ-loop (λ c. omega arith) (λ c. omega arith) (λ c. omega arith) (λ c. omega arith) loop-holds
+    (λ c. omega arith) (λ c. omega arith) (λ c. omega arith) (λ c. omega arith) (λ c. omega arith) (λ c. omega arith)
+    (λ c. omega arith) (λ c. omega arith) (λ c. omega arith) (λ c. omega arith) (λ c. omega arith) (λ c. omega arith)
+    named-by-requires returns (λ c. omega arith) loop-again (λ c. omega arith) loop-again-2 returns-2)

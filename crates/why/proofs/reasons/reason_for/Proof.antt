@@ -5,9 +5,6 @@ use lib.ListN.{getD}
 use Rattle.why.proofs.reasons.reason_for.Statement.{statement}
 use Rattle.why.proofs.reasons.reason_for.Tie as tie
 
-shared-slice-read-latest : tie.Need-shared-slice-read-latest
-shared-slice-read-latest c = search needs
-
 returns : tie.Need-returns
 returns c =
     let a = c .before .before .before .before .args in
@@ -31,11 +28,4 @@ returns-3 c =
 
 pub reason-for-spec : {M : Type 1} → statement M
 reason-for-spec =
-    tie.close
-    (tie.spec
-    shared-slice-read-latest
-    returns
-    reason-of-requires
-    returns-2
-    reason-of-requires-2
-    returns-3)
+    tie.close (tie.spec (λ c. search needs) returns reason-of-requires returns-2 reason-of-requires-2 returns-3)

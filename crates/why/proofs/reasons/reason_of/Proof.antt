@@ -14,9 +14,6 @@ use Rattle.why.proofs.reasons.reason_of.Tie as tie
 place-of-requires : tie.Need-place-of-requires
 place-of-requires c κs = search needs
 
-shared-slice-read-wide : tie.Need-shared-slice-read-wide
-shared-slice-read-wide c = search needs
-
 wide-requires : tie.Need-wide-requires
 wide-requires c κs = search needs
 
@@ -28,21 +25,6 @@ returns c =
     let wide = c .before .wide in
     return-none (a .words .now) (first .pre) (a .number) (place .result) (wide .result) (place .ensures) (wide .ensures) (omega arith)
 
-mul-if2 : tie.Need-mul-if2
-mul-if2 c = search needs
-
-add-if2 : tie.Need-add-if2
-add-if2 c = search needs
-
-add-if2-2 : tie.Need-add-if2-2
-add-if2-2 c = search needs
-
-mul-if2-2 : tie.Need-mul-if2-2
-mul-if2-2 c = search needs
-
-shared-slice-read-if2 : tie.Need-shared-slice-read-if2
-shared-slice-read-if2 c = search needs
-
 returns-2 : tie.Need-returns-2
 returns-2 c =
     let first = c .before .before .before .before .before .before .before in
@@ -50,21 +32,6 @@ returns-2 c =
     let place = c .before .before .before .before .before .place-of in
     let wide = c .before .before .before .wide in
     return-group (a .words .now) (first .pre) (a .number) (place .result) (wide .result) (place .ensures) (wide .ensures) (omega arith) (c .if2 .taken)
-
-mul-if3 : tie.Need-mul-if3
-mul-if3 c = search needs
-
-add-if3 : tie.Need-add-if3
-add-if3 c = search needs
-
-add-if3-2 : tie.Need-add-if3-2
-add-if3-2 c = search needs
-
-mul-if3-2 : tie.Need-mul-if3-2
-mul-if3-2 c = search needs
-
-shared-slice-read-if3 : tie.Need-shared-slice-read-if3
-shared-slice-read-if3 c = search needs
 
 returns-3 : tie.Need-returns-3
 returns-3 c =
@@ -74,29 +41,11 @@ returns-3 c =
     let wide = c .before .before .before .before .before .wide in
     return-off (a .words .now) (first .pre) (a .number) (place .result) (wide .result) (place .ensures) (wide .ensures) (omega arith) (c .before .before .if2 .left) (c .if3 .taken)
 
-shared-slice-read-wide-2 : tie.Need-shared-slice-read-wide-2
-shared-slice-read-wide-2 c = search needs
-
 wide-requires-2 : tie.Need-wide-requires-2
 wide-requires-2 c κs = search needs
 
-sub-before-in : tie.Need-sub-before-in
-sub-before-in c = search needs
-
-part-before-in-start : tie.Need-part-before-in-start
-part-before-in-start c = search needs
-
-part-before-in-end : tie.Need-part-before-in-end
-part-before-in-end c = search needs
-
 before-in-requires : tie.Need-before-in-requires
 before-in-requires c κs = search needs
-
-cast-t20 : tie.Need-cast-t20
-cast-t20 c = search needs
-
-add-t21 : tie.Need-add-t21
-add-t21 c = search needs
 
 returns-4 : tie.Need-returns-4
 returns-4 c =
@@ -109,15 +58,6 @@ returns-4 c =
     return-running (a .words .now) (first .pre) (a .number) (place .result) (wide .result) (place .ensures) (wide .ensures) (omega arith) (c .before .before .before .before .before .before .before .if2 .left) (omega arith) (found .result)
     (found .ensures ∙ ap (λ (k : ℕ). before (a .number) (take k (region orderPlace orderWords (a .words .now)))) (many .ensures)) (omega (arith, many .ensures))
 
-add-if5 : tie.Need-add-if5
-add-if5 c = search needs
-
-mul-if5 : tie.Need-mul-if5
-mul-if5 c = search needs
-
-shared-slice-read-if5 : tie.Need-shared-slice-read-if5
-shared-slice-read-if5 c = search needs
-
 returns-5 : tie.Need-returns-5
 returns-5 c =
     let first = c .before .before .before .before .before .before .before .before .before .before .before .before .before .before .before .before in
@@ -128,15 +68,6 @@ returns-5 c =
     let many = c .before .before .before .before .before .wide2 in
     return-root (a .words .now) (first .pre) (a .number) (place .result) (wide .result) (place .ensures) (wide .ensures) (omega arith) (c .before .before .before .before .before .before .before .before .before .if2 .left) (omega arith) (found .result)
     (found .ensures ∙ ap (λ (k : ℕ). before (a .number) (take k (region orderPlace orderWords (a .words .now)))) (many .ensures)) (omega (arith, many .ensures)) (c .if5 .taken)
-
-sub-off-above : tie.Need-sub-off-above
-sub-off-above c = search needs
-
-part-off-above-start : tie.Need-part-off-above-start
-part-off-above-start c = search needs
-
-part-off-above-end : tie.Need-part-off-above-end
-part-off-above-end c = search needs
 
 off-above-requires : tie.Need-off-above-requires
 off-above-requires c κs =
@@ -160,38 +91,9 @@ returns-6 c =
 pub reason-of-spec : {M : Type 1} → statement M
 reason-of-spec =
     tie.close
-    (tie.spec
-    place-of-requires
-    shared-slice-read-wide
-    wide-requires
-    returns
-    mul-if2
-    add-if2
-    add-if2-2
-    mul-if2-2
-    shared-slice-read-if2
-    returns-2
-    mul-if3
-    add-if3
-    add-if3-2
-    mul-if3-2
-    shared-slice-read-if3
-    returns-3
-    shared-slice-read-wide-2
-    wide-requires-2
-    sub-before-in
-    part-before-in-start
-    part-before-in-end
-    before-in-requires
-    cast-t20
-    add-t21
-    returns-4
-    add-if5
-    mul-if5
-    shared-slice-read-if5
-    returns-5
-    sub-off-above
-    part-off-above-start
-    part-off-above-end
-    off-above-requires
-    returns-6)
+    (tie.spec place-of-requires (λ c. search needs) wide-requires returns (λ c. search needs) (λ c. search needs)
+    (λ c. search needs) (λ c. search needs) (λ c. search needs) returns-2 (λ c. search needs) (λ c. search needs)
+    (λ c. search needs) (λ c. search needs) (λ c. search needs) returns-3 (λ c. search needs) wide-requires-2
+    (λ c. search needs) (λ c. search needs) (λ c. search needs) before-in-requires (λ c. search needs)
+    (λ c. search needs) returns-4 (λ c. search needs) (λ c. search needs) (λ c. search needs) returns-5
+    (λ c. search needs) (λ c. search needs) (λ c. search needs) off-above-requires returns-6)

@@ -29,4 +29,5 @@ returns-2 c =
     told-because (a .number) (a .words .now) (a .arena .now) (c .reason-for .result) (sym (check .ensures) ∙ not-false (check .result) (c .before .if1 .left)) (c .reason-for .ensures)
 
 pub why-spec : {M : Type 1} → statement M
-why-spec = tie.close (tie.spec well-formed-requires returns reason-for-requires returns-2)
+why-spec =
+    tie.close (tie.spec well-formed-requires returns reason-for-requires returns-2)

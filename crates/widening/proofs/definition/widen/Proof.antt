@@ -12,14 +12,8 @@ use borrow.Author.Needs.{needs}
 use Rattle.widening.proofs.definition.widen.Statement.{statement}
 use Rattle.widening.proofs.definition.widen.Tie as tie
 
-enum-told : tie.Need-enum-told
-enum-told c = search needs
-
 widen-short-requires : tie.Need-widen-short-requires
 widen-short-requires c κs = rw (c .before .enum-told .given .1) at (c .before .before .before .before .before .pre)
-
-enum-told-2 : tie.Need-enum-told-2
-enum-told-2 c = search needs
 
 sub-put-bytes : tie.Need-sub-put-bytes
 sub-put-bytes c =
@@ -87,14 +81,8 @@ add-result c =
     let size = region-length at (end - at) s (omega (arith, t .forward, t .inside)) in
     omega (arith, t .forward, t .inside, ap length (t .bytes), pre .room, size)
 
-same-length : tie.Need-same-length
-same-length c = search needs
-
 returns : tie.Need-returns
 returns c = rw (c .before .before .before .before .enum-told .given .1) (c .before .before .widen-short .ensures)
-
-same-length-2 : tie.Need-same-length-2
-same-length-2 c = search needs
 
 returns-2 : tie.Need-returns-2
 returns-2 c =
@@ -110,17 +98,6 @@ returns-2 c =
 pub widen-spec : {M : Type 1} → statement M
 widen-spec =
     tie.close
-    (tie.spec
-    enum-told
-    widen-short-requires
-    enum-told-2
-    sub-put-bytes
-    part-put-bytes-start
-    part-put-bytes-end
-    put-bytes-requires
-    sub-result
-    add-result
-    same-length
-    returns
-    same-length-2
+    (tie.spec (λ c. search needs) widen-short-requires (λ c. search needs) sub-put-bytes part-put-bytes-start
+    part-put-bytes-end put-bytes-requires sub-result add-result (λ c. search needs) returns (λ c. search needs)
     returns-2)

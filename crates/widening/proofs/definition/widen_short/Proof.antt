@@ -115,9 +115,6 @@ keep-requires c κs =
     let r3 = room-rest (λ q. region q (end - q) s) r2 m3 in
     record { inside = omega (arith, m3 .from, behind, forward, r3 .inside); fits = r3 .fits }
 
-same-length : tie.Need-same-length
-same-length c = search needs
-
 returns : tie.Need-returns
 unfolding definitionWide
 returns c =
@@ -143,12 +140,5 @@ returns c =
 pub widen-short-spec : {M : Type 1} → statement M
 widen-short-spec =
     tie.close
-    (tie.spec
-    widen-front-requires
-    value-at-requires
-    widen-integer-requires
-    widen-units-requires
-    sub-keep
-    keep-requires
-    same-length
-    returns)
+    (tie.spec widen-front-requires value-at-requires widen-integer-requires widen-units-requires sub-keep keep-requires
+    (λ c. search needs) returns)

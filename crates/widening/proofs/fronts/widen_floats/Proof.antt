@@ -28,9 +28,6 @@ widen-integer-requires c κs =
     let at = a .args .at .from in
     room-first (integerWide s at) (region (at + 2) (4 * valueBy Short s at) s) (a .pre) (omega arith)
 
-mul-keep : tie.Need-mul-keep
-mul-keep c = search needs
-
 keep-requires : tie.Need-keep-requires
 unfolding floatsPast floatsWide
 keep-requires c κs =
@@ -39,9 +36,6 @@ keep-requires c κs =
     let n = valueBy Short s (a .args .at .from) in
     rw (c .before .before .before .before .before .wide .ensures ∙ c .before .before .before .before .before .before .value-at .ensures)
     (room-last (λ p. region p (4 * n) s) (λ p. p + 4 * n) (a .pre) (c .before .before .before .widen-integer .ensures))
-
-same-length : tie.Need-same-length
-same-length c = search needs
 
 returns : tie.Need-returns
 unfolding floatsPast floatsWide
@@ -55,11 +49,5 @@ returns c =
 pub widen-floats-spec : {M : Type 1} → statement M
 widen-floats-spec =
     tie.close
-    (tie.spec
-    value-at-requires
-    wide-requires
-    widen-integer-requires
-    mul-keep
-    keep-requires
-    same-length
-    returns)
+    (tie.spec value-at-requires wide-requires widen-integer-requires (λ c. search needs) keep-requires
+    (λ c. search needs) returns)

@@ -84,9 +84,6 @@ widen-names-requires c κs =
     let r3 = room-last (λ p. namesWide s p) (λ p. namesPast s p) r2 (c .before .before .before .before .before .before .before .before .widen-floats2 .ensures) in
     rw (c .before .before .before .before .before .value-at .ensures) (room-last (λ p. wideAll (nameWide s) (namePast s) n p) (λ p. pastAll (namePast s) n p) r3 (c .before .before .before .widen-integer .ensures))
 
-same-length : tie.Need-same-length
-same-length c = search needs
-
 returns : tie.Need-returns
 unfolding frontWide frontPast
 returns c =
@@ -111,12 +108,5 @@ returns c =
 pub widen-front-spec : {M : Type 1} → statement M
 widen-front-spec =
     tie.close
-    (tie.spec
-    keep-text-requires
-    widen-floats-requires
-    widen-floats-requires-2
-    value-at-requires
-    widen-integer-requires
-    widen-names-requires
-    same-length
-    returns)
+    (tie.spec keep-text-requires widen-floats-requires widen-floats-requires-2 value-at-requires widen-integer-requires
+    widen-names-requires (λ c. search needs) returns)

@@ -20,9 +20,6 @@ widen-integer-requires c κs =
     let a = c .before .before .before .before .before .before .before in
     room-last (integerWide (a .args .s .now)) (λ p. p + 2) (a .pre) (c .before .before .before .keep-text .ensures)
 
-same-length : tie.Need-same-length
-same-length c = search needs
-
 returns : tie.Need-returns
 returns c =
     let a = c .before .before .before .before .before .before .before .before .before .before in
@@ -30,4 +27,4 @@ returns c =
 
 pub widen-name-spec : {M : Type 1} → statement M
 widen-name-spec =
-    tie.close (tie.spec keep-text-requires widen-integer-requires same-length returns)
+    tie.close (tie.spec keep-text-requires widen-integer-requires (λ c. search needs) returns)

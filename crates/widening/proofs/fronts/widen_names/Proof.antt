@@ -28,12 +28,6 @@ widen-name-requires c κs =
     let a = c .before .before .before .before .before in
     walking-room (c .before .before .loop .inv) (λ p. omega arith) (c .before .loop-test .taken) (a .pre)
 
-add-i : tie.Need-add-i Inv-loop μ-loop
-add-i c = omega arith
-
-loop-less : tie.Need-loop-less Inv-loop μ-loop
-loop-less c = omega arith
-
 loop-again : tie.Need-loop-again Inv-loop μ-loop
 loop-again c =
     let a = c .before .before .before .before .before .before .before .before in
@@ -50,13 +44,5 @@ returns c =
 pub widen-names-spec : {M : Type 1} → statement M
 widen-names-spec =
     tie.close
-    (tie.spec
-    Inv-loop
-    μ-loop
-    loop-holds
-    widen-name-requires
-    add-i
-    loop-less
-    loop-again
-    same-length
-    returns)
+    (tie.spec Inv-loop μ-loop loop-holds widen-name-requires (λ c. omega arith) (λ c. omega arith) loop-again
+    same-length returns)

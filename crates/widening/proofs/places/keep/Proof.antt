@@ -8,29 +8,11 @@ use borrow.Author.Needs.{needs}
 use Rattle.widening.proofs.places.keep.Statement.{statement}
 use Rattle.widening.proofs.places.keep.Tie as tie
 
-add-end : tie.Need-add-end
-add-end c = search needs
-
-sub-put-bytes : tie.Need-sub-put-bytes
-sub-put-bytes c = search needs
-
-part-put-bytes-start : tie.Need-part-put-bytes-start
-part-put-bytes-start c = search needs
-
-part-put-bytes-end : tie.Need-part-put-bytes-end
-part-put-bytes-end c = search needs
-
 put-bytes-requires : tie.Need-put-bytes-requires
 put-bytes-requires c κs =
     let a = c .before .before .before .before in
     let k : a .args .at .from + a .args .count - a .args .at .from ≡ a .args .count = omega arith in
     rw k (a .pre .fits)
-
-add-t11 : tie.Need-add-t11
-add-t11 c = search needs
-
-same-length : tie.Need-same-length
-same-length c = search needs
 
 returns : tie.Need-returns
 returns c =
@@ -45,12 +27,5 @@ returns c =
 pub keep-spec : {M : Type 1} → statement M
 keep-spec =
     tie.close
-    (tie.spec
-    add-end
-    sub-put-bytes
-    part-put-bytes-start
-    part-put-bytes-end
-    put-bytes-requires
-    add-t11
-    same-length
-    returns)
+    (tie.spec (λ c. search needs) (λ c. search needs) (λ c. search needs) (λ c. search needs) put-bytes-requires
+    (λ c. search needs) (λ c. search needs) returns)

@@ -16,15 +16,6 @@ value-at-requires c κs = search needs
 put-int-requires : tie.Need-put-int-requires
 put-int-requires c κs = search needs
 
-add-t9 : tie.Need-add-t9
-add-t9 c = search needs
-
-add-t10 : tie.Need-add-t10
-add-t10 c = search needs
-
-same-length : tie.Need-same-length
-same-length c = search needs
-
 returns : tie.Need-returns
 returns c =
     let a = c .before .before .before .before .before .before .before .before .before .args in
@@ -36,4 +27,5 @@ returns c =
 
 pub widen-integer-spec : {M : Type 1} → statement M
 widen-integer-spec =
-    tie.close (tie.spec value-at-requires put-int-requires add-t9 add-t10 same-length returns)
+    tie.close
+    (tie.spec value-at-requires put-int-requires (λ c. search needs) (λ c. search needs) (λ c. search needs) returns)

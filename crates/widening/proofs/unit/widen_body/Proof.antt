@@ -44,9 +44,6 @@ keep-requires-2 c κs =
     let rest = room-last (λ p. wideAll (inputWide s) inputPast n p ++ region (pastAll inputPast n p) (a .outputs) s) (λ p. pastAll inputPast n p + a .outputs) (c .before .before .before .before .before .before .before .before .before .before .before .before .pre) (c .before .before .before .before .before .before .before .before .keep .ensures) in
     rw (c .wide .ensures) (room-last (λ p. region p (a .outputs) s) (λ p. p + a .outputs) rest (c .before .before .before .before .widen-inputs .ensures))
 
-same-length : tie.Need-same-length
-same-length c = search needs
-
 returns : tie.Need-returns
 unfolding bodyWide bodyPast
 returns c =
@@ -61,10 +58,4 @@ returns c =
 pub widen-body-spec : {M : Type 1} → statement M
 widen-body-spec =
     tie.close
-    (tie.spec
-    keep-requires
-    widen-inputs-requires
-    wide-requires
-    keep-requires-2
-    same-length
-    returns)
+    (tie.spec keep-requires widen-inputs-requires wide-requires keep-requires-2 (λ c. search needs) returns)

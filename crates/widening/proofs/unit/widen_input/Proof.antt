@@ -20,9 +20,6 @@ widen-integer-requires-2 c κs =
     let a = c .before .before .before .before .before .before .before in
     room-last (integerWide (a .args .s .now)) (λ p. p + 2) (a .pre) (c .before .before .before .widen-integer .ensures)
 
-same-length : tie.Need-same-length
-same-length c = search needs
-
 returns : tie.Need-returns
 returns c =
     let a = c .before .before .before .before .before .before .before .before .before .before in
@@ -30,4 +27,4 @@ returns c =
 
 pub widen-input-spec : {M : Type 1} → statement M
 widen-input-spec =
-    tie.close (tie.spec widen-integer-requires widen-integer-requires-2 same-length returns)
+    tie.close (tie.spec widen-integer-requires widen-integer-requires-2 (λ c. search needs) returns)

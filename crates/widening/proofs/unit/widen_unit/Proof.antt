@@ -107,9 +107,6 @@ widen-body-requires c κs =
     let out : c .before .before .before .before .before .value-at2 .result ≡ o = c .before .before .before .before .before .value-at2 .ensures ∙ ap (λ (p : ℕ). valueBy Short s p) second in
     rw (many, out) (room-last (λ p. bodyWide s i o p) (λ p. bodyPast i o p) r2 (c .before .before .before .widen-integer2 .ensures))
 
-same-length : tie.Need-same-length
-same-length c = search needs
-
 returns : tie.Need-returns
 unfolding unitWide unitPast
 returns c =
@@ -136,15 +133,5 @@ returns c =
 pub widen-unit-spec : {M : Type 1} → statement M
 widen-unit-spec =
     tie.close
-    (tie.spec
-    shared-slice-read-size
-    cast-size
-    add-keep
-    keep-requires
-    value-at-requires
-    widen-integer-requires
-    value-at-requires-2
-    widen-integer-requires-2
-    widen-body-requires
-    same-length
-    returns)
+    (tie.spec shared-slice-read-size cast-size add-keep keep-requires value-at-requires widen-integer-requires
+    value-at-requires-2 widen-integer-requires-2 widen-body-requires (λ c. search needs) returns)

@@ -24,12 +24,6 @@ loop-holds c =
 widen-unit-requires : tie.Need-widen-unit-requires Inv-loop μ-loop
 widen-unit-requires c κs = walking-room (c .before .before .loop .inv) (unit-onward (c .before .before .before .before .before .args .s .now)) (c .before .loop-test .taken) (c .before .before .before .before .before .pre)
 
-add-i : tie.Need-add-i Inv-loop μ-loop
-add-i c = omega arith
-
-loop-less : tie.Need-loop-less Inv-loop μ-loop
-loop-less c = omega arith
-
 loop-again : tie.Need-loop-again Inv-loop μ-loop
 loop-again c = walking-next (c .before .before .before .before .before .loop .inv) (c .before .before .before .before .loop-test .taken) (c .before .before .before .before .before .before .before .before .pre .fits) (c .before .before .widen-unit .ensures)
 
@@ -42,13 +36,5 @@ returns c = walking-last (c .before .loop .inv) (c .loop-test .left)
 pub widen-units-spec : {M : Type 1} → statement M
 widen-units-spec =
     tie.close
-    (tie.spec
-    Inv-loop
-    μ-loop
-    loop-holds
-    widen-unit-requires
-    add-i
-    loop-less
-    loop-again
-    same-length
-    returns)
+    (tie.spec Inv-loop μ-loop loop-holds widen-unit-requires (λ c. omega arith) (λ c. omega arith) loop-again
+    same-length returns)

@@ -12,4 +12,5 @@ returns : tie.Need-returns
 returns c = rw (c .before .integer .ensures) at (c .at-most .ensures)
 
 pub count-to-spec : {M : Type 1} → statement M
-count-to-spec = tie.close (tie.spec integer-requires at-most-requires returns)
+count-to-spec =
+    tie.close (tie.spec integer-requires at-most-requires returns)

@@ -10,9 +10,6 @@ use Rattle.fields.proofs.cursor.Cursor.definition_name.Tie as tie
 pstring-requires : tie.Need-pstring-requires
 pstring-requires c κs = search needs
 
-enum-known-start : tie.Need-enum-known-start
-enum-known-start c = search needs
-
 returns : tie.Need-returns
 returns c =
     let a = c .before .before .before .before .before .before .args in
@@ -31,9 +28,6 @@ returns-2 c =
     let part = full-part (a .s .now) (g .0 .0) (g .0 .1 .0 .at) (c .before .before .if1 .left) (pstring-end (a .s .now) (a .self .at) (sym read)) in
     checked-pass BadName full (a .self .at) read (part ∙ sym (c .before .name-bytes .ensures) ∙ c .if2 .taken)
 
-enum-known-refusal : tie.Need-enum-known-refusal
-enum-known-refusal c = search needs
-
 returns-3 : tie.Need-returns-3
 returns-3 c =
     let a = c .before .before .before .before .before .before .before .before .args in
@@ -51,12 +45,5 @@ returns-4 c =
 pub definition-name-spec : {M : Type 1} → statement M
 definition-name-spec =
     tie.close
-    (tie.spec
-    pstring-requires
-    enum-known-start
-    returns
-    name-bytes-requires
-    returns-2
-    enum-known-refusal
-    returns-3
+    (tie.spec pstring-requires (λ c. search needs) returns name-bytes-requires returns-2 (λ c. search needs) returns-3
     returns-4)

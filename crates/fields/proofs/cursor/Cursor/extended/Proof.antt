@@ -11,9 +11,6 @@ returns c =
     let a = c .before .before .args in
     rw (lt-leb (a .self .at + 2) (length (a .s .now)) (omega arith))
 
-sub-if2 : tie.Need-sub-if2
-sub-if2 c = search needs
-
 returns-2 : tie.Need-returns-2
 returns-2 c =
     let a = c .before .before .before .args in
@@ -22,13 +19,11 @@ returns-2 c =
 half-at-requires : tie.Need-half-at-requires
 half-at-requires c κs = search needs
 
-add-t4 : tie.Need-add-t4
-add-t4 c = search needs
-
 returns-3 : tie.Need-returns-3
 returns-3 c =
     let a = c .before .before .before .before .args in
     rw (le-leb (a .self .at + 2) (length (a .s .now)) (omega arith), c .half-at .ensures)
 
 pub extended-spec : {M : Type 1} → statement M
-extended-spec = tie.close (tie.spec returns sub-if2 returns-2 half-at-requires add-t4 returns-3)
+extended-spec =
+    tie.close (tie.spec returns (λ c. search needs) returns-2 half-at-requires (λ c. search needs) returns-3)

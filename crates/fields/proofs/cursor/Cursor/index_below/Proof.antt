@@ -9,17 +9,11 @@ use Rattle.fields.proofs.cursor.Cursor.index_below.Tie as tie
 integer-requires : tie.Need-integer-requires
 integer-requires c κs = search needs
 
-enum-known-n : tie.Need-enum-known-n
-enum-known-n c = search needs
-
 returns : tie.Need-returns
 returns c =
     let a = c .before .before .before .before .before .before .args in
     let read = rw (c .before .before .n .given .1) at (c .before .before .before .before .integer .ensures) in
     checked-pass BadIndex (λ n. ltb n (a .bound)) (a .self .at) read (lt-ltb _ _ (c .if1 .taken))
-
-enum-known-refusal : tie.Need-enum-known-refusal
-enum-known-refusal c = search needs
 
 returns-2 : tie.Need-returns-2
 returns-2 c =
@@ -35,4 +29,4 @@ returns-3 c =
 
 pub index-below-spec : {M : Type 1} → statement M
 index-below-spec =
-    tie.close (tie.spec integer-requires enum-known-n returns enum-known-refusal returns-2 returns-3)
+    tie.close (tie.spec integer-requires (λ c. search needs) returns (λ c. search needs) returns-2 returns-3)

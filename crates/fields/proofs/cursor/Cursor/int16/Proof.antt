@@ -11,28 +11,13 @@ returns c =
     let a = c .before .before .args in
     rw (lt-leb (a .self .at + 2) (length (a .s .now)) (omega arith))
 
-sub-if2 : tie.Need-sub-if2
-sub-if2 c = search needs
-
 returns-2 : tie.Need-returns-2
 returns-2 c =
     let a = c .before .before .before .args in
     rw (lt-leb (a .self .at + 2) (length (a .s .now)) (omega arith))
 
-shared-slice-read-number16 : tie.Need-shared-slice-read-number16
-shared-slice-read-number16 c = search needs
-
-add-number16 : tie.Need-add-number16
-add-number16 c = search needs
-
-shared-slice-read-number16-2 : tie.Need-shared-slice-read-number16-2
-shared-slice-read-number16-2 c = search needs
-
 number16-requires : tie.Need-number16-requires
 number16-requires c κs = search needs
-
-add-t7 : tie.Need-add-t7
-add-t7 c = search needs
 
 returns-3 : tie.Need-returns-3
 returns-3 c =
@@ -42,13 +27,5 @@ returns-3 c =
 pub int16-spec : {M : Type 1} → statement M
 int16-spec =
     tie.close
-    (tie.spec
-    returns
-    sub-if2
-    returns-2
-    shared-slice-read-number16
-    add-number16
-    shared-slice-read-number16-2
-    number16-requires
-    add-t7
-    returns-3)
+    (tie.spec returns (λ c. search needs) returns-2 (λ c. search needs) (λ c. search needs) (λ c. search needs)
+    number16-requires (λ c. search needs) returns-3)

@@ -11,9 +11,6 @@ returns c =
     let a = c .before .before .args in
     rw (lt-leb (a .self .at + 4) (length (a .s .now)) (omega arith))
 
-sub-if2 : tie.Need-sub-if2
-sub-if2 c = search needs
-
 returns-2 : tie.Need-returns-2
 returns-2 c =
     let a = c .before .before .before .args in
@@ -22,13 +19,11 @@ returns-2 c =
 word-at-requires : tie.Need-word-at-requires
 word-at-requires c κs = search needs
 
-add-t4 : tie.Need-add-t4
-add-t4 c = search needs
-
 returns-3 : tie.Need-returns-3
 returns-3 c =
     let a = c .before .before .before .before .args in
     rw (le-leb (a .self .at + 4) (length (a .s .now)) (omega arith), c .word-at .ensures)
 
 pub int32-spec : {M : Type 1} → statement M
-int32-spec = tie.close (tie.spec returns sub-if2 returns-2 word-at-requires add-t4 returns-3)
+int32-spec =
+    tie.close (tie.spec returns (λ c. search needs) returns-2 word-at-requires (λ c. search needs) returns-3)

@@ -11,14 +11,8 @@ returns c =
     let a = c .before .args in
     rw (lt-leb (a .self .at + 1) (length (a .s .now)) (omega arith))
 
-shared-slice-read-t8 : tie.Need-shared-slice-read-t8
-shared-slice-read-t8 c = search needs
-
 cast-t9 : tie.Need-cast-t9
 cast-t9 c = omega (arith, c .shared-slice-known .given (c .before .before .args .self .at))
-
-add-t4 : tie.Need-add-t4
-add-t4 c = search needs
 
 returns-2 : tie.Need-returns-2
 returns-2 c =
@@ -26,4 +20,5 @@ returns-2 c =
     rw (le-leb (a .self .at + 1) (length (a .s .now)) (omega arith))
 
 pub int8-spec : {M : Type 1} → statement M
-int8-spec = tie.close (tie.spec returns shared-slice-read-t8 cast-t9 add-t4 returns-2)
+int8-spec =
+    tie.close (tie.spec returns (λ c. search needs) cast-t9 (λ c. search needs) returns-2)

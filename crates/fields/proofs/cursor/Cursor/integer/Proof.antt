@@ -2,14 +2,8 @@ use borrow.Author.Needs.{needs}
 use Rattle.fields.proofs.cursor.Cursor.integer.Statement.{statement}
 use Rattle.fields.proofs.cursor.Cursor.integer.Tie as tie
 
-enum-told : tie.Need-enum-told
-enum-told c = search needs
-
 extended-requires : tie.Need-extended-requires
 extended-requires c κs = search needs
-
-enum-told-2 : tie.Need-enum-told-2
-enum-told-2 c = search needs
 
 int32-requires : tie.Need-int32-requires
 int32-requires c κs = search needs
@@ -22,4 +16,5 @@ returns-2 c = rw (c .before .enum-told2 .given .1) (c .int32 .ensures)
 
 pub integer-spec : {M : Type 1} → statement M
 integer-spec =
-    tie.close (tie.spec enum-told extended-requires enum-told-2 int32-requires returns returns-2)
+    tie.close
+    (tie.spec (λ c. search needs) extended-requires (λ c. search needs) int32-requires returns returns-2)

@@ -9,9 +9,6 @@ use Rattle.fields.proofs.cursor.Cursor.name.Tie as tie
 pstring-requires : tie.Need-pstring-requires
 pstring-requires c κs = search needs
 
-enum-known-start : tie.Need-enum-known-start
-enum-known-start c = search needs
-
 name-bytes-requires : tie.Need-name-bytes-requires
 name-bytes-requires c κs = search needs
 
@@ -20,9 +17,6 @@ returns c =
     let a = c .before .before .before .before .before .before .before .args in
     let read = rw (c .before .before .before .start .given .1) at (c .before .before .before .before .before .pstring .ensures) in
     checked-pass BadName nameBytes (a .self .at) read (sym (c .before .name-bytes .ensures) ∙ c .if1 .taken)
-
-enum-known-refusal : tie.Need-enum-known-refusal
-enum-known-refusal c = search needs
 
 returns-2 : tie.Need-returns-2
 returns-2 c =
@@ -39,11 +33,4 @@ returns-3 c =
 pub name-spec : {M : Type 1} → statement M
 name-spec =
     tie.close
-    (tie.spec
-    pstring-requires
-    enum-known-start
-    name-bytes-requires
-    returns
-    enum-known-refusal
-    returns-2
-    returns-3)
+    (tie.spec pstring-requires (λ c. search needs) name-bytes-requires returns (λ c. search needs) returns-2 returns-3)

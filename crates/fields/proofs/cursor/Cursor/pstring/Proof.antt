@@ -12,20 +12,8 @@ returns c =
     let a = c .before .args in
     rw (le-ltb (a .self .at) (length (a .s .now)) (omega arith))
 
-shared-slice-read-size : tie.Need-shared-slice-read-size
-shared-slice-read-size c = search needs
-
 cast-size : tie.Need-cast-size
 cast-size c = omega (arith, c .shared-slice-known .given (c .before .before .args .self .at))
-
-add-start : tie.Need-add-start
-add-start c = search needs
-
-sub-if2 : tie.Need-sub-if2
-sub-if2 c = search needs
-
-add-t12 : tie.Need-add-t12
-add-t12 c = search needs
 
 returns-2 : tie.Need-returns-2
 returns-2 c =
@@ -44,12 +32,5 @@ returns-3 c =
 pub pstring-spec : {M : Type 1} → statement M
 pstring-spec =
     tie.close
-    (tie.spec
-    returns
-    shared-slice-read-size
-    cast-size
-    add-start
-    sub-if2
-    add-t12
-    returns-2
-    returns-3)
+    (tie.spec returns (λ c. search needs) cast-size (λ c. search needs) (λ c. search needs) (λ c. search needs)
+    returns-2 returns-3)

@@ -12,4 +12,5 @@ returns : tie.Need-returns
 returns c = rw (c .before .int8 .ensures) at (c .at-most .ensures)
 
 pub rate-spec : {M : Type 1} → statement M
-rate-spec = tie.close (tie.spec int8-requires at-most-requires returns)
+rate-spec =
+    tie.close (tie.spec int8-requires at-most-requires returns)

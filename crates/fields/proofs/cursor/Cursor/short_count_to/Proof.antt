@@ -12,4 +12,5 @@ returns : tie.Need-returns
 returns c = rw (c .before .int16 .ensures) at (c .at-most .ensures)
 
 pub short-count-to-spec : {M : Type 1} → statement M
-short-count-to-spec = tie.close (tie.spec int16-requires at-most-requires returns)
+short-count-to-spec =
+    tie.close (tie.spec int16-requires at-most-requires returns)

@@ -9,12 +9,6 @@ use Rattle.messageread.proofs.cursor.Cursor.blob.Tie as tie
 number-requires : tie.Need-number-requires
 number-requires c κs = search needs
 
-enum-told : tie.Need-enum-told
-enum-told c = search needs
-
-enum-known-n : tie.Need-enum-known-n
-enum-known-n c = search needs
-
 bytes-requires : tie.Need-bytes-requires
 bytes-requires c κs = search needs
 
@@ -35,4 +29,4 @@ returns-2 c =
 
 pub blob-spec : {M : Type 1} → statement M
 blob-spec =
-    tie.close (tie.spec number-requires enum-told enum-known-n bytes-requires returns returns-2)
+    tie.close (tie.spec number-requires (λ c. search needs) (λ c. search needs) bytes-requires returns returns-2)

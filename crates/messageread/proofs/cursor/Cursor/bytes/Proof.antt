@@ -24,9 +24,6 @@ returns-2 c =
     let size : a .self .at + n - a .self .at ≡ n = omega arith in
     rw (le-leb n highest32 (omega arith)) (rw size at (part-cut ((4 - n % 4) % 4) (λ bytes. true) (a .message .now) (a .self .at) (a .self .at + n) (omega arith) (omega arith)))
 
-sub-if3 : tie.Need-sub-if3
-sub-if3 c = search needs
-
 returns-3 : tie.Need-returns-3
 returns-3 c =
     let a = c .before .before .before .before .args in
@@ -35,15 +32,6 @@ returns-3 c =
     let size : a .self .at + n - a .self .at ≡ n = omega arith in
     rw (le-leb n highest32 (omega arith)) (rw size at (part-cut ((4 - n % 4) % 4) (λ bytes. true) (a .message .now) (a .self .at) (a .self .at + n) (omega arith) (omega arith)))
 
-add-end : tie.Need-add-end
-add-end c = search needs
-
-sub-pad : tie.Need-sub-pad
-sub-pad c = search needs
-
-sub-if4 : tie.Need-sub-if4
-sub-if4 c = search needs
-
 returns-4 : tie.Need-returns-4
 returns-4 c =
     let a = c .before .before .before .before .before .args in
@@ -51,9 +39,6 @@ returns-4 c =
     let n = a .n in
     let size : a .self .at + n - a .self .at ≡ n = omega arith in
     rw (le-leb n highest32 (omega arith)) (rw size at (part-cut ((4 - n % 4) % 4) (λ bytes. true) (a .message .now) (a .self .at) (a .self .at + n) (omega arith) (omega arith)))
-
-add-next : tie.Need-add-next
-add-next c = search needs
 
 blank-requires : tie.Need-blank-requires
 blank-requires c κs = search needs
@@ -77,16 +62,5 @@ returns-6 c =
 pub bytes-spec : {M : Type 1} → statement M
 bytes-spec =
     tie.close
-    (tie.spec
-    returns
-    returns-2
-    sub-if3
-    returns-3
-    add-end
-    sub-pad
-    sub-if4
-    returns-4
-    add-next
-    blank-requires
-    returns-5
-    returns-6)
+    (tie.spec returns returns-2 (λ c. search needs) returns-3 (λ c. search needs) (λ c. search needs)
+    (λ c. search needs) returns-4 (λ c. search needs) blank-requires returns-5 returns-6)

@@ -11,12 +11,6 @@ use Rattle.messageread.proofs.cursor.Cursor.headed.Tie as tie
 text-requires : tie.Need-text-requires
 text-requires c κs = search needs
 
-enum-told : tie.Need-enum-told
-enum-told c = search needs
-
-enum-known-start : tie.Need-enum-known-start
-enum-known-start c = search needs
-
 returns : tie.Need-returns
 returns c =
     let a = c .before .before .before .before .before .before .args in
@@ -65,12 +59,5 @@ returns-4 c =
 pub headed-spec : {M : Type 1} → statement M
 headed-spec =
     tie.close
-    (tie.spec
-    text-requires
-    enum-told
-    enum-known-start
-    returns
-    shared-slice-read-if2
-    returns-2
-    returns-3
+    (tie.spec text-requires (λ c. search needs) (λ c. search needs) returns shared-slice-read-if2 returns-2 returns-3
     returns-4)

@@ -22,21 +22,12 @@ sub-pad c =
     let ended = c .before .text-end .ensures .ended (omega arith) in
     omega arith
 
-sub-pad-2 : tie.Need-sub-pad-2
-sub-pad-2 c = search needs
-
-sub-if2 : tie.Need-sub-if2
-sub-if2 c = search needs
-
 returns-2 : tie.Need-returns-2
 returns-2 c =
     let a = c .before .before .before .before .args in
     let end = c .before .before .text-end .result in
     let ended = c .before .before .text-end .ensures .ended (omega arith) in
     rw (ended .size) (part-cut (4 - (end - a .self .at) % 4) nameBytes (a .message .now) (a .self .at) end (ended .behind) (omega arith))
-
-add-next : tie.Need-add-next
-add-next c = search needs
 
 blank-requires : tie.Need-blank-requires
 blank-requires c κs = search needs
@@ -58,14 +49,5 @@ returns-4 c =
 pub text-spec : {M : Type 1} → statement M
 text-spec =
     tie.close
-    (tie.spec
-    text-end-requires
-    returns
-    sub-pad
-    sub-pad-2
-    sub-if2
-    returns-2
-    add-next
-    blank-requires
-    returns-3
-    returns-4)
+    (tie.spec text-end-requires returns sub-pad (λ c. search needs) (λ c. search needs) returns-2 (λ c. search needs)
+    blank-requires returns-3 returns-4)
