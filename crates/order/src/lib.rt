@@ -13,11 +13,12 @@ ghost use mathlib.Core.Bool.{false};
 ghost use mathlib.Core.Path.{_≡_};
 ghost use Prim.Native.Nat.{_+_, _*_, _≤_, _<_};
 ghost use lib.ListN.{length, drop};
-ghost use Rattle.nodes.specs.Table.{rows};
+ghost use Rattle.nodes.specs.Table.{width, rows};
 ghost use Rattle.nodes.specs.Place.{lives};
 ghost use Rattle.nodes.specs.Sizes.{TableFits};
-ghost use Rattle.nodes.specs.Formed.{steps, rooted, apart, allFormed, synthLives, nodesFormed};
+ghost use Rattle.nodes.specs.Formed.{mostNodes, steps, rooted, apart, allFormed, synthLives, nodesFormed};
 ghost use Rattle.order.specs.Checks.{numberHolds, fieldsHold};
+ghost use Rattle.order.specs.Order.{mostOrder};
 ghost use Rattle.order.specs.Same.{sameOrder};
 ghost use Rattle.order.specs.Kept.{Kept};
 ghost use Rattle.order.specs.Marks.{rowsHold};
@@ -106,7 +107,7 @@ fn rows_apart(nodes: &[u32], count: usize) -> bool
 
 // The order region written whole.
 pub fn write_order(order: &mut [u32], from: Order)
-    requires { ⌜ length (now order) ≡ 255 ⌝ }
+    requires { ⌜ length (now order) ≡ mostOrder ⌝ }
     ensures { λ r. ⌜ now (order .exit) ≡ from .numbers ⌝ }
 {
     let numbers = from.numbers;
@@ -119,7 +120,7 @@ pub fn write_order(order: &mut [u32], from: Order)
 
 // The order kept, of this length, is the one worked out afresh.
 pub fn same_order(kept: &[u32], many: usize, nodes: &[u32], count: usize) -> bool
-    requires { ⌜ (length (now kept) ≡ 255) × TableFits (now nodes) count ⌝ }
+    requires { ⌜ (length (now kept) ≡ mostOrder) × TableFits (now nodes) count ⌝ }
     ensures { λ r. ⌜ r ≡ sameOrder (now (kept .entry)) many (rows count (now (nodes .entry))) ⌝ }
 {
     if MOST_ORDER < many {
@@ -301,7 +302,7 @@ fn root_holds(nodes: &[u32], count: usize) -> bool
 
 // The state check's part on nodes: the table of `count` records, the next number to give and the latest synth.
 pub fn nodes_formed(nodes: &[u32], count: usize, next: u32, latest: u32) -> bool
-    requires { ⌜ length (now nodes) ≡ 1280 ⌝ }
+    requires { ⌜ length (now nodes) ≡ width * mostNodes ⌝ }
     ensures { λ r. ⌜ r ≡ nodesFormed next latest (rows count (now (nodes .entry))) ⌝ }
 {
     if count < 1 {

@@ -10,9 +10,10 @@ use layout::DEPTH;
 use layout::NODES_WORDS;
 use layout::RECORD;
 ghost use mathlib.Core.Path.{_≡_};
-ghost use Prim.Native.Nat.{_+_, _-_, _≤_, _<_};
+ghost use Prim.Native.Nat.{_+_, _-_, _*_, _≤_, _<_};
 ghost use lib.ListN.{length, take, drop};
-ghost use Rattle.nodes.specs.Table.{fill};
+ghost use Rattle.nodes.specs.Table.{width, fill};
+ghost use Rattle.nodes.specs.Formed.{mostNodes};
 ghost use Rattle.tree.specs.Add.{placeBy};
 ghost use Rattle.tree.specs.Moves.{without, putIn, Opened};
 ghost use Rattle.tree.specs.Depths.{Levels, releveled};
@@ -46,7 +47,7 @@ const SHORT: usize = 16 * RECORD;
 
 // The same. A short run goes by way of a short array.
 fn move_words(words: &mut [u32], from: usize, to: usize, at: usize)
-    requires { ⌜ (from ≤ to) × ((to ≤ length (now words)) × ((at + (to - from) ≤ length (now words)) × (to - from ≤ 1280))) ⌝ }
+    requires { ⌜ (from ≤ to) × ((to ≤ length (now words)) × ((at + (to - from) ≤ length (now words)) × (to - from ≤ width * mostNodes))) ⌝ }
     ensures { λ r. ⌜ now (words .exit) ≡ putIn at (take (to - from) (drop from (now (words .entry)))) (without from to (now (words .entry))) ⌝ }
 {
     if to - from <= SHORT {

@@ -11,7 +11,7 @@ ghost use Prim.Native.Nat.{ℕ, _+_, _*_, _≤_, _<_};
 ghost use lib.ListN.{length, getD};
 ghost use Rattle.nodes.specs.Table.{width, nodeFrom, rows};
 ghost use Rattle.nodes.specs.Sizes.{TableFits};
-ghost use Rattle.nodes.specs.Formed.{rowTaken, freeRow};
+ghost use Rattle.nodes.specs.Formed.{mostRows, rowTaken, freeRow};
 ghost use Rattle.tree.specs.FreeRow.{rowOr};
 
 // The row of the synth at a place, or 256 for a group.
@@ -28,7 +28,7 @@ fn row_at(nodes: &[u32], at: usize) -> usize
 // A mark at each row that a synth has.
 fn taken_rows(nodes: &[u32], count: usize) -> [bool; ROWS]
     requires { ⌜ TableFits (now nodes) count ⌝ }
-    ensures { λ r. ⌜ ((k : ℕ) → k < 256 → getD r k false ≡ rowTaken k (rows count (now (nodes .entry)))) ⌝ }
+    ensures { λ r. ⌜ ((k : ℕ) → k < mostRows → getD r k false ≡ rowTaken k (rows count (now (nodes .entry)))) ⌝ }
 {
     let mut marks = [false; ROWS];
     let mut i = 0;

@@ -5,11 +5,12 @@ use crate::places::has_table;
 use layout::MOST_ORDER;
 use layout::NODES_WORDS;
 ghost use mathlib.Core.Path.{_≡_};
+ghost use Prim.Native.Nat.{_*_};
 ghost use lib.ListN.{length};
 ghost use lib.Dec.{eqb};
 ghost use Rattle.words.specs.Choice.{both};
-ghost use Rattle.nodes.specs.Table.{rows};
-ghost use Rattle.nodes.specs.Formed.{nodesFormed};
+ghost use Rattle.nodes.specs.Table.{width, rows};
+ghost use Rattle.nodes.specs.Formed.{mostNodes, nodesFormed};
 ghost use Rattle.order.specs.Same.{sameOrder};
 ghost use Rattle.treecalls.specs.Calls.{bit, ordered, Ordered};
 
@@ -33,7 +34,7 @@ pub extern "C" fn tree_order(nodes: &[u32], count: usize, order: &mut [u32]) -> 
 // Whether a table of 1,280 words is well formed: 1, or 0.
 #[no_mangle]
 pub extern "C" fn tree_formed(nodes: &[u32], count: usize, next: u32, latest: u32) -> u64
-    ensures { λ r. ⌜ r ≡ bit (both (eqb (length (now (nodes .entry))) 1280) (nodesFormed next latest (rows count (now (nodes .entry))))) ⌝ }
+    ensures { λ r. ⌜ r ≡ bit (both (eqb (length (now (nodes .entry))) (width * mostNodes)) (nodesFormed next latest (rows count (now (nodes .entry))))) ⌝ }
 {
     if nodes.len() != NODES_WORDS {
         return 0;

@@ -20,7 +20,7 @@ use Rattle.treequery.specs.declared.shapes.Synth.{Synth}
 use Rattle.treequery.specs.Pieces.{pieceArgument, isSmall, mostBytes}
 use Rattle.treequery.specs.Shown.{Shown}
 use Rattle.treequery.specs.SynthRow.{controlsLeft, controlsShown, synth-short, synth-few, controls-shown, controls-done, control-small, control-left}
-use Rattle.treequery.specs.Shapes.{labelIn, Shape}
+use Rattle.treequery.specs.Shapes.{shapeWords, shapesLength, labelIn, Shape}
 
 -- a synth's row, with the shape of its definition
 pub record Shaped (ws bs shapes : List ℕ) (i : ℕ) : Type 0 where
@@ -31,7 +31,7 @@ pub record Shaped (ws bs shapes : List ℕ) (i : ℕ) : Type 0 where
 -- the label of a control is a whole string
 pub record LabelThere (s shapes : List ℕ) (first j : ℕ) : Type 0 where
   pub low : j < 32
-  pub inside : first + 33 ≤ 1056
+  pub inside : first + shapeWords ≤ shapesLength
   pub within : 0 < getD shapes (first + 1 + j) 0 → getD shapes (first + 1 + j) 0 + 1 + getD s (getD shapes (first + 1 + j) 0) 0 ≤ length s
 
 -- what the control j of a row shows
@@ -41,7 +41,7 @@ valueOf ws row j = mappingArgument (controlIn (controlsIn ws) row j .mapping) (c
 -- what the code knows of a synth
 pub record SynthAt (ws bs : List ℕ) (i : ℕ) (k : Synth) : Type 0 where
   pub row : k .row ≡ nodeIn ws i .row
-  pub first : k .first ≡ 33 * nodeIn ws i .slot
+  pub first : k .first ≡ shapeWords * nodeIn ws i .slot
   pub many : k .many ≡ length (frontIn (slotBytes ws bs (nodeIn ws i .slot)) .values)
 
 -- a synth's controls, as they are counted and written one by one
@@ -49,7 +49,7 @@ pub record Controls (ws bs shapes : List ℕ) (i : ℕ) (definition : List ℕ) 
   pub of : Shaped ws bs shapes i
   pub bytes : definition ≡ slotBytes ws bs (nodeIn ws i .slot)
   pub rowIs : row ≡ nodeIn ws i .row
-  pub firstIs : first ≡ 33 * nodeIn ws i .slot
+  pub firstIs : first ≡ shapeWords * nodeIn ws i .slot
   pub manyIs : many ≡ length (frontIn (slotBytes ws bs (nodeIn ws i .slot)) .values)
 
 module _ {ws bs shapes : List ℕ} {i : ℕ} {definition : List ℕ} {row first many : ℕ} (k : Controls ws bs shapes i definition row first many) where

@@ -1,11 +1,12 @@
 // The rows of the reply counted: how many arguments they have, and how many bytes.
 use crate::piece::Piece;
-use crate::places::Places;
 use crate::places::count_pair;
 use crate::places::count_piece;
+use crate::places::Places;
 use crate::row::label_at;
 use crate::row::string_at;
 use crate::row::value_at;
+use crate::shapes::SHAPES;
 use crate::shapes::synth_at;
 use controls::node_definition;
 use controls::node_is_group;
@@ -21,7 +22,7 @@ fn count_controls(
     places: Places,
     words: &[u32],
     arena: &[u8],
-    shapes: &[u32; 1056],
+    shapes: &[u32; SHAPES],
     place: usize,
 ) -> Places
     requires { ⌜ (Shaped (now words) (now arena) (now shapes) place) × (Counts (controlsShown (now words) (now arena) place true) places) ⌝ }
@@ -47,7 +48,7 @@ fn count_row(
     places: Places,
     words: &[u32],
     arena: &[u8],
-    shapes: &[u32; 1056],
+    shapes: &[u32; SHAPES],
     shown: bool,
     end: usize,
     place: usize,
@@ -71,7 +72,7 @@ fn count_row(
 pub fn count_tree(
     words: &[u32],
     arena: &[u8],
-    shapes: &[u32; 1056],
+    shapes: &[u32; SHAPES],
     shown: bool,
     from: usize,
     end: usize,

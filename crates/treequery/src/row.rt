@@ -1,5 +1,6 @@
 // One row of the reply: which arguments it has.
 use crate::piece::Piece;
+use crate::shapes::SHAPES;
 use layout::CONTROLS;
 use layout::CONTROLS_END;
 use layout::ROW_WORDS;
@@ -11,6 +12,8 @@ ghost use mathlib.Core.Bool.{true};
 ghost use mathlib.Core.Path.{_≡_};
 ghost use lib.ListN.{length, getD};
 ghost use Rattle.format.specs.Fields.{stringAt};
+ghost use Rattle.format.specs.Reader.{mostParameters};
+ghost use Rattle.nodes.specs.Formed.{mostRows};
 ghost use Rattle.readable.specs.Labels.{labelAt};
 ghost use Rattle.osc.specs.Message.{text};
 ghost use Rattle.values.specs.Controls.{seen};
@@ -32,7 +35,7 @@ pub fn string_at(definition: &[u8], at: usize) -> Piece
 }
 
 // The label of a control whose definition's shape starts at a place of the table: its first name, or else its index.
-pub fn label_at(definition: &[u8], shapes: &[u32; 1056], first: usize, index: u32) -> Piece
+pub fn label_at(definition: &[u8], shapes: &[u32; SHAPES], first: usize, index: u32) -> Piece
     requires { ⌜ LabelThere (now definition) (now shapes) first index ⌝ }
     ensures { λ r. ⌜ (pieceArgument (now (definition .entry)) r ≡ labelArgument (labelAt (now (definition .entry)) (getD (now (shapes .entry)) (first + 1 + index) 0)) index) × (isSmall r ≡ true) ⌝ }
 {
@@ -56,7 +59,7 @@ fn shown_piece(control: Control) -> Piece
 
 // The same of a control of a row.
 pub fn value_at(words: &[u32], row: u32, index: u32) -> Piece
-    requires { ⌜ (length (now words) ≡ wordsLength) × (row < 256) × (index < 32) ⌝ }
+    requires { ⌜ (length (now words) ≡ wordsLength) × (row < mostRows) × (index < mostParameters) ⌝ }
     ensures { λ r. ⌜ Shown (controlIn (controlsIn (now (words .entry))) row index) r ⌝ }
 {
     let controls = &words[CONTROLS..CONTROLS_END];

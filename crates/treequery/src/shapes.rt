@@ -16,6 +16,12 @@ ghost use Rattle.treequery.specs.Shapes.{shapesLength, Shapes, Filled, S
 ghost use Rattle.treequery.specs.Rows.{Run};
 ghost use Rattle.treequery.specs.Controls.{Shaped, SynthAt};
 
+// The words of a slot's part: one, and one for each control that a definition can have.
+const SHAPE: usize = 33;
+
+// The words of all parts.
+pub const SHAPES: usize = 1056;
+
 // A synth: the row of its controls, the place of its definition's shape, P.
 pub struct Synth {
     pub row: u32,
@@ -24,12 +30,12 @@ pub struct Synth {
 }
 
 // The synth at a place of the table.
-pub fn synth_at(words: &[u32], arena: &[u8], shapes: &[u32; 1056], place: usize) -> Synth
+pub fn synth_at(words: &[u32], arena: &[u8], shapes: &[u32; SHAPES], place: usize) -> Synth
     requires { ⌜ Shaped (now words) (now arena) (now shapes) place ⌝ }
     ensures { λ r. ⌜ SynthAt (now (words .entry)) (now (arena .entry)) place r ⌝ }
 {
     let row = node_row(words, place);
-    let first = 33 * node_slot(words, place);
+    let first = SHAPE * node_slot(words, place);
     Synth {
         row: row,
         first: first,
@@ -38,12 +44,12 @@ pub fn synth_at(words: &[u32], arena: &[u8], shapes: &[u32; 1056], place: usize)
 }
 
 // A definition's shape into its slot's part.
-fn look_up(shapes: &mut [u32; 1056], slot: usize, definition: &[u8])
+fn look_up(shapes: &mut [u32; SHAPES], slot: usize, definition: &[u8])
     requires { ⌜ (slot < 32) × (length (now shapes) ≡ shapesLength) × (Readable (now definition)) ⌝ }
     ensures { λ r. ⌜ Filled (now (definition .entry)) slot (now (shapes .entry)) (now (shapes .exit)) ⌝ }
 {
     let places = labels(definition);
-    let first = 33 * slot;
+    let first = SHAPE * slot;
     shapes[first] = parameter_count(definition) + 1;
     let mut j = 0;
     while j < 32 {
@@ -53,7 +59,7 @@ fn look_up(shapes: &mut [u32; 1056], slot: usize, definition: &[u8])
 }
 
 // The shape of the definition of a row's synth, unless its slot was looked up before.
-fn look_up_row(shapes: &mut [u32; 1056], words: &[u32], arena: &[u8], place: usize)
+fn look_up_row(shapes: &mut [u32; SHAPES], words: &[u32], arena: &[u8], place: usize)
     requires { ⌜ (At (now words) (now arena) place) × (ShapesKnown (now words) (now arena) (now shapes)) ⌝ }
     ensures { λ r. ⌜ LookedUp (now (words .entry)) (now (arena .entry)) place (now (shapes .entry)) (now (shapes .exit)) ⌝ }
 {
@@ -61,18 +67,18 @@ fn look_up_row(shapes: &mut [u32; 1056], words: &[u32], arena: &[u8], place: usi
         return;
     }
     let slot = node_slot(words, place);
-    if shapes[33 * slot] != 0 {
+    if shapes[SHAPE * slot] != 0 {
         return;
     }
     look_up(shapes, slot, node_definition(words, arena, place));
 }
 
 // The shapes of the synths' definitions, from one place of the table to another, where controls are shown.
-pub fn tree_shapes(words: &[u32], arena: &[u8], shown: bool, from: usize, end: usize) -> [u32; 1056]
+pub fn tree_shapes(words: &[u32], arena: &[u8], shown: bool, from: usize, end: usize) -> [u32; SHAPES]
     requires { ⌜ Run (now words) (now arena) from end ⌝ }
     ensures { λ r. ⌜ (shown ≡ true → Shapes (now (words .entry)) (now (arena .entry)) from end r) ⌝ }
 {
-    let mut shapes = [0u32; 1056];
+    let mut shapes = [0u32; SHAPES];
     if !shown {
         return shapes;
     }

@@ -6,6 +6,7 @@ use crate::places::put_pair;
 use crate::row::label_at;
 use crate::row::string_at;
 use crate::row::value_at;
+use crate::shapes::SHAPES;
 use crate::shapes::synth_at;
 use controls::node_definition;
 use controls::node_is_group;
@@ -28,7 +29,7 @@ fn put_controls(
     places: Places,
     words: &[u32],
     arena: &[u8],
-    shapes: &[u32; 1056],
+    shapes: &[u32; SHAPES],
     place: usize,
 ) -> Places
     requires { ⌜ (Shaped (now words) (now arena) (now shapes) place) × (Room places (controlsShown (now words) (now arena) place true) (now out)) ⌝ }
@@ -60,7 +61,7 @@ fn put_row(
     places: Places,
     words: &[u32],
     arena: &[u8],
-    shapes: &[u32; 1056],
+    shapes: &[u32; SHAPES],
     children: u32,
     shown: bool,
     end: usize,
@@ -88,7 +89,7 @@ pub fn put_tree(
     places: Places,
     words: &[u32],
     arena: &[u8],
-    shapes: &[u32; 1056],
+    shapes: &[u32; SHAPES],
     children: &[u8],
     shown: bool,
     from: usize,
