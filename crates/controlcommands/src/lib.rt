@@ -2,7 +2,6 @@
 mod buses;
 
 pub use buses::bus_step;
-
 use controls::Asked;
 use controls::Change;
 use controls::change_all;

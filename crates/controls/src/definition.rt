@@ -128,7 +128,13 @@ pub fn initial_row(controls: &mut [u32], row: u32, definition: &[u8])
             if count == 0 {
                 return;
             }
-            write_initial(controls, ROW_WORDS * wide(row), definition, start, wide(count));
+            write_initial(
+                controls,
+                ROW_WORDS * wide(row),
+                definition,
+                start,
+                wide(count),
+            );
         }
         ValuesFound::Nothing => {}
     }

@@ -8,8 +8,8 @@ use format::FIRST_PLACE;
 use format::Width;
 use layout::RECORD;
 use layout::SLOT;
-use layout::SLOTS;
 use layout::SLOT_ROOM;
+use layout::SLOTS;
 use slots::bytes_on;
 use slots::resident_count;
 use widening::widen;
@@ -95,7 +95,15 @@ fn copy_in(to: &mut [u8], at: usize, from: &[u8])
 }
 
 // The definition that was read from one place of a file to another, put into a slot in its version 2 encoding, resident.
-fn place(table: &mut [u32], arena: &mut [u8], k: usize, file: &[u8], at: usize, end: usize, width: Width)
+fn place(
+    table: &mut [u32],
+    arena: &mut [u8],
+    k: usize,
+    file: &[u8],
+    at: usize,
+    end: usize,
+    width: Width,
+)
     requires { ⌜ SlotsFit (now table) (now arena) × ((k < slotCount) × Placeable width (now file) at end) ⌝ }
     ensures { λ r. ⌜ ((d : Definition) → definitionBy width (now (file .entry)) at ≡ got d end → (now (table .exit) ≡ set (set (now (table .entry)) k (length (writeDefinition d))) (slotCount + k) 1) × (now (arena .exit) ≡ put (slotRoom * k) (length (writeDefinition d)) (writeDefinition d) (now (arena .entry)))) ⌝ }
 {

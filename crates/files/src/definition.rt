@@ -54,7 +54,12 @@ pub fn read_variants(s: &[u8], cursor: Cursor, parameters: u32, count: u32) -> S
 
 // The next definition: how many counts and indices it has, and the next cursor. What the lent ring holds before and after it says
 // nothing.
-pub(crate) fn next_definition(s: &[u8], cursor: Cursor, width: Width, outs: &mut [u32; REMEMBERED]) -> Run
+pub(crate) fn next_definition(
+    s: &[u8],
+    cursor: Cursor,
+    width: Width,
+    outs: &mut [u32; REMEMBERED],
+) -> Run
     requires { ⌜ length (now outs) ≡ remembered ⌝ }
     ensures { λ r. ⌜ (runOf r ≡ mapRead fieldsIn (definitionBy width (now (s .entry)) (cursor .at))) × (length (now (outs .exit)) ≡ remembered) ⌝ }
 {

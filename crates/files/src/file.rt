@@ -2,12 +2,12 @@
 use crate::definition::next_definition;
 use encoding::too_long;
 use faults::Fault;
-use fields::word_at;
 use fields::Cursor;
 use fields::Number;
 use fields::Step;
 use fields::name_at;
 use fields::same_name;
+use fields::word_at;
 use format::FILE_TYPE;
 use format::FILE_VERSION;
 use format::FIRST_VERSION;

@@ -85,7 +85,13 @@ pub fn parameter_name(s: &[u8], cursor: Cursor, width: Width, parameters: u32) -
 }
 
 // So many parameter names.
-pub fn skip_parameter_names(s: &[u8], cursor: Cursor, width: Width, parameters: u32, count: u32) -> Step
+pub fn skip_parameter_names(
+    s: &[u8],
+    cursor: Cursor,
+    width: Width,
+    parameters: u32,
+    count: u32,
+) -> Step
     ensures { λ r. ⌜ stepOf r ≡ ending (repeat (parameterNameBy width parameters (now (s .entry))) count (cursor .at)) ⌝ }
 {
     let mut at = cursor.at;

@@ -3,7 +3,6 @@ use Prim.Native.Nat.{ℕ}
 use mathlib.Core.Path.{_≡_, refl, sym, ap, _∙_}
 use mathlib.Core.List.{List}
 use lib.ListN.{length}
-
 use Rattle.refusals.specs.declared.Refusal.{Refusal}
 use Rattle.model.specs.declared.Query.{Query}
 use Rattle.model.specs.declared.Answer.{Answer}

@@ -14,7 +14,6 @@ use Rattle.format.specs.Definition.{Definition}
 use Rattle.format.specs.Reader.{sameName, among, sizeLimit}
 use Rattle.format.specs.Writer.{writeDefinition}
 use Rattle.format.specs.Bounds.{isDefinition, areDefinitions}
-
 use Rattle.nodes.specs.declared.Node.{Node}
 use Rattle.nodes.specs.Place.{isGroup}
 use Rattle.nodes.specs.Forest.{Forest, node, flatten}

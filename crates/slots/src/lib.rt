@@ -1,8 +1,8 @@
 // The slots of definitions: the bytes of the definition in a slot, which lie in the arena where only this crate and a load know, and how many are resident.
 use layout::LENGTHS;
 use layout::RESIDENT_END;
-use layout::SLOTS;
 use layout::SLOT_ROOM;
+use layout::SLOTS;
 use words::wide;
 ghost use Prim.Native.Nat.{ℕ, _<_, min};
 ghost use mathlib.Core.Path.{_≡_};

@@ -1,8 +1,8 @@
 // The rows of the reply counted: how many arguments they have, and how many bytes.
 use crate::piece::Piece;
+use crate::places::Places;
 use crate::places::count_pair;
 use crate::places::count_piece;
-use crate::places::Places;
 use crate::row::label_at;
 use crate::row::string_at;
 use crate::row::value_at;

@@ -1,4 +1,5 @@
 // One argument of the reply: its tag, its size, its bytes.
+use fields::part;
 use osc::decimal_length;
 use osc::padded_length;
 use osc::put_byte;
@@ -6,7 +7,6 @@ use osc::put_decimal;
 use osc::put_int;
 use osc::put_padded;
 use osc::put_zeros;
-use fields::part;
 ghost use Prim.Native.Nat.{ℕ, _+_, _≤_};
 ghost use mathlib.Core.List.{List};
 ghost use mathlib.Core.Path.{_≡_};

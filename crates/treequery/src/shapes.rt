@@ -74,7 +74,13 @@ fn look_up_row(shapes: &mut [u32; SHAPES], words: &[u32], arena: &[u8], place: u
 }
 
 // The shapes of the synths' definitions, from one place of the table to another, where controls are shown.
-pub fn tree_shapes(words: &[u32], arena: &[u8], shown: bool, from: usize, end: usize) -> [u32; SHAPES]
+pub fn tree_shapes(
+    words: &[u32],
+    arena: &[u8],
+    shown: bool,
+    from: usize,
+    end: usize,
+) -> [u32; SHAPES]
     requires { ⌜ Run (now words) (now arena) from end ⌝ }
     ensures { λ r. ⌜ (shown ≡ true → Shapes (now (words .entry)) (now (arena .entry)) from end r) ⌝ }
 {

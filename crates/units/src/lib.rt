@@ -453,14 +453,7 @@ fn read_marked(
 }
 
 // So many units, the first of a definition, with as many marks as there are at most.
-fn read_most(
-    s: &[u8],
-    cursor: Cursor,
-    width: Width,
-    constants: u32,
-    count: u32,
-    stride: u32,
-) -> Run
+fn read_most(s: &[u8], cursor: Cursor, width: Width, constants: u32, count: u32, stride: u32) -> Run
     requires { ⌜ 0 < stride ⌝ }
     ensures { λ r. ⌜ runOf r ≡ countUnits width constants (now (s .entry)) count (cursor .at) ⌝ }
 {
@@ -470,14 +463,7 @@ fn read_most(
 
 // So many units can't all be remembered, and at most so many of them are there. Since it calls itself, the compiler keeps it and
 // what it calls apart: the marks' room is not part of what every definition takes.
-fn read_many(
-    s: &[u8],
-    cursor: Cursor,
-    width: Width,
-    constants: u32,
-    count: u32,
-    most: usize,
-) -> Run
+fn read_many(s: &[u8], cursor: Cursor, width: Width, constants: u32, count: u32, most: usize) -> Run
     ensures { λ r. ⌜ runOf r ≡ countUnits width constants (now (s .entry)) count (cursor .at) ⌝ }
 {
     if wide(count) < most {

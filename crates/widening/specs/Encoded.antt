@@ -14,10 +14,6 @@ use Rattle.format.specs.Writer.{writeDefinition}
 use Rattle.osc.specs.Over.{over}
 use Rattle.encoding.specs.Encoding.{Readable}
 
-
-
-
-
 -- a definition was read from one place to another, and its encoding has room at a place
 pub record Encodable (w : Width) (s : List ℕ) (at end : ℕ) (out : List ℕ) (place : ℕ) : Type 0 where
   pub readable : Readable w s at end

@@ -1,7 +1,6 @@
 -- `controlcommands::can_map` meets its contract.
 
 use mathlib.Core.Path.{sym}
-
 use borrow.Author.Needs.{needs}
 use borrow.Author.Tests.{eq-eqb, ne-eqb}
 use Rattle.controlcommands.proofs.can_map.Statement.{statement}

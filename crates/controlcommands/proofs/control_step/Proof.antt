@@ -1,8 +1,5 @@
 -- `controlcommands::control_step` meets its contract: each arm hands on what its function ensures.
 
-
-
-
 use borrow.Author.Needs.{needs}
 use Rattle.controlcommands.specs.Steps.{set-filled}
 use Rattle.controlcommands.proofs.control_step.Statement.{statement}

@@ -3,9 +3,7 @@ use mathlib.Core.Bool.{not}
 use mathlib.Core.Path.{sym, ap, _∙_}
 use native.Mathlib.Omega.{arith}
 use borrow.Author.Needs.{needs}
-
 use Rattle.model.specs.declared.ControlCommand.the-variants as controls
-
 use Rattle.values.specs.ValueLaws.{bounds-fact}
 use Rattle.names.specs.Named.{findable}
 use Rattle.controlcommands.specs.Steps.{no-node, second, fill-row, fill-ran}

@@ -5,8 +5,6 @@ use native.Mathlib.Omega.{arith}
 use borrow.Author.Needs.{needs}
 use borrow.Author.Tests.{not-false}
 use Rattle.model.specs.declared.ControlCommand.the-variants as controls
-
-
 use Rattle.names.specs.Named.{findable}
 use Rattle.controlcommands.specs.Steps.{no-node, second, map-row, map-ran}
 use Rattle.controlcommands.proofs.map_control.Statement.{statement}

@@ -1,8 +1,6 @@
 -- `controlcommands::mapping_to` meets its contract.
 
 use mathlib.Core.Path.{sym}
-
-
 use borrow.Author.Tests.{eq-eqb, ne-eqb}
 use Rattle.controlcommands.proofs.mapping_to.Statement.{statement}
 use Rattle.controlcommands.proofs.mapping_to.Tie as tie

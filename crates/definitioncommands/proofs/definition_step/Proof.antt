@@ -1,8 +1,5 @@
 -- `definitioncommands::definition_step` meets its contract: each arm hands on what its function ensures.
 
-
-
-
 use borrow.Author.Needs.{needs}
 use Rattle.definitioncommands.proofs.definition_step.Statement.{statement}
 use Rattle.definitioncommands.proofs.definition_step.Tie as tie

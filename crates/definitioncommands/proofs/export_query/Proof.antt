@@ -1,7 +1,5 @@
 -- `definitioncommands::export_query` meets its contract: refusal 24, or the export.
 
-
-
 use native.Mathlib.Omega.{arith}
 use borrow.Author.Needs.{needs}
 use Rattle.definitioncommands.specs.Steps.{formed-table, export-long, export-done}

@@ -1,7 +1,5 @@
 -- `definitioncommands::free` meets its contract: refusal 16, or one resident retired.
 
-
-
 use native.Mathlib.Omega.{arith}
 use borrow.Author.Needs.{needs}
 use Rattle.definitioncommands.specs.Steps.{formed-table, free-none, free-done}

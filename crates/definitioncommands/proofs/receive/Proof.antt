@@ -1,7 +1,6 @@
 -- `definitioncommands::receive` meets its contract: the file's own faults, or what follows them.
 
 use mathlib.Core.Path.{sym, _∙_}
-
 use borrow.Author.Needs.{needs}
 use Rattle.format.specs.Reader.{readFile}
 use Rattle.definitioncommands.specs.Steps.{verdict-bad, verdict-got, receive-fault}

@@ -1,5 +1,4 @@
 use native.Mathlib.Nat.{add-zero}
-
 use Rattle.words.specs.Choice.{pick}
 use native.Mathlib.Nat.{zero-add}
 use mathlib.Core.Logic.{⊎-elim}
@@ -13,8 +12,6 @@ use mathlib.Core.Bool.{Bool}
 use mathlib.Core.Path.{_≡_, sym, ap, _∙_}
 use mathlib.Core.List.{List}
 use native.Mathlib.Omega.{arith}
-
-
 use lib.ListN.{drop}
 use Rattle.definitions.proofs.count_staying.Statement.{statement}
 use Rattle.definitions.proofs.count_staying.Tie as tie

@@ -8,8 +8,6 @@ use Prim.Native.Nat.{_+_, _-_, _≤_}
 use mathlib.Core.Bool.{Bool, true, false}
 use mathlib.Core.Path.{_≡_, refl, sym, ap, _∙_}
 use native.Mathlib.Omega.{arith}
-
-
 use lib.ListN.{drop}
 use Rattle.definitions.proofs.each_formed.Statement.{statement}
 use Rattle.definitions.proofs.each_formed.Tie as tie

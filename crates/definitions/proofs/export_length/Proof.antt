@@ -1,10 +1,8 @@
 use Rattle.definitions.specs.Exporting.{bodyFrom, size-turn, body-end, export-size}
-
 use mathlib.Core.Logic.{⊎-elim}
 use Prim.Native.Nat.{_+_, _*_, _-_, _≤_}
 use mathlib.Core.Path.{_≡_, refl, ap}
 use native.Mathlib.Omega.{arith}
-
 use borrow.Author.Tests.{eq-eqb, ne-eqb}
 use lib.ListN.{length, getD}
 use Rattle.definitions.proofs.export_length.Statement.{statement}

@@ -6,8 +6,6 @@ use Prim.Native.Nat.{_+_, _-_, _≤_}
 use mathlib.Core.Bool.{Bool, true, false}
 use mathlib.Core.Path.{_≡_, refl, sym, ap, _∙_}
 use native.Mathlib.Omega.{arith}
-
-
 use lib.ListN.{drop}
 use Rattle.definitions.proofs.find_resident.Statement.{statement}
 use Rattle.definitions.proofs.find_resident.Tie as tie

@@ -6,7 +6,6 @@ use Prim.Native.Nat.{_+_, _-_, _≤_}
 use mathlib.Core.Bool.{Bool}
 use mathlib.Core.Path.{_≡_, refl, sym, ap, _∙_}
 use native.Mathlib.Omega.{arith}
-
 use borrow.Author.Tests.{le-leb, lt-leb}
 use lib.ListN.{drop, getD}
 use Rattle.definitions.proofs.flags_formed.Statement.{statement}

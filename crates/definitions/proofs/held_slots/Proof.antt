@@ -10,8 +10,6 @@ use mathlib.Core.Bool.{Bool, true, false}
 use mathlib.Core.Path.{_≡_, refl, sym, ap, _∙_}
 use mathlib.Core.List.{List}
 use native.Mathlib.Omega.{arith}
-
-
 use lib.ListN.{length, drop, getD, length-set}
 use Rattle.definitions.proofs.held_slots.Statement.{statement}
 use Rattle.definitions.proofs.held_slots.Tie as tie

@@ -11,7 +11,6 @@ use mathlib.Core.Bool.{Bool, true, false}
 use mathlib.Core.Path.{_≡_, refl, sym, ap, _∙_}
 use mathlib.Core.List.{List}
 use native.Mathlib.Omega.{arith}
-
 use borrow.Author.Tests.{eq-eqb, ne-eqb}
 use lib.ListN.{drop, getD}
 use Rattle.definitions.proofs.lowest_free.Statement.{statement}

@@ -3,9 +3,6 @@ use Rattle.definitions.specs.Names.{Marking, marking-set, marking-skip}
 use Prim.Native.Nat.{_-_, _<_}
 use mathlib.Core.Path.{refl, sym, _∙_}
 use native.Mathlib.Omega.{arith}
-
-
-
 use Rattle.definitions.proofs.mark_named.Statement.{statement}
 use Rattle.definitions.proofs.mark_named.Tie as tie
 

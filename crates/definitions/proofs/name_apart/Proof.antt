@@ -7,8 +7,6 @@ use Prim.Native.Nat.{_+_, _-_, _≤_}
 use mathlib.Core.Bool.{Bool, true, false, not}
 use mathlib.Core.Path.{_≡_, refl, sym, ap, _∙_}
 use native.Mathlib.Omega.{arith}
-
-
 use lib.ListN.{drop}
 use Rattle.definitions.proofs.name_apart.Statement.{statement}
 use Rattle.definitions.proofs.name_apart.Tie as tie

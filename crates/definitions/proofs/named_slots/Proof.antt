@@ -2,11 +2,7 @@ use Prim.{tt}
 use Rattle.definitions.specs.Naming.{Naming, run-next, naming-first, naming-next, naming-last}
 use Rattle.definitions.specs.Files.{accepted-run}
 use Prim.Native.Nat.{_-_}
-
-
 use native.Mathlib.Omega.{arith}
-
-
 use lib.ListN.{length}
 use Rattle.definitions.proofs.named_slots.Statement.{statement}
 use Rattle.definitions.proofs.named_slots.Tie as tie

@@ -4,7 +4,6 @@ use Prim.Native.Nat.{_-_, _<_}
 use mathlib.Core.Path.{refl}
 use native.Mathlib.Omega.{arith}
 use borrow.Author.Needs.{needs}
-
 use Rattle.definitions.proofs.retire_marked.Statement.{statement}
 use Rattle.definitions.proofs.retire_marked.Tie as tie
 

@@ -5,12 +5,6 @@ use Rattle.model.specs.Formed.{flagsFormed, slotsFormed}
 use borrow.Author.Tests.{not-true, not-false}
 use mathlib.Core.Bool.{true, false}
 use mathlib.Core.Path.{_≡_, sym, _∙_}
-
-
-
-
-
-
 use Rattle.definitions.proofs.slots_formed.Statement.{statement}
 use Rattle.definitions.proofs.slots_formed.Tie as tie
 

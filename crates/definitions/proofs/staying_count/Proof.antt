@@ -1,12 +1,3 @@
-
-
-
-
-
-
-
-
-
 use Rattle.definitions.proofs.staying_count.Statement.{statement}
 use Rattle.definitions.proofs.staying_count.Tie as tie
 

@@ -1,12 +1,4 @@
-
-
-
-
-
-
-
 use borrow.Author.Tests.{eq-eqb, ne-eqb}
-
 use Rattle.definitions.proofs.stays.Statement.{statement}
 use Rattle.definitions.proofs.stays.Tie as tie
 

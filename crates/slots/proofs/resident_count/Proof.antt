@@ -1,12 +1,10 @@
 use Rattle.slots.specs.Slots.{countFrom, count-turn, count-end}
-
 use native.Mathlib.Nat.{zero-add}
 use mathlib.Core.Logic.{⊎-elim}
 use Prim.Native.Nat.{ℕ, _+_, _-_, _≤_}
 use mathlib.Core.Path.{_≡_}
 use mathlib.Core.List.{List}
 use native.Mathlib.Omega.{arith}
-
 use borrow.Author.Tests.{eq-eqb, ne-eqb}
 use lib.ListN.{getD}
 use Rattle.slots.proofs.resident_count.Statement.{statement}

@@ -1,6 +1,5 @@
 -- `engine::sent::message` meets its contract: what was read, the check, and then the step.
 use mathlib.Core.Path.{sym, _∙_, subst}
-
 use borrow.Author.Needs.{needs}
 use borrow.Author.Tests.{not-true, not-false}
 use Rattle.messages.specs.declared.Received.{Received}

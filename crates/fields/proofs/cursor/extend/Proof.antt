@@ -12,9 +12,9 @@ use Rattle.fields.proofs.cursor.extend.Tie as tie
 -- how far a number lies above the lowest, and the lowest
 above-lowest : (n : ℕ) → n < 65536 → ((n + 32768) % 65536 + 4294934528) % 4294967296 ≡ extended n
 above-lowest n h = go (leb n highest16) refl where
-    go : (b : Bool) → leb n highest16 ≡ b → ((n + 32768) % 65536 + 4294934528) % 4294967296 ≡ extended n
-    go true e = rw e (omega (arith, leb-true n highest16 e))
-    go false e = rw e (omega (arith, leb-false n highest16 e))
+  go : (b : Bool) → leb n highest16 ≡ b → ((n + 32768) % 65536 + 4294934528) % 4294967296 ≡ extended n
+  go true e = rw e (omega (arith, leb-true n highest16 e))
+  go false e = rw e (omega (arith, leb-false n highest16 e))
 
 number16-requires : tie.Need-number16-requires
 number16-requires c κs = search needs

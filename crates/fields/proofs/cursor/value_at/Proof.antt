@@ -1,7 +1,4 @@
-
 use borrow.Author.Needs.{needs}
-
-
 use Rattle.fields.proofs.cursor.value_at.Statement.{statement}
 use Rattle.fields.proofs.cursor.value_at.Tie as tie
 

@@ -1,14 +1,8 @@
 use Prim.{tt}
-
-
-
 use Rattle.synthdef.specs.Reading.{Reading, reading-first, reading-next, reading-last, after-here}
 use Prim.Native.Nat.{_-_}
 use mathlib.Core.Path.{_∙_}
 use native.Mathlib.Omega.{arith}
-
-
-
 use Rattle.synthdef.proofs.twin.twin_size.Statement.{statement}
 use Rattle.synthdef.proofs.twin.twin_size.Tie as tie
 

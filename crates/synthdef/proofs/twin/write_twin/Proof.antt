@@ -9,8 +9,6 @@ use Rattle.synthdef.specs.Reading.{reading-next, after-here, Writing, wr
 use Prim.Native.Nat.{_-_, _≤_}
 use mathlib.Core.Path.{_≡_, sym, ap, _∙_}
 use native.Mathlib.Omega.{arith}
-
-
 use lib.ListN.{length}
 use Rattle.synthdef.proofs.twin.write_twin.Statement.{statement}
 use Rattle.synthdef.proofs.twin.write_twin.Tie as tie

@@ -4,11 +4,9 @@ use Rattle.widening.specs.Pieces.{integerWide, textWide, textPast, float
 use Rattle.widening.specs.Walk.{wideAll, pastAll, past-up}
 use Rattle.widening.specs.Moved.{room-first, room-last, moved-then}
 use Prim.Native.Nat.{_+_}
-
 use mathlib.Core.List.{_++_}
 use native.Mathlib.Omega.{arith}
 use borrow.Author.Needs.{needs}
-
 use borrow.Author.Needs.{needs}
 use Rattle.widening.proofs.fronts.widen_front.Statement.{statement}
 use Rattle.widening.proofs.fronts.widen_front.Tie as tie

@@ -3,11 +3,9 @@ use Rattle.widening.specs.Pieces.{inputWide, inputPast, bodyWide, bodyPa
 use Rattle.widening.specs.Walk.{wideAll, pastAll, past-up}
 use Rattle.widening.specs.Moved.{room-first, room-last, moved-then}
 use Prim.Native.Nat.{_+_}
-
 use mathlib.Core.List.{_++_}
 use native.Mathlib.Omega.{arith}
 use borrow.Author.Needs.{needs}
-
 use borrow.Author.Needs.{needs}
 use Rattle.widening.proofs.unit.widen_body.Statement.{statement}
 use Rattle.widening.proofs.unit.widen_body.Tie as tie
