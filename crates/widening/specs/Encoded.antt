@@ -12,9 +12,13 @@ use Rattle.format.specs.Reader.{definitionBy}
 use Rattle.format.specs.RepeatLaws.{got-value}
 use Rattle.format.specs.Writer.{writeDefinition}
 use Rattle.osc.specs.Over.{over}
-use Rattle.encoding.specs.Encoding.{Readable}
 
--- a definition was read from one place to another, and its encoding has room at a place
+-- a definition is read from one place to another
+pub record Readable (w : Width) (s : List ℕ) (at end : ℕ) : Type 0 where
+  pub definition : Definition
+  pub read : definitionBy w s at ≡ got definition end
+
+-- .. and its encoding has room at a place
 pub record Encodable (w : Width) (s : List ℕ) (at end : ℕ) (out : List ℕ) (place : ℕ) : Type 0 where
   pub readable : Readable w s at end
   pub room : place + length (writeDefinition (readable .definition)) ≤ length out
