@@ -36,10 +36,6 @@ followed-append to (p ∷ a) b = go (followed-append to a b) (ltb (to p) gone)
     go ih true = ap (λ (l : List ℕ). to p ∷ l) ih
     go ih false = ih
 
-pub followed-none : (to : ℕ → ℕ) → followed to [] ≡ []
-unfolding followed
-followed-none to = refl
-
 -- one entry, at i, where `left` were left of those before it
 module _ (to : ℕ → ℕ) (w ws : List ℕ) (i left : ℕ) (h : i < length w) (near : left ≤ i) (size : left ≡ length (followed to (take i w))) (now : ws ≡ followed to (take i w) ++ drop left w) where
   -- it is as it was
