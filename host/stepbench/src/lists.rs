@@ -128,7 +128,7 @@ fn same(lists: &[Lent], model: &mut Engine, fast: &mut Fast, state: &mut State) 
 }
 
 /// Both plain engines with so many nodes.
-fn engines(nodes: usize) -> (Engine, Fast) {
+pub fn engines(nodes: usize) -> (Engine, Fast) {
     let definitions = definitions();
     let model = engine_of(nodes, &definitions);
     let mut fast = Fast::new();

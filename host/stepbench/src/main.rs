@@ -1,7 +1,7 @@
 //! The proved engine's time as a multiple of the independent Rust engine's, for the same commands in
-//! one run: whole (`apply`), and with the time of its state check taken off (`step`); and messages
-//! against commands as they are, their reading and writing against plain Rust; the lookup of a node; lists;
-//! and why a number is silent.
+//! one run: whole (`apply`), with the time of its state check taken off (`step`), and in lists, where the
+//! check is a small part; and messages against commands as they are, their reading and writing against
+//! plain Rust; the lookup of a node; lists; and why a number is silent.
 //!
 //! Run it from `host/`, after `./archives engine`, by `cargo run --release -p stepbench`; words after `--`, as `lists`, ask
 //! for parts of it.
@@ -12,6 +12,7 @@ mod fast;
 mod lists;
 mod lookups;
 mod messages;
+mod steps;
 mod why;
 
 use clock::{least, SAMPLES};
@@ -60,8 +61,9 @@ impl State {
 }
 
 /// The parts, each by the word that asks for it alone.
-const PARTS: [(&str, fn()); 6] = [
+const PARTS: [(&str, fn()); 7] = [
     ("commands", every_command),
+    ("steps", steps::measure),
     ("lookups", lookups::measure),
     ("lists", lists::measure),
     ("messages", messages::measure),
