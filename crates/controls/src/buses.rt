@@ -4,7 +4,7 @@ use words::wide;
 ghost use Prim.Native.Nat.{_+_};
 ghost use mathlib.Core.Path.{_≡_};
 ghost use lib.Dec.{leb};
-ghost use lib.ListN.{length, getD, set, replicate};
+ghost use lib.ListN.{length, set, replicate};
 ghost use Rattle.words.specs.Choice.{pick};
 ghost use Rattle.words.specs.Parts.{put};
 ghost use Rattle.model.specs.Meaning.{isBus, isBusRange};
@@ -54,15 +54,4 @@ pub fn fill_buses(buses: &mut [u32], start: u32, count: u32, pattern: u32)
         buses[from + i] = pattern;
         i += 1;
     }
-}
-
-// A bus's pattern; 0 past the last bus.
-pub fn read_bus(buses: &[u32], bus: u32) -> u32
-    ensures { λ r. ⌜ r ≡ getD (now (buses .entry)) bus 0 ⌝ }
-{
-    let at = wide(bus);
-    if at < buses.len() {
-        return buses[at];
-    }
-    0
 }

@@ -15,7 +15,6 @@ pub use asked::read_key;
 pub use buses::fill_buses;
 pub use buses::is_bus;
 pub use buses::is_bus_range;
-pub use buses::read_bus;
 pub use buses::set_bus;
 pub use control::Change;
 pub use control::change_row;

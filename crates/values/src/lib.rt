@@ -75,7 +75,7 @@ fn word_of(mapping: Mapping) -> u32
 }
 
 // A bus's pattern, 0 past the last bus.
-fn bus_at(buses: &[u32], bus: u32) -> u32
+pub fn bus_at(buses: &[u32], bus: u32) -> u32
     ensures { λ r. ⌜ r ≡ busAt (now (buses .entry)) bus ⌝ }
 {
     let at = wide(bus);

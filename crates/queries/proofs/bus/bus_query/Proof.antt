@@ -23,8 +23,8 @@ returns c =
     reply-refused (query.Bus (a .bus)) (a .bytes .now) (a .words .now) (a .arena .now) (a .out .now) NoBus
     (bus-fires (a .bus) (a .bytes .now) (decode (a .words .now) (a .arena .now)) (sym (b .ensures) ∙ not-true (b .result) (c .if1 .taken)))
 
-read-bus-requires : tie.Need-read-bus-requires
-read-bus-requires c κs = search needs
+bus-at-requires : tie.Need-bus-at-requires
+bus-at-requires c κs = search needs
 
 send-words-requires : tie.Need-send-words-requires
 send-words-requires c κs = search needs
@@ -34,7 +34,7 @@ returns-2 c =
     let a = c .before .before .before .before .before .before .before .before .before .before .before .before .before .before .before .args in
     let ws = a .words .now in
     let b = c .before .before .before .before .before .before .before .before .before .before .is-bus in
-    let value = c .before .before .before .before .before .before .before .read-bus in
+    let value = c .before .before .before .before .before .before .before .bus-at in
     let sent = c .before .before .send-words in
     reply-sent (query.Bus (a .bus)) (a .bytes .now) ws (a .arena .now) (a .out .now) (wordMessage busAddress busTags (a .bus ∷ (value .result ∷ []))) (sent .result) (sent .last .0)
     (bus-passes (a .bus) (a .bytes .now) (decode ws (a .arena .now)) (sym (b .ensures) ∙ not-false (b .result) (c .before .before .before .before .before .before .before .before .before .if1 .left)))
@@ -44,5 +44,5 @@ returns-2 c =
 pub bus-query-spec : {M : Type 1} → statement M
 bus-query-spec =
     tie.close
-    (tie.spec is-bus-requires returns (λ c. search needs) (λ c. search needs) (λ c. search needs) read-bus-requires
+    (tie.spec is-bus-requires returns (λ c. search needs) (λ c. search needs) (λ c. search needs) bus-at-requires
     (λ c. search needs) (λ c. search needs) (λ c. search needs) send-words-requires (λ c. search needs) returns-2)
