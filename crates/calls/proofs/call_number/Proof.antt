@@ -9,15 +9,6 @@ use Rattle.calls.specs.Numbers.{room, callNumber}
 use Rattle.calls.proofs.call_number.Statement.{statement}
 use Rattle.calls.proofs.call_number.Tie as tie
 
-placed-requires : tie.Need-placed-requires
-placed-requires c κs = search needs
-
-refusal-number-requires : tie.Need-refusal-number-requires
-refusal-number-requires c κs = search needs
-
-fault-number-requires : tie.Need-fault-number-requires
-fault-number-requires c κs = search needs
-
 placed-requires-2 : tie.Need-placed-requires-2
 placed-requires-2 c κs = omega (arith, fault-high (c .before .before .answer3 .given .0 .0), c .fault-number .ensures)
 
@@ -35,6 +26,6 @@ returns-4 c =
 pub call-number-spec : {M : Type 1} → statement M
 call-number-spec =
     tie.close
-    (tie.spec (λ c. search needs) (λ c. search needs) placed-requires (λ c. search needs) refusal-number-requires
-    (λ c. search needs) (λ c. search needs) fault-number-requires placed-requires-2 (λ c. search needs) returns-2
+    (tie.spec (λ c. search needs) (λ c. search needs) (λ c κs. search needs) (λ c. search needs) (λ c κs. search needs)
+    (λ c. search needs) (λ c. search needs) (λ c κs. search needs) placed-requires-2 (λ c. search needs) returns-2
     returns-3 returns-4)

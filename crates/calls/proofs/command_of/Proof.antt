@@ -5,24 +5,6 @@ use Rattle.calls.specs.Ops.{op-is, op-past, past, Others}
 use Rattle.calls.proofs.command_of.Statement.{statement}
 use Rattle.calls.proofs.command_of.Tie as tie
 
-set-control-requires : tie.Need-set-control-requires
-set-control-requires c κs = search needs
-
-set-control-requires-2 : tie.Need-set-control-requires-2
-set-control-requires-2 c κs = search needs
-
-fill-controls-requires : tie.Need-fill-controls-requires
-fill-controls-requires c κs = search needs
-
-fill-controls-requires-2 : tie.Need-fill-controls-requires-2
-fill-controls-requires-2 c κs = search needs
-
-set-bus-requires : tie.Need-set-bus-requires
-set-bus-requires c κs = search needs
-
-fill-buses-requires : tie.Need-fill-buses-requires
-fill-buses-requires c κs = search needs
-
 returns : tie.Need-returns
 returns c =
     let a = c .before .args in
@@ -172,8 +154,8 @@ returns-29 c =
 pub command-of-spec : {M : Type 1} → statement M
 command-of-spec =
     tie.close
-    (tie.spec set-control-requires set-control-requires-2 fill-controls-requires fill-controls-requires-2
-    set-bus-requires fill-buses-requires returns returns-2 returns-3 returns-4 returns-5 returns-6 returns-7 returns-8
-    returns-9 returns-10 returns-11 returns-12 returns-13 returns-14 returns-15 returns-16 returns-17 returns-18
-    returns-19 returns-20 returns-21 returns-22 returns-23 returns-24 returns-25 returns-26 returns-27 returns-28
-    returns-29)
+    (tie.spec (λ c κs. search needs) (λ c κs. search needs) (λ c κs. search needs) (λ c κs. search needs)
+    (λ c κs. search needs) (λ c κs. search needs) returns returns-2 returns-3 returns-4 returns-5 returns-6 returns-7
+    returns-8 returns-9 returns-10 returns-11 returns-12 returns-13 returns-14 returns-15 returns-16 returns-17
+    returns-18 returns-19 returns-20 returns-21 returns-22 returns-23 returns-24 returns-25 returns-26 returns-27
+    returns-28 returns-29)

@@ -13,12 +13,6 @@ controls-asked-requires c κs =
     let p = c .before .before .before .before .pre in
     (ready-known (a .words .now) (a .arena .now) (p .0), p .1)
 
-wide-requires : tie.Need-wide-requires
-wide-requires c κs = search needs
-
-subtree-end-requires : tie.Need-subtree-end-requires
-subtree-end-requires c κs = search needs
-
 change-all-requires : tie.Need-change-all-requires
 change-all-requires c κs =
     let a = c .before .before .before .before .before .before .before .before .before .before .before .before .before .args in
@@ -49,6 +43,6 @@ returns-3 c =
 pub change-run-spec : {M : Type 1} → statement M
 change-run-spec =
     tie.close
-    (tie.spec controls-asked-requires (λ c. search needs) (λ c. search needs) wide-requires (λ c. search needs)
-    (λ c. search needs) (λ c. search needs) subtree-end-requires change-all-requires (λ c. search needs)
+    (tie.spec controls-asked-requires (λ c. search needs) (λ c. search needs) (λ c κs. search needs) (λ c. search needs)
+    (λ c. search needs) (λ c. search needs) (λ c κs. search needs) change-all-requires (λ c. search needs)
     (λ c. search needs) (λ c. search needs) returns (λ c. search needs) returns-2 (λ c. search needs) returns-3)

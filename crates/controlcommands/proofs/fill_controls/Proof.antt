@@ -15,20 +15,11 @@ node-place-requires c κs =
     let a = c .before .before .before .before .args in
     findable (a .words .now) (a .arena .now) (c .before .before .before .before .pre)
 
-wide-requires : tie.Need-wide-requires
-wide-requires c κs = search needs
-
 returns : tie.Need-returns
 returns c =
     let a = c .before .before .before .before .before .before .before .before .args in
     no-node (a .node) (a .words .now) (a .arena .now) (c .before .before .before .node-place .result) (c .before .before .before .node-place .ensures) (controls.Fill (a .node) (a .key) (a .count) (a .value)) (a .bytes .now) _ _ _ _
     (fill-row (a .node) (a .key) (a .bytes .now) (a .words .now) (a .arena .now) (a .count) (a .value)) (omega arith)
-
-value-pattern-requires : tie.Need-value-pattern-requires
-value-pattern-requires c κs = search needs
-
-change-run-requires : tie.Need-change-run-requires
-change-run-requires c κs = search needs
 
 returns-2 : tie.Need-returns-2
 returns-2 c =
@@ -45,6 +36,6 @@ returns-3 c =
 pub fill-controls-spec : {M : Type 1} → statement M
 fill-controls-spec =
     tie.close
-    (tie.spec node-place-requires (λ c. search needs) wide-requires (λ c. search needs) returns value-pattern-requires
-    (λ c. search needs) change-run-requires (λ c. search needs) (λ c. search needs) returns-2 (λ c. search needs)
-    returns-3)
+    (tie.spec node-place-requires (λ c. search needs) (λ c κs. search needs) (λ c. search needs) returns
+    (λ c κs. search needs) (λ c. search needs) (λ c κs. search needs) (λ c. search needs) (λ c. search needs) returns-2
+    (λ c. search needs) returns-3)

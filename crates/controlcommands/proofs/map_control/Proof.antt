@@ -15,29 +15,17 @@ node-place-requires c κs =
     let a = c .before .before .before .before .args in
     findable (a .words .now) (a .arena .now) (c .before .before .before .before .pre)
 
-wide-requires : tie.Need-wide-requires
-wide-requires c κs = search needs
-
 returns : tie.Need-returns
 returns c =
     let a = c .before .before .before .before .before .before .before .before .args in
     no-node (a .node) (a .words .now) (a .arena .now) (c .before .before .before .node-place .result) (c .before .before .before .node-place .ensures) (controls.Map (a .node) (a .key) (a .bus)) (a .bytes .now) _ _ _ _
     (map-row (a .node) (a .key) (a .bytes .now) (a .words .now) (a .arena .now) (a .bus)) (omega arith)
 
-can-map-requires : tie.Need-can-map-requires
-can-map-requires c κs = search needs
-
 returns-2 : tie.Need-returns-2
 returns-2 c =
     let a = c .before .before .before .before .before .before .before .before .before .before .args in
     second (a .node) (a .words .now) (a .arena .now) (c .before .before .before .before .before .node-place .result) (c .before .before .before .before .before .node-place .ensures) (omega arith) (controls.Map (a .node) (a .key) (a .bus)) (a .bytes .now) _ _ _ _
     (map-row (a .node) (a .key) (a .bytes .now) (a .words .now) (a .arena .now) (a .bus)) (ap not (sym (c .before .can-map .ensures)) ∙ c .if2 .taken)
-
-mapping-to-requires : tie.Need-mapping-to-requires
-mapping-to-requires c κs = search needs
-
-change-run-requires : tie.Need-change-run-requires
-change-run-requires c κs = search needs
 
 returns-3 : tie.Need-returns-3
 returns-3 c =
@@ -49,5 +37,6 @@ returns-3 c =
 pub map-control-spec : {M : Type 1} → statement M
 map-control-spec =
     tie.close
-    (tie.spec node-place-requires (λ c. search needs) wide-requires (λ c. search needs) returns can-map-requires
-    (λ c. search needs) returns-2 mapping-to-requires change-run-requires (λ c. search needs) returns-3)
+    (tie.spec node-place-requires (λ c. search needs) (λ c κs. search needs) (λ c. search needs) returns
+    (λ c κs. search needs) (λ c. search needs) returns-2 (λ c κs. search needs) (λ c κs. search needs)
+    (λ c. search needs) returns-3)

@@ -4,12 +4,6 @@ use borrow.Author.Needs.{needs}
 use Rattle.definitioncommands.proofs.definition_step.Statement.{statement}
 use Rattle.definitioncommands.proofs.definition_step.Tie as tie
 
-receive-requires : tie.Need-receive-requires
-receive-requires c κs = search needs
-
-free-requires : tie.Need-free-requires
-free-requires c κs = search needs
-
 returns : tie.Need-returns
 returns c = rw (c .before .before .before .before .before .before .before .enum-told .given .1) (c .before .before .before .before .receive .ensures)
 
@@ -19,5 +13,5 @@ returns-2 c = rw (c .before .before .before .before .before .enum-told2 .given .
 pub definition-step-spec : {M : Type 1} → statement M
 definition-step-spec =
     tie.close
-    (tie.spec (λ c. search needs) receive-requires (λ c. search needs) free-requires (λ c. search needs)
+    (tie.spec (λ c. search needs) (λ c κs. search needs) (λ c. search needs) (λ c κs. search needs) (λ c. search needs)
     (λ c. search needs) returns (λ c. search needs) (λ c. search needs) returns-2)

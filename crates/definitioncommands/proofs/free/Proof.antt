@@ -11,16 +11,10 @@ find-resident-requires c κs =
     let s = c .before .before .before .before .before in
     formed-table (s .args .words .now) (s .args .arena .now) (s .pre)
 
-wide-requires : tie.Need-wide-requires
-wide-requires c κs = search needs
-
 returns : tie.Need-returns
 returns c =
     let a = c .before .before .before .before .before .before .before .before .args in
     free-none (a .bytes .now) (a .words .now) (a .arena .now) (c .before .before .find-resident .result) (c .before .before .find-resident .ensures) (omega arith)
-
-retire-requires : tie.Need-retire-requires
-retire-requires c κs = search needs
 
 returns-2 : tie.Need-returns-2
 returns-2 c =
@@ -33,6 +27,6 @@ returns-2 c =
 pub free-spec : {M : Type 1} → statement M
 free-spec =
     tie.close
-    (tie.spec (λ c. search needs) (λ c. search needs) (λ c. search needs) find-resident-requires wide-requires
-    (λ c. search needs) returns (λ c. search needs) (λ c. search needs) (λ c. search needs) retire-requires
+    (tie.spec (λ c. search needs) (λ c. search needs) (λ c. search needs) find-resident-requires (λ c κs. search needs)
+    (λ c. search needs) returns (λ c. search needs) (λ c. search needs) (λ c. search needs) (λ c κs. search needs)
     (λ c. search needs) returns-2)

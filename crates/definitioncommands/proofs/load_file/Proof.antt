@@ -7,19 +7,10 @@ use Rattle.definitioncommands.specs.Steps.{formed-table, receive-full, r
 use Rattle.definitioncommands.proofs.load_file.Statement.{statement}
 use Rattle.definitioncommands.proofs.load_file.Tie as tie
 
-wide-requires : tie.Need-wide-requires
-wide-requires c κs = search needs
-
-held-slots-requires : tie.Need-held-slots-requires
-held-slots-requires c κs = search needs
-
 staying-count-requires : tie.Need-staying-count-requires
 staying-count-requires c κs =
     let s = c .before .before .before .before .before .before .before .before .before .before in
     (formed-table (s .args .words .now) (s .args .arena .now) (s .pre .0), s .pre .1 .0)
-
-no-slot-requires : tie.Need-no-slot-requires
-no-slot-requires c κs = search needs
 
 returns : tie.Need-returns
 returns c =
@@ -53,7 +44,7 @@ returns-2 c =
 pub load-file-spec : {M : Type 1} → statement M
 load-file-spec =
     tie.close
-    (tie.spec (λ c. search needs) (λ c. search needs) (λ c. search needs) (λ c. search needs) wide-requires
-    held-slots-requires (λ c. search needs) (λ c. search needs) (λ c. search needs) staying-count-requires
-    no-slot-requires (λ c. search needs) (λ c. search needs) returns (λ c. search needs) (λ c. search needs)
+    (tie.spec (λ c. search needs) (λ c. search needs) (λ c. search needs) (λ c. search needs) (λ c κs. search needs)
+    (λ c κs. search needs) (λ c. search needs) (λ c. search needs) (λ c. search needs) staying-count-requires
+    (λ c κs. search needs) (λ c. search needs) (λ c. search needs) returns (λ c. search needs) (λ c. search needs)
     (λ c. search needs) load-requires (λ c. search needs) (λ c. search needs) returns-2)

@@ -7,9 +7,6 @@ use Rattle.definitioncommands.specs.Steps.{verdict-bad, verdict-got, rec
 use Rattle.definitioncommands.proofs.receive.Statement.{statement}
 use Rattle.definitioncommands.proofs.receive.Tie as tie
 
-check-file-requires : tie.Need-check-file-requires
-check-file-requires c κs = search needs
-
 load-file-requires : tie.Need-load-file-requires
 load-file-requires c κs =
     let s = c .before .before .before .before .before .before .before .before .before in
@@ -23,5 +20,5 @@ returns-2 c =
 pub receive-spec : {M : Type 1} → statement M
 receive-spec =
     tie.close
-    (tie.spec check-file-requires (λ c. search needs) load-file-requires (λ c. search needs) (λ c. search needs)
+    (tie.spec (λ c κs. search needs) (λ c. search needs) load-file-requires (λ c. search needs) (λ c. search needs)
     (λ c. search needs) (λ c. search needs) returns-2)

@@ -7,9 +7,6 @@ use Rattle.definitions.specs.Names.{named-there}
 use Rattle.definitions.proofs.slot_name.Statement.{statement}
 use Rattle.definitions.proofs.slot_name.Tie as tie
 
-bytes-on-requires : tie.Need-bytes-on-requires
-bytes-on-requires c κs = search needs
-
 name-at-requires : tie.Need-name-at-requires
 name-at-requires c κs =
     let s = c .before .before .before in
@@ -28,4 +25,4 @@ returns c =
 
 pub slot-name-spec : {M : Type 1} → statement M
 slot-name-spec =
-    tie.close (tie.spec bytes-on-requires name-at-requires returns)
+    tie.close (tie.spec (λ c κs. search needs) name-at-requires returns)

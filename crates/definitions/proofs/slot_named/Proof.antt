@@ -23,9 +23,6 @@ slot-name-requires c κs =
     let s = c .before .before .before .before .before in
     (s .pre .0, s .pre .1, eq-eqb (getD (s .args .table .now) (32 + s .args .k) 0) 1 (c .if1 .left))
 
-same-name-requires : tie.Need-same-name-requires
-same-name-requires c κs = search needs
-
 returns-2 : tie.Need-returns-2
 returns-2 c =
     let a = c .before .before .before .before .before .before .before .args in
@@ -37,5 +34,5 @@ returns-2 c =
 pub slot-named-spec : {M : Type 1} → statement M
 slot-named-spec =
     tie.close
-    (tie.spec (λ c. search needs) (λ c. search needs) (λ c. search needs) returns slot-name-requires same-name-requires
-    returns-2)
+    (tie.spec (λ c. search needs) (λ c. search needs) (λ c. search needs) returns slot-name-requires
+    (λ c κs. search needs) returns-2)

@@ -3,12 +3,6 @@ use borrow.Author.Needs.{needs}
 use Rattle.front.proofs.counted_floats.Statement.{statement}
 use Rattle.front.proofs.counted_floats.Tie as tie
 
-count-to-requires : tie.Need-count-to-requires
-count-to-requires c κs = search needs
-
-skip-floats-requires : tie.Need-skip-floats-requires
-skip-floats-requires c κs = search needs
-
 returns : tie.Need-returns
 returns c =
     let n = rw (c .before .before .before .before .before .count .given .1) at (c .before .before .before .before .before .before .before .count-to .ensures) in
@@ -29,5 +23,5 @@ returns-3 c =
 pub counted-floats-spec : {M : Type 1} → statement M
 counted-floats-spec =
     tie.close
-    (tie.spec count-to-requires (λ c. search needs) skip-floats-requires (λ c. search needs) (λ c. search needs)
+    (tie.spec (λ c κs. search needs) (λ c. search needs) (λ c κs. search needs) (λ c. search needs) (λ c. search needs)
     (λ c. search needs) returns returns-2 returns-3)

@@ -3,12 +3,6 @@ use borrow.Author.Needs.{needs}
 use Rattle.front.proofs.parameter_name.Statement.{statement}
 use Rattle.front.proofs.parameter_name.Tie as tie
 
-name-requires : tie.Need-name-requires
-name-requires c κs = search needs
-
-index-below-requires : tie.Need-index-below-requires
-index-below-requires c κs = search needs
-
 returns : tie.Need-returns
 returns c =
     let n = rw (c .before .before .before .before .before .start .given .1) at (c .before .before .before .before .before .before .before .name .ensures) in
@@ -29,5 +23,5 @@ returns-3 c =
 pub parameter-name-spec : {M : Type 1} → statement M
 parameter-name-spec =
     tie.close
-    (tie.spec name-requires (λ c. search needs) index-below-requires (λ c. search needs) (λ c. search needs)
+    (tie.spec (λ c κs. search needs) (λ c. search needs) (λ c κs. search needs) (λ c. search needs) (λ c. search needs)
     (λ c. search needs) returns returns-2 returns-3)

@@ -3,18 +3,6 @@ use borrow.Author.Needs.{needs}
 use Rattle.front.proofs.read_counts.Statement.{statement}
 use Rattle.front.proofs.read_counts.Tie as tie
 
-definition-name-requires : tie.Need-definition-name-requires
-definition-name-requires c κs = search needs
-
-counted-floats-requires : tie.Need-counted-floats-requires
-counted-floats-requires c κs = search needs
-
-counted-floats-requires-2 : tie.Need-counted-floats-requires-2
-counted-floats-requires-2 c κs = search needs
-
-count-to-requires : tie.Need-count-to-requires
-count-to-requires c κs = search needs
-
 returns : tie.Need-returns
 returns c =
     let n = rw (c .before .before .before .before .before .before .before .before .before .before .before .before .before .start .given .1) at (c .before .before .before .before .before .before .before .before .before .before .before .before .before .before .before .definition-name .ensures) in
@@ -52,6 +40,6 @@ returns-5 c =
 pub read-counts-spec : {M : Type 1} → statement M
 read-counts-spec =
     tie.close
-    (tie.spec definition-name-requires (λ c. search needs) counted-floats-requires (λ c. search needs)
-    counted-floats-requires-2 (λ c. search needs) count-to-requires (λ c. search needs) (λ c. search needs)
+    (tie.spec (λ c κs. search needs) (λ c. search needs) (λ c κs. search needs) (λ c. search needs)
+    (λ c κs. search needs) (λ c. search needs) (λ c κs. search needs) (λ c. search needs) (λ c. search needs)
     (λ c. search needs) (λ c. search needs) (λ c. search needs) returns returns-2 returns-3 returns-4 returns-5)

@@ -4,12 +4,6 @@ use Rattle.front.specs.FrontLaws.{front-fact}
 use Rattle.front.proofs.read_front.Statement.{statement}
 use Rattle.front.proofs.read_front.Tie as tie
 
-read-counts-requires : tie.Need-read-counts-requires
-read-counts-requires c κs = search needs
-
-skip-parameter-names-requires : tie.Need-skip-parameter-names-requires
-skip-parameter-names-requires c κs = search needs
-
 returns : tie.Need-returns
 returns c =
     let a = c .before .before .before .before .before .before .before .before .before .args in
@@ -33,5 +27,5 @@ returns-3 c =
 pub read-front-spec : {M : Type 1} → statement M
 read-front-spec =
     tie.close
-    (tie.spec read-counts-requires (λ c. search needs) skip-parameter-names-requires (λ c. search needs)
+    (tie.spec (λ c κs. search needs) (λ c. search needs) (λ c κs. search needs) (λ c. search needs)
     (λ c. search needs) (λ c. search needs) returns returns-2 returns-3)

@@ -20,9 +20,6 @@ returns-2 c =
     let a = c .before .before .before .args in
     sym (float-cut (a .s .now) (a .count) (a .cursor .at) (omega arith) (omega arith))
 
-wide-requires : tie.Need-wide-requires
-wide-requires c κs = search needs
-
 returns-3 : tie.Need-returns-3
 returns-3 c =
     let a = c .before .before .before .before .before .args in
@@ -38,5 +35,5 @@ returns-4 c =
 pub skip-floats-spec : {M : Type 1} → statement M
 skip-floats-spec =
     tie.close
-    (tie.spec returns returns-2 wide-requires (λ c. search needs) (λ c. search needs) (λ c. search needs) returns-3
-    (λ c. search needs) (λ c. search needs) returns-4)
+    (tie.spec returns returns-2 (λ c κs. search needs) (λ c. search needs) (λ c. search needs) (λ c. search needs)
+    returns-3 (λ c. search needs) (λ c. search needs) returns-4)

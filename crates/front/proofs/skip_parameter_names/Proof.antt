@@ -18,9 +18,6 @@ abbrev μ-loop : tie.MeasureT-loop
 loop-holds : tie.Need-loop-holds Inv-loop μ-loop
 loop-holds c = (omega arith, rw sub-zero)
 
-parameter-name-requires : tie.Need-parameter-name-requires Inv-loop μ-loop
-parameter-name-requires c κs = search needs
-
 returns : tie.Need-returns Inv-loop μ-loop
 returns c =
     let a = c .before .before .before .before .before .before .before .args in
@@ -44,5 +41,5 @@ returns-2 c =
 pub skip-parameter-names-spec : {M : Type 1} → statement M
 skip-parameter-names-spec =
     tie.close
-    (tie.spec Inv-loop μ-loop loop-holds parameter-name-requires (λ c. search needs) (λ c. search needs) returns
+    (tie.spec Inv-loop μ-loop loop-holds (λ c κs. search needs) (λ c. search needs) (λ c. search needs) returns
     (λ c. omega arith) (λ c. omega arith) loop-again returns-2)

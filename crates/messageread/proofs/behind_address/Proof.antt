@@ -19,30 +19,12 @@ use Rattle.messageread.specs.Finish.{endOf, afterAddress}
 use Rattle.messageread.proofs.behind_address.Statement.{statement}
 use Rattle.messageread.proofs.behind_address.Tie as tie
 
-headed-requires : tie.Need-headed-requires
-headed-requires c κs = search needs
-
-part-requires : tie.Need-part-requires
-part-requires c κs = search needs
-
 add-part : tie.Need-add-part
 add-part c =
     let a = c .before .before .before .before .before .before .args in
     let g = c .before .before .start .given in
     let full = subst (λ (t : Text). Full (a .message .now) t) (g .1) (c .before .before .before .before .headed .ensures .full) in
     omega arith
-
-part-requires-2 : tie.Need-part-requires-2
-part-requires-2 c κs = search needs
-
-find-requires : tie.Need-find-requires
-find-requires c κs = search needs
-
-walk-requires : tie.Need-walk-requires
-walk-requires c κs = search needs
-
-finish-requires : tie.Need-finish-requires
-finish-requires c κs = search needs
 
 returns : tie.Need-returns
 returns c =
@@ -73,5 +55,5 @@ returns-2 c =
 pub behind-address-spec : {M : Type 1} → statement M
 behind-address-spec =
     tie.close
-    (tie.spec headed-requires (λ c. search needs) (λ c. search needs) part-requires add-part part-requires-2
-    find-requires walk-requires finish-requires returns returns-2)
+    (tie.spec (λ c κs. search needs) (λ c. search needs) (λ c. search needs) (λ c κs. search needs) add-part
+    (λ c κs. search needs) (λ c κs. search needs) (λ c κs. search needs) (λ c κs. search needs) returns returns-2)

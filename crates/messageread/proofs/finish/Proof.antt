@@ -29,9 +29,6 @@ returns-2 c =
     let end = g .0 .1 .0 .at in
     λ held. stands-by s (endOf s (a .op) (stepOf s (a .op) (a .step))) (endOf s (a .op) (parsed (given s (a .op) kept) end)) Unknown (ap (λ (t : Step). endOf s (a .op) (stepOf s (a .op) t)) (g .1)) (no-op s (a .op) kept end (c .before .if1 .left) (c .if2 .taken))
 
-command-of-requires : tie.Need-command-of-requires
-command-of-requires c κs = search needs
-
 returns-3 : tie.Need-returns-3
 returns-3 c =
     let a = c .before .before .before .args in
@@ -59,5 +56,5 @@ returns-5 c =
 pub finish-spec : {M : Type 1} → statement M
 finish-spec =
     tie.close
-    (tie.spec (λ c. search needs) (λ c. search needs) returns returns-2 command-of-requires (λ c. search needs)
+    (tie.spec (λ c. search needs) (λ c. search needs) returns returns-2 (λ c κs. search needs) (λ c. search needs)
     (λ c. search needs) returns-3 returns-4 returns-5)

@@ -5,12 +5,6 @@ use Rattle.messageread.specs.FinishLaws.{no-address, addressed}
 use Rattle.messageread.proofs.read.Statement.{statement}
 use Rattle.messageread.proofs.read.Tie as tie
 
-headed-requires : tie.Need-headed-requires
-headed-requires c κs = search needs
-
-behind-address-requires : tie.Need-behind-address-requires
-behind-address-requires c κs = search needs
-
 returns : tie.Need-returns
 returns c =
     let a = c .before .before .before .before .args in
@@ -26,4 +20,4 @@ returns-2 c =
 pub read-spec : {M : Type 1} → statement M
 read-spec =
     tie.close
-    (tie.spec headed-requires (λ c. search needs) (λ c. search needs) behind-address-requires returns returns-2)
+    (tie.spec (λ c κs. search needs) (λ c. search needs) (λ c. search needs) (λ c κs. search needs) returns returns-2)

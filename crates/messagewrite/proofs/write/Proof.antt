@@ -9,17 +9,8 @@ use Rattle.messagewrite.specs.Whole.{wholeSize, writes-unknown, writes-u
 use Rattle.messagewrite.proofs.write.Statement.{statement}
 use Rattle.messagewrite.proofs.write.Tie as tie
 
-address-length-requires : tie.Need-address-length-requires
-address-length-requires c κs = search needs
-
 returns : tie.Need-returns
 returns c = writes-unknown (given (c .before .before .before .before .args .numbers) (c .before .before .before .before .args .bytes .now)) (c .before .before .before .before .args .out .now) (sym (c .before .address-length .ensures) ∙ c .if1 .taken)
-
-slot-count-requires : tie.Need-slot-count-requires
-slot-count-requires c κs = search needs
-
-any-unfit-requires : tie.Need-any-unfit-requires
-any-unfit-requires c κs = search needs
 
 returns-2 : tie.Need-returns-2
 returns-2 c =
@@ -28,9 +19,6 @@ returns-2 c =
     let op = a .numbers .op in
     let h : 0 < length (addressOf op) = omega (arith, c .before .before .before .before .address-length .ensures) in
     writes-unfit g (a .out .now) h (sym (c .before .any-unfit .ensures) ∙ c .if2 .taken)
-
-message-size-requires : tie.Need-message-size-requires
-message-size-requires c κs = search needs
 
 returns-3 : tie.Need-returns-3
 returns-3 c =
@@ -67,5 +55,5 @@ returns-4 c =
 pub write-spec : {M : Type 1} → statement M
 write-spec =
     tie.close
-    (tie.spec address-length-requires returns slot-count-requires any-unfit-requires returns-2 message-size-requires
-    returns-3 put-message-requires (λ c. search needs) returns-4)
+    (tie.spec (λ c κs. search needs) returns (λ c κs. search needs) (λ c κs. search needs) returns-2
+    (λ c κs. search needs) returns-3 put-message-requires (λ c. search needs) returns-4)

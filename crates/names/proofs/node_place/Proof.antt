@@ -4,23 +4,11 @@ use Rattle.names.specs.Named.{named-number, named-latest, named-none, na
 use Rattle.names.proofs.node_place.Statement.{statement}
 use Rattle.names.proofs.node_place.Tie as tie
 
-wide-requires : tie.Need-wide-requires
-wide-requires c κs = search needs
-
-target-of-requires : tie.Need-target-of-requires
-target-of-requires c κs = search needs
-
 returns : tie.Need-returns
 returns c =
     let a = c .before .before .before .before .before .before .before .before .args in
     rw (c .before .before .before .before .before .wide .ensures)
     (named-none (a .argument) (a .words .now) (sym (c .before .before .before .before .target-of .ensures) ∙ c .before .before .enum-told .given .1) (c .if1 .taken))
-
-place-of-requires : tie.Need-place-of-requires
-place-of-requires c κs = search needs
-
-place-of-requires-2 : tie.Need-place-of-requires-2
-place-of-requires-2 c κs = search needs
 
 returns-2 : tie.Need-returns-2
 returns-2 c =
@@ -41,5 +29,6 @@ returns-4 c =
 pub node-place-spec : {M : Type 1} → statement M
 node-place-spec =
     tie.close
-    (tie.spec (λ c. search needs) wide-requires target-of-requires (λ c. search needs) (λ c. search needs) returns
-    place-of-requires (λ c. search needs) place-of-requires-2 (λ c. search needs) returns-2 returns-3 returns-4)
+    (tie.spec (λ c. search needs) (λ c κs. search needs) (λ c κs. search needs) (λ c. search needs) (λ c. search needs)
+    returns (λ c κs. search needs) (λ c. search needs) (λ c κs. search needs) (λ c. search needs) returns-2 returns-3
+    returns-4)

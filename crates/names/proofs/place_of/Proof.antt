@@ -10,9 +10,6 @@ use Rattle.names.specs.Named.{keeps}
 use Rattle.names.proofs.place_of.Statement.{statement}
 use Rattle.names.proofs.place_of.Tie as tie
 
-wide-requires : tie.Need-wide-requires
-wide-requires c κs = search needs
-
 find-indexed-requires : tie.Need-find-indexed-requires
 find-indexed-requires c κs =
     let first = c .before .before .before .before .before in
@@ -27,5 +24,5 @@ returns c =
 pub place-of-spec : {M : Type 1} → statement M
 place-of-spec =
     tie.close
-    (tie.spec (λ c. search needs) wide-requires (λ c. search needs) (λ c. search needs) (λ c. search needs)
+    (tie.spec (λ c. search needs) (λ c κs. search needs) (λ c. search needs) (λ c. search needs) (λ c. search needs)
     (λ c. search needs) (λ c. search needs) (λ c. search needs) find-indexed-requires returns)

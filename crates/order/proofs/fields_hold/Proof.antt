@@ -21,9 +21,6 @@ returns-3 c =
     let a = c .before .before .before .args in
     sym (rw (le-leb (a .run) 1 (omega arith), le-leb (a .slot) 32 (omega arith), eq-eqb (a .slot) 32 (c .if3 .taken)))
 
-wide-requires : tie.Need-wide-requires
-wide-requires c κs = search needs
-
 returns-4 : tie.Need-returns-4
 returns-4 c =
     let a = c .before .before .before .before .args in
@@ -31,4 +28,4 @@ returns-4 c =
 
 pub fields-hold-spec : {M : Type 1} → statement M
 fields-hold-spec =
-    tie.close (tie.spec returns returns-2 returns-3 wide-requires returns-4)
+    tie.close (tie.spec returns returns-2 returns-3 (λ c κs. search needs) returns-4)

@@ -25,9 +25,6 @@ returns-2 c =
     let size = rows-length (a .count) (a .nodes .now) in
     sym (formed-many (a .next) (a .latest) t (omega arith))
 
-root-holds-requires : tie.Need-root-holds-requires
-root-holds-requires c κs = search needs
-
 returns-3 : tie.Need-returns-3
 returns-3 c =
     let a = c .before .before .before .before .before .args in
@@ -36,9 +33,6 @@ returns-3 c =
     let root : rooted t ≡ false =
     sym (c .before .root-holds .ensures) ∙ not-true (c .before .root-holds .result) (c .if3 .taken) in
     sym (rw (root) at (formed-some (a .next) (a .latest) t (omega arith) (omega arith)))
-
-numbers-apart-requires : tie.Need-numbers-apart-requires
-numbers-apart-requires c κs = search needs
 
 returns-4 : tie.Need-returns-4
 returns-4 c =
@@ -50,9 +44,6 @@ returns-4 c =
     let distinct : apart t ≡ false =
     sym (c .before .numbers-apart .ensures) ∙ not-true (c .before .numbers-apart .result) (c .if4 .taken) in
     sym (rw (root, distinct) at (formed-some (a .next) (a .latest) t (omega arith) (omega arith)))
-
-records-hold-requires : tie.Need-records-hold-requires
-records-hold-requires c κs = search needs
 
 returns-5 : tie.Need-returns-5
 returns-5 c =
@@ -66,9 +57,6 @@ returns-5 c =
     let fields : allFormed (a .next) t ≡ false =
     sym (c .before .records-hold .ensures) ∙ not-true (c .before .records-hold .result) (c .if5 .taken) in
     sym (rw (root, distinct, fields) at (formed-some (a .next) (a .latest) t (omega arith) (omega arith)))
-
-rows-apart-requires : tie.Need-rows-apart-requires
-rows-apart-requires c κs = search needs
 
 returns-6 : tie.Need-returns-6
 returns-6 c =
@@ -130,9 +118,6 @@ returns-9 c =
     let held : rowsHold t ≡ true = sym (rows-known .rows-apart .ensures) ∙ not-false (rows-known .rows-apart .result) (c .before .before .before .if6 .left) in
     sym (rw (root, distinct, fields, held, le-leb noneLeft (a .next) (omega arith), le-leb (a .next) firstGiven (omega arith), eq-eqb (a .latest) 0 (c .if9 .taken)) at (formed-some (a .next) (a .latest) t (omega arith) (omega arith)))
 
-synth-lives-requires : tie.Need-synth-lives-requires
-synth-lives-requires c κs = search needs
-
 returns-10 : tie.Need-returns-10
 returns-10 c =
     let rows-known = c .before .before .before .before .before in
@@ -152,5 +137,5 @@ returns-10 c =
 pub nodes-formed-spec : {M : Type 1} → statement M
 nodes-formed-spec =
     tie.close
-    (tie.spec returns returns-2 root-holds-requires returns-3 numbers-apart-requires returns-4 records-hold-requires
-    returns-5 rows-apart-requires returns-6 returns-7 returns-8 returns-9 synth-lives-requires returns-10)
+    (tie.spec returns returns-2 (λ c κs. search needs) returns-3 (λ c κs. search needs) returns-4 (λ c κs. search needs)
+    returns-5 (λ c κs. search needs) returns-6 returns-7 returns-8 returns-9 (λ c κs. search needs) returns-10)

@@ -26,9 +26,6 @@ returns-3 c =
     let us = a .nodes .now in
     sym (rw (eq-eqb (getD us 0 0) 0 (omega arith), eq-eqb (getD us 1 0) 0 (omega arith), ne-eqb (getD us 3 0) 32 (c .if3 .taken)) at (rooted-turn (a .count) us (omega arith)))
 
-steps-hold-requires : tie.Need-steps-hold-requires
-steps-hold-requires c κs = search needs
-
 returns-4 : tie.Need-returns-4
 returns-4 c =
     let a = c .before .before .before .before .before .before .before .before .args in
@@ -40,4 +37,4 @@ pub root-holds-spec : {M : Type 1} → statement M
 root-holds-spec =
     tie.close
     (tie.spec (λ c. search needs) returns (λ c. search needs) returns-2 (λ c. search needs) returns-3
-    steps-hold-requires returns-4)
+    (λ c κs. search needs) returns-4)

@@ -17,9 +17,6 @@ Inv-loop nodes count visited numbers₀ length₀ i₀ numbers length i =
 abbrev μ-loop : tie.MeasureT-loop
 μ-loop nodes count visited numbers₀ length₀ i₀ numbers length i = count - i
 
-visit-requires : tie.Need-visit-requires Inv-loop μ-loop
-visit-requires c κs = search needs
-
 loop-holds : tie.Need-loop-holds Inv-loop μ-loop
 loop-holds c =
     let a = c .before .before .args in
@@ -62,6 +59,6 @@ returns c =
 pub running-order-spec : {M : Type 1} → statement M
 running-order-spec =
     tie.close
-    (tie.spec Inv-loop μ-loop visit-requires loop-holds (λ c. omega arith) (λ c. omega arith) (λ c. omega arith)
+    (tie.spec Inv-loop μ-loop (λ c κs. search needs) loop-holds (λ c. omega arith) (λ c. omega arith) (λ c. omega arith)
     (λ c. omega arith) (λ c. omega arith) (λ c. omega arith) (λ c. omega arith) (λ c. omega arith) (λ c. omega arith)
     (λ c. omega arith) (λ c. omega arith) (λ c. omega arith) loop-again returns)

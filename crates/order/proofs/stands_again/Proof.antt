@@ -12,9 +12,6 @@ unmarked false h = refl
 returns : tie.Need-returns
 returns c = sym (c .before .before .pre .1 .1 (unmarked _ (c .if1 .taken)))
 
-number-lives-requires : tie.Need-number-lives-requires
-number-lives-requires c κs = search needs
-
 pub stands-again-spec : {M : Type 1} → statement M
 stands-again-spec =
-    tie.close (tie.spec returns number-lives-requires (λ c. search needs))
+    tie.close (tie.spec returns (λ c κs. search needs) (λ c. search needs))

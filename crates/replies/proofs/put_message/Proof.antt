@@ -9,20 +9,11 @@ use Rattle.replies.specs.Words.{wordBytes, word-bytes-size, three-pieces
 use Rattle.replies.proofs.put_message.Statement.{statement}
 use Rattle.replies.proofs.put_message.Tie as tie
 
-padded-length-requires : tie.Need-padded-length-requires
-padded-length-requires c κs = search needs
-
-padded-length-requires-2 : tie.Need-padded-length-requires-2
-padded-length-requires-2 c κs = search needs
-
 put-padded-requires : tie.Need-put-padded-requires
 put-padded-requires c κs = omega (arith, padded-size (c .before .before .before .before .before .before .before .args .address .now))
 
 put-padded-requires-2 : tie.Need-put-padded-requires-2
 put-padded-requires-2 c κs = omega (arith, padded-size (c .before .before .before .before .before .before .before .before .before .before .before .args .tags .now))
-
-put-words-requires : tie.Need-put-words-requires
-put-words-requires c κs = search needs
 
 returns : tie.Need-returns
 returns c =
@@ -38,5 +29,5 @@ returns c =
 pub put-message-spec : {M : Type 1} → statement M
 put-message-spec =
     tie.close
-    (tie.spec padded-length-requires padded-length-requires-2 (λ c. search needs) put-padded-requires
-    put-padded-requires-2 put-words-requires (λ c. search needs) returns)
+    (tie.spec (λ c κs. search needs) (λ c κs. search needs) (λ c. search needs) put-padded-requires
+    put-padded-requires-2 (λ c κs. search needs) (λ c. search needs) returns)

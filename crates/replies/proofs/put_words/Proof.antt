@@ -22,9 +22,6 @@ loop-holds c =
     let a = c .before .before .args in
     (omega arith, sym (ap (λ (l : List ℕ). over (a .at) l (a .out .now)) word-bytes-none ∙ over-none (a .at) (a .out .now)), refl)
 
-put-int-requires : tie.Need-put-int-requires Inv-loop μ-loop
-put-int-requires c κs = omega arith
-
 loop-again : tie.Need-loop-again Inv-loop μ-loop
 loop-again c =
     let a = c .before .before .before .before .before .before .before .before .before .args in
@@ -51,4 +48,4 @@ pub put-words-spec : {M : Type 1} → statement M
 put-words-spec =
     tie.close
     (tie.spec Inv-loop μ-loop loop-holds (λ c. omega arith) (λ c. omega arith) (λ c. omega arith) (λ c. omega arith)
-    put-int-requires (λ c. omega arith) (λ c. omega arith) loop-again (λ c. search needs) returns)
+    (λ c κs. omega arith) (λ c. omega arith) (λ c. omega arith) loop-again (λ c. search needs) returns)

@@ -27,17 +27,8 @@ returns-3 c =
     let a = c .before .before .before .before .before .args in
     sends-none (namedMessage (a .number) (a .name .now) (a .value)) (a .out .now) (omega (arith, named-size (a .number) (a .name .now) (a .value)))
 
-padded-length-requires : tie.Need-padded-length-requires
-padded-length-requires c κs = search needs
-
-put-message-requires : tie.Need-put-message-requires
-put-message-requires c κs = search needs
-
 put-padded-requires : tie.Need-put-padded-requires
 put-padded-requires c κs = omega (arith, padded-size (c .before .before .before .before .before .before .before .before .before .before .before .before .before .before .args .name .now))
-
-put-int-requires : tie.Need-put-int-requires
-put-int-requires c κs = search needs
 
 returns-4 : tie.Need-returns-4
 unfolding wordBytes
@@ -57,6 +48,6 @@ returns-4 c =
 pub send-named-spec : {M : Type 1} → statement M
 send-named-spec =
     tie.close
-    (tie.spec returns returns-2 (λ c. search needs) (λ c. search needs) returns-3 padded-length-requires
-    (λ c. search needs) (λ c. search needs) (λ c. search needs) (λ c. search needs) put-message-requires
-    put-padded-requires put-int-requires (λ c. search needs) (λ c. search needs) returns-4)
+    (tie.spec returns returns-2 (λ c. search needs) (λ c. search needs) returns-3 (λ c κs. search needs)
+    (λ c. search needs) (λ c. search needs) (λ c. search needs) (λ c. search needs) (λ c κs. search needs)
+    put-padded-requires (λ c κs. search needs) (λ c. search needs) (λ c. search needs) returns-4)

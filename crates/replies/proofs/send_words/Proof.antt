@@ -6,19 +6,10 @@ use Rattle.replies.specs.Sent.{wordMessage, word-message-size, sends-non
 use Rattle.replies.proofs.send_words.Statement.{statement}
 use Rattle.replies.proofs.send_words.Tie as tie
 
-padded-length-requires : tie.Need-padded-length-requires
-padded-length-requires c κs = search needs
-
-padded-length-requires-2 : tie.Need-padded-length-requires-2
-padded-length-requires-2 c κs = search needs
-
 returns : tie.Need-returns
 returns c =
     let a = c .before .before .before .before .before .before .before .args in
     sends-none (wordMessage (a .address .now) (a .tags .now) (a .words .now)) (a .out .now) (omega (arith, word-message-size (a .address .now) (a .tags .now) (a .words .now)))
-
-put-message-requires : tie.Need-put-message-requires
-put-message-requires c κs = search needs
 
 returns-2 : tie.Need-returns-2
 returns-2 c =
@@ -33,5 +24,5 @@ returns-2 c =
 pub send-words-spec : {M : Type 1} → statement M
 send-words-spec =
     tie.close
-    (tie.spec padded-length-requires padded-length-requires-2 (λ c. search needs) (λ c. search needs)
-    (λ c. search needs) returns put-message-requires (λ c. search needs) returns-2)
+    (tie.spec (λ c κs. search needs) (λ c κs. search needs) (λ c. search needs) (λ c. search needs)
+    (λ c. search needs) returns (λ c κs. search needs) (λ c. search needs) returns-2)

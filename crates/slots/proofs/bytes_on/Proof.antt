@@ -23,15 +23,6 @@ returns-2 c =
     let past : drop (slotRoom * a .slot) (a .arena .now) ≡ [] = drop-of-length-le (a .arena .now) {i = slotRoom * a .slot} (omega arith) in
     rw (past, take-nil {A = ℕ} slotRoom, take-nil {A = ℕ} (getD (a .table .now) (a .slot) 0))
 
-least-requires : tie.Need-least-requires
-least-requires c κs = search needs
-
-wide-requires : tie.Need-wide-requires
-wide-requires c κs = search needs
-
-least-requires-2 : tie.Need-least-requires-2
-least-requires-2 c κs = search needs
-
 returns-3 : tie.Need-returns-3
 returns-3 c =
     let a = c .before .before .before .before .before .before .before .before .before .args in
@@ -50,5 +41,5 @@ pub bytes-on-spec : {M : Type 1} → statement M
 bytes-on-spec =
     tie.close
     (tie.spec (λ c. search needs) returns (λ c. search needs) returns-2 (λ c. search needs) (λ c. search needs)
-    least-requires (λ c. search needs) (λ c. search needs) wide-requires least-requires-2 (λ c. search needs)
-    (λ c. search needs) (λ c. search needs) (λ c. search needs) returns-3)
+    (λ c κs. search needs) (λ c. search needs) (λ c. search needs) (λ c κs. search needs) (λ c κs. search needs)
+    (λ c. search needs) (λ c. search needs) (λ c. search needs) (λ c. search needs) returns-3)

@@ -5,9 +5,6 @@ use Rattle.slots.specs.Slots.{bytes-lent}
 use Rattle.slots.proofs.slot_bytes.Statement.{statement}
 use Rattle.slots.proofs.slot_bytes.Tie as tie
 
-bytes-on-requires : tie.Need-bytes-on-requires
-bytes-on-requires c κs = search needs
-
 returns : tie.Need-returns
 returns c =
     let a = c .before .before .before .before .args in
@@ -15,4 +12,4 @@ returns c =
 
 pub slot-bytes-spec : {M : Type 1} → statement M
 slot-bytes-spec =
-    tie.close (tie.spec (λ c. search needs) (λ c. search needs) (λ c. search needs) bytes-on-requires returns)
+    tie.close (tie.spec (λ c. search needs) (λ c. search needs) (λ c. search needs) (λ c κs. search needs) returns)

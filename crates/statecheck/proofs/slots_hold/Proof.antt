@@ -9,15 +9,6 @@ use Rattle.statecheck.specs.Parts.{nodesOf}
 use Rattle.statecheck.proofs.slots_hold.Statement.{statement}
 use Rattle.statecheck.proofs.slots_hold.Tie as tie
 
-wide-requires : tie.Need-wide-requires
-wide-requires c κs = search needs
-
-held-slots-requires : tie.Need-held-slots-requires
-held-slots-requires c κs = search needs
-
-slots-formed-requires : tie.Need-slots-formed-requires
-slots-formed-requires c κs = search needs
-
 returns : tie.Need-returns
 returns c =
     let a = c .before .before .before .before .before .before .before .before .args in
@@ -28,5 +19,5 @@ returns c =
 pub slots-hold-spec : {M : Type 1} → statement M
 slots-hold-spec =
     tie.close
-    (tie.spec (λ c. search needs) wide-requires (λ c. search needs) (λ c. search needs) (λ c. search needs)
-    held-slots-requires (λ c. search needs) (λ c. search needs) (λ c. search needs) slots-formed-requires returns)
+    (tie.spec (λ c. search needs) (λ c κs. search needs) (λ c. search needs) (λ c. search needs) (λ c. search needs)
+    (λ c κs. search needs) (λ c. search needs) (λ c. search needs) (λ c. search needs) (λ c κs. search needs) returns)

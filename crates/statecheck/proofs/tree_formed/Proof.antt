@@ -8,16 +8,10 @@ use Rattle.statecheck.specs.Parts.{nodesPart, indexPart, index-fits, tre
 use Rattle.statecheck.proofs.tree_formed.Statement.{statement}
 use Rattle.statecheck.proofs.tree_formed.Tie as tie
 
-wide-requires : tie.Need-wide-requires
-wide-requires c κs = search needs
-
 returns : tie.Need-returns
 returns c =
     let a = c .before .before .before .before .args in
     sym (tree-many (a .words .now) (c .before .wide .result) (c .before .wide .ensures) (c .if1 .taken))
-
-nodes-formed-requires : tie.Need-nodes-formed-requires
-nodes-formed-requires c κs = search needs
 
 returns-2 : tie.Need-returns-2
 returns-2 c =
@@ -35,12 +29,6 @@ returns-3 c =
     let nodes : nodesPart (c .before .before .before .before .before .before .before .before .before .before .wide .result) (a .words .now) ≡ true = sym (c .before .before .before .before .before .nodes-formed .ensures) ∙ not-false (c .before .before .before .before .before .nodes-formed .result) (c .before .before .before .before .if2 .left) in
     sym (tree-index (a .words .now) (c .before .before .before .before .before .before .before .before .before .before .wide .result) (c .before .before .before .before .before .before .before .before .before .before .wide .ensures) (omega arith) nodes (sym (c .before .index-formed .ensures) ∙ not-true (c .before .index-formed .result) (c .if3 .taken)))
 
-wide-requires-2 : tie.Need-wide-requires-2
-wide-requires-2 c κs = search needs
-
-same-order-requires : tie.Need-same-order-requires
-same-order-requires c κs = search needs
-
 returns-4 : tie.Need-returns-4
 returns-4 c =
     let a = c .before .before .before .before .before .before .before .before .before .before .before .before .before .before .before .before .before .before .args in
@@ -51,8 +39,8 @@ returns-4 c =
 pub tree-formed-spec : {M : Type 1} → statement M
 tree-formed-spec =
     tie.close
-    (tie.spec (λ c. search needs) wide-requires returns (λ c. search needs) (λ c. search needs) (λ c. search needs)
-    (λ c. search needs) (λ c. search needs) nodes-formed-requires returns-2 (λ c. search needs) (λ c. search needs)
-    (λ c. search needs) (λ c. search needs) (λ c. search needs) (λ c. search needs) index-formed-requires returns-3
-    (λ c. search needs) wide-requires-2 (λ c. search needs) (λ c. search needs) (λ c. search needs) (λ c. search needs)
-    (λ c. search needs) (λ c. search needs) same-order-requires returns-4)
+    (tie.spec (λ c. search needs) (λ c κs. search needs) returns (λ c. search needs) (λ c. search needs)
+    (λ c. search needs) (λ c. search needs) (λ c. search needs) (λ c κs. search needs) returns-2 (λ c. search needs)
+    (λ c. search needs) (λ c. search needs) (λ c. search needs) (λ c. search needs) (λ c. search needs)
+    index-formed-requires returns-3 (λ c. search needs) (λ c κs. search needs) (λ c. search needs) (λ c. search needs)
+    (λ c. search needs) (λ c. search needs) (λ c. search needs) (λ c. search needs) (λ c κs. search needs) returns-4)

@@ -18,9 +18,6 @@ returns-2 c =
     let a = c .before .before .before .before .args in
     sym (bad-room (a .words .now) (a .arena .now) (omega arith) (c .if2 .taken))
 
-tree-formed-requires : tie.Need-tree-formed-requires
-tree-formed-requires c κs = search needs
-
 returns-3 : tie.Need-returns-3
 returns-3 c =
     let a = c .before .before .before .before .before .before .args in
@@ -55,5 +52,5 @@ returns-5 c =
 pub well-formed-spec : {M : Type 1} → statement M
 well-formed-spec =
     tie.close
-    (tie.spec returns returns-2 tree-formed-requires returns-3 slots-hold-requires returns-4 controls-formed-requires
+    (tie.spec returns returns-2 (λ c κs. search needs) returns-3 slots-hold-requires returns-4 controls-formed-requires
     returns-5)

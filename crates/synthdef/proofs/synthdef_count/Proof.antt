@@ -4,9 +4,6 @@ use Rattle.files.specs.File.{definitionCount}
 use Rattle.synthdef.proofs.synthdef_count.Statement.{statement}
 use Rattle.synthdef.proofs.synthdef_count.Tie as tie
 
-check-file-requires : tie.Need-check-file-requires
-check-file-requires c κs = search needs
-
 returns : tie.Need-returns
 returns c = ap definitionCount (rw (c .before .count .given .1) at (c .before .before .before .check-file .ensures))
 
@@ -15,4 +12,4 @@ returns-2 c = ap definitionCount (rw (c .before .refusal .given .1) at (c .befor
 
 pub synthdef-count-spec : {M : Type 1} → statement M
 synthdef-count-spec =
-    tie.close (tie.spec check-file-requires (λ c. search needs) (λ c. search needs) returns returns-2)
+    tie.close (tie.spec (λ c κs. search needs) (λ c. search needs) (λ c. search needs) returns returns-2)

@@ -6,9 +6,6 @@ use Rattle.reader.specs.SpanLaws.{span-inside}
 use Rattle.synthdef.proofs.synthdef_name_end.Statement.{statement}
 use Rattle.synthdef.proofs.synthdef_name_end.Tie as tie
 
-definition-span-requires : tie.Need-definition-span-requires
-definition-span-requires c κs = search needs
-
 shared-slice-read-size : tie.Need-shared-slice-read-size
 shared-slice-read-size c =
     let a = c .before .before .before .before .before .before .args in
@@ -39,5 +36,5 @@ returns-2 c = ap (nameEnd (c .before .before .before .before .args .file .now)) 
 pub synthdef-name-end-spec : {M : Type 1} → statement M
 synthdef-name-end-spec =
     tie.close
-    (tie.spec definition-span-requires (λ c. search needs) shared-slice-read-size cast-size add-result add-result-2
+    (tie.spec (λ c κs. search needs) (λ c. search needs) shared-slice-read-size cast-size add-result add-result-2
     (λ c. search needs) returns returns-2)

@@ -6,9 +6,6 @@ use Rattle.reader.specs.SpanLaws.{span-inside}
 use Rattle.synthdef.proofs.synthdef_name_start.Statement.{statement}
 use Rattle.synthdef.proofs.synthdef_name_start.Tie as tie
 
-definition-span-requires : tie.Need-definition-span-requires
-definition-span-requires c κs = search needs
-
 add-result : tie.Need-add-result
 add-result c =
     let a = c .before .before .before .before .before .args in
@@ -24,4 +21,4 @@ returns-2 c = ap nameStart (rw (c .enum-told .given .1) at (c .before .before .d
 pub synthdef-name-start-spec : {M : Type 1} → statement M
 synthdef-name-start-spec =
     tie.close
-    (tie.spec definition-span-requires (λ c. search needs) add-result (λ c. search needs) returns returns-2)
+    (tie.spec (λ c κs. search needs) (λ c. search needs) add-result (λ c. search needs) returns returns-2)

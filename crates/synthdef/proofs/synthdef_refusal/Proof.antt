@@ -4,12 +4,6 @@ use Rattle.files.specs.File.{refusalNumber}
 use Rattle.synthdef.proofs.synthdef_refusal.Statement.{statement}
 use Rattle.synthdef.proofs.synthdef_refusal.Tie as tie
 
-check-file-requires : tie.Need-check-file-requires
-check-file-requires c κs = search needs
-
-fault-number-requires : tie.Need-fault-number-requires
-fault-number-requires c κs = search needs
-
 returns : tie.Need-returns
 returns c = ap refusalNumber (rw (c .before .count .given .1) at (c .before .before .before .check-file .ensures))
 
@@ -19,4 +13,4 @@ returns-2 c = c .fault-number .ensures ∙ ap refusalNumber (rw (c .before .befo
 pub synthdef-refusal-spec : {M : Type 1} → statement M
 synthdef-refusal-spec =
     tie.close
-    (tie.spec check-file-requires (λ c. search needs) (λ c. search needs) fault-number-requires returns returns-2)
+    (tie.spec (λ c κs. search needs) (λ c. search needs) (λ c. search needs) (λ c κs. search needs) returns returns-2)

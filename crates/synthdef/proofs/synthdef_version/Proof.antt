@@ -6,15 +6,6 @@ use borrow.Author.Needs.{needs}
 use Rattle.synthdef.proofs.synthdef_version.Statement.{statement}
 use Rattle.synthdef.proofs.synthdef_version.Tie as tie
 
-check-file-requires : tie.Need-check-file-requires
-check-file-requires c κs = search needs
-
-width-of-requires : tie.Need-width-of-requires
-width-of-requires c κs = search needs
-
-version-of-requires : tie.Need-version-of-requires
-version-of-requires c κs = search needs
-
 returns : tie.Need-returns
 returns c =
     let s = c .before .before .before .before .before .before .before .args .file .now in
@@ -28,5 +19,5 @@ returns-2 c =
 pub synthdef-version-spec : {M : Type 1} → statement M
 synthdef-version-spec =
     tie.close
-    (tie.spec check-file-requires (λ c. search needs) width-of-requires version-of-requires (λ c. search needs) returns
-    returns-2)
+    (tie.spec (λ c κs. search needs) (λ c. search needs) (λ c κs. search needs) (λ c κs. search needs)
+    (λ c. search needs) returns returns-2)

@@ -6,9 +6,6 @@ use borrow.Author.Needs.{needs}
 use Rattle.synthdef.proofs.synthdef_widen.Statement.{statement}
 use Rattle.synthdef.proofs.synthdef_widen.Tie as tie
 
-check-file-requires : tie.Need-check-file-requires
-check-file-requires c κs = search needs
-
 twin-size-requires : tie.Need-twin-size-requires
 twin-size-requires c κs = accepted (c .before .before .before .before .before .before .args .file .now) (sym (c .before .before .before .check-file .ensures) ∙ c .before .count .given .1)
 
@@ -33,5 +30,5 @@ returns-3 c =
 pub synthdef-widen-spec : {M : Type 1} → statement M
 synthdef-widen-spec =
     tie.close
-    (tie.spec check-file-requires (λ c. search needs) twin-size-requires returns write-twin-requires (λ c. search needs)
-    (λ c. search needs) returns-2 returns-3)
+    (tie.spec (λ c κs. search needs) (λ c. search needs) twin-size-requires returns write-twin-requires
+    (λ c. search needs) (λ c. search needs) returns-2 returns-3)

@@ -74,54 +74,6 @@ read-many-returns : (t : ℕ) → read-many-lts.Need-returns (
 ) (read-many-at t) read-many.Post
 read-many-returns t c = c .read-many .ensures
 
-read-many-mul-if2 : (t : ℕ) → read-many-lts.Need-mul-if2 (
-  wide-reads.Asked,
-  wide-reads.Learnt,
-  read-many-below t,
-  read-many.Post,
-  read-most-reads.Asked,
-  read-most-reads.Learnt,
-  read-marked-reads.Asked,
-  read-marked-reads.Learnt,
-) (read-many-at t) read-many.Post
-read-many-mul-if2 t c = omega arith
-
-read-many-add-stride : (t : ℕ) → read-many-lts.Need-add-stride (
-  wide-reads.Asked,
-  wide-reads.Learnt,
-  read-many-below t,
-  read-many.Post,
-  read-most-reads.Asked,
-  read-most-reads.Learnt,
-  read-marked-reads.Asked,
-  read-marked-reads.Learnt,
-) (read-many-at t) read-many.Post
-read-many-add-stride t c = omega arith
-
-read-many-cast-read-most : (t : ℕ) → read-many-lts.Need-cast-read-most (
-  wide-reads.Asked,
-  wide-reads.Learnt,
-  read-many-below t,
-  read-many.Post,
-  read-most-reads.Asked,
-  read-most-reads.Learnt,
-  read-marked-reads.Asked,
-  read-marked-reads.Learnt,
-) (read-many-at t) read-many.Post
-read-many-cast-read-most t c = omega arith
-
-read-many-read-most-requires : (t : ℕ) → read-many-lts.Need-read-most-requires (
-  wide-reads.Asked,
-  wide-reads.Learnt,
-  read-many-below t,
-  read-many.Post,
-  read-most-reads.Asked,
-  read-most-reads.Learnt,
-  read-marked-reads.Asked,
-  read-marked-reads.Learnt,
-) (read-many-at t) read-many.Post
-read-many-read-most-requires t c κs = omega arith
-
 read-many-returns-2 : (t : ℕ) → read-many-lts.Need-returns-2 (
   wide-reads.Asked,
   wide-reads.Learnt,
@@ -187,10 +139,10 @@ pub +read-many-spec : {M : Type 1} → statement M
     (read-many-wide-requires-2 t)
     (read-many-read-many-requires t)
     (read-many-returns t)
-    (read-many-mul-if2 t)
-    (read-many-add-stride t)
-    (read-many-cast-read-most t)
-    (read-many-read-most-requires t)
+    (λ c. omega arith)
+    (λ c. omega arith)
+    (λ c. omega arith)
+    (λ c κs. omega arith)
     (read-many-returns-2 t)
     (read-many-slice-aggregate-read-marked t)
     (read-many-read-marked-requires t)

@@ -7,12 +7,6 @@ use Rattle.units.specs.Marks.{unitCounts, unitOutputs, unitEnd, unitPlac
 use Rattle.units.proofs.far_outputs.Statement.{statement}
 use Rattle.units.proofs.far_outputs.Tie as tie
 
-wide-requires : tie.Need-wide-requires
-wide-requires c κs = search needs
-
-wide-requires-2 : tie.Need-wide-requires-2
-wide-requires-2 c κs = search needs
-
 add-outputs-behind : tie.Need-add-outputs-behind
 unfolding unitEnd unitCounts
 add-outputs-behind c =
@@ -46,11 +40,8 @@ returns c =
     ∙ ap (unitOutputs (a .args .width) (a .args .s .now)) (ap (λ (p : ℕ). unitPlace (a .args .width) (a .args .s .now) (a .args .start + p) (a .args .unit % a .args .stride)) place
     ∙ mark-place (a .args .width) (a .args .s .now) (a .args .start) (a .args .stride) m (a .args .unit) (a .pre .1) low)
 
-outputs-behind-requires-2 : tie.Need-outputs-behind-requires-2
-outputs-behind-requires-2 c κs = search needs
-
 pub far-outputs-spec : {M : Type 1} → statement M
 far-outputs-spec =
     tie.close
-    (tie.spec (λ c. search needs) wide-requires (λ c. search needs) (λ c. search needs) wide-requires-2
-    add-outputs-behind (λ c. search needs) outputs-behind-requires returns outputs-behind-requires-2 (λ c. search needs))
+    (tie.spec (λ c. search needs) (λ c κs. search needs) (λ c. search needs) (λ c. search needs) (λ c κs. search needs)
+    add-outputs-behind (λ c. search needs) outputs-behind-requires returns (λ c κs. search needs) (λ c. search needs))

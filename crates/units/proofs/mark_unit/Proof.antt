@@ -7,17 +7,11 @@ use Rattle.units.specs.Marks.{mostMarks, as-before, one-more}
 use Rattle.units.proofs.mark_unit.Statement.{statement}
 use Rattle.units.proofs.mark_unit.Tie as tie
 
-wide-requires : tie.Need-wide-requires
-wide-requires c κs = search needs
-
 mul-if1 : tie.Need-mul-if1
 mul-if1 c =
     let a = c .before .before in
     let most : a .args .known * c .wide .result ≤ mostMarks * 4294967296 = mul-le-mul {n₂ = mostMarks} {m₂ = 4294967296} (omega arith) (omega arith) in
     omega arith
-
-wide-requires-2 : tie.Need-wide-requires-2
-wide-requires-2 c κs = search needs
 
 returns : tie.Need-returns
 returns c = as-before refl refl
@@ -36,5 +30,5 @@ returns-4 c =
 pub mark-unit-spec : {M : Type 1} → statement M
 mark-unit-spec =
     tie.close
-    (tie.spec wide-requires mul-if1 wide-requires-2 returns returns-2 returns-3 (λ c. search needs) (λ c. search needs)
-    (λ c. search needs) (λ c. search needs) (λ c. search needs) returns-4)
+    (tie.spec (λ c κs. search needs) mul-if1 (λ c κs. search needs) returns returns-2 returns-3 (λ c. search needs)
+    (λ c. search needs) (λ c. search needs) (λ c. search needs) (λ c. search needs) returns-4)

@@ -4,9 +4,6 @@ use Rattle.format.specs.Read.{ending}
 use Rattle.units.proofs.read_index.Statement.{statement}
 use Rattle.units.proofs.read_index.Tie as tie
 
-index-below-requires : tie.Need-index-below-requires
-index-below-requires c κs = search needs
-
 returns : tie.Need-returns
 returns c = ap ending (rw (c .before .next .given .1) at (c .before .before .before .index-below .ensures))
 
@@ -15,4 +12,4 @@ returns-2 c = ap ending (rw (c .before .refusal .given .1) at (c .before .before
 
 pub read-index-spec : {M : Type 1} → statement M
 read-index-spec =
-    tie.close (tie.spec index-below-requires (λ c. search needs) (λ c. search needs) returns returns-2)
+    tie.close (tie.spec (λ c κs. search needs) (λ c. search needs) (λ c. search needs) returns returns-2)

@@ -11,12 +11,6 @@ use Rattle.units.specs.Units.{remembered, outsFrom, outs-length, outs-at
 use Rattle.units.proofs.read_input.Statement.{statement}
 use Rattle.units.proofs.read_input.Tie as tie
 
-integer-requires : tie.Need-integer-requires
-integer-requires c κs = search needs
-
-read-index-requires : tie.Need-read-index-requires
-read-index-requires c κs = search needs
-
 returns : tie.Need-returns
 returns c =
     let a = c .before .before .before .before .before .before .before .before .args in
@@ -28,18 +22,6 @@ returns-2 c =
     let a = c .before .before .before .before .before .before .before .before .args in
     let read = sym (rw (c .before .before .before .unit .given .1) at (c .before .before .before .before .before .integer .ensures)) in
     sym (input-bad (a .width) (a .constants) (outsFrom (a .width) (a .s .now) (a .start) (a .units)) (a .s .now) (a .cursor .at) read (c .before .if1 .left) (rw outs-length (omega arith)))
-
-wide-requires : tie.Need-wide-requires
-wide-requires c κs = search needs
-
-wide-requires-2 : tie.Need-wide-requires-2
-wide-requires-2 c κs = search needs
-
-wide-requires-3 : tie.Need-wide-requires-3
-wide-requires-3 c κs = search needs
-
-read-index-requires-2 : tie.Need-read-index-requires-2
-read-index-requires-2 c κs = search needs
 
 returns-3 : tie.Need-returns-3
 returns-3 c =
@@ -59,9 +41,6 @@ far-outputs-requires c κs =
     let a = c .before .before .before .before .before .before .before .before .before .before .before in
     let u = c .before .before .before .before .before .before .unit .given .0 .0 in
     (le-trans (place-up (a .args .width) (a .args .s .now) (a .args .start) (suc u) (a .args .units) (omega arith)) (a .pre .within (omega arith)), a .pre .marked)
-
-read-index-requires-3 : tie.Need-read-index-requires-3
-read-index-requires-3 c κs = search needs
 
 returns-4 : tie.Need-returns-4
 returns-4 c =
@@ -83,6 +62,7 @@ returns-5 c =
 pub read-input-spec : {M : Type 1} → statement M
 read-input-spec =
     tie.close
-    (tie.spec integer-requires (λ c. search needs) read-index-requires returns returns-2 wide-requires wide-requires-2
-    (λ c. search needs) wide-requires-3 (λ c. search needs) (λ c. search needs) read-index-requires-2 returns-3
-    far-outputs-requires read-index-requires-3 (λ c. search needs) returns-4 returns-5)
+    (tie.spec (λ c κs. search needs) (λ c. search needs) (λ c κs. search needs) returns returns-2 (λ c κs. search needs)
+    (λ c κs. search needs) (λ c. search needs) (λ c κs. search needs) (λ c. search needs) (λ c. search needs)
+    (λ c κs. search needs) returns-3 far-outputs-requires (λ c κs. search needs) (λ c. search needs) returns-4
+    returns-5)

@@ -4,9 +4,6 @@ use Rattle.format.specs.Read.{ending}
 use Rattle.units.proofs.read_rate.Statement.{statement}
 use Rattle.units.proofs.read_rate.Tie as tie
 
-rate-requires : tie.Need-rate-requires
-rate-requires c κs = search needs
-
 returns : tie.Need-returns
 returns c = ap ending (rw (c .before .next .given .1) at (c .before .before .before .rate .ensures))
 
@@ -15,4 +12,4 @@ returns-2 c = ap ending (rw (c .before .refusal .given .1) at (c .before .before
 
 pub read-rate-spec : {M : Type 1} → statement M
 read-rate-spec =
-    tie.close (tie.spec rate-requires (λ c. search needs) (λ c. search needs) returns returns-2)
+    tie.close (tie.spec (λ c κs. search needs) (λ c. search needs) (λ c. search needs) returns returns-2)

@@ -26,18 +26,12 @@ loop-holds c =
 read-unit-requires : tie.Need-read-unit-requires Inv-loop μ-loop
 read-unit-requires c κs = c .before .before .loop .inv .2 .before
 
-wide-requires : tie.Need-wide-requires Inv-loop μ-loop
-wide-requires c κs = search needs
-
 add-fields-2 : tie.Need-add-fields-2 Inv-loop μ-loop
 add-fields-2 c =
     let a = c .before .before .before .before .before .before .before .before .before .before .args in
     let l = c .before .before .before .before .before .before .before .loop in
     let found = sym (rw (c .before .before .inputs .given .1) at (c .before .before .before .before .read-unit .ensures)) in
     omega (arith, c .wide .ensures, run-few (a .width) (a .constants) (a .s .now) (a .start) (l .inv .2) found)
-
-wide-requires-2 : tie.Need-wide-requires-2 Inv-loop μ-loop
-wide-requires-2 c κs = search needs
 
 returns : tie.Need-returns Inv-loop μ-loop
 unfolding Ran
@@ -70,6 +64,6 @@ returns-2 c =
 pub read-run-spec : {M : Type 1} → statement M
 read-run-spec =
     tie.close
-    (tie.spec Inv-loop μ-loop loop-holds read-unit-requires (λ c. search needs) wide-requires (λ c. omega arith)
-    (λ c. omega arith) add-fields-2 wide-requires-2 (λ c. omega arith) (λ c. omega arith) (λ c. search needs) returns
-    (λ c. omega arith) (λ c. omega arith) loop-again returns-2)
+    (tie.spec Inv-loop μ-loop loop-holds read-unit-requires (λ c. search needs) (λ c κs. search needs)
+    (λ c. omega arith) (λ c. omega arith) add-fields-2 (λ c κs. search needs) (λ c. omega arith) (λ c. omega arith)
+    (λ c. search needs) returns (λ c. omega arith) (λ c. omega arith) loop-again returns-2)

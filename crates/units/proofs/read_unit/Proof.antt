@@ -4,17 +4,11 @@ use Rattle.units.specs.Units.{skipUnit}
 use Rattle.units.proofs.read_unit.Statement.{statement}
 use Rattle.units.proofs.read_unit.Tie as tie
 
-name-requires : tie.Need-name-requires
-name-requires c κs = search needs
-
 returns : tie.Need-returns
 unfolding skipUnit
 returns c =
     let e1 = sym (rw (c .before .refusal .given .1) at (c .before .before .before .name .ensures)) in
     rw (e1)
-
-rate-requires : tie.Need-rate-requires
-rate-requires c κs = search needs
 
 returns-2 : tie.Need-returns-2
 unfolding skipUnit
@@ -22,15 +16,6 @@ returns-2 c =
     let e1 = sym (rw (c .before .before .before .before .before .next .given .1) at (c .before .before .before .before .before .before .before .name .ensures)) in
     let e2 = sym (rw (c .before .refusal2 .given .1) at (c .before .before .before .rate .ensures)) in
     rw (e1, e2)
-
-count-to-requires : tie.Need-count-to-requires
-count-to-requires c κs = search needs
-
-count-to-requires-2 : tie.Need-count-to-requires-2
-count-to-requires-2 c κs = search needs
-
-int16-requires : tie.Need-int16-requires
-int16-requires c κs = search needs
 
 returns-3 : tie.Need-returns-3
 unfolding skipUnit
@@ -55,9 +40,6 @@ returns-4 c =
     let e5 = sym (rw (c .before .before .before .before .before .next3 .given .1) at (c .before .before .before .before .before .before .before .int16 .ensures)) in
     let e6 = sym (rw (c .before .refusal4 .given .1) at (c .before .before .before .read-inputs .ensures)) in
     rw (e1, e2, e3, e4, e5, e6)
-
-read-rates-requires : tie.Need-read-rates-requires
-read-rates-requires c κs = search needs
 
 returns-5 : tie.Need-returns-5
 unfolding skipUnit
@@ -103,8 +85,8 @@ returns-8 c =
 pub read-unit-spec : {M : Type 1} → statement M
 read-unit-spec =
     tie.close
-    (tie.spec name-requires (λ c. search needs) (λ c. search needs) returns rate-requires (λ c. search needs)
-    (λ c. search needs) returns-2 count-to-requires (λ c. search needs) count-to-requires-2 (λ c. search needs)
-    int16-requires (λ c. search needs) (λ c. search needs) returns-3 read-inputs-requires (λ c. search needs)
-    (λ c. search needs) returns-4 read-rates-requires (λ c. search needs) (λ c. search needs) (λ c. search needs)
-    (λ c. search needs) returns-5 returns-6 returns-7 returns-8)
+    (tie.spec (λ c κs. search needs) (λ c. search needs) (λ c. search needs) returns (λ c κs. search needs)
+    (λ c. search needs) (λ c. search needs) returns-2 (λ c κs. search needs) (λ c. search needs) (λ c κs. search needs)
+    (λ c. search needs) (λ c κs. search needs) (λ c. search needs) (λ c. search needs) returns-3 read-inputs-requires
+    (λ c. search needs) (λ c. search needs) returns-4 (λ c κs. search needs) (λ c. search needs) (λ c. search needs)
+    (λ c. search needs) (λ c. search needs) returns-5 returns-6 returns-7 returns-8)

@@ -6,18 +6,9 @@ use Rattle.units.specs.Marks.{unitEnd}
 use Rattle.units.proofs.unit_end.Statement.{statement}
 use Rattle.units.proofs.unit_end.Tie as tie
 
-field-size-requires : tie.Need-field-size-requires
-field-size-requires c κs = search needs
-
 unit-counts-requires : tie.Need-unit-counts-requires
 unfolding unitEnd
 unit-counts-requires c κs = omega arith
-
-unit-inputs-requires : tie.Need-unit-inputs-requires
-unit-inputs-requires c κs = search needs
-
-unit-outputs-requires : tie.Need-unit-outputs-requires
-unit-outputs-requires c κs = search needs
 
 mul-result : tie.Need-mul-result
 unfolding unitEnd
@@ -54,5 +45,6 @@ returns c = omega (arith, ap₂ (λ (size inputs : ℕ). 2 * size * inputs) (c .
 pub unit-end-spec : {M : Type 1} → statement M
 unit-end-spec =
     tie.close
-    (tie.spec field-size-requires unit-counts-requires unit-inputs-requires unit-outputs-requires mul-result add-result
-    add-result-2 mul-result-2 (λ c. search needs) mul-result-3 add-result-3 (λ c. search needs) add-result-4 returns)
+    (tie.spec (λ c κs. search needs) unit-counts-requires (λ c κs. search needs) (λ c κs. search needs) mul-result
+    add-result add-result-2 mul-result-2 (λ c. search needs) mul-result-3 add-result-3 (λ c. search needs) add-result-4
+    returns)

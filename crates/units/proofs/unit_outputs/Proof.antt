@@ -11,9 +11,6 @@ unit-counts-requires : tie.Need-unit-counts-requires
 unfolding unitEnd
 unit-counts-requires c κs = omega arith
 
-field-size-requires : tie.Need-field-size-requires
-field-size-requires c κs = search needs
-
 add-value-at : tie.Need-add-value-at
 unfolding unitEnd
 add-value-at c = omega arith
@@ -31,4 +28,4 @@ returns c =
 
 pub unit-outputs-spec : {M : Type 1} → statement M
 unit-outputs-spec =
-    tie.close (tie.spec unit-counts-requires field-size-requires add-value-at value-at-requires returns)
+    tie.close (tie.spec unit-counts-requires (λ c κs. search needs) add-value-at value-at-requires returns)

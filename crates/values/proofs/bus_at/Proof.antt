@@ -5,9 +5,6 @@ use lib.ListN.{List·getD-eq-default}
 use Rattle.values.proofs.bus_at.Statement.{statement}
 use Rattle.values.proofs.bus_at.Tie as tie
 
-wide-requires : tie.Need-wide-requires
-wide-requires c κs = search needs
-
 returns : tie.Need-returns
 returns c = rw (c .before .before .wide .ensures)
 
@@ -16,4 +13,4 @@ returns-2 c = sym (List·getD-eq-default (c .before .before .before .args .buses
 
 pub bus-at-spec : {M : Type 1} → statement M
 bus-at-spec =
-    tie.close (tie.spec wide-requires (λ c. search needs) (λ c. search needs) returns returns-2)
+    tie.close (tie.spec (λ c κs. search needs) (λ c. search needs) (λ c. search needs) returns returns-2)

@@ -4,9 +4,6 @@ use Rattle.values.specs.ValueLaws.{float-pattern}
 use Rattle.values.proofs.value_pattern.Statement.{statement}
 use Rattle.values.proofs.value_pattern.Tie as tie
 
-integer-pattern-requires : tie.Need-integer-pattern-requires
-integer-pattern-requires c κs = search needs
-
 returns : tie.Need-returns
 returns c = rw (c .before .value .given .1) (sym (float-pattern (c .before .value .given .0 .0)))
 
@@ -15,4 +12,4 @@ returns-2 c = rw (c .before .before .value2 .given .1) (c .integer-pattern .ensu
 
 pub value-pattern-spec : {M : Type 1} → statement M
 value-pattern-spec =
-    tie.close (tie.spec (λ c. search needs) (λ c. search needs) integer-pattern-requires returns returns-2)
+    tie.close (tie.spec (λ c. search needs) (λ c. search needs) (λ c κs. search needs) returns returns-2)

@@ -3,12 +3,6 @@ use borrow.Author.Needs.{needs}
 use Rattle.controlcommands.proofs.buses.bus_step.Statement.{statement}
 use Rattle.controlcommands.proofs.buses.bus_step.Tie as tie
 
-set-one-requires : tie.Need-set-one-requires
-set-one-requires c κs = search needs
-
-fill-range-requires : tie.Need-fill-range-requires
-fill-range-requires c κs = search needs
-
 returns : tie.Need-returns
 returns c = rw (c .before .before .before .before .before .command .given .1) (c .before .before .set-one .ensures)
 
@@ -18,5 +12,5 @@ returns-2 c = rw (c .before .before .before .before .before .command2 .given .1)
 pub bus-step-spec : {M : Type 1} → statement M
 bus-step-spec =
     tie.close
-    (tie.spec (λ c. search needs) set-one-requires (λ c. search needs) fill-range-requires (λ c. search needs) returns
-    (λ c. search needs) returns-2)
+    (tie.spec (λ c. search needs) (λ c κs. search needs) (λ c. search needs) (λ c κs. search needs) (λ c. search needs)
+    returns (λ c. search needs) returns-2)

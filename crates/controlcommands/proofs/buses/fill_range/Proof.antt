@@ -8,19 +8,10 @@ use Rattle.model.specs.declared.Answer.the-variants.{Done}
 use Rattle.controlcommands.proofs.buses.fill_range.Statement.{statement}
 use Rattle.controlcommands.proofs.buses.fill_range.Tie as tie
 
-is-bus-range-requires : tie.Need-is-bus-range-requires
-is-bus-range-requires c κs = search needs
-
 returns : tie.Need-returns
 returns c =
     let a = c .before .before .before .args in
     fill-no-bus (a .start) (a .count) (a .value) (a .words .now) (sym (c .before .is-bus-range .ensures) ∙ not-true (c .before .is-bus-range .result) (c .if1 .taken))
-
-value-pattern-requires : tie.Need-value-pattern-requires
-value-pattern-requires c κs = search needs
-
-fill-buses-requires : tie.Need-fill-buses-requires
-fill-buses-requires c κs = search needs
 
 returns-2 : tie.Need-returns-2
 returns-2 c =
@@ -39,6 +30,6 @@ returns-3 c =
 pub fill-range-spec : {M : Type 1} → statement M
 fill-range-spec =
     tie.close
-    (tie.spec is-bus-range-requires returns value-pattern-requires (λ c. search needs) (λ c. search needs)
-    (λ c. search needs) (λ c. search needs) fill-buses-requires (λ c. search needs) (λ c. search needs) returns-2
+    (tie.spec (λ c κs. search needs) returns (λ c κs. search needs) (λ c. search needs) (λ c. search needs)
+    (λ c. search needs) (λ c. search needs) (λ c κs. search needs) (λ c. search needs) (λ c. search needs) returns-2
     returns-3)

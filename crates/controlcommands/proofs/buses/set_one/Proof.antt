@@ -8,19 +8,10 @@ use Rattle.model.specs.declared.Answer.the-variants.{Done}
 use Rattle.controlcommands.proofs.buses.set_one.Statement.{statement}
 use Rattle.controlcommands.proofs.buses.set_one.Tie as tie
 
-is-bus-requires : tie.Need-is-bus-requires
-is-bus-requires c κs = search needs
-
 returns : tie.Need-returns
 returns c =
     let a = c .before .before .before .args in
     set-no-bus (a .bus) (a .value) (a .words .now) (sym (c .before .is-bus .ensures) ∙ not-true (c .before .is-bus .result) (c .if1 .taken))
-
-value-pattern-requires : tie.Need-value-pattern-requires
-value-pattern-requires c κs = search needs
-
-set-bus-requires : tie.Need-set-bus-requires
-set-bus-requires c κs = search needs
 
 returns-2 : tie.Need-returns-2
 returns-2 c =
@@ -39,5 +30,6 @@ returns-3 c =
 pub set-one-spec : {M : Type 1} → statement M
 set-one-spec =
     tie.close
-    (tie.spec is-bus-requires returns value-pattern-requires (λ c. search needs) (λ c. search needs) (λ c. search needs)
-    (λ c. search needs) set-bus-requires (λ c. search needs) (λ c. search needs) returns-2 returns-3)
+    (tie.spec (λ c κs. search needs) returns (λ c κs. search needs) (λ c. search needs) (λ c. search needs)
+    (λ c. search needs) (λ c. search needs) (λ c κs. search needs) (λ c. search needs) (λ c. search needs) returns-2
+    returns-3)

@@ -14,18 +14,12 @@ use Rattle.controls.specs.Asked.{synth-asked}
 use Rattle.controls.proofs.asked.controls_asked.Statement.{statement}
 use Rattle.controls.proofs.asked.controls_asked.Tie as tie
 
-negative-key-requires : tie.Need-negative-key-requires
-negative-key-requires c κs = search needs
-
 returns-2 : tie.Need-returns-2
 returns-2 c =
     let a = c .before .before .before .before .before .before .args in
     let key : negativeKey (a .key) ≡ false = sym (c .before .before .negative-key .ensures) ∙ c .before .if1 .left in
     let count : isNegative (a .count) ≡ true = le-leb 2147483648 (a .count) (c .if2 .taken) in
     rw (key, count)
-
-node-is-group-requires : tie.Need-node-is-group-requires
-node-is-group-requires c κs = search needs
 
 returns-3 : tie.Need-returns-3
 returns-3 c =
@@ -65,5 +59,5 @@ returns-4 c =
 pub controls-asked-spec : {M : Type 1} → statement M
 controls-asked-spec =
     tie.close
-    (tie.spec negative-key-requires (λ c. search needs) returns-2 node-is-group-requires returns-3
+    (tie.spec (λ c κs. search needs) (λ c. search needs) returns-2 (λ c κs. search needs) returns-3
     node-definition-requires asked-of-requires returns-4)

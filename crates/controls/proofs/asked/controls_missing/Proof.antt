@@ -7,9 +7,6 @@ use borrow.Author.Needs.{needs}
 use Rattle.controls.proofs.asked.controls_missing.Statement.{statement}
 use Rattle.controls.proofs.asked.controls_missing.Tie as tie
 
-controls-asked-requires : tie.Need-controls-asked-requires
-controls-asked-requires c κs = search needs
-
 returns : tie.Need-returns
 returns c =
     let a = c .before .before .before .before .before .before .args in
@@ -40,5 +37,5 @@ returns-3 c =
 pub controls-missing-spec : {M : Type 1} → statement M
 controls-missing-spec =
     tie.close
-    (tie.spec controls-asked-requires (λ c. search needs) (λ c. search needs) (λ c. search needs) returns returns-2
+    (tie.spec (λ c κs. search needs) (λ c. search needs) (λ c. search needs) (λ c. search needs) returns returns-2
     returns-3)

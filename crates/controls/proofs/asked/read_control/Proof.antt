@@ -8,15 +8,6 @@ use Rattle.model.specs.Layout.{controlsIn, busesIn}
 use Rattle.controls.proofs.asked.read_control.Statement.{statement}
 use Rattle.controls.proofs.asked.read_control.Tie as tie
 
-wide-requires : tie.Need-wide-requires
-wide-requires c κs = search needs
-
-wide-requires-2 : tie.Need-wide-requires-2
-wide-requires-2 c κs = search needs
-
-read-at-requires : tie.Need-read-at-requires
-read-at-requires c κs = search needs
-
 returns : tie.Need-returns
 returns c =
     let a = c .before .before .before .before .before .before .args in
@@ -27,6 +18,6 @@ returns c =
 pub read-control-spec : {M : Type 1} → statement M
 read-control-spec =
     tie.close
-    (tie.spec wide-requires (λ c. search needs) wide-requires-2 (λ c. search needs) (λ c. search needs)
+    (tie.spec (λ c κs. search needs) (λ c. search needs) (λ c κs. search needs) (λ c. search needs) (λ c. search needs)
     (λ c. search needs) (λ c. search needs) (λ c. search needs) (λ c. search needs) (λ c. search needs)
-    (λ c. search needs) read-at-requires returns)
+    (λ c. search needs) (λ c κs. search needs) returns)

@@ -42,9 +42,6 @@ returns-2 c =
     let said = k .ensures ∙ ap (λ (s : List ℕ). coverOf (a .key) (a .name .now) (frontOnly s)) (c .before .before .before .before .before .node-definition .ensures) in
     sym (read-past (a .words .now) (a .arena .now) (p .0) (a .place) (p .1) (p .2) (a .key) (a .name .now) (k .result) said (not-false (k .result .found) (c .before .before .if1 .left)) (c .if2 .taken))
 
-node-row-requires : tie.Need-node-row-requires
-node-row-requires c κs = search needs
-
 read-control-requires : tie.Need-read-control-requires
 read-control-requires c κs =
     let a = c .before .before .before .before .before .before .before .before .before .before .args in
@@ -68,5 +65,5 @@ returns-3 c =
 pub read-key-spec : {M : Type 1} → statement M
 read-key-spec =
     tie.close
-    (tie.spec node-definition-requires key-cover-requires returns returns-2 node-row-requires read-control-requires
+    (tie.spec node-definition-requires key-cover-requires returns returns-2 (λ c κs. search needs) read-control-requires
     returns-3)

@@ -7,14 +7,8 @@ use Rattle.controls.specs.BusLaws.{range-past, range-within}
 use Rattle.controls.proofs.buses.is_bus_range.Statement.{statement}
 use Rattle.controls.proofs.buses.is_bus_range.Tie as tie
 
-wide-requires : tie.Need-wide-requires
-wide-requires c κs = search needs
-
 returns : tie.Need-returns
 returns c = sym (range-past (c .before .before .args .start) (c .before .before .args .count) (omega arith))
-
-wide-requires-2 : tie.Need-wide-requires-2
-wide-requires-2 c κs = search needs
 
 returns-2 : tie.Need-returns-2
 returns-2 c =
@@ -23,4 +17,4 @@ returns-2 c =
 
 pub is-bus-range-spec : {M : Type 1} → statement M
 is-bus-range-spec =
-    tie.close (tie.spec wide-requires returns wide-requires-2 returns-2)
+    tie.close (tie.spec (λ c κs. search needs) returns (λ c κs. search needs) returns-2)

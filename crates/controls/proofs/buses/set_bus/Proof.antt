@@ -7,9 +7,6 @@ use lib.Seq.{set-out}
 use Rattle.controls.proofs.buses.set_bus.Statement.{statement}
 use Rattle.controls.proofs.buses.set_bus.Tie as tie
 
-wide-requires : tie.Need-wide-requires
-wide-requires c κs = search needs
-
 returns : tie.Need-returns
 returns c = ap (λ (k : ℕ). set (c .before .before .before .args .buses .now) k (c .before .before .before .args .pattern)) (c .before .wide .ensures)
 
@@ -20,4 +17,4 @@ returns-2 c =
 pub set-bus-spec : {M : Type 1} → statement M
 set-bus-spec =
     tie.close
-    (tie.spec wide-requires (λ c. search needs) (λ c. search needs) (λ c. search needs) returns returns-2)
+    (tie.spec (λ c κs. search needs) (λ c. search needs) (λ c. search needs) (λ c. search needs) returns returns-2)

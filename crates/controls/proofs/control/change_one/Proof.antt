@@ -8,18 +8,6 @@ use Rattle.controls.specs.Change.{changeOf, set-two}
 use Rattle.controls.proofs.control.change_one.Statement.{statement}
 use Rattle.controls.proofs.control.change_one.Tie as tie
 
-from-words-requires : tie.Need-from-words-requires
-from-words-requires c κs = search needs
-
-changed-requires : tie.Need-changed-requires
-changed-requires c κs = search needs
-
-own-word-requires : tie.Need-own-word-requires
-own-word-requires c κs = search needs
-
-mapping-word-requires : tie.Need-mapping-word-requires
-mapping-word-requires c κs = search needs
-
 slice-write-controls-2 : tie.Need-slice-write-controls-2
 slice-write-controls-2 c = simp length-set (omega arith)
 
@@ -40,5 +28,5 @@ pub change-one-spec : {M : Type 1} → statement M
 change-one-spec =
     tie.close
     (tie.spec (λ c. search needs) (λ c. search needs) (λ c. search needs) (λ c. search needs) (λ c. search needs)
-    from-words-requires changed-requires own-word-requires mapping-word-requires (λ c. search needs) (λ c. search needs)
-    (λ c. search needs) (λ c. search needs) slice-write-controls-2 (λ c. search needs) returns)
+    (λ c κs. search needs) (λ c κs. search needs) (λ c κs. search needs) (λ c κs. search needs) (λ c. search needs)
+    (λ c. search needs) (λ c. search needs) (λ c. search needs) slice-write-controls-2 (λ c. search needs) returns)

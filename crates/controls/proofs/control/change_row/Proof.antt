@@ -33,9 +33,6 @@ loop-holds c =
       ap₂ (λ (k n : ℕ). changeFromPlace (changeOf (a .change)) k n (a .controls .now)) place all,
     )
 
-change-one-requires : tie.Need-change-one-requires Inv-loop μ-loop
-change-one-requires c κs = omega arith
-
 loop-again : tie.Need-loop-again Inv-loop μ-loop
 loop-again c =
     let a = c .before .before .before .before .before .before .before .before .before .args in
@@ -67,5 +64,5 @@ pub change-row-spec : {M : Type 1} → statement M
 change-row-spec =
     tie.close
     (tie.spec Inv-loop μ-loop wide-requires (λ c. omega arith) wide-requires-2 (λ c. omega arith) (λ c. omega arith)
-    loop-holds change-one-requires (λ c. omega arith) (λ c. omega arith) (λ c. omega arith) loop-again
+    loop-holds (λ c κs. omega arith) (λ c. omega arith) (λ c. omega arith) (λ c. omega arith) loop-again
     (λ c. search needs) returns)

@@ -3,12 +3,6 @@ use lib.ListN.{set}
 use Rattle.controls.proofs.control.changed.Statement.{statement}
 use Rattle.controls.proofs.control.changed.Tie as tie
 
-set-requires : tie.Need-set-requires
-set-requires c κs = search needs
-
-map-to-requires : tie.Need-map-to-requires
-map-to-requires c κs = search needs
-
 returns : tie.Need-returns
 returns c = rw (c .before .before .change .given .1) (c .set .ensures)
 
@@ -17,4 +11,5 @@ returns-2 c = rw (c .before .before .change2 .given .1) (c .map-to .ensures)
 
 pub changed-spec : {M : Type 1} → statement M
 changed-spec =
-    tie.close (tie.spec (λ c. search needs) set-requires (λ c. search needs) map-to-requires returns returns-2)
+    tie.close
+    (tie.spec (λ c. search needs) (λ c κs. search needs) (λ c. search needs) (λ c κs. search needs) returns returns-2)

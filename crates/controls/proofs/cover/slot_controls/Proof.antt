@@ -12,9 +12,6 @@ returns : tie.Need-returns
 returns c =
     c .before .before .before .pre .3 (c .if1 .taken)
 
-slot-bytes-requires : tie.Need-slot-bytes-requires
-slot-bytes-requires c κs = search needs
-
 parameter-count-requires : tie.Need-parameter-count-requires
 parameter-count-requires c κs = subst Readable (sym (c .slot-bytes .ensures)) (c .before .before .before .before .pre .2)
 
@@ -23,4 +20,4 @@ returns-2 c = c .parameter-count .ensures ∙ ap (λ (s : List ℕ). length (fro
 
 pub slot-controls-spec : {M : Type 1} → statement M
 slot-controls-spec =
-    tie.close (tie.spec returns slot-bytes-requires parameter-count-requires returns-2)
+    tie.close (tie.spec returns (λ c κs. search needs) parameter-count-requires returns-2)

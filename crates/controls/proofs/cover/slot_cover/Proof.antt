@@ -12,9 +12,6 @@ returns : tie.Need-returns
 returns c =
     c .before .before .before .before .before .pre .3 (c .if1 .taken)
 
-slot-bytes-requires : tie.Need-slot-bytes-requires
-slot-bytes-requires c κs = search needs
-
 key-cover-requires : tie.Need-key-cover-requires
 key-cover-requires c κs = subst Readable (sym (c .slot-bytes .ensures)) (c .before .before .before .before .before .before .pre .2)
 
@@ -25,4 +22,4 @@ returns-2 c =
 
 pub slot-cover-spec : {M : Type 1} → statement M
 slot-cover-spec =
-    tie.close (tie.spec returns slot-bytes-requires key-cover-requires returns-2)
+    tie.close (tie.spec returns (λ c κs. search needs) key-cover-requires returns-2)

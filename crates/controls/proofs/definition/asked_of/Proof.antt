@@ -6,9 +6,6 @@ use Rattle.controls.specs.Cover.{asked-none, asked-missing, asked-past, 
 use Rattle.controls.proofs.definition.asked_of.Statement.{statement}
 use Rattle.controls.proofs.definition.asked_of.Tie as tie
 
-key-cover-requires : tie.Need-key-cover-requires
-key-cover-requires c κs = search needs
-
 returns : tie.Need-returns
 returns c =
     let a = c .before .before .before .before .before .args in
@@ -20,9 +17,6 @@ returns-2 c =
     let a = c .before .before .before .before .before .before .before .before .before .args in
     let k = c .before .before .before .before .before .before .key-cover in
     asked-covered (a .key) (a .name .now) (frontOnly (a .definition .now)) (k .result) (k .ensures) (a .count) (not-false (k .result .found) (c .before .before .before .before .if1 .left)) (omega arith) (omega arith)
-
-parameter-count-requires : tie.Need-parameter-count-requires
-parameter-count-requires c κs = search needs
 
 returns-3 : tie.Need-returns-3
 returns-3 c =
@@ -51,4 +45,4 @@ returns-6 c =
 pub asked-of-spec : {M : Type 1} → statement M
 asked-of-spec =
     tie.close
-    (tie.spec key-cover-requires returns returns-2 parameter-count-requires returns-3 returns-4 returns-5 returns-6)
+    (tie.spec (λ c κs. search needs) returns returns-2 (λ c κs. search needs) returns-3 returns-4 returns-5 returns-6)

@@ -5,9 +5,6 @@ use Rattle.model.specs.Engine.{valueOr}
 use Rattle.controls.proofs.definition.float_at.Statement.{statement}
 use Rattle.controls.proofs.definition.float_at.Tie as tie
 
-float32-requires : tie.Need-float32-requires
-float32-requires c κs = search needs
-
 returns : tie.Need-returns
 returns c =
     let a = c .before .before .before .before .before .args in
@@ -20,4 +17,4 @@ returns-2 c =
 
 pub float-at-spec : {M : Type 1} → statement M
 float-at-spec =
-    tie.close (tie.spec float32-requires (λ c. search needs) (λ c. search needs) returns returns-2)
+    tie.close (tie.spec (λ c κs. search needs) (λ c. search needs) (λ c. search needs) returns returns-2)

@@ -12,20 +12,11 @@ use Rattle.controls.specs.Initial.{floatsFrom, values-fact, values-none,
 use Rattle.controls.proofs.definition.initial_row.Statement.{statement}
 use Rattle.controls.proofs.definition.initial_row.Tie as tie
 
-values-requires : tie.Need-values-requires
-values-requires c κs = search needs
-
 returns : tie.Need-returns
 returns c =
     let a = c .before .before .before .before .before .before .before .args in
     let t = values-fact (a .definition .now) (sym (c .before .before .before .before .values .ensures) ∙ c .before .before .start .given .1) in
     sym (nothing-written (64 * a .row) (frontIn (a .definition .now) .values) (a .controls .now) (empty (frontIn (a .definition .now) .values) (omega arith)))
-
-wide-requires : tie.Need-wide-requires
-wide-requires c κs = search needs
-
-wide-requires-2 : tie.Need-wide-requires-2
-wide-requires-2 c κs = search needs
 
 write-initial-requires : tie.Need-write-initial-requires
 write-initial-requires c κs =
@@ -56,5 +47,5 @@ returns-3 c =
 pub initial-row-spec : {M : Type 1} → statement M
 initial-row-spec =
     tie.close
-    (tie.spec values-requires (λ c. search needs) returns wide-requires (λ c. search needs) wide-requires-2
-    write-initial-requires (λ c. search needs) (λ c. search needs) returns-2 returns-3)
+    (tie.spec (λ c κs. search needs) (λ c. search needs) returns (λ c κs. search needs) (λ c. search needs)
+    (λ c κs. search needs) write-initial-requires (λ c. search needs) (λ c. search needs) returns-2 returns-3)

@@ -9,15 +9,6 @@ use Rattle.controls.specs.Encoded.{frontOnly, cover-fact}
 use Rattle.controls.proofs.definition.key_cover.Statement.{statement}
 use Rattle.controls.proofs.definition.key_cover.Tie as tie
 
-parameter-count-requires : tie.Need-parameter-count-requires
-parameter-count-requires c κs = search needs
-
-index-cover-requires : tie.Need-index-cover-requires
-index-cover-requires c κs = search needs
-
-name-cover-requires : tie.Need-name-cover-requires
-name-cover-requires c κs = search needs
-
 returns : tie.Need-returns
 returns c =
     let a = c .before .before .before .before .before .before .before .args in
@@ -37,5 +28,5 @@ returns-2 c =
 pub key-cover-spec : {M : Type 1} → statement M
 key-cover-spec =
     tie.close
-    (tie.spec (λ c. search needs) parameter-count-requires index-cover-requires (λ c. search needs) name-cover-requires
-    returns returns-2)
+    (tie.spec (λ c. search needs) (λ c κs. search needs) (λ c κs. search needs) (λ c. search needs)
+    (λ c κs. search needs) returns returns-2)

@@ -5,9 +5,6 @@ use Rattle.controls.specs.Synth.{slot-word}
 use Rattle.controls.proofs.node.node_slot.Statement.{statement}
 use Rattle.controls.proofs.node.node_slot.Tie as tie
 
-wide-requires : tie.Need-wide-requires
-wide-requires c κs = search needs
-
 returns : tie.Need-returns
 returns c =
     let a = c .before .before .before .args in
@@ -17,4 +14,4 @@ pub node-slot-spec : {M : Type 1} → statement M
 node-slot-spec =
     tie.close
     (tie.spec (λ c. search needs) (λ c. search needs) (λ c. search needs) (λ c. search needs) (λ c. search needs)
-    wide-requires returns)
+    (λ c κs. search needs) returns)

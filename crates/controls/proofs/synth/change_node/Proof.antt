@@ -14,18 +14,12 @@ use borrow.Author.Needs.{needs}
 use Rattle.controls.proofs.synth.change_node.Statement.{statement}
 use Rattle.controls.proofs.synth.change_node.Tie as tie
 
-reached-requires : tie.Need-reached-requires
-reached-requires c κs = search needs
-
 returns : tie.Need-returns
 returns c =
     let a = c .before .before .before .args in
     let ws = a .words .now in
     let none : reachedBy (a .cover) (a .count) ≡ 0 = sym (c .before .reached .ensures) ∙ c .if1 .taken in
     sym (ap (λ (l : List ℕ). putControls l ws) (reached-none (a .cover) (a .count) (changeOf (a .change)) (nodeIn ws (a .place) .row) (controlsIn ws) none) ∙ same-controls ws)
-
-node-row-requires : tie.Need-node-row-requires
-node-row-requires c κs = search needs
 
 change-row-requires : tie.Need-change-row-requires
 change-row-requires c κs =
@@ -54,5 +48,5 @@ returns-2 c =
 pub change-node-spec : {M : Type 1} → statement M
 change-node-spec =
     tie.close
-    (tie.spec reached-requires returns node-row-requires (λ c. search needs) (λ c. search needs) (λ c. search needs)
-    change-row-requires (λ c. search needs) returns-2)
+    (tie.spec (λ c κs. search needs) returns (λ c κs. search needs) (λ c. search needs) (λ c. search needs)
+    (λ c. search needs) change-row-requires (λ c. search needs) returns-2)

@@ -4,12 +4,6 @@ use Rattle.values.specs.Controls.{shownBy}
 use Rattle.controls.proofs.synth.read_at.Statement.{statement}
 use Rattle.controls.proofs.synth.read_at.Tie as tie
 
-from-words-requires : tie.Need-from-words-requires
-from-words-requires c κs = search needs
-
-read-requires : tie.Need-read-requires
-read-requires c κs = search needs
-
 returns : tie.Need-returns
 returns c = c .read .ensures ∙ ap (shownBy (c .before .before .before .before .before .before .args .buses .now)) (c .before .from-words .ensures .value)
 
@@ -17,4 +11,4 @@ pub read-at-spec : {M : Type 1} → statement M
 read-at-spec =
     tie.close
     (tie.spec (λ c. search needs) (λ c. search needs) (λ c. search needs) (λ c. search needs) (λ c. search needs)
-    from-words-requires read-requires returns)
+    (λ c κs. search needs) (λ c κs. search needs) returns)

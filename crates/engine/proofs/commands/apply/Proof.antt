@@ -6,9 +6,6 @@ use Rattle.state.specs.Does.{does-bad}
 use Rattle.engine.proofs.commands.apply.Statement.{statement}
 use Rattle.engine.proofs.commands.apply.Tie as tie
 
-well-formed-requires : tie.Need-well-formed-requires
-well-formed-requires c κs = search needs
-
 returns : tie.Need-returns
 returns c =
     let a = c .before .before .before .before .before .before .before .before .args in
@@ -28,5 +25,5 @@ returns-2 c = c .before .before .before .before .before .before .step .ensures
 pub apply-spec : {M : Type 1} → statement M
 apply-spec =
     tie.close
-    (tie.spec well-formed-requires (λ c. search needs) (λ c. search needs) returns step-requires (λ c. search needs)
+    (tie.spec (λ c κs. search needs) (λ c. search needs) (λ c. search needs) returns step-requires (λ c. search needs)
     (λ c. search needs) (λ c. search needs) returns-2)

@@ -8,12 +8,6 @@ use Rattle.engine.specs.Calls.{fresh-small}
 use Rattle.engine.proofs.exports.engine_fresh.Statement.{statement}
 use Rattle.engine.proofs.exports.engine_fresh.Tie as tie
 
-fresh-requires : tie.Need-fresh-requires
-fresh-requires c κs = search needs
-
-call-number-requires : tie.Need-call-number-requires
-call-number-requires c κs = search needs
-
 cast-result : tie.Need-cast-result
 cast-result c =
     let a = c .before .before .before .before .before .before .before .before .before .before .args in
@@ -28,4 +22,4 @@ returns c =
 pub engine-fresh-spec : {M : Type 1} → statement M
 engine-fresh-spec =
     tie.close
-    (tie.spec fresh-requires call-number-requires cast-result (λ c. search needs) (λ c. search needs) returns)
+    (tie.spec (λ c κs. search needs) (λ c κs. search needs) cast-result (λ c. search needs) (λ c. search needs) returns)

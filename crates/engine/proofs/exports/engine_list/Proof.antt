@@ -3,12 +3,6 @@ use borrow.Author.Needs.{needs}
 use Rattle.engine.proofs.exports.engine_list.Statement.{statement}
 use Rattle.engine.proofs.exports.engine_list.Tie as tie
 
-list-requires : tie.Need-list-requires
-list-requires c κs = search needs
-
-list-number-requires : tie.Need-list-number-requires
-list-number-requires c κs = search needs
-
 returns : tie.Need-returns
 returns c =
     let list = c .before .before .before .before .before .list in
@@ -16,4 +10,4 @@ returns c =
 
 pub engine-list-spec : {M : Type 1} → statement M
 engine-list-spec =
-    tie.close (tie.spec list-requires list-number-requires (λ c. search needs) (λ c. search needs) returns)
+    tie.close (tie.spec (λ c κs. search needs) (λ c κs. search needs) (λ c. search needs) (λ c. search needs) returns)

@@ -5,15 +5,9 @@ use Rattle.why.specs.Numbers.{toldNumber}
 use Rattle.engine.proofs.exports.engine_why.Statement.{statement}
 use Rattle.engine.proofs.exports.engine_why.Tie as tie
 
-why-requires : tie.Need-why-requires
-why-requires c κs = search needs
-
-told-number-requires : tie.Need-told-number-requires
-told-number-requires c κs = search needs
-
 returns : tie.Need-returns
 returns c = c .told-number .ensures ∙ ap toldNumber (c .before .why .ensures)
 
 pub engine-why-spec : {M : Type 1} → statement M
 engine-why-spec =
-    tie.close (tie.spec why-requires told-number-requires returns)
+    tie.close (tie.spec (λ c κs. search needs) (λ c κs. search needs) returns)

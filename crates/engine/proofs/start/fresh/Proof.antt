@@ -15,12 +15,6 @@ returns-2 c =
     let a = c .before .before .before .before .args in
     refused-room (a .words .now) (a .arena .now) (omega arith) (c .if2 .taken)
 
-fresh-words-requires : tie.Need-fresh-words-requires
-fresh-words-requires c κs = search needs
-
-zero-bytes-requires : tie.Need-zero-bytes-requires
-zero-bytes-requires c κs = search needs
-
 returns-3 : tie.Need-returns-3
 returns-3 c =
     let a = c .before .before .before .before .before .before .before .before .before .before .before .before .args in
@@ -29,5 +23,5 @@ returns-3 c =
 pub fresh-spec : {M : Type 1} → statement M
 fresh-spec =
     tie.close
-    (tie.spec returns returns-2 fresh-words-requires zero-bytes-requires (λ c. search needs) (λ c. search needs)
+    (tie.spec returns returns-2 (λ c κs. search needs) (λ c κs. search needs) (λ c. search needs) (λ c. search needs)
     returns-3)

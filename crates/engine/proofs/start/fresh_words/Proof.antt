@@ -8,9 +8,6 @@ use Rattle.engine.specs.Zeros.{fresh-words}
 use Rattle.engine.proofs.start.fresh_words.Statement.{statement}
 use Rattle.engine.proofs.start.fresh_words.Tie as tie
 
-zero-words-requires : tie.Need-zero-words-requires
-zero-words-requires c κs = search needs
-
 slice-write-words-4 : tie.Need-slice-write-words-4
 slice-write-words-4 c = simp length-set (omega arith)
 
@@ -22,5 +19,5 @@ returns c =
 pub fresh-words-spec : {M : Type 1} → statement M
 fresh-words-spec =
     tie.close
-    (tie.spec zero-words-requires (λ c. search needs) (λ c. search needs) (λ c. search needs) (λ c. search needs)
+    (tie.spec (λ c κs. search needs) (λ c. search needs) (λ c. search needs) (λ c. search needs) (λ c. search needs)
     (λ c. search needs) (λ c. search needs) (λ c. search needs) slice-write-words-4 (λ c. search needs) returns)

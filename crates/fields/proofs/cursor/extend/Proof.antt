@@ -16,13 +16,11 @@ above-lowest n h = go (leb n highest16) refl where
   go true e = rw e (omega (arith, leb-true n highest16 e))
   go false e = rw e (omega (arith, leb-false n highest16 e))
 
-number16-requires : tie.Need-number16-requires
-number16-requires c κs = search needs
-
 returns : tie.Need-returns
 returns c = rw (c .number16 .ensures) (above-lowest _ (omega arith))
 
 pub extend-spec : {M : Type 1} → statement M
 extend-spec =
     tie.close
-    (tie.spec number16-requires (λ c. search needs) (λ c. search needs) (λ c. search needs) (λ c. search needs) returns)
+    (tie.spec (λ c κs. search needs) (λ c. search needs) (λ c. search needs) (λ c. search needs) (λ c. search needs)
+    returns)

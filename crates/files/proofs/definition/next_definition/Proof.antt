@@ -7,23 +7,8 @@ use Rattle.files.specs.Skips.{kept-bad, skip-definition, count-definitio
 use Rattle.files.proofs.definition.next_definition.Statement.{statement}
 use Rattle.files.proofs.definition.next_definition.Tie as tie
 
-read-front-requires : tie.Need-read-front-requires
-read-front-requires c κs = search needs
-
-count-to-requires : tie.Need-count-to-requires
-count-to-requires c κs = search needs
-
 read-units-requires : tie.Need-read-units-requires
 read-units-requires c κs = c .before .before .before .before .before .before .before .before .before .before .pre
-
-short-count-to-requires : tie.Need-short-count-to-requires
-short-count-to-requires c κs = search needs
-
-read-variants-requires : tie.Need-read-variants-requires
-read-variants-requires c κs = search needs
-
-wide-requires : tie.Need-wide-requires
-wide-requires c κs = search needs
 
 add-t37 : tie.Need-add-t37
 add-t37 c = search (needs, c .before .before .before .before .before .before .before .before .before .before .before .before .before .before .before .before .before .before .known-told .given)
@@ -87,7 +72,7 @@ returns-6 c =
 pub next-definition-spec : {M : Type 1} → statement M
 next-definition-spec =
     tie.close
-    (tie.spec read-front-requires (λ c. search needs) count-to-requires (λ c. search needs) read-units-requires
-    (λ c. search needs) short-count-to-requires (λ c. search needs) read-variants-requires (λ c. search needs)
-    wide-requires add-t37 add-t38 (λ c. search needs) (λ c. search needs) (λ c. search needs) (λ c. search needs)
-    (λ c. search needs) returns returns-2 returns-3 returns-4 returns-5 returns-6)
+    (tie.spec (λ c κs. search needs) (λ c. search needs) (λ c κs. search needs) (λ c. search needs) read-units-requires
+    (λ c. search needs) (λ c κs. search needs) (λ c. search needs) (λ c κs. search needs) (λ c. search needs)
+    (λ c κs. search needs) add-t37 add-t38 (λ c. search needs) (λ c. search needs) (λ c. search needs)
+    (λ c. search needs) (λ c. search needs) returns returns-2 returns-3 returns-4 returns-5 returns-6)

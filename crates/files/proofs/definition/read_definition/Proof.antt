@@ -7,9 +7,6 @@ use Rattle.files.specs.Skips.{kept-ending}
 use Rattle.files.proofs.definition.read_definition.Statement.{statement}
 use Rattle.files.proofs.definition.read_definition.Tie as tie
 
-next-definition-requires : tie.Need-next-definition-requires
-next-definition-requires c κs = search needs
-
 returns : tie.Need-returns
 returns c =
     let a = c .before .before .before .before .before .before .args in
@@ -22,4 +19,4 @@ returns-2 c =
 
 pub read-definition-spec : {M : Type 1} → statement M
 read-definition-spec =
-    tie.close (tie.spec next-definition-requires (λ c. search needs) (λ c. search needs) returns returns-2)
+    tie.close (tie.spec (λ c κs. search needs) (λ c. search needs) (λ c. search needs) returns returns-2)

@@ -4,12 +4,6 @@ use Rattle.files.specs.Skips.{skip-variant}
 use Rattle.files.proofs.definition.read_variant.Statement.{statement}
 use Rattle.files.proofs.definition.read_variant.Tie as tie
 
-name-requires : tie.Need-name-requires
-name-requires c κs = search needs
-
-skip-floats-requires : tie.Need-skip-floats-requires
-skip-floats-requires c κs = search needs
-
 returns : tie.Need-returns
 returns c =
     let a = c .before .before .before .before .before .before .args in
@@ -25,4 +19,4 @@ returns-2 c =
 pub read-variant-spec : {M : Type 1} → statement M
 read-variant-spec =
     tie.close
-    (tie.spec name-requires (λ c. search needs) skip-floats-requires (λ c. search needs) returns returns-2)
+    (tie.spec (λ c κs. search needs) (λ c. search needs) (λ c κs. search needs) (λ c. search needs) returns returns-2)

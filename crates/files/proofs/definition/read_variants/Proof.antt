@@ -19,9 +19,6 @@ abbrev μ-loop : tie.MeasureT-loop
 loop-holds : tie.Need-loop-holds Inv-loop μ-loop
 loop-holds c = (omega arith, rw sub-zero)
 
-read-variant-requires : tie.Need-read-variant-requires Inv-loop μ-loop
-read-variant-requires c κs = search needs
-
 returns : tie.Need-returns Inv-loop μ-loop
 returns c =
     let a = c .before .before .before .before .before .before .before .args in
@@ -45,5 +42,5 @@ returns-2 c =
 pub read-variants-spec : {M : Type 1} → statement M
 read-variants-spec =
     tie.close
-    (tie.spec Inv-loop μ-loop loop-holds read-variant-requires (λ c. search needs) (λ c. search needs) returns
+    (tie.spec Inv-loop μ-loop loop-holds (λ c κs. search needs) (λ c. search needs) (λ c. search needs) returns
     (λ c. omega arith) (λ c. omega arith) loop-again returns-2)

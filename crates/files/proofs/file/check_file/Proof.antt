@@ -5,12 +5,6 @@ use Rattle.files.specs.FileLaws.{head-few, file-head, file-bad, file-lef
 use Rattle.files.proofs.file.check_file.Statement.{statement}
 use Rattle.files.proofs.file.check_file.Tie as tie
 
-read-header-requires : tie.Need-read-header-requires
-read-header-requires c κs = search needs
-
-width-of-requires : tie.Need-width-of-requires
-width-of-requires c κs = search needs
-
 read-definitions-requires : tie.Need-read-definitions-requires
 read-definitions-requires c κs =
     let head = sym (rw (c .before .before .count .given .1) at (c .before .before .before .before .read-header .ensures)) in
@@ -42,5 +36,5 @@ returns-4 c =
 pub check-file-spec : {M : Type 1} → statement M
 check-file-spec =
     tie.close
-    (tie.spec read-header-requires (λ c. search needs) width-of-requires read-definitions-requires (λ c. search needs)
-    returns (λ c. search needs) (λ c. search needs) returns-2 returns-3 returns-4)
+    (tie.spec (λ c κs. search needs) (λ c. search needs) (λ c κs. search needs) read-definitions-requires
+    (λ c. search needs) returns (λ c. search needs) (λ c. search needs) returns-2 returns-3 returns-4)

@@ -7,20 +7,11 @@ use Rattle.files.specs.FileLaws.{head-count}
 use Rattle.files.proofs.file.read_header.Statement.{statement}
 use Rattle.files.proofs.file.read_header.Tie as tie
 
-int32-requires : tie.Need-int32-requires
-int32-requires c κs = search needs
-
 returns : tie.Need-returns
 returns c =
     let e1 = sym (rw (c .before .before .kind .given .1) at (c .before .before .before .before .int32 .ensures)) in
     let q1 = ne-eqb (c .before .before .kind .given .0 .0) fileType (c .if1 .taken) in
     rw (e1, q1)
-
-int32-requires-2 : tie.Need-int32-requires-2
-int32-requires-2 c κs = search needs
-
-is-version-requires : tie.Need-is-version-requires
-is-version-requires c κs = search needs
 
 returns-2 : tie.Need-returns-2
 returns-2 c =
@@ -29,9 +20,6 @@ returns-2 c =
     let e2 = sym (rw (c .before .before .before .version .given .1) at (c .before .before .before .before .before .int322 .ensures)) in
     let q2 = sym (c .before .is-version .ensures) ∙ not-true (c .before .is-version .result) (c .if2 .taken) in
     rw (e1, q1, e2, q2)
-
-short-count-to-requires : tie.Need-short-count-to-requires
-short-count-to-requires c κs = search needs
 
 returns-3 : tie.Need-returns-3
 returns-3 c =
@@ -56,6 +44,6 @@ returns-5 c =
 pub read-header-spec : {M : Type 1} → statement M
 read-header-spec =
     tie.close
-    (tie.spec int32-requires (λ c. search needs) returns int32-requires-2 (λ c. search needs) is-version-requires
-    returns-2 (λ c. omega arith) short-count-to-requires (λ c. search needs) (λ c. search needs) returns-3 returns-4
-    returns-5)
+    (tie.spec (λ c κs. search needs) (λ c. search needs) returns (λ c κs. search needs) (λ c. search needs)
+    (λ c κs. search needs) returns-2 (λ c. omega arith) (λ c κs. search needs) (λ c. search needs) (λ c. search needs)
+    returns-3 returns-4 returns-5)

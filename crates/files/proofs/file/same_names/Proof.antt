@@ -12,31 +12,16 @@ shared-slice-read-name-key c = omega (arith, c .before .before .before .pre .ins
 shared-slice-read-name-key-2 : tie.Need-shared-slice-read-name-key-2
 shared-slice-read-name-key-2 c = omega (arith, c .before .before .before .before .pre .inside, c .before .before .before .before .pre .some)
 
-name-key-requires : tie.Need-name-key-requires
-name-key-requires c κs = search needs
-
 shared-slice-read-name-key-3 : tie.Need-shared-slice-read-name-key-3
 shared-slice-read-name-key-3 c = omega (arith, c .before .before .before .before .before .before .pre .inside, c .before .before .before .before .before .before .pre .some)
 
 shared-slice-read-name-key-4 : tie.Need-shared-slice-read-name-key-4
 shared-slice-read-name-key-4 c = omega (arith, c .before .before .before .before .before .before .before .pre .inside, c .before .before .before .before .before .before .before .pre .some)
 
-name-key-requires-2 : tie.Need-name-key-requires-2
-name-key-requires-2 c κs = search needs
-
 returns : tie.Need-returns
 returns c =
     let a = c .before .before .before .before .before .before .before .before .before .args in
     sym (names-apart (a .s .now) (a .other) (a .at) (c .before .before .before .before .before .before .before .before .before .pre) (c .before .before .before .before .before .before .before .if1 .taken) (λ same. c .if2 .taken (c .before .before .before .before .name-key .ensures ∙ same ∙ sym (c .before .name-key2 .ensures))))
-
-name-at-requires : tie.Need-name-at-requires
-name-at-requires c κs = search needs
-
-name-at-requires-2 : tie.Need-name-at-requires-2
-name-at-requires-2 c κs = search needs
-
-same-name-requires : tie.Need-same-name-requires
-same-name-requires c κs = search needs
 
 returns-2 : tie.Need-returns-2
 returns-2 c = c .same-name .ensures ∙ ap₂ sameName (c .before .before .name-at .ensures) (c .before .name-at2 .ensures)
@@ -44,6 +29,6 @@ returns-2 c = c .same-name .ensures ∙ ap₂ sameName (c .before .before .name-
 pub same-names-spec : {M : Type 1} → statement M
 same-names-spec =
     tie.close
-    (tie.spec shared-slice-read-name-key (λ c. search needs) shared-slice-read-name-key-2 name-key-requires
-    shared-slice-read-name-key-3 (λ c. search needs) shared-slice-read-name-key-4 name-key-requires-2 returns
-    name-at-requires name-at-requires-2 same-name-requires returns-2)
+    (tie.spec shared-slice-read-name-key (λ c. search needs) shared-slice-read-name-key-2 (λ c κs. search needs)
+    shared-slice-read-name-key-3 (λ c. search needs) shared-slice-read-name-key-4 (λ c κs. search needs) returns
+    (λ c κs. search needs) (λ c κs. search needs) (λ c κs. search needs) returns-2)

@@ -9,9 +9,6 @@ use Rattle.files.proofs.file.width_of.Tie as tie
 returns : tie.Need-returns
 returns c = sym (short-width (c .before .before .args .s .now) (c .if1 .taken))
 
-word-at-requires : tie.Need-word-at-requires
-word-at-requires c κs = search needs
-
 returns-2 : tie.Need-returns-2
 returns-2 c = rw (eq-eqb _ firstVersion (sym (c .before .word-at .ensures) ∙ c .if2 .taken))
 
@@ -20,4 +17,4 @@ returns-3 c = rw (ne-eqb _ firstVersion (λ e. c .if2 .left (c .before .word-at 
 
 pub width-of-spec : {M : Type 1} → statement M
 width-of-spec =
-    tie.close (tie.spec returns word-at-requires returns-2 returns-3)
+    tie.close (tie.spec returns (λ c κs. search needs) returns-2 returns-3)

@@ -11,36 +11,6 @@ use borrow.Author.Needs.{needs}
 use Rattle.lists.proofs.act.tree_act.Statement.{statement}
 use Rattle.lists.proofs.act.tree_act.Tie as tie
 
-new-synth-requires : tie.Need-new-synth-requires
-new-synth-requires c κs = search needs
-
-new-group-requires : tie.Need-new-group-requires
-new-group-requires c κs = search needs
-
-free-node-requires : tie.Need-free-node-requires
-free-node-requires c κs = search needs
-
-free-all-requires : tie.Need-free-all-requires
-free-all-requires c κs = search needs
-
-deep-free-requires : tie.Need-deep-free-requires
-deep-free-requires c κs = search needs
-
-move-before-requires : tie.Need-move-before-requires
-move-before-requires c κs = search needs
-
-move-after-requires : tie.Need-move-after-requires
-move-after-requires c κs = search needs
-
-move-head-requires : tie.Need-move-head-requires
-move-head-requires c κs = search needs
-
-move-tail-requires : tie.Need-move-tail-requires
-move-tail-requires c κs = search needs
-
-run-node-requires : tie.Need-run-node-requires
-run-node-requires c κs = search needs
-
 returns : tie.Need-returns
 returns c =
     let s = c .before .before .before .before .before .before .before .before in
@@ -138,8 +108,8 @@ returns-10 c =
 pub tree-act-spec : {M : Type 1} → statement M
 tree-act-spec =
     tie.close
-    (tie.spec new-synth-requires new-group-requires free-node-requires free-all-requires deep-free-requires
-    move-before-requires move-after-requires move-head-requires move-tail-requires run-node-requires (λ c. search needs)
-    returns (λ c. search needs) returns-2 (λ c. search needs) returns-3 (λ c. search needs) returns-4
-    (λ c. search needs) returns-5 (λ c. search needs) returns-6 (λ c. search needs) returns-7 (λ c. search needs)
-    returns-8 (λ c. search needs) returns-9 (λ c. search needs) returns-10)
+    (tie.spec (λ c κs. search needs) (λ c κs. search needs) (λ c κs. search needs) (λ c κs. search needs)
+    (λ c κs. search needs) (λ c κs. search needs) (λ c κs. search needs) (λ c κs. search needs) (λ c κs. search needs)
+    (λ c κs. search needs) (λ c. search needs) returns (λ c. search needs) returns-2 (λ c. search needs) returns-3
+    (λ c. search needs) returns-4 (λ c. search needs) returns-5 (λ c. search needs) returns-6 (λ c. search needs)
+    returns-7 (λ c. search needs) returns-8 (λ c. search needs) returns-9 (λ c. search needs) returns-10)

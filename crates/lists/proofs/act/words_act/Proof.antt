@@ -15,9 +15,6 @@ use borrow.Author.Needs.{needs}
 use Rattle.lists.proofs.act.words_act.Statement.{statement}
 use Rattle.lists.proofs.act.words_act.Tie as tie
 
-value-of-requires : tie.Need-value-of-requires
-value-of-requires c κs = search needs
-
 fill-controls-requires : tie.Need-fill-controls-requires
 fill-controls-requires c κs =
     let s = c .before .before .before .before .before .before in
@@ -178,7 +175,7 @@ returns-9 c =
 pub words-act-spec : {M : Type 1} → statement M
 words-act-spec =
     tie.close
-    (tie.spec value-of-requires fill-controls-requires fill-controls-requires-2 fill-controls-requires-3
+    (tie.spec (λ c κs. search needs) fill-controls-requires fill-controls-requires-2 fill-controls-requires-3
     fill-controls-requires-4 map-control-requires map-control-requires-2 bus-step-requires bus-step-requires-2
     tree-act-requires (λ c. search needs) returns (λ c. search needs) returns-2 (λ c. search needs) returns-3
     (λ c. search needs) returns-4 (λ c. search needs) returns-5 (λ c. search needs) returns-6 (λ c. search needs)

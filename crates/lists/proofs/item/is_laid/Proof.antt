@@ -10,17 +10,8 @@ use borrow.Author.Needs.{needs}
 use Rattle.lists.proofs.item.is_laid.Statement.{statement}
 use Rattle.lists.proofs.item.is_laid.Tie as tie
 
-later-zero-requires : tie.Need-later-zero-requires
-later-zero-requires c κs = search needs
-
 returns : tie.Need-returns
 returns c = laid-later (c .before .before .before .args .room) (itemIn (drop (c .before .before .before .args .at) (c .before .before .before .args .items .now))) (sym (c .before .later-zero .ensures) ∙ not-true (c .before .later-zero .result) (c .if1 .taken))
-
-part-start-requires : tie.Need-part-start-requires
-part-start-requires c κs = search needs
-
-part-size-requires : tie.Need-part-size-requires
-part-size-requires c κs = search needs
 
 returns-2 : tie.Need-returns-2
 returns-2 c =
@@ -38,4 +29,5 @@ returns-3 c =
 
 pub is-laid-spec : {M : Type 1} → statement M
 is-laid-spec =
-    tie.close (tie.spec later-zero-requires returns part-start-requires part-size-requires returns-2 returns-3)
+    tie.close
+    (tie.spec (λ c κs. search needs) returns (λ c κs. search needs) (λ c κs. search needs) returns-2 returns-3)

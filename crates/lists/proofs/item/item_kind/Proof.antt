@@ -9,23 +9,8 @@ use borrow.Author.Needs.{needs}
 use Rattle.lists.proofs.item.item_kind.Statement.{statement}
 use Rattle.lists.proofs.item.item_kind.Tie as tie
 
-is-laid-requires : tie.Need-is-laid-requires
-is-laid-requires c κs = search needs
-
 returns : tie.Need-returns
 returns c = rw (sym (c .before .is-laid .ensures) ∙ not-true (c .before .is-laid .result) (c .if1 .taken))
-
-word-requires : tie.Need-word-requires
-word-requires c κs = search needs
-
-kind-limit-requires : tie.Need-kind-limit-requires
-kind-limit-requires c κs = search needs
-
-word-requires-2 : tie.Need-word-requires-2
-word-requires-2 c κs = search needs
-
-wide-requires : tie.Need-wide-requires
-wide-requires c κs = search needs
 
 returns-2 : tie.Need-returns-2
 returns-2 c =
@@ -68,5 +53,5 @@ returns-4 c =
 pub item-kind-spec : {M : Type 1} → statement M
 item-kind-spec =
     tie.close
-    (tie.spec is-laid-requires returns word-requires kind-limit-requires word-requires-2 wide-requires returns-2
-    returns-3 returns-4)
+    (tie.spec (λ c κs. search needs) returns (λ c κs. search needs) (λ c κs. search needs) (λ c κs. search needs)
+    (λ c κs. search needs) returns-2 returns-3 returns-4)

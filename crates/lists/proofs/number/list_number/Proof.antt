@@ -9,12 +9,6 @@ use borrow.Author.Needs.{needs}
 use Rattle.lists.proofs.number.list_number.Statement.{statement}
 use Rattle.lists.proofs.number.list_number.Tie as tie
 
-refusal-in-requires : tie.Need-refusal-in-requires
-refusal-in-requires c κs = search needs
-
-place-in-requires : tie.Need-place-in-requires
-place-in-requires c κs = search needs
-
 returns-2 : tie.Need-returns-2
 returns-2 c =
     let fact = c .before .before .before .outcome .given in
@@ -24,5 +18,5 @@ returns-2 c =
 pub list-number-spec : {M : Type 1} → statement M
 list-number-spec =
     tie.close
-    (tie.spec (λ c. search needs) (λ c. search needs) refusal-in-requires (λ c. search needs) (λ c. search needs)
-    (λ c. search needs) place-in-requires (λ c. search needs) (λ c. search needs) (λ c. search needs) returns-2)
+    (tie.spec (λ c. search needs) (λ c. search needs) (λ c κs. search needs) (λ c. search needs) (λ c. search needs)
+    (λ c. search needs) (λ c κs. search needs) (λ c. search needs) (λ c. search needs) (λ c. search needs) returns-2)

@@ -6,12 +6,6 @@ use borrow.Author.Needs.{needs}
 use Rattle.lists.proofs.number.refusal_in.Statement.{statement}
 use Rattle.lists.proofs.number.refusal_in.Tie as tie
 
-refusal-number-requires : tie.Need-refusal-number-requires
-refusal-number-requires c κs = search needs
-
-fault-number-requires : tie.Need-fault-number-requires
-fault-number-requires c κs = search needs
-
 returns-3 : tie.Need-returns-3
 returns-3 c = c .refusal-number .ensures ∙ ap refusalIn (sym (c .before .before .answer2 .given .1))
 
@@ -21,5 +15,5 @@ returns-4 c = c .fault-number .ensures ∙ ap refusalIn (sym (c .before .before 
 pub refusal-in-spec : {M : Type 1} → statement M
 refusal-in-spec =
     tie.close
-    (tie.spec (λ c. search needs) (λ c. search needs) (λ c. search needs) refusal-number-requires (λ c. search needs)
-    fault-number-requires (λ c. search needs) (λ c. search needs) returns-3 returns-4)
+    (tie.spec (λ c. search needs) (λ c. search needs) (λ c. search needs) (λ c κs. search needs) (λ c. search needs)
+    (λ c κs. search needs) (λ c. search needs) (λ c. search needs) returns-3 returns-4)

@@ -12,12 +12,6 @@ use borrow.Author.Needs.{needs}
 use Rattle.lists.proofs.run.item_step.Statement.{statement}
 use Rattle.lists.proofs.run.item_step.Tie as tie
 
-part-start-requires : tie.Need-part-start-requires
-part-start-requires c κs = search needs
-
-part-size-requires : tie.Need-part-size-requires
-part-size-requires c κs = search needs
-
 add-end : tie.Need-add-end
 add-end c =
     let s = c .before .before .before .before .before .before in
@@ -25,24 +19,6 @@ add-end c =
     let size = c .part-size .ensures in
     let within = acts-laid (length (s .args .bytes .now)) (itemIn (drop (s .args .at) (s .args .items .now))) (s .pre .1 .0) in
     omega arith
-
-word-requires : tie.Need-word-requires
-word-requires c κs = search needs
-
-word-requires-2 : tie.Need-word-requires-2
-word-requires-2 c κs = search needs
-
-word-requires-3 : tie.Need-word-requires-3
-word-requires-3 c κs = search needs
-
-word-requires-4 : tie.Need-word-requires-4
-word-requires-4 c κs = search needs
-
-word-requires-5 : tie.Need-word-requires-5
-word-requires-5 c κs = search needs
-
-word-requires-6 : tie.Need-word-requires-6
-word-requires-6 c κs = search needs
 
 part-act-end : tie.Need-part-act-end
 part-act-end c =
@@ -75,6 +51,6 @@ returns c =
 pub item-step-spec : {M : Type 1} → statement M
 item-step-spec =
     tie.close
-    (tie.spec part-start-requires part-size-requires add-end word-requires word-requires-2 word-requires-3
-    word-requires-4 word-requires-5 word-requires-6 (λ c. search needs) (λ c. search needs) part-act-end act-requires
-    (λ c. search needs) (λ c. search needs) returns)
+    (tie.spec (λ c κs. search needs) (λ c κs. search needs) add-end (λ c κs. search needs) (λ c κs. search needs)
+    (λ c κs. search needs) (λ c κs. search needs) (λ c κs. search needs) (λ c κs. search needs) (λ c. search needs)
+    (λ c. search needs) part-act-end act-requires (λ c. search needs) (λ c. search needs) returns)

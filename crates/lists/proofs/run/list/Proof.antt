@@ -7,12 +7,6 @@ use borrow.Author.Needs.{needs}
 use Rattle.lists.proofs.run.list.Statement.{statement}
 use Rattle.lists.proofs.run.list.Tie as tie
 
-judge-requires : tie.Need-judge-requires
-judge-requires c κs = search needs
-
-well-formed-requires : tie.Need-well-formed-requires
-well-formed-requires c κs = search needs
-
 returns : tie.Need-returns
 returns c =
     let a = c .before .before .before .before .before .before .before .before .before .before .before .args in
@@ -20,9 +14,6 @@ returns c =
     let kept = c .before .before .before .before .before .before .before .slice-known2 .given in
     let check = c .before .well-formed in
     lists-unfit-bad (a .items .now) (a .bytes .now) (a .words .now) (a .arena .now) (λ i. lent i .fits) (λ i. kept i .fits) (sym (c .before .before .before .before .before .before .judge .ensures) ∙ c .before .before .before .before .enum-told2 .given .1) (sym (check .ensures) ∙ not-true (check .result) (c .if1 .taken))
-
-well-formed-requires-2 : tie.Need-well-formed-requires-2
-well-formed-requires-2 c κs = search needs
 
 returns-2 : tie.Need-returns-2
 returns-2 c =
@@ -64,7 +55,7 @@ returns-5 c =
 pub list-spec : {M : Type 1} → statement M
 list-spec =
     tie.close
-    (tie.spec judge-requires (λ c. search needs) (λ c. search needs) well-formed-requires (λ c. search needs)
-    (λ c. search needs) returns (λ c. search needs) well-formed-requires-2 (λ c. search needs) (λ c. search needs)
+    (tie.spec (λ c κs. search needs) (λ c. search needs) (λ c. search needs) (λ c κs. search needs) (λ c. search needs)
+    (λ c. search needs) returns (λ c. search needs) (λ c κs. search needs) (λ c. search needs) (λ c. search needs)
     returns-2 run-requires returns-3 (λ c. search needs) (λ c. search needs) returns-4 (λ c. search needs)
     (λ c. search needs) returns-5)

@@ -6,16 +6,10 @@ use Rattle.making.specs.Checks.{synth-number, synth-live, synth-absent, 
 use Rattle.making.proofs.checks.synth_spot.Statement.{statement}
 use Rattle.making.proofs.checks.synth_spot.Tie as tie
 
-bad-number-requires : tie.Need-bad-number-requires
-bad-number-requires c κs = search needs
-
 returns : tie.Need-returns
 returns c =
     let a = c .before .before .before .args in
     synth-number (a .number) (a .action) (a .target) (a .slot) (a .words .now) (sym (c .before .bad-number .ensures) ∙ c .if1 .taken)
-
-is-live-requires : tie.Need-is-live-requires
-is-live-requires c κs = search needs
 
 returns-2 : tie.Need-returns-2
 returns-2 c =
@@ -27,35 +21,20 @@ returns-3 c =
     let a = c .before .before .before .before .before .before .args in
     synth-absent (a .number) (a .action) (a .target) (a .slot) (a .words .now) (sym (c .before .before .before .before .bad-number .ensures) ∙ c .before .before .before .if1 .left) (sym (c .before .before .is-live .ensures) ∙ c .before .if2 .left) (c .if3 .taken)
 
-wide-requires : tie.Need-wide-requires
-wide-requires c κs = search needs
-
-node-place-requires : tie.Need-node-place-requires
-node-place-requires c κs = search needs
-
 returns-4 : tie.Need-returns-4
 returns-4 c =
     let a = c .before .before .before .before .before .before .before .before .before .before .args in
     synth-unknown (a .number) (a .action) (a .target) (a .slot) (a .words .now) (sym (c .before .before .before .before .before .before .before .before .bad-number .ensures) ∙ c .before .before .before .before .before .before .before .if1 .left) (sym (c .before .before .before .before .before .before .is-live .ensures) ∙ c .before .before .before .before .before .if2 .left) (omega arith) (c .before .before .before .before .before .before .before .before .before .before .pre) (c .before .before .wide .result) (c .before .before .wide .ensures) (c .before .node-place .result) (c .before .node-place .ensures) (c .if4 .taken)
-
-bad-target-requires : tie.Need-bad-target-requires
-bad-target-requires c κs = search needs
 
 returns-5 : tie.Need-returns-5
 returns-5 c =
     let a = c .before .before .before .before .before .before .before .before .before .before .before .before .args in
     synth-kind (a .number) (a .action) (a .target) (a .slot) (a .words .now) (sym (c .before .before .before .before .before .before .before .before .before .before .bad-number .ensures) ∙ c .before .before .before .before .before .before .before .before .before .if1 .left) (sym (c .before .before .before .before .before .before .before .before .is-live .ensures) ∙ c .before .before .before .before .before .before .before .if2 .left) (omega arith) (c .before .before .before .before .before .before .before .before .before .before .before .before .pre) (c .before .before .before .before .wide .result) (c .before .before .before .before .wide .ensures) (c .before .before .before .node-place .result) (c .before .before .before .node-place .ensures) (omega arith) (sym (c .before .bad-target .ensures) ∙ c .if5 .taken)
 
-is-spent-requires : tie.Need-is-spent-requires
-is-spent-requires c κs = search needs
-
 returns-6 : tie.Need-returns-6
 returns-6 c =
     let a = c .before .before .before .before .before .before .before .before .before .before .before .before .before .before .before .args in
     synth-spent (a .number) (a .action) (a .target) (a .slot) (a .words .now) (sym (c .before .before .before .before .before .before .before .before .before .before .before .before .before .bad-number .ensures) ∙ c .before .before .before .before .before .before .before .before .before .before .before .before .if1 .left) (sym (c .before .before .before .before .before .before .before .before .before .before .before .is-live .ensures) ∙ c .before .before .before .before .before .before .before .before .before .before .if2 .left) (omega arith) (c .before .before .before .before .before .before .before .before .before .before .before .before .before .before .before .pre) (c .before .before .before .before .before .before .before .wide .result) (c .before .before .before .before .before .before .before .wide .ensures) (c .before .before .before .before .before .before .node-place .result) (c .before .before .before .before .before .before .node-place .ensures) (omega arith) (sym (c .before .before .before .before .bad-target .ensures) ∙ c .before .before .before .if5 .left) (sym (c .before .is-spent .ensures) ∙ c .if6 .taken)
-
-is-full-requires : tie.Need-is-full-requires
-is-full-requires c κs = search needs
 
 returns-7 : tie.Need-returns-7
 returns-7 c =
@@ -70,6 +49,6 @@ returns-8 c =
 pub synth-spot-spec : {M : Type 1} → statement M
 synth-spot-spec =
     tie.close
-    (tie.spec bad-number-requires returns is-live-requires returns-2 returns-3 (λ c. search needs) wide-requires
-    node-place-requires returns-4 bad-target-requires returns-5 (λ c. search needs) is-spent-requires returns-6
-    is-full-requires returns-7 returns-8)
+    (tie.spec (λ c κs. search needs) returns (λ c κs. search needs) returns-2 returns-3 (λ c. search needs)
+    (λ c κs. search needs) (λ c κs. search needs) returns-4 (λ c κs. search needs) returns-5 (λ c. search needs)
+    (λ c κs. search needs) returns-6 (λ c κs. search needs) returns-7 returns-8)

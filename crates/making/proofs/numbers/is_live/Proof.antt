@@ -8,12 +8,6 @@ use Rattle.making.proofs.numbers.is_live.Tie as tie
 returns : tie.Need-returns
 returns c = rw (eq-eqb (c .before .before .args .number) 4294967295 (c .if1 .taken))
 
-wide-requires : tie.Need-wide-requires
-wide-requires c κs = search needs
-
-place-of-requires : tie.Need-place-of-requires
-place-of-requires c κs = search needs
-
 returns-2 : tie.Need-returns-2
 returns-2 c =
     let a = c .before .before .before .before .before .args in
@@ -22,4 +16,4 @@ returns-2 c =
 
 pub is-live-spec : {M : Type 1} → statement M
 is-live-spec =
-    tie.close (tie.spec returns (λ c. search needs) wide-requires place-of-requires returns-2)
+    tie.close (tie.spec returns (λ c. search needs) (λ c κs. search needs) (λ c κs. search needs) returns-2)

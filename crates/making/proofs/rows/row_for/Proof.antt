@@ -9,9 +9,6 @@ use Rattle.making.proofs.rows.row_for.Tie as tie
 free-row-requires : tie.Need-free-row-requires
 free-row-requires c κs = let p = c .before .before .before .before .pre in record { room = omega (arith, p .size, p .few); few = p .few }
 
-row-without-requires : tie.Need-row-without-requires
-row-without-requires c κs = search needs
-
 returns : tie.Need-returns
 returns c =
     let a = c .before .before .before .before .before .args in
@@ -26,4 +23,4 @@ returns-2 c =
 pub row-for-spec : {M : Type 1} → statement M
 row-for-spec =
     tie.close
-    (tie.spec (λ c. search needs) free-row-requires (λ c. search needs) row-without-requires returns returns-2)
+    (tie.spec (λ c. search needs) free-row-requires (λ c. search needs) (λ c κs. search needs) returns returns-2)

@@ -7,12 +7,6 @@ use Rattle.making.specs.Synth.{synth-unasked}
 use Rattle.making.proofs.synth.new_synth.Statement.{statement}
 use Rattle.making.proofs.synth.new_synth.Tie as tie
 
-add-action-requires : tie.Need-add-action-requires
-add-action-requires c κs = search needs
-
-add-synth-requires : tie.Need-add-synth-requires
-add-synth-requires c κs = search needs
-
 returns : tie.Need-returns
 returns c =
     let a = c .before .before .before .before .before .before .before .before .before .before .before .args in
@@ -31,5 +25,5 @@ returns-2 c =
 pub new-synth-spec : {M : Type 1} → statement M
 new-synth-spec =
     tie.close
-    (tie.spec add-action-requires (λ c. search needs) add-synth-requires (λ c. search needs) (λ c. search needs) returns
-    returns-2)
+    (tie.spec (λ c κs. search needs) (λ c. search needs) (λ c κs. search needs) (λ c. search needs) (λ c. search needs)
+    returns returns-2)

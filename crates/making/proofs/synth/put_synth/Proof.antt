@@ -19,14 +19,8 @@ use Rattle.making.proofs.synth.put_synth.Tie as tie
 slice-read-wide : tie.Need-slice-read-wide
 slice-read-wide c = omega (arith, c .before .before .before .pre .ground .known .size, c .before .before .before .pre .ground .clear .there)
 
-wide-requires : tie.Need-wide-requires
-wide-requires c κs = search needs
-
 slice-read-next : tie.Need-slice-read-next
 slice-read-next c = omega (arith, c .before .before .before .before .before .pre .ground .known .size, c .before .before .before .before .before .pre .ground .clear .there)
-
-wide-requires-2 : tie.Need-wide-requires-2
-wide-requires-2 c κs = search needs
 
 slot-bytes-requires : tie.Need-slot-bytes-requires
 slot-bytes-requires c κs =
@@ -41,9 +35,6 @@ row-for-requires c κs =
     let a = c .before .before .before .before .before .before .before .before .before .before .args in
     let p = c .before .before .before .before .before .before .before .before .before .before .pre in
     standing (a .number) (a .action) (p .target) (a .at) (a .slot) (p .bytes) (a .words .now) (a .arena .now) (p .ground) (c .before .before .before .before .before .before .wide .result) (c .before .before .before .before .before .before .wide .ensures)
-
-number-for-requires : tie.Need-number-for-requires
-number-for-requires c κs = search needs
 
 part-edit-by-end : tie.Need-part-edit-by-end
 part-edit-by-end c = omega (arith, c .before .before .before .before .before .before .before .before .before .before .before .before .before .pre .ground .known .size)
@@ -140,8 +131,8 @@ returns c =
 pub put-synth-spec : {M : Type 1} → statement M
 put-synth-spec =
     tie.close
-    (tie.spec slice-read-wide wide-requires slice-read-next wide-requires-2 slot-bytes-requires (λ c. search needs)
-    (λ c. search needs) part-row-for-end row-for-requires number-for-requires (λ c. search needs) (λ c. search needs)
-    part-edit-by-end edit-by-requires (λ c. search needs) (λ c. search needs) part-add-node-end add-node-requires
-    next-after-requires settle-requires (λ c. search needs) (λ c. search needs) part-initial-row-end
+    (tie.spec slice-read-wide (λ c κs. search needs) slice-read-next (λ c κs. search needs) slot-bytes-requires
+    (λ c. search needs) (λ c. search needs) part-row-for-end row-for-requires (λ c κs. search needs) (λ c. search needs)
+    (λ c. search needs) part-edit-by-end edit-by-requires (λ c. search needs) (λ c. search needs) part-add-node-end
+    add-node-requires next-after-requires settle-requires (λ c. search needs) (λ c. search needs) part-initial-row-end
     initial-row-requires same-length returns)

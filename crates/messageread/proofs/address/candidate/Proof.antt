@@ -8,18 +8,6 @@ use Rattle.messageread.proofs.address.candidate.Tie as tie
 returns : tie.Need-returns
 returns c = rw (lt-ltb (length (c .before .before .args .address .now)) 6 (c .if1 .taken))
 
-wide-requires : tie.Need-wide-requires
-wide-requires c κs = search needs
-
-wide-requires-2 : tie.Need-wide-requires-2
-wide-requires-2 c κs = search needs
-
-wide-requires-3 : tie.Need-wide-requires-3
-wide-requires-3 c κs = search needs
-
-first-op-requires : tie.Need-first-op-requires
-first-op-requires c κs = search needs
-
 returns-2 : tie.Need-returns-2
 returns-2 c =
     let a = c .before .before .before .before .before .before .before .before .before .args in
@@ -28,6 +16,6 @@ returns-2 c =
 pub candidate-spec : {M : Type 1} → statement M
 candidate-spec =
     tie.close
-    (tie.spec returns (λ c. search needs) (λ c. search needs) wide-requires (λ c. search needs) (λ c. search needs)
-    wide-requires-2 (λ c. search needs) (λ c. search needs) (λ c. search needs) wide-requires-3 (λ c. search needs)
-    (λ c. search needs) first-op-requires returns-2)
+    (tie.spec returns (λ c. search needs) (λ c. search needs) (λ c κs. search needs) (λ c. search needs)
+    (λ c. search needs) (λ c κs. search needs) (λ c. search needs) (λ c. search needs) (λ c. search needs)
+    (λ c κs. search needs) (λ c. search needs) (λ c. search needs) (λ c κs. search needs) returns-2)

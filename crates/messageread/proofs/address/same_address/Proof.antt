@@ -12,9 +12,6 @@ use Rattle.messageread.specs.AddressLaws.{differ, same-words, same-or-no
 use Rattle.messageread.proofs.address.same_address.Statement.{statement}
 use Rattle.messageread.proofs.address.same_address.Tie as tie
 
-address-length-requires : tie.Need-address-length-requires
-address-length-requires c κs = search needs
-
 returns : tie.Need-returns
 returns c =
     let a = c .before .before .before .args in
@@ -27,9 +24,6 @@ quad-requires c κs =
     let size = c .before .address-length .ensures in
     let long = long-address (a .op) (p .some) (p .few) in
     omega arith
-
-address-start-requires : tie.Need-address-start-requires
-address-start-requires c κs = search needs
 
 returns-2 : tie.Need-returns-2
 returns-2 c =
@@ -52,9 +46,6 @@ quad-requires-2 c κs =
     let long = long-address (a .op) (p .some) (p .few) in
     omega arith
 
-address-end-requires : tie.Need-address-end-requires
-address-end-requires c κs = search needs
-
 returns-3 : tie.Need-returns-3
 returns-3 c =
     let a = c .before .before .before .before .before .before .before .before .before .args in
@@ -70,12 +61,6 @@ returns-4 c =
     let back = c .before .if3 .left ∙ c .before .before .address-end .ensures ∙ ap (λ (n : ℕ). word (addressOf (a .op)) (n - 4)) (sym size) in
     sym (same-words (a .address .now) b (address-bytes (a .op)) (c .before .before .before .before .before .before .quad .result) (c .before .before .before .quad2 .result) size (long-address (a .op) (p .some) (p .few)) (c .before .before .before .before .before .before .quad .ensures) front (c .before .before .before .quad2 .ensures) back (λ i l h. absurd (omega arith)))
 
-quad-requires-3 : tie.Need-quad-requires-3
-quad-requires-3 c κs = search needs
-
-address-middle-requires : tie.Need-address-middle-requires
-address-middle-requires c κs = search needs
-
 returns-5 : tie.Need-returns-5
 returns-5 c =
     let a = c .before .before .before .before .before .before .before .before .before .before .before .before .args in
@@ -89,5 +74,5 @@ returns-5 c =
 pub same-address-spec : {M : Type 1} → statement M
 same-address-spec =
     tie.close
-    (tie.spec address-length-requires returns quad-requires address-start-requires returns-2 sub-quad quad-requires-2
-    address-end-requires returns-3 returns-4 quad-requires-3 address-middle-requires returns-5)
+    (tie.spec (λ c κs. search needs) returns quad-requires (λ c κs. search needs) returns-2 sub-quad quad-requires-2
+    (λ c κs. search needs) returns-3 returns-4 (λ c κs. search needs) (λ c κs. search needs) returns-5)

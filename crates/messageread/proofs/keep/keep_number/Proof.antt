@@ -6,9 +6,6 @@ use Rattle.messageread.specs.StepLaws.{number-step, no-step, numberTaken
 use Rattle.messageread.proofs.keep.keep_number.Statement.{statement}
 use Rattle.messageread.proofs.keep.keep_number.Tie as tie
 
-keep-requires : tie.Need-keep-requires
-keep-requires c κs = search needs
-
 returns : tie.Need-returns
 returns c =
     let a = c .before .before .before .before .args in
@@ -22,4 +19,4 @@ returns-2 c =
 
 pub keep-number-spec : {M : Type 1} → statement M
 keep-number-spec =
-    tie.close (tie.spec (λ c. search needs) keep-requires (λ c. search needs) returns returns-2)
+    tie.close (tie.spec (λ c. search needs) (λ c κs. search needs) (λ c. search needs) returns returns-2)

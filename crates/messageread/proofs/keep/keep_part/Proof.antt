@@ -8,9 +8,6 @@ use Rattle.messageread.specs.StepLaws.{part-step, no-step, partTaken}
 use Rattle.messageread.proofs.keep.keep_part.Statement.{statement}
 use Rattle.messageread.proofs.keep.keep_part.Tie as tie
 
-keep-requires : tie.Need-keep-requires
-keep-requires c κs = search needs
-
 returns : tie.Need-returns
 returns c =
     let a = c .before .before .before .before .args in
@@ -26,4 +23,4 @@ returns-2 c =
 
 pub keep-part-spec : {M : Type 1} → statement M
 keep-part-spec =
-    tie.close (tie.spec (λ c. search needs) keep-requires (λ c. search needs) returns returns-2)
+    tie.close (tie.spec (λ c. search needs) (λ c κs. search needs) (λ c. search needs) returns returns-2)

@@ -4,19 +4,10 @@ use Rattle.messageread.specs.FindLaws.{find-first, find-second, find-non
 use Rattle.messageread.proofs.rows.find.Statement.{statement}
 use Rattle.messageread.proofs.rows.find.Tie as tie
 
-candidate-requires : tie.Need-candidate-requires
-candidate-requires c κs = search needs
-
-meets-row-requires : tie.Need-meets-row-requires
-meets-row-requires c κs = search needs
-
 returns : tie.Need-returns
 returns c =
     let a = c .before .before .before .before .before .args in
     find-first (a .address .now) (a .tags .now) (c .before .before .candidate .result) (c .before .before .candidate .ensures) (sym (c .before .meets-row .ensures) ∙ c .if1 .taken)
-
-meets-row-requires-2 : tie.Need-meets-row-requires-2
-meets-row-requires-2 c κs = search needs
 
 returns-2 : tie.Need-returns-2
 returns-2 c =
@@ -31,5 +22,5 @@ returns-3 c =
 pub find-spec : {M : Type 1} → statement M
 find-spec =
     tie.close
-    (tie.spec candidate-requires (λ c. search needs) meets-row-requires returns (λ c. search needs) meets-row-requires-2
-    returns-2 returns-3)
+    (tie.spec (λ c κs. search needs) (λ c. search needs) (λ c κs. search needs) returns (λ c. search needs)
+    (λ c κs. search needs) returns-2 returns-3)

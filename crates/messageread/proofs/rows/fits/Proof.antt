@@ -19,14 +19,8 @@ Inv-loop tags op codes₀ k₀ codes k = (k ≤ length tags) × ((fitAll (drop k
 abbrev μ-loop : tie.MeasureT-loop
 μ-loop tags op codes₀ k₀ codes k = length tags - k
 
-slot-codes-requires : tie.Need-slot-codes-requires Inv-loop μ-loop
-slot-codes-requires c κs = search needs
-
 loop-holds : tie.Need-loop-holds Inv-loop μ-loop
 loop-holds c = (omega arith, (refl, c .slot-codes .ensures))
-
-takes-requires : tie.Need-takes-requires Inv-loop μ-loop
-takes-requires c κs = search needs
 
 loop-again : tie.Need-loop-again Inv-loop μ-loop
 loop-again c =
@@ -56,5 +50,5 @@ returns-2 c =
 pub fits-spec : {M : Type 1} → statement M
 fits-spec =
     tie.close
-    (tie.spec Inv-loop μ-loop slot-codes-requires loop-holds (λ c. omega arith) takes-requires (λ c. omega arith)
-    (λ c. omega arith) loop-again returns returns-2)
+    (tie.spec Inv-loop μ-loop (λ c κs. search needs) loop-holds (λ c. omega arith) (λ c κs. search needs)
+    (λ c. omega arith) (λ c. omega arith) loop-again returns returns-2)

@@ -19,12 +19,6 @@ returns-2 c =
     let a = c .before .before .before .before .args in
     sym (meets-past (a .address .now) (a .tags .now) (a .op) (c .if2 .taken))
 
-same-address-requires : tie.Need-same-address-requires
-same-address-requires c κs = search needs
-
-fits-requires : tie.Need-fits-requires
-fits-requires c κs = search needs
-
 returns-3 : tie.Need-returns-3
 returns-3 c =
     let a = c .before .before .before .before .before .before .before .args in
@@ -37,4 +31,4 @@ returns-4 c =
 
 pub meets-row-spec : {M : Type 1} → statement M
 meets-row-spec =
-    tie.close (tie.spec returns returns-2 same-address-requires fits-requires returns-3 returns-4)
+    tie.close (tie.spec returns returns-2 (λ c κs. search needs) (λ c κs. search needs) returns-3 returns-4)

@@ -7,24 +7,12 @@ use Rattle.messageread.specs.StepLaws.{no-step, step-by, numberTaken, pa
 use Rattle.messageread.proofs.walk.argument.Statement.{statement}
 use Rattle.messageread.proofs.walk.argument.Tie as tie
 
-number-requires : tie.Need-number-requires
-number-requires c κs = search needs
-
-keep-number-requires : tie.Need-keep-number-requires
-keep-number-requires c κs = search needs
-
 returns : tie.Need-returns
 returns c op slots k coded =
     let a = c .before .before .before .before .args in
     let s = a .message .now in
     let g = given s op (a .kept) in
     step-by s op (a .kept) (andThen (numberOf (c .before .number .result)) (numberTaken (a .code) 1 g)) (argumentTaken slots k (a .tag) s (a .at .at) g) (c .keep-number .result) (int-taken slots k (a .tag) s (a .at .at) g (a .code) coded (numberOf (c .before .number .result)) (c .before .number .ensures) (c .before .before .if1 .taken)) (c .keep-number .ensures s op)
-
-number-requires-2 : tie.Need-number-requires-2
-number-requires-2 c κs = search needs
-
-keep-number-requires-2 : tie.Need-keep-number-requires-2
-keep-number-requires-2 c κs = search needs
 
 returns-2 : tie.Need-returns-2
 returns-2 c op slots k coded =
@@ -33,24 +21,12 @@ returns-2 c op slots k coded =
     let g = given s op (a .kept) in
     step-by s op (a .kept) (andThen (numberOf (c .before .number2 .result)) (numberTaken (a .code) 0 g)) (argumentTaken slots k (a .tag) s (a .at .at) g) (c .keep-number2 .result) (float-taken slots k (a .tag) s (a .at .at) g (a .code) coded (numberOf (c .before .number2 .result)) (c .before .number2 .ensures) (c .before .before .before .if1 .left) (c .before .before .if2 .taken)) (c .keep-number2 .ensures s op)
 
-text-requires : tie.Need-text-requires
-text-requires c κs = search needs
-
-keep-part-requires : tie.Need-keep-part-requires
-keep-part-requires c κs = search needs
-
 returns-3 : tie.Need-returns-3
 returns-3 c op slots k coded =
     let a = c .before .before .before .before .before .before .args in
     let s = a .message .now in
     let g = given s op (a .kept) in
     step-by s op (a .kept) (andThen (textOf s (c .before .text .result)) (partTaken (a .code) g)) (argumentTaken slots k (a .tag) s (a .at .at) g) (c .keep-part .result) (text-taken slots k (a .tag) s (a .at .at) g (a .code) coded (textOf s (c .before .text .result)) (c .before .text .ensures .reads) (c .before .before .before .before .if1 .left) (c .before .before .before .if2 .left) (c .before .before .if3 .taken)) (c .keep-part .ensures s op (c .before .text .ensures .inside))
-
-blob-requires : tie.Need-blob-requires
-blob-requires c κs = search needs
-
-keep-part-requires-2 : tie.Need-keep-part-requires-2
-keep-part-requires-2 c κs = search needs
 
 returns-4 : tie.Need-returns-4
 returns-4 c op slots k coded =
@@ -68,5 +44,6 @@ returns-5 c op slots k coded =
 pub argument-spec : {M : Type 1} → statement M
 argument-spec =
     tie.close
-    (tie.spec number-requires keep-number-requires returns number-requires-2 keep-number-requires-2 returns-2
-    text-requires keep-part-requires returns-3 blob-requires keep-part-requires-2 returns-4 returns-5)
+    (tie.spec (λ c κs. search needs) (λ c κs. search needs) returns (λ c κs. search needs) (λ c κs. search needs)
+    returns-2 (λ c κs. search needs) (λ c κs. search needs) returns-3 (λ c κs. search needs) (λ c κs. search needs)
+    returns-4 returns-5)

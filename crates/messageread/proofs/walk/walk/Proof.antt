@@ -17,16 +17,10 @@ Inv-loop message tags from op kept₀ at₀ codes₀ k₀ kept at codes k = Walk
 abbrev μ-loop : tie.MeasureT-loop
 μ-loop message tags from op kept₀ at₀ codes₀ k₀ kept at codes k = length tags - k
 
-slot-codes-requires : tie.Need-slot-codes-requires Inv-loop μ-loop
-slot-codes-requires c κs = search needs
-
 loop-holds : tie.Need-loop-holds Inv-loop μ-loop
 loop-holds c =
     let a = c .before .before .before .args in
     (walk-begins (a .message .now) (a .tags .now) (a .from) (a .op), c .slot-codes .ensures)
-
-argument-requires : tie.Need-argument-requires Inv-loop μ-loop
-argument-requires c κs = search needs
 
 returns : tie.Need-returns Inv-loop μ-loop
 returns c =
@@ -56,5 +50,5 @@ returns-2 c =
 pub walk-spec : {M : Type 1} → statement M
 walk-spec =
     tie.close
-    (tie.spec Inv-loop μ-loop slot-codes-requires loop-holds (λ c. omega arith) argument-requires (λ c. search needs)
-    (λ c. search needs) returns (λ c. omega arith) (λ c. omega arith) loop-again returns-2)
+    (tie.spec Inv-loop μ-loop (λ c κs. search needs) loop-holds (λ c. omega arith) (λ c κs. search needs)
+    (λ c. search needs) (λ c. search needs) returns (λ c. omega arith) (λ c. omega arith) loop-again returns-2)

@@ -8,9 +8,6 @@ use Rattle.messages.specs.Entries.{digit-0, digit-1, digit-2, digit-3, s
 use Rattle.messages.proofs.table.slot_code.Statement.{statement}
 use Rattle.messages.proofs.table.slot_code.Tie as tie
 
-slot-codes-requires : tie.Need-slot-codes-requires
-slot-codes-requires c κs = search needs
-
 returns : tie.Need-returns
 returns c =
     let a = c .before .before .args in
@@ -40,5 +37,5 @@ returns-5 c =
 pub slot-code-spec : {M : Type 1} → statement M
 slot-code-spec =
     tie.close
-    (tie.spec slot-codes-requires (λ c. search needs) (λ c. search needs) (λ c. search needs) (λ c. search needs)
+    (tie.spec (λ c κs. search needs) (λ c. search needs) (λ c. search needs) (λ c. search needs) (λ c. search needs)
     returns returns-2 returns-3 returns-4 returns-5)

@@ -10,15 +10,6 @@ use Rattle.messagewrite.specs.Addresses.{two-words, three-words, four-wo
 use Rattle.messagewrite.proofs.put.put_address.Statement.{statement}
 use Rattle.messagewrite.proofs.put.put_address.Tie as tie
 
-address-start-requires : tie.Need-address-start-requires
-address-start-requires c κs = search needs
-
-put-int-requires : tie.Need-put-int-requires
-put-int-requires c κs = search needs
-
-address-middle-requires : tie.Need-address-middle-requires
-address-middle-requires c κs = search needs
-
 put-int-requires-2 : tie.Need-put-int-requires-2
 put-int-requires-2 c κs =
     let a = c .before .before .before .before .before .before .before .before .args in
@@ -34,12 +25,6 @@ returns c =
     let room : length (addressOf (a .op)) + (4 - length (addressOf (a .op)) % 4) ≤ length (a .out .now) = subst (λ (k : ℕ). k + (4 - k % 4) ≤ length (a .out .now)) (p .is) (p .room) in
     two-words (a .op) some (a .out .now) room (c .before .before .before .before .before .before .before .before .before .address-start .result) (c .before .before .before .before .address-middle .result) (c .before .before .before .before .before .before .before .before .before .address-start .ensures) (c .before .before .before .before .address-middle .ensures) (c .before .before .before .before .before .before .before .before .put-int .last .0) (c .before .before .before .put-int2 .last .0) (c .before .before .before .before .before .before .before .before .put-int .ensures) (c .before .before .before .put-int2 .ensures) (omega arith)
 
-address-third-requires : tie.Need-address-third-requires
-address-third-requires c κs = search needs
-
-put-int-requires-3 : tie.Need-put-int-requires-3
-put-int-requires-3 c κs = search needs
-
 returns-2 : tie.Need-returns-2
 returns-2 c =
     let a = c .before .before .before .before .before .before .before .before .before .before .before .before .before .before .before .before .before .before .args in
@@ -47,9 +32,6 @@ returns-2 c =
     let some : 0 < length (addressOf (a .op)) = omega arith in
     let room : length (addressOf (a .op)) + (4 - length (addressOf (a .op)) % 4) ≤ length (a .out .now) = subst (λ (k : ℕ). k + (4 - k % 4) ≤ length (a .out .now)) (p .is) (p .room) in
     three-words (a .op) some (a .out .now) room (c .before .before .before .before .before .before .before .before .before .before .before .before .before .before .before .address-start .result) (c .before .before .before .before .before .before .before .before .before .before .address-middle .result) (c .before .before .before .before .before .before .before .before .before .before .before .before .before .before .before .address-start .ensures) (c .before .before .before .before .before .before .before .before .before .before .address-middle .ensures) (c .before .before .before .before .before .before .before .before .before .before .before .before .before .before .put-int .last .0) (c .before .before .before .before .before .before .before .before .before .put-int2 .last .0) (c .before .before .before .before .before .before .before .before .before .before .before .before .before .before .put-int .ensures) (c .before .before .before .before .before .before .before .before .before .put-int2 .ensures) (c .before .before .before .before .address-third .result) (c .before .before .before .before .address-third .ensures) (c .before .before .before .put-int3 .last .0) (c .before .before .before .put-int3 .ensures) (omega arith) (omega arith)
-
-put-int-requires-4 : tie.Need-put-int-requires-4
-put-int-requires-4 c κs = search needs
 
 returns-3 : tie.Need-returns-3
 returns-3 c =
@@ -62,6 +44,6 @@ returns-3 c =
 pub put-address-spec : {M : Type 1} → statement M
 put-address-spec =
     tie.close
-    (tie.spec address-start-requires put-int-requires address-middle-requires put-int-requires-2 (λ c. search needs)
-    returns address-third-requires put-int-requires-3 (λ c. search needs) returns-2 put-int-requires-4
-    (λ c. search needs) returns-3)
+    (tie.spec (λ c κs. search needs) (λ c κs. search needs) (λ c κs. search needs) put-int-requires-2
+    (λ c. search needs) returns (λ c κs. search needs) (λ c κs. search needs) (λ c. search needs) returns-2
+    (λ c κs. search needs) (λ c. search needs) returns-3)

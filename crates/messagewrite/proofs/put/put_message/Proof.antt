@@ -14,18 +14,6 @@ use Rattle.messagewrite.specs.Pieces.{three-parts}
 use Rattle.messagewrite.proofs.put.put_message.Statement.{statement}
 use Rattle.messagewrite.proofs.put.put_message.Tie as tie
 
-address-length-requires : tie.Need-address-length-requires
-address-length-requires c κs = search needs
-
-padded-length-requires : tie.Need-padded-length-requires
-padded-length-requires c κs = search needs
-
-padded-length-requires-2 : tie.Need-padded-length-requires-2
-padded-length-requires-2 c κs = search needs
-
-put-address-requires : tie.Need-put-address-requires
-put-address-requires c κs = search needs
-
 put-tag-string-requires : tie.Need-put-tag-string-requires
 put-tag-string-requires c κs =
     let a = c .before .before .before .before .before .before .before .before .before .before .args in
@@ -66,5 +54,6 @@ returns c =
 pub put-message-spec : {M : Type 1} → statement M
 put-message-spec =
     tie.close
-    (tie.spec address-length-requires padded-length-requires (λ c. search needs) padded-length-requires-2
-    (λ c. search needs) put-address-requires put-tag-string-requires put-arguments-requires (λ c. search needs) returns)
+    (tie.spec (λ c κs. search needs) (λ c κs. search needs) (λ c. search needs) (λ c κs. search needs)
+    (λ c. search needs) (λ c κs. search needs) put-tag-string-requires put-arguments-requires (λ c. search needs)
+    returns)

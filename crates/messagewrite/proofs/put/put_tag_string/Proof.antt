@@ -15,15 +15,6 @@ use Rattle.messagewrite.specs.Pieces.{three-parts}
 use Rattle.messagewrite.proofs.put.put_tag_string.Statement.{statement}
 use Rattle.messagewrite.proofs.put.put_tag_string.Tie as tie
 
-put-byte-requires : tie.Need-put-byte-requires
-put-byte-requires c κs = search needs
-
-put-tags-requires : tie.Need-put-tags-requires
-put-tags-requires c κs = search needs
-
-put-zeros-requires : tie.Need-put-zeros-requires
-put-zeros-requires c κs = search needs
-
 returns : tie.Need-returns
 returns c =
     let a = c .before .before .before .before .before .before .before .before .before .before .before .before .before .args in
@@ -41,5 +32,5 @@ returns c =
 pub put-tag-string-spec : {M : Type 1} → statement M
 put-tag-string-spec =
     tie.close
-    (tie.spec put-byte-requires (λ c. search needs) put-tags-requires (λ c. search needs) (λ c. search needs)
-    (λ c. search needs) (λ c. search needs) put-zeros-requires (λ c. search needs) returns)
+    (tie.spec (λ c κs. search needs) (λ c. search needs) (λ c κs. search needs) (λ c. search needs) (λ c. search needs)
+    (λ c. search needs) (λ c. search needs) (λ c κs. search needs) (λ c. search needs) returns)

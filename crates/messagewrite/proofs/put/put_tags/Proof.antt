@@ -31,9 +31,6 @@ slot-code-requires c κs = tt
 argument-tag-requires : tie.Need-argument-tag-requires Inv-loop μ-loop
 argument-tag-requires c κs = tt
 
-put-byte-requires : tie.Need-put-byte-requires Inv-loop μ-loop
-put-byte-requires c κs = omega arith
-
 loop-again : tie.Need-loop-again Inv-loop μ-loop
 loop-again c =
     let a = c .before .before .before .before .before .before .before .before .before .args in
@@ -65,5 +62,5 @@ returns c =
 pub put-tags-spec : {M : Type 1} → statement M
 put-tags-spec =
     tie.close
-    (tie.spec Inv-loop μ-loop loop-holds (λ c. omega arith) slot-code-requires argument-tag-requires put-byte-requires
-    (λ c. omega arith) (λ c. omega arith) loop-again (λ c. search needs) returns)
+    (tie.spec Inv-loop μ-loop loop-holds (λ c. omega arith) slot-code-requires argument-tag-requires
+    (λ c κs. omega arith) (λ c. omega arith) (λ c. omega arith) loop-again (λ c. search needs) returns)

@@ -12,9 +12,6 @@ returns c = λ bytes. sym (ap tagOf (argument-name (c .before .args .code) (give
 returns-2 : tie.Need-returns-2
 returns-2 c = λ bytes. sym (ap tagOf (argument-file (c .before .before .args .code) (given (c .before .before .args .numbers) bytes) (c .if2 .taken)))
 
-is-float-requires : tie.Need-is-float-requires
-is-float-requires c κs = search needs
-
 returns-3 : tie.Need-returns-3
 returns-3 c =
     let a = c .before .before .before .before .args in
@@ -29,4 +26,4 @@ returns-4 c =
 
 pub argument-tag-spec : {M : Type 1} → statement M
 argument-tag-spec =
-    tie.close (tie.spec returns returns-2 is-float-requires returns-3 returns-4)
+    tie.close (tie.spec returns returns-2 (λ c κs. search needs) returns-3 returns-4)

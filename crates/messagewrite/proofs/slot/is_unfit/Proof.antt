@@ -12,9 +12,6 @@ use Rattle.messagewrite.specs.Codes.{unfitBy}
 use Rattle.messagewrite.proofs.slot.is_unfit.Statement.{statement}
 use Rattle.messagewrite.proofs.slot.is_unfit.Tie as tie
 
-name-bytes-requires : tie.Need-name-bytes-requires
-name-bytes-requires c κs = search needs
-
 returns : tie.Need-returns
 unfolding unfitBy
 returns c =
@@ -34,4 +31,4 @@ returns-3 c = rw (ne-eqb (c .before .before .before .args .code) 5 (c .before .i
 
 pub is-unfit-spec : {M : Type 1} → statement M
 is-unfit-spec =
-    tie.close (tie.spec name-bytes-requires returns returns-2 returns-3)
+    tie.close (tie.spec (λ c κs. search needs) returns returns-2 returns-3)

@@ -30,9 +30,6 @@ returns-2 c =
     let a = c .before .before .before .before .before .before .before .before .args in
     c .before .before .put-blob .ensures ∙ ap (λ (x : Argument). over (a .at) (argumentBytes x) (a .out .now)) (sym (argument-file (a .code) (given (a .numbers) (a .bytes .now)) (c .before .before .before .before .if2 .taken)))
 
-number-in-requires : tie.Need-number-in-requires
-number-in-requires c κs = search needs
-
 put-int-requires : tie.Need-put-int-requires
 put-int-requires c κs = omega (arith, c .before .before .before .before .before .before .pre .room, size-number (c .before .before .before .before .before .before .args .code) (c .before .before .before .if1 .left) (c .before .before .if2 .left) (length (c .before .before .before .before .before .before .args .bytes .now)))
 
@@ -47,4 +44,4 @@ pub put-argument-spec : {M : Type 1} → statement M
 put-argument-spec =
     tie.close
     (tie.spec put-padded-requires (λ c. search needs) returns put-blob-requires (λ c. search needs) returns-2
-    number-in-requires put-int-requires (λ c. search needs) returns-3)
+    (λ c κs. search needs) put-int-requires (λ c. search needs) returns-3)

@@ -8,15 +8,6 @@ use Rattle.messagewrite.specs.Pieces.{three-parts}
 use Rattle.messagewrite.proofs.slot.put_blob.Statement.{statement}
 use Rattle.messagewrite.proofs.slot.put_blob.Tie as tie
 
-put-int-requires : tie.Need-put-int-requires
-put-int-requires c κs = search needs
-
-put-bytes-requires : tie.Need-put-bytes-requires
-put-bytes-requires c κs = search needs
-
-put-zeros-requires : tie.Need-put-zeros-requires
-put-zeros-requires c κs = search needs
-
 returns : tie.Need-returns
 returns c =
     let a = c .before .before .before .before .before .before .before .before .before .before .before .before .before .before .args in
@@ -29,5 +20,5 @@ returns c =
 pub put-blob-spec : {M : Type 1} → statement M
 put-blob-spec =
     tie.close
-    (tie.spec (λ c. search needs) put-int-requires (λ c. search needs) put-bytes-requires (λ c. search needs)
-    (λ c. search needs) (λ c. search needs) put-zeros-requires (λ c. search needs) returns)
+    (tie.spec (λ c. search needs) (λ c κs. search needs) (λ c. search needs) (λ c κs. search needs) (λ c. search needs)
+    (λ c. search needs) (λ c. search needs) (λ c κs. search needs) (λ c. search needs) returns)

@@ -13,21 +13,12 @@ use Rattle.queries.specs.Same.{busTags, bus-fires, bus-passes, bus-reply
 use Rattle.queries.proofs.bus.bus_query.Statement.{statement}
 use Rattle.queries.proofs.bus.bus_query.Tie as tie
 
-is-bus-requires : tie.Need-is-bus-requires
-is-bus-requires c κs = search needs
-
 returns : tie.Need-returns
 returns c =
     let a = c .before .before .before .before .before .before .args in
     let b = c .before .is-bus in
     reply-refused (query.Bus (a .bus)) (a .bytes .now) (a .words .now) (a .arena .now) (a .out .now) NoBus
     (bus-fires (a .bus) (a .bytes .now) (decode (a .words .now) (a .arena .now)) (sym (b .ensures) ∙ not-true (b .result) (c .if1 .taken)))
-
-bus-at-requires : tie.Need-bus-at-requires
-bus-at-requires c κs = search needs
-
-send-words-requires : tie.Need-send-words-requires
-send-words-requires c κs = search needs
 
 returns-2 : tie.Need-returns-2
 returns-2 c =
@@ -44,5 +35,6 @@ returns-2 c =
 pub bus-query-spec : {M : Type 1} → statement M
 bus-query-spec =
     tie.close
-    (tie.spec is-bus-requires returns (λ c. search needs) (λ c. search needs) (λ c. search needs) bus-at-requires
-    (λ c. search needs) (λ c. search needs) (λ c. search needs) send-words-requires (λ c. search needs) returns-2)
+    (tie.spec (λ c κs. search needs) returns (λ c. search needs) (λ c. search needs) (λ c. search needs)
+    (λ c κs. search needs) (λ c. search needs) (λ c. search needs) (λ c. search needs) (λ c κs. search needs)
+    (λ c. search needs) returns-2)

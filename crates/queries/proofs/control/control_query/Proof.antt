@@ -17,12 +17,6 @@ use Rattle.queries.specs.Control.{control-unknown, control-group, contro
 use Rattle.queries.proofs.control.control_query.Statement.{statement}
 use Rattle.queries.proofs.control.control_query.Tie as tie
 
-node-place-requires : tie.Need-node-place-requires
-node-place-requires c κs = search needs
-
-wide-requires : tie.Need-wide-requires
-wide-requires c κs = search needs
-
 returns : tie.Need-returns
 returns c =
     let s = c .before .before .before .before .before .before .before .before in
@@ -32,9 +26,6 @@ returns c =
     reply-refused (query.Control (s .args .node) (s .args .key)) (s .args .bytes .now) ws bs (s .args .out .now) NoNode
     (control-unknown (s .args .node) (s .args .key) (s .args .bytes .now) ws bs (n .result) (n .ensures) (omega (arith, c .before .wide .ensures)))
 
-node-is-group-requires : tie.Need-node-is-group-requires
-node-is-group-requires c κs = search needs
-
 returns-2 : tie.Need-returns-2
 returns-2 c =
     let s = c .before .before .before .before .before .before .before .before .before .before in
@@ -43,9 +34,6 @@ returns-2 c =
     let n = c .before .before .before .before .before .node-place in
     reply-refused (query.Control (s .args .node) (s .args .key)) (s .args .bytes .now) ws bs (s .args .out .now) WrongKind
     (control-group (s .args .node) (s .args .key) (s .args .bytes .now) ws bs (n .result) (n .ensures) (record { state = s .pre; live = omega (arith, c .before .before .before .wide .ensures) }) (sym (c .before .node-is-group .ensures) ∙ c .if2 .taken))
-
-controls-missing-requires : tie.Need-controls-missing-requires
-controls-missing-requires c κs = search needs
 
 returns-3 : tie.Need-returns-3
 returns-3 c =
@@ -58,9 +46,6 @@ returns-3 c =
 
 read-key-requires : tie.Need-read-key-requires
 read-key-requires c κs = (ready _ _ (c .before .before .before .before .before .before .before .before .before .before .before .before .pre), omega (arith, c .before .before .before .before .before .wide .ensures), sym (c .before .before .before .node-is-group .ensures) ∙ c .before .before .if2 .left)
-
-send-control-requires : tie.Need-send-control-requires
-send-control-requires c κs = search needs
 
 returns-4 : tie.Need-returns-4
 returns-4 c =
@@ -85,6 +70,6 @@ returns-4 c =
 pub control-query-spec : {M : Type 1} → statement M
 control-query-spec =
     tie.close
-    (tie.spec node-place-requires (λ c. search needs) wide-requires returns node-is-group-requires returns-2
-    controls-missing-requires returns-3 read-key-requires (λ c. search needs) (λ c. search needs) (λ c. search needs)
-    (λ c. search needs) send-control-requires (λ c. search needs) returns-4)
+    (tie.spec (λ c κs. search needs) (λ c. search needs) (λ c κs. search needs) returns (λ c κs. search needs) returns-2
+    (λ c κs. search needs) returns-3 read-key-requires (λ c. search needs) (λ c. search needs) (λ c. search needs)
+    (λ c. search needs) (λ c κs. search needs) (λ c. search needs) returns-4)

@@ -10,12 +10,6 @@ use Rattle.queries.specs.Control.{name-message}
 use Rattle.queries.proofs.control.send_control.Statement.{statement}
 use Rattle.queries.proofs.control.send_control.Tie as tie
 
-send-index-requires : tie.Need-send-index-requires
-send-index-requires c κs = search needs
-
-send-named-requires : tie.Need-send-named-requires
-send-named-requires c κs = search needs
-
 returns : tie.Need-returns
 returns c =
     let a = c .before .before .before .before .before .before .before .before .before .args in
@@ -32,5 +26,5 @@ returns-2 c =
 pub send-control-spec : {M : Type 1} → statement M
 send-control-spec =
     tie.close
-    (tie.spec (λ c. search needs) send-index-requires (λ c. search needs) send-named-requires (λ c. search needs)
+    (tie.spec (λ c. search needs) (λ c κs. search needs) (λ c. search needs) (λ c κs. search needs) (λ c. search needs)
     returns (λ c. search needs) returns-2)

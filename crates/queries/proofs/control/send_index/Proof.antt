@@ -7,9 +7,6 @@ use Rattle.queries.specs.Control.{index-message}
 use Rattle.queries.proofs.control.send_index.Statement.{statement}
 use Rattle.queries.proofs.control.send_index.Tie as tie
 
-send-words-requires : tie.Need-send-words-requires
-send-words-requires c κs = search needs
-
 returns : tie.Need-returns
 returns c =
     let a = c .before .before .before .before .before .before .before .before .args in
@@ -19,5 +16,5 @@ returns c =
 pub send-index-spec : {M : Type 1} → statement M
 send-index-spec =
     tie.close
-    (tie.spec (λ c. search needs) (λ c. search needs) (λ c. search needs) send-words-requires (λ c. search needs)
+    (tie.spec (λ c. search needs) (λ c. search needs) (λ c. search needs) (λ c κs. search needs) (λ c. search needs)
     returns)

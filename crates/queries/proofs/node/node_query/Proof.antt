@@ -21,36 +21,12 @@ use Rattle.queries.specs.Info.{Around, groupTags, synthTags, here-number
 use Rattle.queries.proofs.node.node_query.Statement.{statement}
 use Rattle.queries.proofs.node.node_query.Tie as tie
 
-node-place-requires : tie.Need-node-place-requires
-node-place-requires c κs = search needs
-
-wide-requires : tie.Need-wide-requires
-wide-requires c κs = search needs
-
 returns : tie.Need-returns
 returns c =
     let a = c .before .before .before .before .before .before .before .before .args in
     let n = c .before .before .before .node-place in
     reply-refused (query.Node (a .node)) (a .bytes .now) (a .words .now) (a .arena .now) (a .out .now) NoNode
     (node-fires (a .node) (a .bytes .now) (a .words .now) (a .arena .now) (n .result) (n .ensures) (omega (arith, c .before .wide .ensures)))
-
-parent-of-requires : tie.Need-parent-of-requires
-parent-of-requires c κs = search needs
-
-previous-of-requires : tie.Need-previous-of-requires
-previous-of-requires c κs = search needs
-
-next-of-requires : tie.Need-next-of-requires
-next-of-requires c κs = search needs
-
-head-of-requires : tie.Need-head-of-requires
-head-of-requires c κs = search needs
-
-tail-of-requires : tie.Need-tail-of-requires
-tail-of-requires c κs = search needs
-
-send-words-requires : tie.Need-send-words-requires
-send-words-requires c κs = search needs
 
 returns-2 : tie.Need-returns-2
 returns-2 c =
@@ -77,9 +53,6 @@ returns-2 c =
     (group-info (s .args .node) (s .args .bytes .now) ws bs at (n .ensures) a (eq-eqb (getD us (5 * at + 3) 0) groupSlot (c .before .before .before .before .before .before .before .before .before .if2 .taken)) (c .before .before .before .before .before .before .before .before .before .before .before .before .before .parent-of .result) (c .before .before .before .before .before .before .before .before .before .before .before .before .previous-of .result) (c .before .before .before .before .before .before .before .before .before .before .before .next-of .result) (c .before .before .before .before .before .before .before .before .head-of .result) (c .before .before .before .before .before .before .before .tail-of .result) around head tail)
     (c .before .before .send-words .ensures)
 
-send-words-requires-2 : tie.Need-send-words-requires-2
-send-words-requires-2 c κs = search needs
-
 returns-3 : tie.Need-returns-3
 returns-3 c =
     let s = c .before .before .before .before .before .before .before .before .before .before .before .before .before .before .before .before .before .before .before .before .before .before in
@@ -105,9 +78,9 @@ returns-3 c =
 pub node-query-spec : {M : Type 1} → statement M
 node-query-spec =
     tie.close
-    (tie.spec node-place-requires (λ c. search needs) wide-requires returns (λ c. search needs) (λ c. search needs)
-    (λ c. search needs) (λ c. search needs) (λ c. search needs) (λ c. search needs) parent-of-requires
-    previous-of-requires next-of-requires (λ c. search needs) (λ c. search needs) (λ c. search needs)
-    (λ c. search needs) head-of-requires tail-of-requires (λ c. search needs) (λ c. search needs) (λ c. search needs)
-    send-words-requires (λ c. search needs) returns-2 (λ c. search needs) (λ c. search needs) (λ c. search needs)
-    send-words-requires-2 (λ c. search needs) returns-3)
+    (tie.spec (λ c κs. search needs) (λ c. search needs) (λ c κs. search needs) returns (λ c. search needs)
+    (λ c. search needs) (λ c. search needs) (λ c. search needs) (λ c. search needs) (λ c. search needs)
+    (λ c κs. search needs) (λ c κs. search needs) (λ c κs. search needs) (λ c. search needs) (λ c. search needs)
+    (λ c. search needs) (λ c. search needs) (λ c κs. search needs) (λ c κs. search needs) (λ c. search needs)
+    (λ c. search needs) (λ c. search needs) (λ c κs. search needs) (λ c. search needs) returns-2 (λ c. search needs)
+    (λ c. search needs) (λ c. search needs) (λ c κs. search needs) (λ c. search needs) returns-3)

@@ -32,9 +32,6 @@ sub-synths c =
 resident-count-requires : tie.Need-resident-count-requires
 resident-count-requires c κs = let s = c .before .before .before .before .before .before .before .before .before in length-take-le 64 (drop 4 (s .args .words .now)) (simp length-drop (omega (arith, s .pre .size)))
 
-send-words-requires : tie.Need-send-words-requires
-send-words-requires c κs = search needs
-
 returns : tie.Need-returns
 returns c =
     let a = c .before .before .before .before .before .before .before .before .before .before .before .before .before .before .before .before .before .args in
@@ -59,4 +56,4 @@ status-query-spec =
     tie.close
     (tie.spec slot-counts-requires unit-count-requires (λ c. search needs) (λ c. search needs) sub-synths
     (λ c. search needs) (λ c. search needs) (λ c. search needs) resident-count-requires (λ c. search needs)
-    (λ c. search needs) (λ c. search needs) (λ c. search needs) send-words-requires (λ c. search needs) returns)
+    (λ c. search needs) (λ c. search needs) (λ c. search needs) (λ c κs. search needs) (λ c. search needs) returns)

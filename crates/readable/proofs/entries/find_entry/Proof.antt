@@ -67,9 +67,6 @@ part-same-name-end c =
     let t = entries-turn (a .args .s .now) mostParameters (a .args .count) (l .i) (l .at) (omega arith) (l .inv .1) in
     omega (arith, t .within)
 
-same-name-requires : tie.Need-same-name-requires Inv-loop μ-loop
-same-name-requires c κs = search needs
-
 word-at-requires : tie.Need-word-at-requires Inv-loop μ-loop
 word-at-requires c κs =
     let a = c .before .before .before .before .before .before .before .before in
@@ -115,5 +112,5 @@ pub find-entry-spec : {M : Type 1} → statement M
 find-entry-spec =
     tie.close
     (tie.spec Inv-loop μ-loop loop-holds shared-slice-read-size cast-size add-start add-end add-at (λ c. omega arith)
-    (λ c. omega arith) part-same-name-start part-same-name-end same-name-requires word-at-requires (λ c. omega arith)
-    loop-again (λ c. omega arith) loop-again-2 returns)
+    (λ c. omega arith) part-same-name-start part-same-name-end (λ c κs. search needs) word-at-requires
+    (λ c. omega arith) loop-again (λ c. omega arith) loop-again-2 returns)

@@ -7,9 +7,6 @@ use Rattle.readable.specs.Labels.{labels-front}
 use Rattle.readable.proofs.labelled.labels.Statement.{statement}
 use Rattle.readable.proofs.labelled.labels.Tie as tie
 
-counts-requires : tie.Need-counts-requires
-counts-requires c κs = search needs
-
 labels-from-requires : tie.Need-labels-from-requires
 labels-from-requires c κs =
     let a = c .before .before in
@@ -30,4 +27,4 @@ returns c =
 
 pub labels-spec : {M : Type 1} → statement M
 labels-spec =
-    tie.close (tie.spec counts-requires labels-from-requires returns)
+    tie.close (tie.spec (λ c κs. search needs) labels-from-requires returns)

@@ -4,9 +4,6 @@ use borrow.Author.Needs.{needs}
 use Rattle.readable.proofs.lookups.name.Statement.{statement}
 use Rattle.readable.proofs.lookups.name.Tie as tie
 
-name-at-requires : tie.Need-name-at-requires
-name-at-requires c κs = search needs
-
 returns : tie.Need-returns
 returns c =
     let k = c .before .before .pre in
@@ -14,4 +11,4 @@ returns c =
 
 pub name-spec : {M : Type 1} → statement M
 name-spec =
-    tie.close (tie.spec name-at-requires returns)
+    tie.close (tie.spec (λ c κs. search needs) returns)

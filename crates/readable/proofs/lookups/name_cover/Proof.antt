@@ -8,9 +8,6 @@ use Rattle.readable.specs.Readable.{front-entries, next-past, cover-some
 use Rattle.readable.proofs.lookups.name_cover.Statement.{statement}
 use Rattle.readable.proofs.lookups.name_cover.Tie as tie
 
-counts-requires : tie.Need-counts-requires
-counts-requires c κs = search needs
-
 find-entry-requires : tie.Need-find-entry-requires
 find-entry-requires c κs =
     let a = c .before .before .before in
@@ -56,5 +53,5 @@ returns-2 c =
 pub name-cover-spec : {M : Type 1} → statement M
 name-cover-spec =
     tie.close
-    (tie.spec counts-requires find-entry-requires (λ c. search needs) next-index-requires sub-t8 (λ c. search needs)
-    returns returns-2)
+    (tie.spec (λ c κs. search needs) find-entry-requires (λ c. search needs) next-index-requires sub-t8
+    (λ c. search needs) returns returns-2)

@@ -25,9 +25,6 @@ word-at-requires c κs =
 add-before : tie.Need-add-before
 add-before c = omega (arith, c .before .shared-slice-known2 .given 0)
 
-wide-requires : tie.Need-wide-requires
-wide-requires c κs = search needs
-
 add-before-2 : tie.Need-add-before-2
 add-before-2 c =
     let a = c .before .before .before .before in
@@ -50,9 +47,6 @@ add-values c =
     let k = c .before .wide .ensures ∙ c .before .before .word-at .ensures ∙ constants-fact w in
     let l = a .pre .short in
     omega (arith, w .named, w .within)
-
-wide-requires-2 : tie.Need-wide-requires-2
-wide-requires-2 c κs = search needs
 
 add-behind : tie.Need-add-behind
 add-behind c =
@@ -104,6 +98,6 @@ returns c f end e =
 pub counts-spec : {M : Type 1} → statement M
 counts-spec =
     tie.close
-    (tie.spec shared-slice-read-size cast-size add-past word-at-requires add-before wide-requires (λ c. search needs)
-    add-before-2 word-at-requires-2 add-values wide-requires-2 (λ c. search needs) add-behind word-at-requires-3 add-t13
-    returns)
+    (tie.spec shared-slice-read-size cast-size add-past word-at-requires add-before (λ c κs. search needs)
+    (λ c. search needs) add-before-2 word-at-requires-2 add-values (λ c κs. search needs) (λ c. search needs) add-behind
+    word-at-requires-3 add-t13 returns)

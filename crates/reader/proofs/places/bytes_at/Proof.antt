@@ -4,15 +4,6 @@ use Rattle.reader.specs.PlaceLaws.{bytes-got, bytes-bad}
 use Rattle.reader.proofs.places.bytes_at.Statement.{statement}
 use Rattle.reader.proofs.places.bytes_at.Tie as tie
 
-definition-at-requires : tie.Need-definition-at-requires
-definition-at-requires c κs = search needs
-
-part-requires : tie.Need-part-requires
-part-requires c κs = search needs
-
-part-requires-2 : tie.Need-part-requires-2
-part-requires-2 c κs = search needs
-
 returns : tie.Need-returns
 returns c =
     let a = c .before .before .before .before .before .before .args in
@@ -28,5 +19,5 @@ returns-2 c =
 pub bytes-at-spec : {M : Type 1} → statement M
 bytes-at-spec =
     tie.close
-    (tie.spec definition-at-requires (λ c. search needs) part-requires (λ c. search needs) part-requires-2 returns
-    returns-2)
+    (tie.spec (λ c κs. search needs) (λ c. search needs) (λ c κs. search needs) (λ c. search needs)
+    (λ c κs. search needs) returns returns-2)

@@ -24,9 +24,6 @@ returns c =
     let l = c .before .before .loop in
     sym (past-end (a .s .now) (a .count) (l .i) (l .here) (omega arith) (omega arith)) ∙ l .inv .1
 
-place-after-requires : tie.Need-place-after-requires Inv-loop μ-loop
-place-after-requires c κs = search needs
-
 loop-again : tie.Need-loop-again Inv-loop μ-loop
 loop-again c =
     let a = c .before .before .before .before .before .args in
@@ -42,5 +39,5 @@ returns-2 c =
 pub place-past-spec : {M : Type 1} → statement M
 place-past-spec =
     tie.close
-    (tie.spec Inv-loop μ-loop loop-holds returns place-after-requires (λ c. omega arith) (λ c. omega arith) loop-again
+    (tie.spec Inv-loop μ-loop loop-holds returns (λ c κs. search needs) (λ c. omega arith) (λ c. omega arith) loop-again
     returns-2)

@@ -20,9 +20,6 @@ loop-holds c =
     let a = c .before .args in
     (omega arith, omega arith, sifted-none (a .from) (a .to) (rows (a .count) (a .nodes .now)) 256 refl)
 
-stays-at-requires : tie.Need-stays-at-requires Inv-loop μ-loop
-stays-at-requires c κs = omega arith
-
 loop-again : tie.Need-loop-again Inv-loop μ-loop
 loop-again c =
     let s = c .before .before .before .before .before in
@@ -53,5 +50,5 @@ returns c =
 pub kept-places-spec : {M : Type 1} → statement M
 kept-places-spec =
     tie.close
-    (tie.spec Inv-loop μ-loop loop-holds stays-at-requires (λ c. omega arith) (λ c. omega arith) (λ c. omega arith)
+    (tie.spec Inv-loop μ-loop loop-holds (λ c κs. omega arith) (λ c. omega arith) (λ c. omega arith) (λ c. omega arith)
     (λ c. omega arith) (λ c. omega arith) loop-again returns)

@@ -9,9 +9,6 @@ use Rattle.reindex.specs.Spot.{put-words}
 use Rattle.reindex.proofs.spot.put_entry.Statement.{statement}
 use Rattle.reindex.proofs.spot.put_entry.Tie as tie
 
-open-entry-requires : tie.Need-open-entry-requires
-open-entry-requires c κs = search needs
-
 returns : tie.Need-returns
 returns c =
     let a = c .before .before .before .before .before .args in
@@ -21,5 +18,5 @@ returns c =
 pub put-entry-spec : {M : Type 1} → statement M
 put-entry-spec =
     tie.close
-    (tie.spec open-entry-requires (λ c. search needs) (λ c. search needs) (λ c. search needs) (λ c. search needs)
+    (tie.spec (λ c κs. search needs) (λ c. search needs) (λ c. search needs) (λ c. search needs) (λ c. search needs)
     returns)

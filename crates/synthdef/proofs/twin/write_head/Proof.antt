@@ -11,18 +11,6 @@ use borrow.Author.Needs.{needs}
 use Rattle.synthdef.proofs.twin.write_head.Statement.{statement}
 use Rattle.synthdef.proofs.twin.write_head.Tie as tie
 
-put-int-requires : tie.Need-put-int-requires
-put-int-requires c κs = search needs
-
-put-int-requires-2 : tie.Need-put-int-requires-2
-put-int-requires-2 c κs = search needs
-
-put-byte-requires : tie.Need-put-byte-requires
-put-byte-requires c κs = search needs
-
-put-byte-requires-2 : tie.Need-put-byte-requires-2
-put-byte-requires-2 c κs = search needs
-
 returns : tie.Need-returns
 returns c =
     let out = c .before .before .before .before .before .before .before .before .before .before .before .before .before .before .before .before .before .args .out .now in
@@ -39,5 +27,5 @@ returns c =
 pub write-head-spec : {M : Type 1} → statement M
 write-head-spec =
     tie.close
-    (tie.spec put-int-requires put-int-requires-2 (λ c. search needs) put-byte-requires (λ c. search needs)
-    put-byte-requires-2 (λ c. search needs) returns)
+    (tie.spec (λ c κs. search needs) (λ c κs. search needs) (λ c. search needs) (λ c κs. search needs)
+    (λ c. search needs) (λ c κs. search needs) (λ c. search needs) returns)

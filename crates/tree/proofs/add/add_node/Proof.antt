@@ -15,12 +15,6 @@ use borrow.Author.Needs.{needs}
 use Rattle.tree.proofs.add.add_node.Statement.{statement}
 use Rattle.tree.proofs.add.add_node.Tie as tie
 
-place-by-requires : tie.Need-place-by-requires
-place-by-requires c κs = search needs
-
-at-depth-requires : tie.Need-at-depth-requires
-at-depth-requires c κs = search needs
-
 insert-requires : tie.Need-insert-requires
 insert-requires c κs =
     let s = c .before .before .before .before .before .before .before .before in
@@ -31,9 +25,6 @@ insert-requires c κs =
     let same = c .before .before .place-by .ensures in
     let inside = place-most (a .count) (a .nodes .now) (a .at) (omega arith) p in
     (rw same inside, omega arith)
-
-replace-requires : tie.Need-replace-requires
-replace-requires c κs = search needs
 
 returns : tie.Need-returns
 returns c =
@@ -58,5 +49,5 @@ returns-2 c =
 pub add-node-spec : {M : Type 1} → statement M
 add-node-spec =
     tie.close
-    (tie.spec (λ c. search needs) place-by-requires at-depth-requires insert-requires (λ c. search needs)
-    replace-requires (λ c. search needs) returns (λ c. search needs) returns-2)
+    (tie.spec (λ c. search needs) (λ c κs. search needs) (λ c κs. search needs) insert-requires (λ c. search needs)
+    (λ c κs. search needs) (λ c. search needs) returns (λ c. search needs) returns-2)

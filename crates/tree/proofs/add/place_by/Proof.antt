@@ -8,12 +8,6 @@ use borrow.Author.Needs.{needs}
 use Rattle.tree.proofs.add.place_by.Statement.{statement}
 use Rattle.tree.proofs.add.place_by.Tie as tie
 
-subtree-end-requires : tie.Need-subtree-end-requires
-subtree-end-requires c κs = search needs
-
-subtree-end-requires-2 : tie.Need-subtree-end-requires-2
-subtree-end-requires-2 c κs = search needs
-
 returns : tie.Need-returns
 returns c = let case : c .before .before .before .before .args .position ≡ Head = cc in rw case
 
@@ -38,5 +32,5 @@ pub place-by-spec : {M : Type 1} → statement M
 place-by-spec =
     tie.close
     (tie.spec (λ c. search needs) (λ c. search needs) (λ c. search needs) (λ c. search needs) (λ c. search needs)
-    (λ c. search needs) (λ c. search needs) (λ c. search needs) subtree-end-requires (λ c. search needs)
-    (λ c. search needs) (λ c. search needs) subtree-end-requires-2 returns returns-2 returns-3 returns-4)
+    (λ c. search needs) (λ c. search needs) (λ c. search needs) (λ c κs. search needs) (λ c. search needs)
+    (λ c. search needs) (λ c. search needs) (λ c κs. search needs) returns returns-2 returns-3 returns-4)

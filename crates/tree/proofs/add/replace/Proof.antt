@@ -16,16 +16,10 @@ use Rattle.tree.specs.Add.{lift-one}
 use Rattle.tree.proofs.add.replace.Statement.{statement}
 use Rattle.tree.proofs.add.replace.Tie as tie
 
-subtree-end-requires : tie.Need-subtree-end-requires
-subtree-end-requires c κs = search needs
-
 remove-requires : tie.Need-remove-requires
 remove-requires c κs =
     let a = c .before .before .before .before .before .args in
     omega (arith, end-most (a .count) (a .nodes .now) (getD (a .nodes .now) (width * a .at + 1) 0) (a .at + 1) (omega arith))
-
-at-depth-requires : tie.Need-at-depth-requires
-at-depth-requires c κs = search needs
 
 insert-requires : tie.Need-insert-requires
 insert-requires c κs =
@@ -61,5 +55,5 @@ returns c =
 pub replace-spec : {M : Type 1} → statement M
 replace-spec =
     tie.close
-    (tie.spec (λ c. search needs) (λ c. search needs) (λ c. search needs) (λ c. search needs) subtree-end-requires
-    remove-requires at-depth-requires insert-requires (λ c. search needs) returns)
+    (tie.spec (λ c. search needs) (λ c. search needs) (λ c. search needs) (λ c. search needs) (λ c κs. search needs)
+    remove-requires (λ c κs. search needs) insert-requires (λ c. search needs) returns)

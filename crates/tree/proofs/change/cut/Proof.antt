@@ -10,9 +10,6 @@ use Rattle.nodes.specs.Split.{cut-at}
 use Rattle.tree.proofs.change.cut.Statement.{statement}
 use Rattle.tree.proofs.change.cut.Tie as tie
 
-subtree-end-requires : tie.Need-subtree-end-requires
-subtree-end-requires c κs = search needs
-
 remove-requires : tie.Need-remove-requires
 remove-requires c κs =
     let a = c .before .before .before .before .args in
@@ -28,4 +25,4 @@ returns c =
 
 pub cut-spec : {M : Type 1} → statement M
 cut-spec =
-    tie.close (tie.spec subtree-end-requires remove-requires (λ c. search needs) returns)
+    tie.close (tie.spec (λ c κs. search needs) remove-requires (λ c. search needs) returns)

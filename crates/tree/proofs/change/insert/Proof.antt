@@ -9,12 +9,6 @@ use Rattle.nodes.specs.Table.{width, wordsOf, over, rows-length, insert-words}
 use Rattle.tree.proofs.change.insert.Statement.{statement}
 use Rattle.tree.proofs.change.insert.Tie as tie
 
-open-gap-requires : tie.Need-open-gap-requires
-open-gap-requires c κs = search needs
-
-put-node-requires : tie.Need-put-node-requires
-put-node-requires c κs = search needs
-
 returns : tie.Need-returns
 returns c =
     let a = c .before .before .before .before .before .before .before .before .before .args in
@@ -30,5 +24,5 @@ returns c =
 pub insert-spec : {M : Type 1} → statement M
 insert-spec =
     tie.close
-    (tie.spec (λ c. search needs) (λ c. search needs) open-gap-requires put-node-requires (λ c. search needs)
+    (tie.spec (λ c. search needs) (λ c. search needs) (λ c κs. search needs) (λ c κs. search needs) (λ c. search needs)
     (λ c. search needs) returns)

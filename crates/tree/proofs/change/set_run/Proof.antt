@@ -12,12 +12,6 @@ use Rattle.tree.specs.Words.{put-words}
 use Rattle.tree.proofs.change.set_run.Statement.{statement}
 use Rattle.tree.proofs.change.set_run.Tie as tie
 
-node-at-requires : tie.Need-node-at-requires
-node-at-requires c κs = search needs
-
-put-node-requires : tie.Need-put-node-requires
-put-node-requires c κs = search needs
-
 returns : tie.Need-returns
 returns c =
     let a = c .before .before .before .before .before .before .before .args in
@@ -29,4 +23,4 @@ returns c =
 
 pub set-run-spec : {M : Type 1} → statement M
 set-run-spec =
-    tie.close (tie.spec node-at-requires put-node-requires (λ c. search needs) returns)
+    tie.close (tie.spec (λ c κs. search needs) (λ c κs. search needs) (λ c. search needs) returns)

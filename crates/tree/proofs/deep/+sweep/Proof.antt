@@ -40,46 +40,6 @@ sweep-loop-holds : (t : ℕ) → sweep-lts.Need-loop-holds (
 ) (sweep-at t) sweep.Post sweep-Inv-loop sweep-μ-loop
 sweep-loop-holds t c = (omega arith, omega arith, omega arith, refl, λ ws r w s. s)
 
-sweep-mul-level : (t : ℕ) → sweep-lts.Need-mul-level (
-  copy-record-reads.Asked,
-  copy-record-reads.Learnt,
-  sweep-below t,
-  sweep.Post,
-) (sweep-at t) sweep.Post sweep-Inv-loop sweep-μ-loop
-sweep-mul-level t c = omega arith
-
-sweep-add-level : (t : ℕ) → sweep-lts.Need-add-level (
-  copy-record-reads.Asked,
-  copy-record-reads.Learnt,
-  sweep-below t,
-  sweep.Post,
-) (sweep-at t) sweep.Post sweep-Inv-loop sweep-μ-loop
-sweep-add-level t c = omega arith
-
-sweep-mul-level-2 : (t : ℕ) → sweep-lts.Need-mul-level-2 (
-  copy-record-reads.Asked,
-  copy-record-reads.Learnt,
-  sweep-below t,
-  sweep.Post,
-) (sweep-at t) sweep.Post sweep-Inv-loop sweep-μ-loop
-sweep-mul-level-2 t c = omega arith
-
-sweep-slice-read-level : (t : ℕ) → sweep-lts.Need-slice-read-level (
-  copy-record-reads.Asked,
-  copy-record-reads.Learnt,
-  sweep-below t,
-  sweep.Post,
-) (sweep-at t) sweep.Post sweep-Inv-loop sweep-μ-loop
-sweep-slice-read-level t c = omega arith
-
-sweep-same-length : (t : ℕ) → sweep-lts.Need-same-length (
-  copy-record-reads.Asked,
-  copy-record-reads.Learnt,
-  sweep-below t,
-  sweep.Post,
-) (sweep-at t) sweep.Post sweep-Inv-loop sweep-μ-loop
-sweep-same-length t c = search needs
-
 sweep-returns : (t : ℕ) → sweep-lts.Need-returns (
   copy-record-reads.Asked,
   copy-record-reads.Learnt,
@@ -92,38 +52,6 @@ sweep-returns t c =
     let now = b .loop .nodes in
     b .loop .inv .4 now (b .loop .read) (b .loop .write) (swept-stop now (a .count) (b .loop .read) (b .loop .write) (a .depth) (omega arith) (c .if1 .taken))
 
-sweep-mul-if2 : (t : ℕ) → sweep-lts.Need-mul-if2 (
-  copy-record-reads.Asked,
-  copy-record-reads.Learnt,
-  sweep-below t,
-  sweep.Post,
-) (sweep-at t) sweep.Post sweep-Inv-loop sweep-μ-loop
-sweep-mul-if2 t c = omega arith
-
-sweep-add-if2 : (t : ℕ) → sweep-lts.Need-add-if2 (
-  copy-record-reads.Asked,
-  copy-record-reads.Learnt,
-  sweep-below t,
-  sweep.Post,
-) (sweep-at t) sweep.Post sweep-Inv-loop sweep-μ-loop
-sweep-add-if2 t c = omega arith
-
-sweep-mul-if2-2 : (t : ℕ) → sweep-lts.Need-mul-if2-2 (
-  copy-record-reads.Asked,
-  copy-record-reads.Learnt,
-  sweep-below t,
-  sweep.Post,
-) (sweep-at t) sweep.Post sweep-Inv-loop sweep-μ-loop
-sweep-mul-if2-2 t c = omega arith
-
-sweep-slice-read-if2 : (t : ℕ) → sweep-lts.Need-slice-read-if2 (
-  copy-record-reads.Asked,
-  copy-record-reads.Learnt,
-  sweep-below t,
-  sweep.Post,
-) (sweep-at t) sweep.Post sweep-Inv-loop sweep-μ-loop
-sweep-slice-read-if2 t c = omega arith
-
 sweep-copy-record-requires : (t : ℕ) → sweep-lts.Need-copy-record-requires (
   copy-record-reads.Asked,
   copy-record-reads.Learnt,
@@ -131,30 +59,6 @@ sweep-copy-record-requires : (t : ℕ) → sweep-lts.Need-copy-record-requires (
   sweep.Post,
 ) (sweep-at t) sweep.Post sweep-Inv-loop sweep-μ-loop
 sweep-copy-record-requires t c κs = (omega arith, omega arith)
-
-sweep-add-sweep : (t : ℕ) → sweep-lts.Need-add-sweep (
-  copy-record-reads.Asked,
-  copy-record-reads.Learnt,
-  sweep-below t,
-  sweep.Post,
-) (sweep-at t) sweep.Post sweep-Inv-loop sweep-μ-loop
-sweep-add-sweep t c = omega arith
-
-sweep-add-sweep-2 : (t : ℕ) → sweep-lts.Need-add-sweep-2 (
-  copy-record-reads.Asked,
-  copy-record-reads.Learnt,
-  sweep-below t,
-  sweep.Post,
-) (sweep-at t) sweep.Post sweep-Inv-loop sweep-μ-loop
-sweep-add-sweep-2 t c = omega arith
-
-sweep-sub-sweep : (t : ℕ) → sweep-lts.Need-sub-sweep (
-  copy-record-reads.Asked,
-  copy-record-reads.Learnt,
-  sweep-below t,
-  sweep.Post,
-) (sweep-at t) sweep.Post sweep-Inv-loop sweep-μ-loop
-sweep-sub-sweep t c = omega arith
 
 sweep-sweep-requires : (t : ℕ) → sweep-lts.Need-sweep-requires (
   copy-record-reads.Asked,
@@ -215,22 +119,6 @@ sweep-loop-again t c =
           (swept-group now (a .count) read write (a .depth) (omega arith) deep (d .before .before .if2 .taken) (omega arith) (omega arith) vs (e .sweep .last .0) (e .sweep .result .read) (e .sweep .result .write) (d .copy-record .ensures) (e .sweep .ensures) ws r w s),
     )
 
-sweep-add-read : (t : ℕ) → sweep-lts.Need-add-read (
-  copy-record-reads.Asked,
-  copy-record-reads.Learnt,
-  sweep-below t,
-  sweep.Post,
-) (sweep-at t) sweep.Post sweep-Inv-loop sweep-μ-loop
-sweep-add-read t c = omega arith
-
-sweep-loop-less-2 : (t : ℕ) → sweep-lts.Need-loop-less-2 (
-  copy-record-reads.Asked,
-  copy-record-reads.Learnt,
-  sweep-below t,
-  sweep.Post,
-) (sweep-at t) sweep.Post sweep-Inv-loop sweep-μ-loop
-sweep-loop-less-2 t c = omega arith
-
 sweep-loop-again-2 : (t : ℕ) → sweep-lts.Need-loop-again-2 (
   copy-record-reads.Asked,
   copy-record-reads.Learnt,
@@ -248,14 +136,6 @@ sweep-loop-again-2 t c =
       b .loop .inv .3,
       λ ws r w s. b .loop .inv .4 ws r w (swept-synth now (a .count) (b .loop .read) (b .loop .write) (a .depth) (omega arith) deep (c .if2 .left) ws r w s),
     )
-
-sweep-same-length-2 : (t : ℕ) → sweep-lts.Need-same-length-2 (
-  copy-record-reads.Asked,
-  copy-record-reads.Learnt,
-  sweep-below t,
-  sweep.Post,
-) (sweep-at t) sweep.Post sweep-Inv-loop sweep-μ-loop
-sweep-same-length-2 t c = search needs
 
 sweep-returns-2 : (t : ℕ) → sweep-lts.Need-returns-2 (
   copy-record-reads.Asked,
@@ -281,25 +161,25 @@ pub +sweep-spec : {M : Type 1} → statement M
     sweep-Inv-loop
     sweep-μ-loop
     (sweep-loop-holds t)
-    (sweep-mul-level t)
-    (sweep-add-level t)
-    (sweep-mul-level-2 t)
-    (sweep-slice-read-level t)
-    (sweep-same-length t)
+    (λ c. omega arith)
+    (λ c. omega arith)
+    (λ c. omega arith)
+    (λ c. omega arith)
+    (λ c. search needs)
     (sweep-returns t)
-    (sweep-mul-if2 t)
-    (sweep-add-if2 t)
-    (sweep-mul-if2-2 t)
-    (sweep-slice-read-if2 t)
+    (λ c. omega arith)
+    (λ c. omega arith)
+    (λ c. omega arith)
+    (λ c. omega arith)
     (sweep-copy-record-requires t)
-    (sweep-add-sweep t)
-    (sweep-add-sweep-2 t)
-    (sweep-sub-sweep t)
+    (λ c. omega arith)
+    (λ c. omega arith)
+    (λ c. omega arith)
     (sweep-sweep-requires t)
     (sweep-loop-less t)
     (sweep-loop-again t)
-    (sweep-add-read t)
-    (sweep-loop-less-2 t)
+    (λ c. omega arith)
+    (λ c. omega arith)
     (sweep-loop-again-2 t)
-    (sweep-same-length-2 t)
+    (λ c. search needs)
     (sweep-returns-2 t)

@@ -7,12 +7,6 @@ use Rattle.nodes.specs.Table.{width, wordsOf, over}
 use Rattle.tree.proofs.deep.copy_record.Statement.{statement}
 use Rattle.tree.proofs.deep.copy_record.Tie as tie
 
-node-at-requires : tie.Need-node-at-requires
-node-at-requires c κs = search needs
-
-put-node-requires : tie.Need-put-node-requires
-put-node-requires c κs = search needs
-
 returns : tie.Need-returns
 returns c =
     let a = c .before .before .before .before .before .before .before .args in
@@ -20,4 +14,4 @@ returns c =
 
 pub copy-record-spec : {M : Type 1} → statement M
 copy-record-spec =
-    tie.close (tie.spec node-at-requires put-node-requires (λ c. search needs) returns)
+    tie.close (tie.spec (λ c κs. search needs) (λ c κs. search needs) (λ c. search needs) returns)

@@ -10,9 +10,6 @@ use Rattle.tree.specs.Deep.{left-leaves, deep-at}
 use Rattle.tree.proofs.deep.deep_free.Statement.{statement}
 use Rattle.tree.proofs.deep.deep_free.Tie as tie
 
-sweep-requires : tie.Need-sweep-requires
-sweep-requires c κs = omega arith
-
 remove-requires : tie.Need-remove-requires
 remove-requires c κs =
     let b = c .before .before .before in
@@ -39,4 +36,4 @@ pub deep-free-spec : {M : Type 1} → statement M
 deep-free-spec =
     tie.close
     (tie.spec (λ c. omega arith) (λ c. omega arith) (λ c. omega arith) (λ c. omega arith) (λ c. omega arith)
-    (λ c. omega arith) sweep-requires remove-requires (λ c. search needs) returns)
+    (λ c. omega arith) (λ c κs. omega arith) remove-requires (λ c. search needs) returns)

@@ -5,12 +5,6 @@ use Rattle.tree.specs.Moves.{opened-up, opened-down}
 use Rattle.tree.proofs.moves.make_room.Statement.{statement}
 use Rattle.tree.proofs.moves.make_room.Tie as tie
 
-open-gap-requires : tie.Need-open-gap-requires
-open-gap-requires c κs = search needs
-
-close-gap-requires : tie.Need-close-gap-requires
-close-gap-requires c κs = search needs
-
 returns : tie.Need-returns
 returns c =
     let a = c .before .before .before .before .before .before .args in
@@ -24,5 +18,5 @@ returns-2 c =
 pub make-room-spec : {M : Type 1} → statement M
 make-room-spec =
     tie.close
-    (tie.spec (λ c. search needs) open-gap-requires (λ c. search needs) (λ c. search needs) close-gap-requires
+    (tie.spec (λ c. search needs) (λ c κs. search needs) (λ c. search needs) (λ c. search needs) (λ c κs. search needs)
     (λ c. search needs) returns (λ c. search needs) returns-2)

@@ -8,12 +8,6 @@ use Rattle.tree.specs.Moves.{without, putIn}
 use Rattle.tree.proofs.moves.move_run.Statement.{statement}
 use Rattle.tree.proofs.moves.move_run.Tie as tie
 
-set-depths-requires : tie.Need-set-depths-requires
-set-depths-requires c κs = search needs
-
-move-words-requires : tie.Need-move-words-requires
-move-words-requires c κs = search needs
-
 returns : tie.Need-returns
 returns c =
     let a = c .before .before .before .before .before .before .before .before .before .args in
@@ -23,5 +17,5 @@ returns c =
 pub move-run-spec : {M : Type 1} → statement M
 move-run-spec =
     tie.close
-    (tie.spec set-depths-requires (λ c. search needs) (λ c. search needs) (λ c. search needs) move-words-requires
+    (tie.spec (λ c κs. search needs) (λ c. search needs) (λ c. search needs) (λ c. search needs) (λ c κs. search needs)
     (λ c. search needs) returns)

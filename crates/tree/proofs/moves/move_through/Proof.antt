@@ -11,15 +11,6 @@ use Rattle.tree.specs.Moves.{put-between}
 use Rattle.tree.proofs.moves.move_through.Statement.{statement}
 use Rattle.tree.proofs.moves.move_through.Tie as tie
 
-copy-words-requires : tie.Need-copy-words-requires
-copy-words-requires c κs = search needs
-
-make-room-requires : tie.Need-make-room-requires
-make-room-requires c κs = search needs
-
-copy-words-requires-2 : tie.Need-copy-words-requires-2
-copy-words-requires-2 c κs = search needs
-
 returns : tie.Need-returns
 returns c =
     let r = c .before .before .before .before .before .before .before in
@@ -37,5 +28,5 @@ pub move-through-spec : {M : Type 1} → statement M
 move-through-spec =
     tie.close
     (tie.spec (λ c. search needs) (λ c. search needs) (λ c. search needs) (λ c. search needs) (λ c. search needs)
-    copy-words-requires make-room-requires (λ c. search needs) copy-words-requires-2 (λ c. search needs)
+    (λ c κs. search needs) (λ c κs. search needs) (λ c. search needs) (λ c κs. search needs) (λ c. search needs)
     (λ c. search needs) returns)

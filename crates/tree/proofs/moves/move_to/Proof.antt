@@ -11,9 +11,6 @@ use Rattle.tree.specs.Ends.{placeWithout-fits, run-least}
 use Rattle.tree.proofs.moves.move_to.Statement.{statement}
 use Rattle.tree.proofs.moves.move_to.Tie as tie
 
-subtree-end-requires : tie.Need-subtree-end-requires
-subtree-end-requires c κs = search needs
-
 place-without-requires : tie.Need-place-without-requires
 place-without-requires c κs =
     let s = c .before .before .before .before in
@@ -52,5 +49,5 @@ returns c =
 pub move-to-spec : {M : Type 1} → statement M
 move-to-spec =
     tie.close
-    (tie.spec subtree-end-requires (λ c. search needs) (λ c. search needs) (λ c. search needs) (λ c. search needs)
+    (tie.spec (λ c κs. search needs) (λ c. search needs) (λ c. search needs) (λ c. search needs) (λ c. search needs)
     place-without-requires move-run-requires (λ c. search needs) returns)

@@ -9,9 +9,6 @@ use Rattle.tree.proofs.rows.row_at.Tie as tie
 returns : tie.Need-returns
 returns c = rw (eq-eqb (getD (c .before .before .before .args .nodes .now) (5 * c .before .before .before .args .at + 3) 0) 32 (c .if1 .taken))
 
-wide-requires : tie.Need-wide-requires
-wide-requires c κs = search needs
-
 returns-2 : tie.Need-returns-2
 returns-2 c =
     let a = c .before .before .before .before .before .args in
@@ -21,4 +18,4 @@ pub row-at-spec : {M : Type 1} → statement M
 row-at-spec =
     tie.close
     (tie.spec (λ c. search needs) (λ c. search needs) (λ c. search needs) (λ c. search needs) returns
-    (λ c. search needs) (λ c. search needs) (λ c. search needs) (λ c. search needs) wide-requires returns-2)
+    (λ c. search needs) (λ c. search needs) (λ c. search needs) (λ c. search needs) (λ c κs. search needs) returns-2)

@@ -13,9 +13,6 @@ returns c =
     let a = c .before .before .args in
     rw (lt-leb (a .b) (a .a) (c .if1 .taken))
 
-subtree-end-requires : tie.Need-subtree-end-requires
-subtree-end-requires c κs = search needs
-
 returns-2 : tie.Need-returns-2
 returns-2 c =
     let a = c .before .before .before .args in
@@ -23,4 +20,4 @@ returns-2 c =
 
 pub lies-below-spec : {M : Type 1} → statement M
 lies-below-spec =
-    tie.close (tie.spec returns subtree-end-requires returns-2)
+    tie.close (tie.spec returns (λ c κs. search needs) returns-2)

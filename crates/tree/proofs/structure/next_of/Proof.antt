@@ -12,9 +12,6 @@ use Rattle.nodes.specs.Sizes.{depthAt}
 use Rattle.tree.proofs.structure.next_of.Statement.{statement}
 use Rattle.tree.proofs.structure.next_of.Tie as tie
 
-subtree-end-requires : tie.Need-subtree-end-requires
-subtree-end-requires c κs = search needs
-
 returns : tie.Need-returns
 returns c =
     let e = c .before .before .before .before .before .subtree-end in
@@ -39,6 +36,6 @@ returns-3 c =
 pub next-of-spec : {M : Type 1} → statement M
 next-of-spec =
     tie.close
-    (tie.spec subtree-end-requires (λ c. search needs) (λ c. search needs) (λ c. search needs) (λ c. search needs)
+    (tie.spec (λ c κs. search needs) (λ c. search needs) (λ c. search needs) (λ c. search needs) (λ c. search needs)
     (λ c. search needs) (λ c. search needs) (λ c. search needs) (λ c. search needs) (λ c. search needs)
     (λ c. search needs) (λ c. search needs) returns returns-2 returns-3)

@@ -8,9 +8,6 @@ use Rattle.treecalls.specs.Changing.{add-missing, add-deep, add-full, ad
 use Rattle.treecalls.proofs.changing.add_by.Statement.{statement}
 use Rattle.treecalls.proofs.changing.add_by.Tie as tie
 
-place-of-requires : tie.Need-place-of-requires
-place-of-requires c κs = search needs
-
 returns : tie.Need-returns
 returns c =
     let a = c .before .before .before .before .args in
@@ -67,5 +64,6 @@ returns-4 c =
 pub add-by-spec : {M : Type 1} → statement M
 add-by-spec =
     tie.close
-    (tie.spec place-of-requires (λ c. search needs) returns mul-if2 add-if2 mul-if2-2 slice-read-if2 (λ c. search needs)
-    returns-2 has-room-requires (λ c. search needs) returns-3 add-node-requires (λ c. search needs) returns-4)
+    (tie.spec (λ c κs. search needs) (λ c. search needs) returns mul-if2 add-if2 mul-if2-2 slice-read-if2
+    (λ c. search needs) returns-2 has-room-requires (λ c. search needs) returns-3 add-node-requires (λ c. search needs)
+    returns-4)

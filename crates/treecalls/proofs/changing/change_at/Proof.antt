@@ -7,18 +7,6 @@ use borrow.Author.Needs.{needs}
 use Rattle.treecalls.proofs.changing.change_at.Statement.{statement}
 use Rattle.treecalls.proofs.changing.change_at.Tie as tie
 
-cut-requires : tie.Need-cut-requires
-cut-requires c κs = search needs
-
-cut-below-requires : tie.Need-cut-below-requires
-cut-below-requires c κs = search needs
-
-deep-free-requires : tie.Need-deep-free-requires
-deep-free-requires c κs = search needs
-
-set-run-requires : tie.Need-set-run-requires
-set-run-requires c κs = search needs
-
 returns : tie.Need-returns
 returns c = let case : c .before .before .before .before .before .before .before .args .change ≡ Free = cc in rw case (c .before .before .cut .ensures)
 
@@ -38,6 +26,6 @@ returns-4 c =
 pub change-at-spec : {M : Type 1} → statement M
 change-at-spec =
     tie.close
-    (tie.spec (λ c. search needs) cut-requires (λ c. search needs) cut-below-requires (λ c. search needs)
-    deep-free-requires (λ c. search needs) set-run-requires (λ c. search needs) returns (λ c. search needs) returns-2
-    (λ c. search needs) returns-3 (λ c. search needs) returns-4)
+    (tie.spec (λ c. search needs) (λ c κs. search needs) (λ c. search needs) (λ c κs. search needs) (λ c. search needs)
+    (λ c κs. search needs) (λ c. search needs) (λ c κs. search needs) (λ c. search needs) returns (λ c. search needs)
+    returns-2 (λ c. search needs) returns-3 (λ c. search needs) returns-4)

@@ -6,9 +6,6 @@ use Rattle.treecalls.specs.Changing.{changeHere, edit-refused, edit-done
 use Rattle.treecalls.proofs.changing.change_node.Statement.{statement}
 use Rattle.treecalls.proofs.changing.change_node.Tie as tie
 
-place-of-requires : tie.Need-place-of-requires
-place-of-requires c κs = search needs
-
 returns : tie.Need-returns
 returns c =
     let a = c .before .before .before .before .args in
@@ -31,4 +28,4 @@ returns-2 c =
 pub change-node-spec : {M : Type 1} → statement M
 change-node-spec =
     tie.close
-    (tie.spec place-of-requires (λ c. search needs) returns change-at-requires (λ c. search needs) returns-2)
+    (tie.spec (λ c κs. search needs) (λ c. search needs) returns change-at-requires (λ c. search needs) returns-2)

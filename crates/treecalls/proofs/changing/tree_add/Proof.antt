@@ -8,12 +8,6 @@ use borrow.Author.Needs.{needs}
 use Rattle.treecalls.proofs.changing.tree_add.Statement.{statement}
 use Rattle.treecalls.proofs.changing.tree_add.Tie as tie
 
-add-action-requires : tie.Need-add-action-requires
-add-action-requires c κs = search needs
-
-add-by-requires : tie.Need-add-by-requires
-add-by-requires c κs = search needs
-
 returns : tie.Need-returns
 returns c =
     let a = c .before .before .before .before .before .before .before .before .before .args in
@@ -31,5 +25,5 @@ returns-2 c =
 pub tree-add-spec : {M : Type 1} → statement M
 tree-add-spec =
     tie.close
-    (tie.spec add-action-requires (λ c. search needs) add-by-requires (λ c. search needs) (λ c. search needs) returns
-    returns-2)
+    (tie.spec (λ c κs. search needs) (λ c. search needs) (λ c κs. search needs) (λ c. search needs) (λ c. search needs)
+    returns returns-2)

@@ -11,12 +11,6 @@ use Rattle.treecalls.proofs.checks.tree_formed.Tie as tie
 returns : tie.Need-returns
 returns c = rw (ne-eqb (length (c .before .before .args .nodes .now)) 1280 (c .if1 .taken))
 
-nodes-formed-requires : tie.Need-nodes-formed-requires
-nodes-formed-requires c κs = search needs
-
-answer-bit-requires : tie.Need-answer-bit-requires
-answer-bit-requires c κs = search needs
-
 returns-2 : tie.Need-returns-2
 returns-2 c =
     let a = c .before .before .before .before .args in
@@ -24,4 +18,4 @@ returns-2 c =
 
 pub tree-formed-spec : {M : Type 1} → statement M
 tree-formed-spec =
-    tie.close (tie.spec returns nodes-formed-requires answer-bit-requires returns-2)
+    tie.close (tie.spec returns (λ c κs. search needs) (λ c κs. search needs) returns-2)

@@ -8,9 +8,6 @@ use Rattle.treecalls.specs.Orders.{no-table, no-words, order-refused, or
 use Rattle.treecalls.proofs.checks.tree_order.Statement.{statement}
 use Rattle.treecalls.proofs.checks.tree_order.Tie as tie
 
-has-table-requires : tie.Need-has-table-requires
-has-table-requires c κs = search needs
-
 returns : tie.Need-returns
 returns c =
     let a = c .before .before .before .before .args in
@@ -26,9 +23,6 @@ running-order-requires c κs =
     let a = c .before .before .before .before .before .args in
     tabled-sized (a .nodes .now) (a .count) (sym (c .before .before .has-table .ensures) ∙ not-false (c .before .before .has-table .result) (c .before .if1 .left))
 
-write-order-requires : tie.Need-write-order-requires
-write-order-requires c κs = omega arith
-
 returns-3 : tie.Need-returns-3
 returns-3 c =
     let a = c .before .before .before .before .before .before .before .before .before .before .args in
@@ -37,5 +31,5 @@ returns-3 c =
 pub tree-order-spec : {M : Type 1} → statement M
 tree-order-spec =
     tie.close
-    (tie.spec has-table-requires returns returns-2 running-order-requires write-order-requires (λ c. search needs)
+    (tie.spec (λ c κs. search needs) returns returns-2 running-order-requires (λ c κs. omega arith) (λ c. search needs)
     returns-3)

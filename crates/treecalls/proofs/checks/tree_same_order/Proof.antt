@@ -9,9 +9,6 @@ use Rattle.treecalls.specs.Orders.{no-table, no-words, order-ready}
 use Rattle.treecalls.proofs.checks.tree_same_order.Statement.{statement}
 use Rattle.treecalls.proofs.checks.tree_same_order.Tie as tie
 
-has-table-requires : tie.Need-has-table-requires
-has-table-requires c κs = search needs
-
 returns : tie.Need-returns
 returns c =
     let a = c .before .before .before .before .args in
@@ -27,9 +24,6 @@ same-order-requires c κs =
     let a = c .before .before .before .before .before .args in
     (omega arith, tabled-sized (a .nodes .now) (a .count) (sym (c .before .before .has-table .ensures) ∙ not-false (c .before .before .has-table .result) (c .before .if1 .left)))
 
-answer-bit-requires : tie.Need-answer-bit-requires
-answer-bit-requires c κs = search needs
-
 returns-3 : tie.Need-returns-3
 returns-3 c =
     let a = c .before .before .before .before .before .before .before .args in
@@ -37,4 +31,4 @@ returns-3 c =
 
 pub tree-same-order-spec : {M : Type 1} → statement M
 tree-same-order-spec =
-    tie.close (tie.spec has-table-requires returns returns-2 same-order-requires answer-bit-requires returns-3)
+    tie.close (tie.spec (λ c κs. search needs) returns returns-2 same-order-requires (λ c κs. search needs) returns-3)

@@ -6,9 +6,6 @@ use Rattle.treecalls.specs.Looking.{look-refused, look-done}
 use Rattle.treecalls.proofs.looking.look.Statement.{statement}
 use Rattle.treecalls.proofs.looking.look.Tie as tie
 
-place-of-requires : tie.Need-place-of-requires
-place-of-requires c κs = search needs
-
 returns : tie.Need-returns
 returns c =
     let a = c .before .before .before .args in
@@ -29,4 +26,4 @@ returns-2 c =
 
 pub look-spec : {M : Type 1} → statement M
 look-spec =
-    tie.close (tie.spec place-of-requires returns look-at-requires returns-2)
+    tie.close (tie.spec (λ c κs. search needs) returns look-at-requires returns-2)

@@ -5,45 +5,6 @@ use borrow.Author.Needs.{needs}
 use Rattle.treecalls.proofs.looking.look_at.Statement.{statement}
 use Rattle.treecalls.proofs.looking.look_at.Tie as tie
 
-subtree-end-requires : tie.Need-subtree-end-requires
-subtree-end-requires c κs = search needs
-
-parent-of-requires : tie.Need-parent-of-requires
-parent-of-requires c κs = search needs
-
-answer-requires : tie.Need-answer-requires
-answer-requires c κs = search needs
-
-previous-of-requires : tie.Need-previous-of-requires
-previous-of-requires c κs = search needs
-
-answer-requires-2 : tie.Need-answer-requires-2
-answer-requires-2 c κs = search needs
-
-next-of-requires : tie.Need-next-of-requires
-next-of-requires c κs = search needs
-
-answer-requires-3 : tie.Need-answer-requires-3
-answer-requires-3 c κs = search needs
-
-head-of-requires : tie.Need-head-of-requires
-head-of-requires c κs = search needs
-
-answer-requires-4 : tie.Need-answer-requires-4
-answer-requires-4 c κs = search needs
-
-tail-of-requires : tie.Need-tail-of-requires
-tail-of-requires c κs = search needs
-
-answer-requires-5 : tie.Need-answer-requires-5
-answer-requires-5 c κs = search needs
-
-child-count-requires : tie.Need-child-count-requires
-child-count-requires c κs = search needs
-
-answer-requires-6 : tie.Need-answer-requires-6
-answer-requires-6 c κs = search needs
-
 returns-2 : tie.Need-returns-2
 returns-2 c = let case : c .before .before .before .before .args .question ≡ End = cc in rw case (c .subtree-end .ensures)
 
@@ -68,8 +29,8 @@ returns-8 c = let case : c .before .before .before .before .before .args .questi
 pub look-at-spec : {M : Type 1} → statement M
 look-at-spec =
     tie.close
-    (tie.spec (λ c. search needs) (λ c. search needs) subtree-end-requires (λ c. search needs) parent-of-requires
-    answer-requires (λ c. search needs) previous-of-requires answer-requires-2 (λ c. search needs) next-of-requires
-    answer-requires-3 (λ c. search needs) head-of-requires answer-requires-4 (λ c. search needs) tail-of-requires
-    answer-requires-5 (λ c. search needs) child-count-requires answer-requires-6 (λ c. search needs) returns-2 returns-3
-    returns-4 returns-5 returns-6 returns-7 returns-8)
+    (tie.spec (λ c. search needs) (λ c. search needs) (λ c κs. search needs) (λ c. search needs) (λ c κs. search needs)
+    (λ c κs. search needs) (λ c. search needs) (λ c κs. search needs) (λ c κs. search needs) (λ c. search needs)
+    (λ c κs. search needs) (λ c κs. search needs) (λ c. search needs) (λ c κs. search needs) (λ c κs. search needs)
+    (λ c. search needs) (λ c κs. search needs) (λ c κs. search needs) (λ c. search needs) (λ c κs. search needs)
+    (λ c κs. search needs) (λ c. search needs) returns-2 returns-3 returns-4 returns-5 returns-6 returns-7 returns-8)

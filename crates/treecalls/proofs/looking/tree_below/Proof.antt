@@ -7,16 +7,10 @@ use Rattle.treecalls.specs.Looking.{below-first, below-second, below-don
 use Rattle.treecalls.proofs.looking.tree_below.Statement.{statement}
 use Rattle.treecalls.proofs.looking.tree_below.Tie as tie
 
-place-of-requires : tie.Need-place-of-requires
-place-of-requires c κs = search needs
-
 returns : tie.Need-returns
 returns c =
     let a = c .before .before .before .args in
     below-first (a .nodes .now) (a .count) (a .a) (a .b) (missing (a .nodes .now) (a .count) (a .a) (c .before .place-of .result) (c .before .place-of .ensures) (c .if1 .taken))
-
-place-of-requires-2 : tie.Need-place-of-requires-2
-place-of-requires-2 c κs = search needs
 
 returns-2 : tie.Need-returns-2
 returns-2 c =
@@ -31,9 +25,6 @@ lies-below-requires c κs =
     let t = stands (a .nodes .now) (a .count) (a .b) (c .before .place-of2 .result) (c .before .place-of2 .ensures) (omega arith) in
     two-places (a .nodes .now) (a .count) (a .b) (a .a) (c .before .place-of2 .result) (c .before .before .before .place-of .result) t s
 
-answer-bit-requires : tie.Need-answer-bit-requires
-answer-bit-requires c κs = search needs
-
 returns-3 : tie.Need-returns-3
 returns-3 c =
     let a = c .before .before .before .before .before .before .before .args in
@@ -44,4 +35,5 @@ returns-3 c =
 pub tree-below-spec : {M : Type 1} → statement M
 tree-below-spec =
     tie.close
-    (tie.spec place-of-requires returns place-of-requires-2 returns-2 lies-below-requires answer-bit-requires returns-3)
+    (tie.spec (λ c κs. search needs) returns (λ c κs. search needs) returns-2 lies-below-requires (λ c κs. search needs)
+    returns-3)

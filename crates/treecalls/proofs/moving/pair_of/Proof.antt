@@ -8,16 +8,10 @@ use Rattle.treecalls.specs.Moving.{two-places, no-first, no-second, insi
 use Rattle.treecalls.proofs.moving.pair_of.Statement.{statement}
 use Rattle.treecalls.proofs.moving.pair_of.Tie as tie
 
-place-of-requires : tie.Need-place-of-requires
-place-of-requires c κs = search needs
-
 returns : tie.Need-returns
 returns c =
     let a = c .before .before .before .args in
     no-first (a .nodes .now) (a .count) (a .a) (a .b) (missing (a .nodes .now) (a .count) (a .a) (c .before .place-of .result) (c .before .place-of .ensures) (c .if1 .taken))
-
-place-of-requires-2 : tie.Need-place-of-requires-2
-place-of-requires-2 c κs = search needs
 
 returns-2 : tie.Need-returns-2
 returns-2 c =
@@ -70,5 +64,5 @@ returns-5 c =
 pub pair-of-spec : {M : Type 1} → statement M
 pair-of-spec =
     tie.close
-    (tie.spec place-of-requires returns place-of-requires-2 returns-2 lies-below-requires returns-3 all-shallow-requires
-    returns-4 returns-5)
+    (tie.spec (λ c κs. search needs) returns (λ c κs. search needs) returns-2 lies-below-requires returns-3
+    all-shallow-requires returns-4 returns-5)

@@ -7,12 +7,6 @@ use borrow.Author.Needs.{needs}
 use Rattle.treecalls.proofs.moving.tree_move.Statement.{statement}
 use Rattle.treecalls.proofs.moving.tree_move.Tie as tie
 
-way-of-requires : tie.Need-way-of-requires
-way-of-requires c κs = search needs
-
-pair-of-requires : tie.Need-pair-of-requires
-pair-of-requires c κs = search needs
-
 move-node-requires : tie.Need-move-node-requires
 move-node-requires c κs =
     let a = c .before .before .before .before .before .before .before .before .before .before .before .args in
@@ -50,5 +44,5 @@ returns-3 c =
 pub tree-move-spec : {M : Type 1} → statement M
 tree-move-spec =
     tie.close
-    (tie.spec way-of-requires (λ c. search needs) pair-of-requires (λ c. search needs) move-node-requires
+    (tie.spec (λ c κs. search needs) (λ c. search needs) (λ c κs. search needs) (λ c. search needs) move-node-requires
     (λ c. search needs) (λ c. search needs) (λ c. search needs) returns (λ c. search needs) returns-2 returns-3)

@@ -6,9 +6,6 @@ use Rattle.treecalls.specs.Found.{tabled-sized}
 use Rattle.treecalls.proofs.places.place_of.Statement.{statement}
 use Rattle.treecalls.proofs.places.place_of.Tie as tie
 
-has-table-requires : tie.Need-has-table-requires
-has-table-requires c κs = search needs
-
 returns : tie.Need-returns
 returns c =
     let a = c .before .before .before .args in
@@ -26,4 +23,4 @@ returns-2 c =
 
 pub place-of-spec : {M : Type 1} → statement M
 place-of-spec =
-    tie.close (tie.spec has-table-requires returns find-requires returns-2)
+    tie.close (tie.spec (λ c κs. search needs) returns find-requires returns-2)

@@ -6,12 +6,6 @@ use borrow.Author.Needs.{needs}
 use Rattle.treecommands.proofs.adding.bad_target.Statement.{statement}
 use Rattle.treecommands.proofs.adding.bad_target.Tie as tie
 
-is-synth-requires : tie.Need-is-synth-requires
-is-synth-requires c κs = search needs
-
-is-synth-requires-2 : tie.Need-is-synth-requires-2
-is-synth-requires-2 c κs = search needs
-
 returns : tie.Need-returns
 returns c =
     let case : c .before .before .before .before .before .before .before .args .action ≡ Put Head = cc in
@@ -40,5 +34,5 @@ returns-5 c =
 pub bad-target-spec : {M : Type 1} → statement M
 bad-target-spec =
     tie.close
-    (tie.spec (λ c. search needs) (λ c. search needs) is-synth-requires (λ c. search needs) is-synth-requires-2
+    (tie.spec (λ c. search needs) (λ c. search needs) (λ c κs. search needs) (λ c. search needs) (λ c κs. search needs)
     (λ c. search needs) (λ c. search needs) (λ c. search needs) returns returns-2 returns-3 returns-4 returns-5)

@@ -14,12 +14,6 @@ find-indexed-requires c κs =
     let first = c .before .before .before .before .before .before in
     sorted-keeps (first .args .count) (first .args .words .now) (first .pre)
 
-write-header-requires : tie.Need-write-header-requires
-write-header-requires c κs = search needs
-
-write-header-requires-2 : tie.Need-write-header-requires-2
-write-header-requires-2 c κs = search needs
-
 returns : tie.Need-returns
 returns c =
     let a = c .before .before .before .before .before .before .before .before .before .before .before .before .args in
@@ -39,5 +33,5 @@ renew-header-spec =
     tie.close
     (tie.spec (λ c. search needs) (λ c. search needs) (λ c. search needs) (λ c. search needs) (λ c. search needs)
     (λ c. search needs) (λ c. search needs) (λ c. search needs) find-indexed-requires (λ c. search needs)
-    write-header-requires (λ c. search needs) write-header-requires-2 (λ c. search needs) returns (λ c. search needs)
+    (λ c κs. search needs) (λ c. search needs) (λ c κs. search needs) (λ c. search needs) returns (λ c. search needs)
     returns-2)

@@ -4,9 +4,6 @@ use Rattle.treecommands.specs.Settle.{order-sorted, renewed-there}
 use Rattle.treecommands.proofs.finish.renew_in_place.Statement.{statement}
 use Rattle.treecommands.proofs.finish.renew_in_place.Tie as tie
 
-renew-order-requires : tie.Need-renew-order-requires
-renew-order-requires c κs = search needs
-
 renew-header-requires : tie.Need-renew-header-requires
 renew-header-requires c κs =
     let first = c .before .before .before .before .before .before in
@@ -24,4 +21,4 @@ returns c =
 
 pub renew-in-place-spec : {M : Type 1} → statement M
 renew-in-place-spec =
-    tie.close (tie.spec renew-order-requires renew-header-requires (λ c. search needs) returns)
+    tie.close (tie.spec (λ c κs. search needs) renew-header-requires (λ c. search needs) returns)

@@ -10,12 +10,6 @@ use Rattle.treecommands.specs.Settle.{order-by, many-few}
 use Rattle.treecommands.proofs.finish.renew_order.Statement.{statement}
 use Rattle.treecommands.proofs.finish.renew_order.Tie as tie
 
-running-order-requires : tie.Need-running-order-requires
-running-order-requires c κs = search needs
-
-copy-words-requires : tie.Need-copy-words-requires
-copy-words-requires c κs = search needs
-
 cast-result : tie.Need-cast-result
 cast-result c =
     let a = c .before .before .before .before .before .before .before .before .before .before .before .args in
@@ -35,5 +29,5 @@ returns c =
 pub renew-order-spec : {M : Type 1} → statement M
 renew-order-spec =
     tie.close
-    (tie.spec (λ c. search needs) (λ c. search needs) (λ c. search needs) running-order-requires (λ c. search needs)
-    (λ c. search needs) (λ c. search needs) copy-words-requires cast-result (λ c. search needs) returns)
+    (tie.spec (λ c. search needs) (λ c. search needs) (λ c. search needs) (λ c κs. search needs) (λ c. search needs)
+    (λ c. search needs) (λ c. search needs) (λ c κs. search needs) cast-result (λ c. search needs) returns)

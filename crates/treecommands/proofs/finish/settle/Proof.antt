@@ -18,9 +18,6 @@ renew-index-requires c κs =
 cast-write-header : tie.Need-cast-write-header
 cast-write-header c = omega (arith, c .before .before .before .before .before .before .before .before .before .before .pre .edited .ground .fewAfter)
 
-write-header-requires : tie.Need-write-header-requires
-write-header-requires c κs = search needs
-
 returns : tie.Need-returns
 returns c =
     let first = c .before .before .before .before .before .before .before .before .before .before .before .before .before in
@@ -33,5 +30,5 @@ returns c =
 pub settle-spec : {M : Type 1} → statement M
 settle-spec =
     tie.close
-    (tie.spec renew-order-requires renew-index-requires cast-write-header write-header-requires (λ c. search needs)
+    (tie.spec renew-order-requires renew-index-requires cast-write-header (λ c κs. search needs) (λ c. search needs)
     returns)

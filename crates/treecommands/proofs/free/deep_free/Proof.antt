@@ -6,35 +6,17 @@ use Rattle.treecommands.specs.Emptying.{deep-unknown, deep-wrong, deep-r
 use Rattle.treecommands.proofs.free.deep_free.Statement.{statement}
 use Rattle.treecommands.proofs.free.deep_free.Tie as tie
 
-wide-requires : tie.Need-wide-requires
-wide-requires c κs = search needs
-
-node-place-requires : tie.Need-node-place-requires
-node-place-requires c κs = search needs
-
 returns : tie.Need-returns
 returns c =
     let s = c .before .before .before .before .before .before in
     let a = s .args in
     deep-unknown (a .group) (a .words .now) (s .pre) (c .before .before .before .wide .result) (c .before .before .before .wide .ensures) (c .before .node-place .result) (c .before .node-place .ensures) (c .if1 .taken)
 
-is-synth-requires : tie.Need-is-synth-requires
-is-synth-requires c κs = search needs
-
 returns-2 : tie.Need-returns-2
 returns-2 c =
     let s = c .before .before .before .before .before .before .before .before .before in
     let a = s .args in
     deep-wrong (a .group) (a .words .now) (s .pre) (c .before .before .before .before .before .before .wide .result) (c .before .before .before .before .before .before .wide .ensures) (c .before .before .before .before .node-place .result) (c .before .before .before .before .node-place .ensures) (omega arith) (sym (c .before .is-synth .ensures) ∙ c .if2 .taken)
-
-subtree-end-requires : tie.Need-subtree-end-requires
-subtree-end-requires c κs = search needs
-
-kept-places-requires : tie.Need-kept-places-requires
-kept-places-requires c κs = search needs
-
-deep-free-requires : tie.Need-deep-free-requires
-deep-free-requires c κs = search needs
 
 renew-sifted-requires : tie.Need-renew-sifted-requires
 renew-sifted-requires c κs =
@@ -60,8 +42,8 @@ returns-3 c =
 pub deep-free-spec : {M : Type 1} → statement M
 deep-free-spec =
     tie.close
-    (tie.spec (λ c. search needs) wide-requires node-place-requires (λ c. search needs) returns is-synth-requires
-    (λ c. search needs) returns-2 (λ c. search needs) (λ c. search needs) (λ c. search needs) subtree-end-requires
-    (λ c. search needs) (λ c. search needs) (λ c. search needs) (λ c. search needs) kept-places-requires
-    (λ c. search needs) (λ c. search needs) (λ c. search needs) deep-free-requires (λ c. search needs)
-    renew-sifted-requires (λ c. search needs) returns-3)
+    (tie.spec (λ c. search needs) (λ c κs. search needs) (λ c κs. search needs) (λ c. search needs) returns
+    (λ c κs. search needs) (λ c. search needs) returns-2 (λ c. search needs) (λ c. search needs) (λ c. search needs)
+    (λ c κs. search needs) (λ c. search needs) (λ c. search needs) (λ c. search needs) (λ c. search needs)
+    (λ c κs. search needs) (λ c. search needs) (λ c. search needs) (λ c. search needs) (λ c κs. search needs)
+    (λ c. search needs) renew-sifted-requires (λ c. search needs) returns-3)

@@ -8,29 +8,17 @@ use Rattle.treecommands.specs.Emptying.{all-unknown, all-wrong, all-read
 use Rattle.treecommands.proofs.free.free_all.Statement.{statement}
 use Rattle.treecommands.proofs.free.free_all.Tie as tie
 
-wide-requires : tie.Need-wide-requires
-wide-requires c κs = search needs
-
-node-place-requires : tie.Need-node-place-requires
-node-place-requires c κs = search needs
-
 returns : tie.Need-returns
 returns c =
     let s = c .before .before .before .before .before .before in
     let a = s .args in
     all-unknown (a .group) (a .words .now) (s .pre) (c .before .before .before .wide .result) (c .before .before .before .wide .ensures) (c .before .node-place .result) (c .before .node-place .ensures) (c .if1 .taken)
 
-is-synth-requires : tie.Need-is-synth-requires
-is-synth-requires c κs = search needs
-
 returns-2 : tie.Need-returns-2
 returns-2 c =
     let s = c .before .before .before .before .before .before .before .before .before in
     let a = s .args in
     all-wrong (a .group) (a .words .now) (s .pre) (c .before .before .before .before .before .before .wide .result) (c .before .before .before .before .before .before .wide .ensures) (c .before .before .before .before .node-place .result) (c .before .before .before .before .node-place .ensures) (omega arith) (sym (c .before .is-synth .ensures) ∙ c .if2 .taken)
-
-cut-below-requires : tie.Need-cut-below-requires
-cut-below-requires c κs = search needs
 
 sub-end : tie.Need-sub-end
 sub-end c =
@@ -72,6 +60,6 @@ returns-3 c =
 pub free-all-spec : {M : Type 1} → statement M
 free-all-spec =
     tie.close
-    (tie.spec (λ c. search needs) wide-requires node-place-requires (λ c. search needs) returns is-synth-requires
-    (λ c. search needs) returns-2 (λ c. search needs) (λ c. search needs) (λ c. search needs) cut-below-requires
-    (λ c. search needs) sub-end add-end renew-requires (λ c. search needs) returns-3)
+    (tie.spec (λ c. search needs) (λ c κs. search needs) (λ c κs. search needs) (λ c. search needs) returns
+    (λ c κs. search needs) (λ c. search needs) returns-2 (λ c. search needs) (λ c. search needs) (λ c. search needs)
+    (λ c κs. search needs) (λ c. search needs) sub-end add-end renew-requires (λ c. search needs) returns-3)

@@ -7,12 +7,6 @@ use Rattle.treecommands.specs.Freeing.{free-unknown, free-root, free-rea
 use Rattle.treecommands.proofs.free.free_node.Statement.{statement}
 use Rattle.treecommands.proofs.free.free_node.Tie as tie
 
-wide-requires : tie.Need-wide-requires
-wide-requires c κs = search needs
-
-node-place-requires : tie.Need-node-place-requires
-node-place-requires c κs = search needs
-
 returns : tie.Need-returns
 returns c =
     let s = c .before .before .before .before .before .before in
@@ -24,9 +18,6 @@ returns-2 c =
     let s = c .before .before .before .before .before .before .before in
     let a = s .args in
     free-root (a .node) (a .words .now) (s .pre) (c .before .before .before .before .wide .result) (c .before .before .before .before .wide .ensures) (c .before .before .node-place .result) (c .before .before .node-place .ensures) (omega arith) (c .if2 .taken)
-
-cut-requires : tie.Need-cut-requires
-cut-requires c κs = search needs
 
 sub-end : tie.Need-sub-end
 sub-end c =
@@ -68,6 +59,6 @@ returns-3 c =
 pub free-node-spec : {M : Type 1} → statement M
 free-node-spec =
     tie.close
-    (tie.spec (λ c. search needs) wide-requires node-place-requires (λ c. search needs) returns (λ c. search needs)
-    returns-2 (λ c. search needs) (λ c. search needs) (λ c. search needs) cut-requires sub-end add-end renew-requires
-    (λ c. search needs) returns-3)
+    (tie.spec (λ c. search needs) (λ c κs. search needs) (λ c κs. search needs) (λ c. search needs) returns
+    (λ c. search needs) returns-2 (λ c. search needs) (λ c. search needs) (λ c. search needs) (λ c κs. search needs)
+    sub-end add-end renew-requires (λ c. search needs) returns-3)

@@ -10,20 +10,11 @@ returns c =
     let a = c .before .before .args in
     run-flag (a .node) (a .flag) (a .words .now) (c .if1 .taken)
 
-wide-requires : tie.Need-wide-requires
-wide-requires c κs = search needs
-
-node-place-requires : tie.Need-node-place-requires
-node-place-requires c κs = search needs
-
 returns-2 : tie.Need-returns-2
 returns-2 c =
     let s = c .before .before .before .before .before .before .before in
     let a = s .args in
     run-unknown (a .node) (a .flag) (a .words .now) (s .pre) (c .before .before .before .wide .result) (c .before .before .before .wide .ensures) (c .before .node-place .result) (c .before .node-place .ensures) (omega arith) (c .if2 .taken)
-
-set-run-requires : tie.Need-set-run-requires
-set-run-requires c κs = search needs
 
 renew-in-place-requires : tie.Need-renew-in-place-requires
 renew-in-place-requires c κs =
@@ -44,6 +35,6 @@ returns-3 c =
 pub run-node-spec : {M : Type 1} → statement M
 run-node-spec =
     tie.close
-    (tie.spec returns (λ c. search needs) wide-requires node-place-requires (λ c. search needs) returns-2
-    (λ c. search needs) (λ c. search needs) (λ c. search needs) set-run-requires renew-in-place-requires
+    (tie.spec returns (λ c. search needs) (λ c κs. search needs) (λ c κs. search needs) (λ c. search needs) returns-2
+    (λ c. search needs) (λ c. search needs) (λ c. search needs) (λ c κs. search needs) renew-in-place-requires
     (λ c. search needs) returns-3)

@@ -8,12 +8,6 @@ use Rattle.treecommands.specs.Grouping.{GroupGround, Answers, group-refu
 use Rattle.treecommands.proofs.group.add_group.Statement.{statement}
 use Rattle.treecommands.proofs.group.add_group.Tie as tie
 
-group-spot-requires : tie.Need-group-spot-requires
-group-spot-requires c κs = search needs
-
-wide-requires : tie.Need-wide-requires
-wide-requires c κs = search needs
-
 edit-by-requires : tie.Need-edit-by-requires
 edit-by-requires c κs =
     let s = c .before .before .before .before .before .before .before .before .before .before in
@@ -73,6 +67,6 @@ returns-2 c =
 pub add-group-spec : {M : Type 1} → statement M
 add-group-spec =
     tie.close
-    (tie.spec group-spot-requires (λ c. search needs) (λ c. search needs) wide-requires (λ c. search needs)
+    (tie.spec (λ c κs. search needs) (λ c. search needs) (λ c. search needs) (λ c κs. search needs) (λ c. search needs)
     (λ c. search needs) (λ c. search needs) edit-by-requires (λ c. search needs) (λ c. search needs) (λ c. search needs)
     add-node-requires renew-requires (λ c. search needs) (λ c. search needs) returns (λ c. search needs) returns-2)

@@ -12,12 +12,6 @@ returns c =
     let a = s .args in
     group-negative (a .number) (a .action) (a .target) (a .words .now) (c .if1 .taken)
 
-wide-requires : tie.Need-wide-requires
-wide-requires c κs = search needs
-
-place-of-requires : tie.Need-place-of-requires
-place-of-requires c κs = search needs
-
 returns-2 : tie.Need-returns-2
 returns-2 c =
     let s = c .before .before .before .before .before .before in
@@ -25,9 +19,6 @@ returns-2 c =
     let count = c .before .before .wide in
     let seen = c .before .place-of in
     group-live (a .number) (a .action) (a .target) (a .words .now) (s .pre) (count .result) (count .ensures) (omega arith) (seen .result) (seen .ensures) (c .if2 .taken)
-
-node-place-requires : tie.Need-node-place-requires
-node-place-requires c κs = search needs
 
 returns-3 : tie.Need-returns-3
 returns-3 c =
@@ -38,9 +29,6 @@ returns-3 c =
     let at = c .before .node-place in
     group-unknown (a .number) (a .action) (a .target) (a .words .now) (s .pre) (count .result) (count .ensures) (omega arith) (seen .result) (seen .ensures) (omega arith) (at .result) (at .ensures) (c .if3 .taken)
 
-bad-target-requires : tie.Need-bad-target-requires
-bad-target-requires c κs = search needs
-
 returns-4 : tie.Need-returns-4
 returns-4 c =
     let s = c .before .before .before .before .before .before .before .before .before .before in
@@ -49,9 +37,6 @@ returns-4 c =
     let seen = c .before .before .before .before .before .place-of in
     let at = c .before .before .before .node-place in
     group-kind (a .number) (a .action) (a .target) (a .words .now) (s .pre) (count .result) (count .ensures) (omega arith) (seen .result) (seen .ensures) (omega arith) (at .result) (at .ensures) (omega arith) (sym (c .before .bad-target .ensures) ∙ c .if4 .taken)
-
-is-full-requires : tie.Need-is-full-requires
-is-full-requires c κs = search needs
 
 returns-5 : tie.Need-returns-5
 returns-5 c =
@@ -74,5 +59,5 @@ returns-6 c =
 pub group-spot-spec : {M : Type 1} → statement M
 group-spot-spec =
     tie.close
-    (tie.spec returns (λ c. search needs) wide-requires place-of-requires returns-2 node-place-requires returns-3
-    bad-target-requires returns-4 is-full-requires returns-5 returns-6)
+    (tie.spec returns (λ c. search needs) (λ c κs. search needs) (λ c κs. search needs) returns-2 (λ c κs. search needs)
+    returns-3 (λ c κs. search needs) returns-4 (λ c κs. search needs) returns-5 returns-6)

@@ -7,12 +7,6 @@ use Rattle.treecommands.specs.Grouping.{group-unasked}
 use Rattle.treecommands.proofs.group.new_group.Statement.{statement}
 use Rattle.treecommands.proofs.group.new_group.Tie as tie
 
-add-action-requires : tie.Need-add-action-requires
-add-action-requires c κs = search needs
-
-add-group-requires : tie.Need-add-group-requires
-add-group-requires c κs = search needs
-
 returns : tie.Need-returns
 returns c =
     let a = c .before .before .before .before .before .before .before .before .before .args in
@@ -31,5 +25,5 @@ returns-2 c =
 pub new-group-spec : {M : Type 1} → statement M
 new-group-spec =
     tie.close
-    (tie.spec add-action-requires (λ c. search needs) add-group-requires (λ c. search needs) (λ c. search needs) returns
-    returns-2)
+    (tie.spec (λ c κs. search needs) (λ c. search needs) (λ c κs. search needs) (λ c. search needs) (λ c. search needs)
+    returns returns-2)

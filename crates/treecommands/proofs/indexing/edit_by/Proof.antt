@@ -7,12 +7,6 @@ use Rattle.tree.specs.declared.action.Action.the-variants.{Put, Replace}
 use Rattle.treecommands.proofs.indexing.edit_by.Statement.{statement}
 use Rattle.treecommands.proofs.indexing.edit_by.Tie as tie
 
-place-at-requires : tie.Need-place-at-requires
-place-at-requires c κs = search needs
-
-subtree-end-requires : tie.Need-subtree-end-requires
-subtree-end-requires c κs = search needs
-
 returns : tie.Need-returns
 returns c =
     let a = c .before .before .before .before .before .args in
@@ -29,4 +23,4 @@ returns-2 c =
 pub edit-by-spec : {M : Type 1} → statement M
 edit-by-spec =
     tie.close
-    (tie.spec (λ c. search needs) place-at-requires (λ c. search needs) subtree-end-requires returns returns-2)
+    (tie.spec (λ c. search needs) (λ c κs. search needs) (λ c. search needs) (λ c κs. search needs) returns returns-2)

@@ -6,12 +6,6 @@ use borrow.Author.Tests.{le-leb, lt-leb}
 use Rattle.treecommands.proofs.indexing.move_edit.Statement.{statement}
 use Rattle.treecommands.proofs.indexing.move_edit.Tie as tie
 
-subtree-end-requires : tie.Need-subtree-end-requires
-subtree-end-requires c κs = search needs
-
-place-at-requires : tie.Need-place-at-requires
-place-at-requires c κs = search needs
-
 returns : tie.Need-returns
 returns c =
     let a = c .before .before .before .before .args in
@@ -28,4 +22,4 @@ returns-2 c =
 
 pub move-edit-spec : {M : Type 1} → statement M
 move-edit-spec =
-    tie.close (tie.spec subtree-end-requires place-at-requires returns returns-2)
+    tie.close (tie.spec (λ c κs. search needs) (λ c κs. search needs) returns returns-2)

@@ -5,12 +5,6 @@ use Rattle.tree.specs.declared.action.Position.the-variants.{Head, Tail, Before
 use Rattle.treecommands.proofs.indexing.place_at.Statement.{statement}
 use Rattle.treecommands.proofs.indexing.place_at.Tie as tie
 
-subtree-end-requires : tie.Need-subtree-end-requires
-subtree-end-requires c κs = search needs
-
-subtree-end-requires-2 : tie.Need-subtree-end-requires-2
-subtree-end-requires-2 c κs = search needs
-
 returns : tie.Need-returns
 returns c = let case : c .before .before .before .args .position ≡ Head = cc in rw case
 
@@ -26,5 +20,5 @@ returns-4 c = let case : c .before .before .before .before .args .position ≡ A
 pub place-at-spec : {M : Type 1} → statement M
 place-at-spec =
     tie.close
-    (tie.spec (λ c. search needs) (λ c. search needs) (λ c. search needs) subtree-end-requires (λ c. search needs)
-    (λ c. search needs) subtree-end-requires-2 returns returns-2 returns-3 returns-4)
+    (tie.spec (λ c. search needs) (λ c. search needs) (λ c. search needs) (λ c κs. search needs) (λ c. search needs)
+    (λ c. search needs) (λ c κs. search needs) returns returns-2 returns-3 returns-4)

@@ -13,9 +13,6 @@ use Rattle.treecommands.specs.Settle.{indexRegion}
 use Rattle.treecommands.proofs.indexing.put_new.Statement.{statement}
 use Rattle.treecommands.proofs.indexing.put_new.Tie as tie
 
-spot-of-requires : tie.Need-spot-of-requires
-spot-of-requires c κs = search needs
-
 put-entry-requires : tie.Need-put-entry-requires
 put-entry-requires c κs =
     let s = c .before .before .before .before .before .before in
@@ -39,5 +36,5 @@ pub put-new-spec : {M : Type 1} → statement M
 put-new-spec =
     tie.close
     (tie.spec (λ c. search needs) (λ c. search needs) (λ c. search needs) (λ c. search needs) (λ c. search needs)
-    (λ c. search needs) spot-of-requires (λ c. search needs) (λ c. search needs) (λ c. search needs) put-entry-requires
-    (λ c. search needs) returns)
+    (λ c. search needs) (λ c κs. search needs) (λ c. search needs) (λ c. search needs) (λ c. search needs)
+    put-entry-requires (λ c. search needs) returns)

@@ -13,9 +13,6 @@ use Rattle.treecommands.specs.Indexing.{changed-follows, cut-index, swap
 use Rattle.treecommands.proofs.indexing.renew_index.Statement.{statement}
 use Rattle.treecommands.proofs.indexing.renew_index.Tie as tie
 
-wide-requires : tie.Need-wide-requires
-wide-requires c κs = search needs
-
 follow-edit-requires : tie.Need-follow-edit-requires
 follow-edit-requires c κs =
     let s = c .before .before .before .before in
@@ -92,6 +89,6 @@ returns-3 c =
 pub renew-index-spec : {M : Type 1} → statement M
 renew-index-spec =
     tie.close
-    (tie.spec (λ c. search needs) wide-requires (λ c. search needs) (λ c. search needs) (λ c. search needs)
+    (tie.spec (λ c. search needs) (λ c κs. search needs) (λ c. search needs) (λ c. search needs) (λ c. search needs)
     follow-edit-requires (λ c. search needs) (λ c. search needs) put-new-requires (λ c. search needs)
     (λ c. search needs) returns same-length-2 returns-2 (λ c. search needs) returns-3)

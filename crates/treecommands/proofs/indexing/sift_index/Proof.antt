@@ -4,12 +4,6 @@ use Rattle.treecommands.specs.Indexing.{sifted-index}
 use Rattle.treecommands.proofs.indexing.sift_index.Statement.{statement}
 use Rattle.treecommands.proofs.indexing.sift_index.Tie as tie
 
-wide-requires : tie.Need-wide-requires
-wide-requires c κs = search needs
-
-follow-places-requires : tie.Need-follow-places-requires
-follow-places-requires c κs = search needs
-
 returns : tie.Need-returns
 returns c =
     let s = c .before .before .before .before .before .before .before .before in
@@ -21,5 +15,5 @@ returns c =
 pub sift-index-spec : {M : Type 1} → statement M
 sift-index-spec =
     tie.close
-    (tie.spec (λ c. search needs) wide-requires (λ c. search needs) (λ c. search needs) (λ c. search needs)
-    follow-places-requires (λ c. search needs) returns)
+    (tie.spec (λ c. search needs) (λ c κs. search needs) (λ c. search needs) (λ c. search needs) (λ c. search needs)
+    (λ c κs. search needs) (λ c. search needs) returns)

@@ -6,29 +6,17 @@ use Rattle.treecommands.specs.SightingInto.{into-first, into-second, int
 use Rattle.treecommands.proofs.moves.into.Statement.{statement}
 use Rattle.treecommands.proofs.moves.into.Tie as tie
 
-wide-requires : tie.Need-wide-requires
-wide-requires c κs = search needs
-
-node-place-requires : tie.Need-node-place-requires
-node-place-requires c κs = search needs
-
 returns : tie.Need-returns
 returns c =
     let s = c .before .before .before .before .before in
     let a = s .args in
     into-first (a .group) (a .node) (a .words .now) (s .pre) (c .before .before .wide .result) (c .before .before .wide .ensures) (c .before .node-place .result) (c .before .node-place .ensures) (c .if1 .taken)
 
-node-place-requires-2 : tie.Need-node-place-requires-2
-node-place-requires-2 c κs = search needs
-
 returns-2 : tie.Need-returns-2
 returns-2 c =
     let s = c .before .before .before .before .before .before .before in
     let a = s .args in
     into-second (a .group) (a .node) (a .words .now) (s .pre) (c .before .before .before .before .wide .result) (c .before .before .before .before .wide .ensures) (c .before .before .before .node-place .result) (c .before .before .before .node-place .ensures) (omega arith) (c .before .node-place2 .result) (c .before .node-place2 .ensures) (c .if2 .taken)
-
-is-synth-requires : tie.Need-is-synth-requires
-is-synth-requires c κs = search needs
 
 returns-3 : tie.Need-returns-3
 returns-3 c =
@@ -41,9 +29,6 @@ returns-4 c =
     let s = c .before .before .before .before .before .before .before .before .before .before in
     let a = s .args in
     into-root (a .group) (a .node) (a .words .now) (s .pre) (c .before .before .before .before .before .before .before .wide .result) (c .before .before .before .before .before .before .before .wide .ensures) (c .before .before .before .before .before .before .node-place .result) (c .before .before .before .before .before .before .node-place .ensures) (omega arith) (c .before .before .before .before .node-place2 .result) (c .before .before .before .before .node-place2 .ensures) (omega arith) (sym (c .before .before .is-synth .ensures) ∙ c .before .if3 .left) (c .if4 .taken)
-
-lies-below-requires : tie.Need-lies-below-requires
-lies-below-requires c κs = search needs
 
 returns-5 : tie.Need-returns-5
 returns-5 c =
@@ -60,6 +45,6 @@ returns-6 c =
 pub into-spec : {M : Type 1} → statement M
 into-spec =
     tie.close
-    (tie.spec (λ c. search needs) wide-requires node-place-requires returns node-place-requires-2 returns-2
-    is-synth-requires returns-3 returns-4 (λ c. search needs) (λ c. search needs) (λ c. search needs)
-    lies-below-requires returns-5 returns-6)
+    (tie.spec (λ c. search needs) (λ c κs. search needs) (λ c κs. search needs) returns (λ c κs. search needs) returns-2
+    (λ c κs. search needs) returns-3 returns-4 (λ c. search needs) (λ c. search needs) (λ c. search needs)
+    (λ c κs. search needs) returns-5 returns-6)

@@ -8,9 +8,6 @@ use Rattle.treecommands.specs.Moving.{Movable, Goes, gone, gone-ready}
 use Rattle.treecommands.proofs.moves.move_pair.Statement.{statement}
 use Rattle.treecommands.proofs.moves.move_pair.Tie as tie
 
-wide-requires : tie.Need-wide-requires
-wide-requires c κs = search needs
-
 move-edit-requires : tie.Need-move-edit-requires
 move-edit-requires c κs =
     let s = c .before .before .before .before .before .before .before .before in
@@ -60,6 +57,6 @@ returns-2 c =
 pub move-pair-spec : {M : Type 1} → statement M
 move-pair-spec =
     tie.close
-    (tie.spec (λ c. search needs) (λ c. search needs) wide-requires (λ c. search needs) (λ c. search needs)
+    (tie.spec (λ c. search needs) (λ c. search needs) (λ c κs. search needs) (λ c. search needs) (λ c. search needs)
     (λ c. search needs) move-edit-requires (λ c. search needs) (λ c. search needs) (λ c. search needs)
     move-node-requires renew-requires (λ c. search needs) (λ c. search needs) returns returns-2)

@@ -22,9 +22,6 @@ count-pair-requires c κs =
     let few = s .pre .1 .few in
     record { fair = s .pre .1 .fair; few = omega arith }
 
-node-is-group-requires : tie.Need-node-is-group-requires
-node-is-group-requires c κs = search needs
-
 returns : tie.Need-returns
 returns c =
     let s = c .before .before .before .before .before in
@@ -124,5 +121,5 @@ returns-3 c =
 pub count-row-spec : {M : Type 1} → statement M
 count-row-spec =
     tie.close
-    (tie.spec count-pair-requires node-is-group-requires returns node-definition-requires string-at-requires
+    (tie.spec count-pair-requires (λ c κs. search needs) returns node-definition-requires string-at-requires
     count-piece-requires count-controls-requires returns-2 returns-3)

@@ -8,15 +8,6 @@ use Rattle.treequery.specs.Pieces.{pieceArgument, mappedText, digits-few
 use Rattle.treequery.proofs.piece.piece_size.Statement.{statement}
 use Rattle.treequery.proofs.piece.piece_size.Tie as tie
 
-part-requires : tie.Need-part-requires
-part-requires c κs = search needs
-
-padded-length-requires : tie.Need-padded-length-requires
-padded-length-requires c κs = search needs
-
-decimal-length-requires : tie.Need-decimal-length-requires
-decimal-length-requires c κs = search needs
-
 add-padded-length : tie.Need-add-padded-length
 add-padded-length c = omega (arith, c .decimal-length .ensures, digits-few (c .before .before .piece4 .given .0 .0))
 
@@ -41,6 +32,6 @@ returns-4 c =
 pub piece-size-spec : {M : Type 1} → statement M
 piece-size-spec =
     tie.close
-    (tie.spec (λ c. search needs) (λ c. search needs) (λ c. search needs) part-requires padded-length-requires
-    (λ c. search needs) decimal-length-requires add-padded-length padded-length-requires-2 (λ c. search needs)
+    (tie.spec (λ c. search needs) (λ c. search needs) (λ c. search needs) (λ c κs. search needs) (λ c κs. search needs)
+    (λ c. search needs) (λ c κs. search needs) add-padded-length padded-length-requires-2 (λ c. search needs)
     (λ c. search needs) returns-3 returns-4)

@@ -5,12 +5,6 @@ use Rattle.treequery.specs.Pieces.{mappedText, digits-few, mapped-put}
 use Rattle.treequery.proofs.piece.put_mapped.Statement.{statement}
 use Rattle.treequery.proofs.piece.put_mapped.Tie as tie
 
-decimal-length-requires : tie.Need-decimal-length-requires
-decimal-length-requires c κs = search needs
-
-put-byte-requires : tie.Need-put-byte-requires
-put-byte-requires c κs = search needs
-
 put-decimal-requires : tie.Need-put-decimal-requires
 put-decimal-requires c κs = record { small = c .before .before .before .before .before .before .before .pre .small; room = omega (arith, c .before .before .before .before .before .decimal-length .ensures, padded-size (mappedText (c .before .before .before .before .before .before .before .args .bus)), digits-few (c .before .before .before .before .before .before .before .args .bus)) }
 
@@ -32,5 +26,5 @@ returns c =
 pub put-mapped-spec : {M : Type 1} → statement M
 put-mapped-spec =
     tie.close
-    (tie.spec decimal-length-requires put-byte-requires (λ c. search needs) put-decimal-requires (λ c. search needs)
+    (tie.spec (λ c κs. search needs) (λ c κs. search needs) (λ c. search needs) put-decimal-requires (λ c. search needs)
     add-put-zeros-2 add-put-zeros-3 (λ c. search needs) put-zeros-requires (λ c. search needs) returns)

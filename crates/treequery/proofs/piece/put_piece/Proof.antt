@@ -17,9 +17,6 @@ put-int-requires c κs = omega (arith, ap (length {A = ℕ}) (ap (pieceBytes (c 
 put-int-requires-2 : tie.Need-put-int-requires-2
 put-int-requires-2 c κs = omega (arith, ap (length {A = ℕ}) (ap (pieceBytes (c .before .before .before .before .before .before .args .definition .now)) (c .before .before .piece2 .given .1)))
 
-part-requires : tie.Need-part-requires
-part-requires c κs = search needs
-
 put-padded-requires : tie.Need-put-padded-requires
 put-padded-requires c κs = omega (arith, ap (length {A = ℕ}) (ap (pieceBytes (c .before .before .before .before .before .before .before .args .definition .now)) (c .before .before .before .piece3 .given .1)), ap (λ (l : List ℕ). length (padded l)) (c .part .ensures))
 
@@ -53,5 +50,5 @@ pub put-piece-spec : {M : Type 1} → statement M
 put-piece-spec =
     tie.close
     (tie.spec (λ c. search needs) put-int-requires (λ c. search needs) put-int-requires-2 (λ c. search needs)
-    part-requires put-padded-requires (λ c. search needs) put-mapped-requires (λ c. search needs) returns
+    (λ c κs. search needs) put-padded-requires (λ c. search needs) put-mapped-requires (λ c. search needs) returns
     (λ c. search needs) returns-2 (λ c. search needs) returns-3 (λ c. search needs) returns-4)

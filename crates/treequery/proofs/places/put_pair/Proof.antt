@@ -5,12 +5,6 @@ use Rattle.treequery.specs.Writing.{wrote-pair}
 use Rattle.treequery.proofs.places.put_pair.Statement.{statement}
 use Rattle.treequery.proofs.places.put_pair.Tie as tie
 
-put-byte-requires : tie.Need-put-byte-requires
-put-byte-requires c κs = search needs
-
-put-byte-requires-2 : tie.Need-put-byte-requires-2
-put-byte-requires-2 c κs = search needs
-
 put-int-requires : tie.Need-put-int-requires
 put-int-requires c κs = omega (arith, pair-size (c .before .before .before .before .before .before .before .before .before .before .args .first) (c .before .before .before .before .before .before .before .before .before .before .args .second), c .before .before .before .before .before .before .before .before .before .before .pre .room)
 
@@ -26,5 +20,5 @@ returns c =
 pub put-pair-spec : {M : Type 1} → statement M
 put-pair-spec =
     tie.close
-    (tie.spec put-byte-requires (λ c. search needs) put-byte-requires-2 put-int-requires (λ c. search needs)
+    (tie.spec (λ c κs. search needs) (λ c. search needs) (λ c κs. search needs) put-int-requires (λ c. search needs)
     put-int-requires-2 (λ c. search needs) (λ c. search needs) (λ c. search needs) returns)

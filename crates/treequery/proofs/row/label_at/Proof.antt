@@ -12,14 +12,8 @@ use native.Mathlib.Nat.{pos-of-ne-zero}
 use Rattle.treequery.proofs.row.label_at.Statement.{statement}
 use Rattle.treequery.proofs.row.label_at.Tie as tie
 
-wide-requires : tie.Need-wide-requires
-wide-requires c κs = search needs
-
 element-copy-out-wide : tie.Need-element-copy-out-wide
 element-copy-out-wide c = omega (arith, c .wide .ensures, c .before .before .pre .low, c .before .before .pre .inside)
-
-wide-requires-2 : tie.Need-wide-requires-2
-wide-requires-2 c κs = search needs
 
 returns : tie.Need-returns
 returns c =
@@ -45,5 +39,5 @@ returns-2 c =
 pub label-at-spec : {M : Type 1} → statement M
 label-at-spec =
     tie.close
-    (tie.spec (λ c. search needs) wide-requires (λ c. search needs) (λ c. search needs) element-copy-out-wide
-    wide-requires-2 returns string-at-requires returns-2)
+    (tie.spec (λ c. search needs) (λ c κs. search needs) (λ c. search needs) (λ c. search needs) element-copy-out-wide
+    (λ c κs. search needs) returns string-at-requires returns-2)

@@ -6,9 +6,6 @@ use Rattle.treequery.specs.Shown.{shown-own, shown-bus}
 use Rattle.treequery.proofs.row.shown_piece.Statement.{statement}
 use Rattle.treequery.proofs.row.shown_piece.Tie as tie
 
-own-word-requires : tie.Need-own-word-requires
-own-word-requires c κs = search needs
-
 returns : tie.Need-returns
 returns c =
     let control = c .before .before .before .args .control in
@@ -21,4 +18,4 @@ returns-2 c =
 
 pub shown-piece-spec : {M : Type 1} → statement M
 shown-piece-spec =
-    tie.close (tie.spec (λ c. search needs) own-word-requires (λ c. search needs) returns returns-2)
+    tie.close (tie.spec (λ c. search needs) (λ c κs. search needs) (λ c. search needs) returns returns-2)

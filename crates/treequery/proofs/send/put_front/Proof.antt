@@ -8,21 +8,6 @@ use Rattle.treequery.specs.TreeMessage.{firstTags, tagZeros, treeFront}
 use Rattle.treequery.proofs.send.put_front.Statement.{statement}
 use Rattle.treequery.proofs.send.put_front.Tie as tie
 
-put-padded-requires : tie.Need-put-padded-requires
-put-padded-requires c κs = search needs
-
-put-bytes-requires : tie.Need-put-bytes-requires
-put-bytes-requires c κs = search needs
-
-put-zeros-requires : tie.Need-put-zeros-requires
-put-zeros-requires c κs = search needs
-
-flag-number-requires : tie.Need-flag-number-requires
-flag-number-requires c κs = search needs
-
-put-words-requires : tie.Need-put-words-requires
-put-words-requires c κs = search needs
-
 returns : tie.Need-returns
 returns c =
     let s = c .before .before .before .before .before .before .before .before .before .before .before .before .before .before .before .before .before .before .before .before .before in
@@ -38,6 +23,6 @@ returns c =
 pub put-front-spec : {M : Type 1} → statement M
 put-front-spec =
     tie.close
-    (tie.spec (λ c. search needs) put-padded-requires (λ c. search needs) put-bytes-requires (λ c. search needs)
-    (λ c. search needs) (λ c. search needs) put-zeros-requires flag-number-requires (λ c. search needs)
-    put-words-requires (λ c. search needs) returns)
+    (tie.spec (λ c. search needs) (λ c κs. search needs) (λ c. search needs) (λ c κs. search needs) (λ c. search needs)
+    (λ c. search needs) (λ c. search needs) (λ c κs. search needs) (λ c κs. search needs) (λ c. search needs)
+    (λ c κs. search needs) (λ c. search needs) returns)

@@ -23,15 +23,6 @@ use Rattle.treequery.proofs.send.send_tree.Tie as tie
 add-from : tie.Need-add-from
 add-from c = omega (arith, c .before .before .before .pre .order, c .before .before .before .pre .ends, c .before .before .before .pre .state .few)
 
-tree-shapes-requires : tie.Need-tree-shapes-requires
-tree-shapes-requires c κs = search needs
-
-count-tree-requires : tie.Need-count-tree-requires
-count-tree-requires c κs = search needs
-
-padded-length-requires : tie.Need-padded-length-requires
-padded-length-requires c κs = omega arith
-
 returns : tie.Need-returns
 returns c =
     let s = c .before .before .before .before .before .before .before .before .before in
@@ -134,7 +125,7 @@ returns-2 c =
 pub send-tree-spec : {M : Type 1} → statement M
 send-tree-spec =
     tie.close
-    (tie.spec add-from tree-shapes-requires count-tree-requires (λ c. omega arith) padded-length-requires
+    (tie.spec add-from (λ c κs. search needs) (λ c κs. search needs) (λ c. omega arith) (λ c κs. omega arith)
     (λ c. omega arith) (λ c. omega arith) (λ c. omega arith) returns tree-children-requires mul-number add-number
     mul-number-2 shared-slice-read-number array-read-put-front (λ c. search needs) put-front-requires
     (λ c. search needs) (λ c. search needs) put-tree-requires (λ c. search needs) returns-2)

@@ -15,12 +15,6 @@ use Rattle.treequery.specs.Subtree.{end-most, tree-unknown, tree-synth, 
 use Rattle.treequery.proofs.send.tree_query.Statement.{statement}
 use Rattle.treequery.proofs.send.tree_query.Tie as tie
 
-node-place-requires : tie.Need-node-place-requires
-node-place-requires c κs = search needs
-
-wide-requires : tie.Need-wide-requires
-wide-requires c κs = search needs
-
 returns : tie.Need-returns
 returns c =
     let s = c .before .before .before .before .before .before .before .before in
@@ -31,9 +25,6 @@ returns c =
     reply-refused (query.Tree (a .group) (a .flag)) (a .bytes .now) ws bs (a .out .now) NoNode
     (tree-unknown (a .group) (a .bytes .now) ws bs (n .result) (n .ensures) (a .flag) (omega (arith, c .before .wide .ensures)))
 
-node-is-group-requires : tie.Need-node-is-group-requires
-node-is-group-requires c κs = search needs
-
 returns-2 : tie.Need-returns-2
 returns-2 c =
     let s = c .before .before .before .before .before .before .before .before .before .before in
@@ -43,12 +34,6 @@ returns-2 c =
     let n = c .before .before .before .before .before .node-place in
     reply-refused (query.Tree (a .group) (a .flag)) (a .bytes .now) ws bs (a .out .now) WrongKind
     (tree-synth (a .group) (a .bytes .now) ws bs (n .result) (n .ensures) (record { state = s .pre; live = omega (arith, c .before .before .before .wide .ensures) }) (a .flag) (sym (c .before .node-is-group .ensures) ∙ not-true (c .before .node-is-group .result) (c .if2 .taken)))
-
-subtree-end-requires : tie.Need-subtree-end-requires
-subtree-end-requires c κs = search needs
-
-is-shown-requires : tie.Need-is-shown-requires
-is-shown-requires c κs = search needs
 
 send-tree-requires : tie.Need-send-tree-requires
 send-tree-requires c κs =
@@ -86,6 +71,6 @@ returns-3 c =
 pub tree-query-spec : {M : Type 1} → statement M
 tree-query-spec =
     tie.close
-    (tie.spec node-place-requires (λ c. search needs) wide-requires returns node-is-group-requires returns-2
-    (λ c. search needs) (λ c. search needs) (λ c. search needs) subtree-end-requires is-shown-requires
+    (tie.spec (λ c κs. search needs) (λ c. search needs) (λ c κs. search needs) returns (λ c κs. search needs) returns-2
+    (λ c. search needs) (λ c. search needs) (λ c. search needs) (λ c κs. search needs) (λ c κs. search needs)
     send-tree-requires (λ c. search needs) returns-3)

@@ -14,9 +14,6 @@ use Rattle.treequery.specs.SynthRow.{synth-readable}
 use Rattle.treequery.proofs.shapes.look_up_row.Statement.{statement}
 use Rattle.treequery.proofs.shapes.look_up_row.Tie as tie
 
-node-is-group-requires : tie.Need-node-is-group-requires
-node-is-group-requires c κs = search needs
-
 returns : tie.Need-returns
 returns c =
     let s = c .before .before .before .before in
@@ -77,5 +74,5 @@ returns-3 c =
 pub look-up-row-spec : {M : Type 1} → statement M
 look-up-row-spec =
     tie.close
-    (tie.spec node-is-group-requires returns node-slot-requires mul-if2 mul-if2-2 element-copy-out-if2 returns-2
+    (tie.spec (λ c κs. search needs) returns node-slot-requires mul-if2 mul-if2-2 element-copy-out-if2 returns-2
     node-definition-requires look-up-requires returns-3)

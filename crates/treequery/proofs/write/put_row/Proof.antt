@@ -18,9 +18,6 @@ use Rattle.treequery.specs.Rows.{group-turn, number-fact}
 use Rattle.treequery.proofs.write.put_row.Statement.{statement}
 use Rattle.treequery.proofs.write.put_row.Tie as tie
 
-node-is-group-requires : tie.Need-node-is-group-requires
-node-is-group-requires c κs = search needs
-
 put-pair-requires : tie.Need-put-pair-requires
 put-pair-requires c κs =
     let s = c .before .before .before .before .before .before .before in
@@ -140,6 +137,6 @@ returns-3 c =
 pub put-row-spec : {M : Type 1} → statement M
 put-row-spec =
     tie.close
-    (tie.spec (λ c. search needs) (λ c. search needs) (λ c. search needs) (λ c. search needs) node-is-group-requires
+    (tie.spec (λ c. search needs) (λ c. search needs) (λ c. search needs) (λ c. search needs) (λ c κs. search needs)
     put-pair-requires (λ c. search needs) returns put-pair-requires-2 node-definition-requires string-at-requires
     put-argument-requires put-controls-requires (λ c. search needs) returns-2 (λ c. search needs) returns-3)

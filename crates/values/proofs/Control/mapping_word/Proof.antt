@@ -3,13 +3,10 @@ use Rattle.values.specs.Controls.{seen}
 use Rattle.values.proofs.Control.mapping_word.Statement.{statement}
 use Rattle.values.proofs.Control.mapping_word.Tie as tie
 
-word-of-requires : tie.Need-word-of-requires
-word-of-requires c κs = search needs
-
 returns : tie.Need-returns
 unfolding seen
 returns c = c .word-of .ensures
 
 pub mapping-word-spec : {M : Type 1} → statement M
 mapping-word-spec =
-    tie.close (tie.spec word-of-requires returns)
+    tie.close (tie.spec (λ c κs. search needs) returns)

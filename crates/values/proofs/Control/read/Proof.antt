@@ -3,12 +3,6 @@ use Rattle.values.specs.Controls.{seen}
 use Rattle.values.proofs.Control.read.Statement.{statement}
 use Rattle.values.proofs.Control.read.Tie as tie
 
-own-word-requires : tie.Need-own-word-requires
-own-word-requires c κs = search needs
-
-bus-at-requires : tie.Need-bus-at-requires
-bus-at-requires c κs = search needs
-
 returns : tie.Need-returns
 unfolding seen
 returns c = rw (c .before .enum-told .given .1) (c .own-word .ensures)
@@ -20,4 +14,4 @@ returns-2 c = rw (c .before .before .mapping .given .1) (c .bus-at .ensures)
 pub read-spec : {M : Type 1} → statement M
 read-spec =
     tie.close
-    (tie.spec (λ c. search needs) own-word-requires (λ c. search needs) bus-at-requires returns returns-2)
+    (tie.spec (λ c. search needs) (λ c κs. search needs) (λ c. search needs) (λ c κs. search needs) returns returns-2)

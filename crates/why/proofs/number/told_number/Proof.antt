@@ -6,15 +6,6 @@ use Rattle.why.specs.Numbers.{toldNumber}
 use Rattle.why.proofs.number.told_number.Statement.{statement}
 use Rattle.why.proofs.number.told_number.Tie as tie
 
-refusal-number-requires : tie.Need-refusal-number-requires
-refusal-number-requires c κs = search needs
-
-reason-number-requires : tie.Need-reason-number-requires
-reason-number-requires c κs = search needs
-
-detail-of-requires : tie.Need-detail-of-requires
-detail-of-requires c κs = search needs
-
 returns : tie.Need-returns
 returns c = c .refusal-number .ensures ∙ ap toldNumber (sym (c .before .before .told .given .1))
 
@@ -25,6 +16,6 @@ returns-2 c =
 pub told-number-spec : {M : Type 1} → statement M
 told-number-spec =
     tie.close
-    (tie.spec (λ c. search needs) refusal-number-requires (λ c. search needs) (λ c. search needs) reason-number-requires
-    (λ c. search needs) (λ c. search needs) detail-of-requires (λ c. search needs) (λ c. search needs)
+    (tie.spec (λ c. search needs) (λ c κs. search needs) (λ c. search needs) (λ c. search needs) (λ c κs. search needs)
+    (λ c. search needs) (λ c. search needs) (λ c κs. search needs) (λ c. search needs) (λ c. search needs)
     (λ c. search needs) returns returns-2)

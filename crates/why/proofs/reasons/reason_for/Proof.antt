@@ -10,16 +10,10 @@ returns c =
     let a = c .before .before .before .before .args in
     rw (eq-eqb (a .number) 4294967295 (c .before .before .if1 .taken), eq-eqb (getD (a .words .now) 3 0) 0 (c .if2 .taken))
 
-reason-of-requires : tie.Need-reason-of-requires
-reason-of-requires c κs = search needs
-
 returns-2 : tie.Need-returns-2
 returns-2 c =
     let a = c .before .before .before .before .before .args in
     rw (eq-eqb (a .number) 4294967295 (c .before .before .before .if1 .taken), ne-eqb (getD (a .words .now) 3 0) 0 (c .before .if2 .left)) (c .reason-of .ensures)
-
-reason-of-requires-2 : tie.Need-reason-of-requires-2
-reason-of-requires-2 c κs = search needs
 
 returns-3 : tie.Need-returns-3
 returns-3 c =
@@ -28,4 +22,4 @@ returns-3 c =
 
 pub reason-for-spec : {M : Type 1} → statement M
 reason-for-spec =
-    tie.close (tie.spec (λ c. search needs) returns reason-of-requires returns-2 reason-of-requires-2 returns-3)
+    tie.close (tie.spec (λ c. search needs) returns (λ c κs. search needs) returns-2 (λ c κs. search needs) returns-3)

@@ -11,12 +11,6 @@ use Rattle.why.specs.Returns.{return-none, return-group, return-off, ret
 use Rattle.why.proofs.reasons.reason_of.Statement.{statement}
 use Rattle.why.proofs.reasons.reason_of.Tie as tie
 
-place-of-requires : tie.Need-place-of-requires
-place-of-requires c κs = search needs
-
-wide-requires : tie.Need-wide-requires
-wide-requires c κs = search needs
-
 returns : tie.Need-returns
 returns c =
     let first = c .before .before .before .before .before in
@@ -40,12 +34,6 @@ returns-3 c =
     let place = c .before .before .before .before .before .before .before .place-of in
     let wide = c .before .before .before .before .before .wide in
     return-off (a .words .now) (first .pre) (a .number) (place .result) (wide .result) (place .ensures) (wide .ensures) (omega arith) (c .before .before .if2 .left) (c .if3 .taken)
-
-wide-requires-2 : tie.Need-wide-requires-2
-wide-requires-2 c κs = search needs
-
-before-in-requires : tie.Need-before-in-requires
-before-in-requires c κs = search needs
 
 returns-4 : tie.Need-returns-4
 returns-4 c =
@@ -91,9 +79,9 @@ returns-6 c =
 pub reason-of-spec : {M : Type 1} → statement M
 reason-of-spec =
     tie.close
-    (tie.spec place-of-requires (λ c. search needs) wide-requires returns (λ c. search needs) (λ c. search needs)
-    (λ c. search needs) (λ c. search needs) (λ c. search needs) returns-2 (λ c. search needs) (λ c. search needs)
-    (λ c. search needs) (λ c. search needs) (λ c. search needs) returns-3 (λ c. search needs) wide-requires-2
-    (λ c. search needs) (λ c. search needs) (λ c. search needs) before-in-requires (λ c. search needs)
-    (λ c. search needs) returns-4 (λ c. search needs) (λ c. search needs) (λ c. search needs) returns-5
-    (λ c. search needs) (λ c. search needs) (λ c. search needs) off-above-requires returns-6)
+    (tie.spec (λ c κs. search needs) (λ c. search needs) (λ c κs. search needs) returns (λ c. search needs)
+    (λ c. search needs) (λ c. search needs) (λ c. search needs) (λ c. search needs) returns-2 (λ c. search needs)
+    (λ c. search needs) (λ c. search needs) (λ c. search needs) (λ c. search needs) returns-3 (λ c. search needs)
+    (λ c κs. search needs) (λ c. search needs) (λ c. search needs) (λ c. search needs) (λ c κs. search needs)
+    (λ c. search needs) (λ c. search needs) returns-4 (λ c. search needs) (λ c. search needs) (λ c. search needs)
+    returns-5 (λ c. search needs) (λ c. search needs) (λ c. search needs) off-above-requires returns-6)

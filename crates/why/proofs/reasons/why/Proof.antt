@@ -7,9 +7,6 @@ use Rattle.why.specs.Mapped.{settled, told-bad, told-because}
 use Rattle.why.proofs.reasons.why.Statement.{statement}
 use Rattle.why.proofs.reasons.why.Tie as tie
 
-well-formed-requires : tie.Need-well-formed-requires
-well-formed-requires c κs = search needs
-
 returns : tie.Need-returns
 returns c =
     let a = c .before .before .before .before .args in
@@ -30,4 +27,4 @@ returns-2 c =
 
 pub why-spec : {M : Type 1} → statement M
 why-spec =
-    tie.close (tie.spec well-formed-requires returns reason-for-requires returns-2)
+    tie.close (tie.spec (λ c κs. search needs) returns reason-for-requires returns-2)

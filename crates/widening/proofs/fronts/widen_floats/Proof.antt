@@ -16,9 +16,6 @@ unfolding floatsPast
 value-at-requires c κs =
     omega (arith, c .before .before .pre .inside)
 
-wide-requires : tie.Need-wide-requires
-wide-requires c κs = search needs
-
 widen-integer-requires : tie.Need-widen-integer-requires
 unfolding floatsPast floatsWide
 widen-integer-requires c κs =
@@ -48,5 +45,5 @@ returns c =
 pub widen-floats-spec : {M : Type 1} → statement M
 widen-floats-spec =
     tie.close
-    (tie.spec value-at-requires wide-requires widen-integer-requires (λ c. search needs) keep-requires
+    (tie.spec value-at-requires (λ c κs. search needs) widen-integer-requires (λ c. search needs) keep-requires
     (λ c. search needs) returns)

@@ -7,12 +7,6 @@ use borrow.Author.Needs.{needs}
 use Rattle.widening.proofs.places.widen_integer.Statement.{statement}
 use Rattle.widening.proofs.places.widen_integer.Tie as tie
 
-value-at-requires : tie.Need-value-at-requires
-value-at-requires c κs = search needs
-
-put-int-requires : tie.Need-put-int-requires
-put-int-requires c κs = search needs
-
 returns : tie.Need-returns
 returns c =
     let a = c .before .before .before .before .before .before .before .before .before .args in
@@ -25,4 +19,5 @@ returns c =
 pub widen-integer-spec : {M : Type 1} → statement M
 widen-integer-spec =
     tie.close
-    (tie.spec value-at-requires put-int-requires (λ c. search needs) (λ c. search needs) (λ c. search needs) returns)
+    (tie.spec (λ c κs. search needs) (λ c κs. search needs) (λ c. search needs) (λ c. search needs) (λ c. search needs)
+    returns)

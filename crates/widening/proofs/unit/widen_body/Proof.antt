@@ -30,9 +30,6 @@ widen-inputs-requires c κs =
     let rest = room-last (λ p. wideAll (inputWide s) inputPast n p ++ region (pastAll inputPast n p) (a .outputs) s) (λ p. pastAll inputPast n p + a .outputs) (c .before .before .before .before .before .before .before .pre) m1 in
     room-first (wideAll (inputWide s) inputPast n p) (region (pastAll inputPast n p) (a .outputs) s) rest (omega arith)
 
-wide-requires : tie.Need-wide-requires
-wide-requires c κs = search needs
-
 keep-requires-2 : tie.Need-keep-requires-2
 unfolding bodyWide bodyPast
 keep-requires-2 c κs =
@@ -56,4 +53,4 @@ returns c =
 pub widen-body-spec : {M : Type 1} → statement M
 widen-body-spec =
     tie.close
-    (tie.spec keep-requires widen-inputs-requires wide-requires keep-requires-2 (λ c. search needs) returns)
+    (tie.spec keep-requires widen-inputs-requires (λ c κs. search needs) keep-requires-2 (λ c. search needs) returns)

@@ -2,15 +2,9 @@ use borrow.Author.Needs.{needs}
 use Rattle.fields.proofs.cursor.Cursor.count_to.Statement.{statement}
 use Rattle.fields.proofs.cursor.Cursor.count_to.Tie as tie
 
-integer-requires : tie.Need-integer-requires
-integer-requires c κs = search needs
-
-at-most-requires : tie.Need-at-most-requires
-at-most-requires c κs = search needs
-
 returns : tie.Need-returns
 returns c = rw (c .before .integer .ensures) at (c .at-most .ensures)
 
 pub count-to-spec : {M : Type 1} → statement M
 count-to-spec =
-    tie.close (tie.spec integer-requires at-most-requires returns)
+    tie.close (tie.spec (λ c κs. search needs) (λ c κs. search needs) returns)

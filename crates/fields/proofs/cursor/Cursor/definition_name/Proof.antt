@@ -7,18 +7,12 @@ use Rattle.format.specs.ReadLaws.{checked-pass, checked-fail, checked-bad}
 use Rattle.fields.proofs.cursor.Cursor.definition_name.Statement.{statement}
 use Rattle.fields.proofs.cursor.Cursor.definition_name.Tie as tie
 
-pstring-requires : tie.Need-pstring-requires
-pstring-requires c κs = search needs
-
 returns : tie.Need-returns
 returns c =
     let a = c .before .before .before .before .before .before .args in
     let g = c .before .before .start .given in
     let read = rw (g .1) at (c .before .before .before .before .pstring .ensures) in
     checked-fail BadName full (a .self .at) read (rw (region-none (a .s .now) (g .0 .0) (g .0 .1 .0 .at) (c .if1 .taken)))
-
-name-bytes-requires : tie.Need-name-bytes-requires
-name-bytes-requires c κs = search needs
 
 returns-2 : tie.Need-returns-2
 returns-2 c =
@@ -45,5 +39,5 @@ returns-4 c =
 pub definition-name-spec : {M : Type 1} → statement M
 definition-name-spec =
     tie.close
-    (tie.spec pstring-requires (λ c. search needs) returns name-bytes-requires returns-2 (λ c. search needs) returns-3
-    returns-4)
+    (tie.spec (λ c κs. search needs) (λ c. search needs) returns (λ c κs. search needs) returns-2 (λ c. search needs)
+    returns-3 returns-4)

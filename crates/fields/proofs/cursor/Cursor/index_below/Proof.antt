@@ -6,9 +6,6 @@ use Rattle.format.specs.ReadLaws.{checked-pass, checked-fail, checked-bad}
 use Rattle.fields.proofs.cursor.Cursor.index_below.Statement.{statement}
 use Rattle.fields.proofs.cursor.Cursor.index_below.Tie as tie
 
-integer-requires : tie.Need-integer-requires
-integer-requires c κs = search needs
-
 returns : tie.Need-returns
 returns c =
     let a = c .before .before .before .before .before .before .args in
@@ -29,4 +26,4 @@ returns-3 c =
 
 pub index-below-spec : {M : Type 1} → statement M
 index-below-spec =
-    tie.close (tie.spec integer-requires (λ c. search needs) returns (λ c. search needs) returns-2 returns-3)
+    tie.close (tie.spec (λ c κs. search needs) (λ c. search needs) returns (λ c. search needs) returns-2 returns-3)

@@ -16,9 +16,6 @@ returns-2 c =
     let a = c .before .before .before .args in
     rw (lt-leb (a .self .at + 2) (length (a .s .now)) (omega arith))
 
-number16-requires : tie.Need-number16-requires
-number16-requires c κs = search needs
-
 returns-3 : tie.Need-returns-3
 returns-3 c =
     let a = c .before .before .before .before .before .before .args in
@@ -28,4 +25,4 @@ pub int16-spec : {M : Type 1} → statement M
 int16-spec =
     tie.close
     (tie.spec returns (λ c. search needs) returns-2 (λ c. search needs) (λ c. search needs) (λ c. search needs)
-    number16-requires (λ c. search needs) returns-3)
+    (λ c κs. search needs) (λ c. search needs) returns-3)

@@ -2,12 +2,6 @@ use borrow.Author.Needs.{needs}
 use Rattle.fields.proofs.cursor.Cursor.integer.Statement.{statement}
 use Rattle.fields.proofs.cursor.Cursor.integer.Tie as tie
 
-extended-requires : tie.Need-extended-requires
-extended-requires c κs = search needs
-
-int32-requires : tie.Need-int32-requires
-int32-requires c κs = search needs
-
 returns : tie.Need-returns
 returns c = rw (c .before .enum-told .given .1) (c .extended .ensures)
 
@@ -17,4 +11,4 @@ returns-2 c = rw (c .before .enum-told2 .given .1) (c .int32 .ensures)
 pub integer-spec : {M : Type 1} → statement M
 integer-spec =
     tie.close
-    (tie.spec (λ c. search needs) extended-requires (λ c. search needs) int32-requires returns returns-2)
+    (tie.spec (λ c. search needs) (λ c κs. search needs) (λ c. search needs) (λ c κs. search needs) returns returns-2)

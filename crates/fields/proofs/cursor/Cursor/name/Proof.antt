@@ -6,12 +6,6 @@ use Rattle.format.specs.ReadLaws.{checked-pass, checked-fail, checked-bad}
 use Rattle.fields.proofs.cursor.Cursor.name.Statement.{statement}
 use Rattle.fields.proofs.cursor.Cursor.name.Tie as tie
 
-pstring-requires : tie.Need-pstring-requires
-pstring-requires c κs = search needs
-
-name-bytes-requires : tie.Need-name-bytes-requires
-name-bytes-requires c κs = search needs
-
 returns : tie.Need-returns
 returns c =
     let a = c .before .before .before .before .before .before .before .args in
@@ -33,4 +27,5 @@ returns-3 c =
 pub name-spec : {M : Type 1} → statement M
 name-spec =
     tie.close
-    (tie.spec pstring-requires (λ c. search needs) name-bytes-requires returns (λ c. search needs) returns-2 returns-3)
+    (tie.spec (λ c κs. search needs) (λ c. search needs) (λ c κs. search needs) returns (λ c. search needs) returns-2
+    returns-3)

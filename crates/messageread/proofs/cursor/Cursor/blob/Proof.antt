@@ -6,12 +6,6 @@ use Rattle.messageread.specs.PartLaws.{no-part, part-by}
 use Rattle.messageread.proofs.cursor.Cursor.blob.Statement.{statement}
 use Rattle.messageread.proofs.cursor.Cursor.blob.Tie as tie
 
-number-requires : tie.Need-number-requires
-number-requires c κs = search needs
-
-bytes-requires : tie.Need-bytes-requires
-bytes-requires c κs = search needs
-
 returns : tie.Need-returns
 returns c =
     let a = c .before .before .before .before .args in
@@ -29,4 +23,5 @@ returns-2 c =
 
 pub blob-spec : {M : Type 1} → statement M
 blob-spec =
-    tie.close (tie.spec number-requires (λ c. search needs) (λ c. search needs) bytes-requires returns returns-2)
+    tie.close
+    (tie.spec (λ c κs. search needs) (λ c. search needs) (λ c. search needs) (λ c κs. search needs) returns returns-2)

@@ -40,9 +40,6 @@ returns-4 c =
     let size : a .self .at + n - a .self .at ≡ n = omega arith in
     rw (le-leb n highest32 (omega arith)) (rw size at (part-cut ((4 - n % 4) % 4) (λ bytes. true) (a .message .now) (a .self .at) (a .self .at + n) (omega arith) (omega arith)))
 
-blank-requires : tie.Need-blank-requires
-blank-requires c κs = search needs
-
 returns-5 : tie.Need-returns-5
 returns-5 c =
     let a = c .before .before .before .before .before .before .before .args in
@@ -63,4 +60,4 @@ pub bytes-spec : {M : Type 1} → statement M
 bytes-spec =
     tie.close
     (tie.spec returns returns-2 (λ c. search needs) returns-3 (λ c. search needs) (λ c. search needs)
-    (λ c. search needs) returns-4 (λ c. search needs) blank-requires returns-5 returns-6)
+    (λ c. search needs) returns-4 (λ c. search needs) (λ c κs. search needs) returns-5 returns-6)

@@ -8,9 +8,6 @@ use Rattle.messageread.specs.HeadLaws.{no-head, empty-head, wrong-head, 
 use Rattle.messageread.proofs.cursor.Cursor.headed.Statement.{statement}
 use Rattle.messageread.proofs.cursor.Cursor.headed.Tie as tie
 
-text-requires : tie.Need-text-requires
-text-requires c κs = search needs
-
 returns : tie.Need-returns
 returns c =
     let a = c .before .before .before .before .before .before .args in
@@ -59,5 +56,5 @@ returns-4 c =
 pub headed-spec : {M : Type 1} → statement M
 headed-spec =
     tie.close
-    (tie.spec text-requires (λ c. search needs) (λ c. search needs) returns shared-slice-read-if2 returns-2 returns-3
-    returns-4)
+    (tie.spec (λ c κs. search needs) (λ c. search needs) (λ c. search needs) returns shared-slice-read-if2 returns-2
+    returns-3 returns-4)

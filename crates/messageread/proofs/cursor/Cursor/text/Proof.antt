@@ -9,9 +9,6 @@ use Rattle.messageread.specs.PartLaws.{no-part, part-cut, part-marked, p
 use Rattle.messageread.proofs.cursor.Cursor.text.Statement.{statement}
 use Rattle.messageread.proofs.cursor.Cursor.text.Tie as tie
 
-text-end-requires : tie.Need-text-end-requires
-text-end-requires c κs = search needs
-
 returns : tie.Need-returns
 returns c =
     let a = c .before .before .before .args in
@@ -28,9 +25,6 @@ returns-2 c =
     let end = c .before .before .text-end .result in
     let ended = c .before .before .text-end .ensures .ended (omega arith) in
     rw (ended .size) (part-cut (4 - (end - a .self .at) % 4) nameBytes (a .message .now) (a .self .at) end (ended .behind) (omega arith))
-
-blank-requires : tie.Need-blank-requires
-blank-requires c κs = search needs
 
 returns-3 : tie.Need-returns-3
 returns-3 c =
@@ -49,5 +43,5 @@ returns-4 c =
 pub text-spec : {M : Type 1} → statement M
 text-spec =
     tie.close
-    (tie.spec text-end-requires returns sub-pad (λ c. search needs) (λ c. search needs) returns-2 (λ c. search needs)
-    blank-requires returns-3 returns-4)
+    (tie.spec (λ c κs. search needs) returns sub-pad (λ c. search needs) (λ c. search needs) returns-2
+    (λ c. search needs) (λ c κs. search needs) returns-3 returns-4)
