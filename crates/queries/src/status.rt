@@ -17,13 +17,16 @@ ghost use Rattle.state.specs.Does.{Reply};
 ghost use Rattle.queries.specs.Status.{viewFrom};
 ghost use Rattle.queries.specs.Tally.{Slotted, Tallies};
 
+// A count for each slot and, behind them, one for the groups.
+const COUNTS: usize = SLOTS + 1;
+
 // How many synths hold each slot, and behind the last slot how many groups there are.
-fn slot_counts(words: &[u32]) -> [u32; 33]
+fn slot_counts(words: &[u32]) -> [u32; COUNTS]
     requires { ⌜ Slotted (now words) ⌝ }
     ensures { λ r. ⌜ Tallies (now (words .entry)) r ⌝ }
 {
     let count = wide(words[COUNT]);
-    let mut counts = [0u32; 33];
+    let mut counts = [0u32; COUNTS];
     let mut i = 0;
     while i < count {
         let slot = node_slot(words, i);
@@ -34,7 +37,7 @@ fn slot_counts(words: &[u32]) -> [u32; 33]
 }
 
 // Units over live synths. Each slot is looked up once.
-fn unit_count(words: &[u32], arena: &[u8], counts: &[u32; 33]) -> usize
+fn unit_count(words: &[u32], arena: &[u8], counts: &[u32; COUNTS]) -> usize
     requires { ⌜ (Known (now words) (now arena)) × (Tallies (now words) (now counts)) ⌝ }
     ensures { λ r. ⌜ r ≡ unitCount (viewFrom (now (words .entry)) (now (arena .entry)) 0) ⌝ }
 {
