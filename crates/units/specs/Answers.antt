@@ -1,10 +1,10 @@
 -- What the answers of the functions that read units say, each as a reading.
 use Prim.Native.Nat.{ℕ}
 use Rattle.format.specs.Read.{Read, got, bad}
-use Rattle.units.specs.declared.UnitRead.{UnitRead}
-use Rattle.units.specs.declared.UnitRead.the-variants as unit
-use Rattle.units.specs.declared.Run.{Run}
-use Rattle.units.specs.declared.Run.the-variants as run
+use Rattle.units.specs.declared.unit.UnitRead.{UnitRead}
+use Rattle.units.specs.declared.unit.UnitRead.the-variants as unit
+use Rattle.units.specs.declared.run.Run.{Run}
+use Rattle.units.specs.declared.run.Run.the-variants as run
 
 -- a unit's counts of inputs and outputs, and the cursor past it
 abbrev pub unitOf : UnitRead → Read (ℕ × ℕ)
