@@ -1,5 +1,7 @@
 //! Pages of scripts: what they show, against the independent engine; their form; their size.
 
+#[path = "../common/mod.rs"]
+mod common;
 mod expected;
 mod html;
 mod json;
@@ -8,6 +10,7 @@ mod replay;
 mod script;
 
 use cli::page::Page;
+use common::{examples, program_on};
 use expected::{marks, shown};
 use html::Piece;
 use independent::engine::{Theme, MOST_NODES};
@@ -18,19 +21,10 @@ use replay::{Marks, Replay};
 use script::{quoted, random, Folder};
 use std::collections::HashMap;
 use std::fs;
-use std::io::Write;
-use std::path::{Path, PathBuf};
-use std::process::{Command, Stdio};
 use std::time::{SystemTime, UNIX_EPOCH};
-
-const PROGRAM: &str = env!("CARGO_BIN_EXE_limudvek");
 
 /// The refusal of a line with a name that no message can hold.
 const UNWRITTEN: u32 = 26;
-
-fn examples() -> PathBuf {
-    Path::new(env!("CARGO_MANIFEST_DIR")).join("../../examples")
-}
 
 fn seed() -> u64 {
     let seed = match std::env::var("LIMUDVEK_SEED") {
@@ -427,24 +421,8 @@ fn two_thousand_commands_on_256_nodes_stay_under_5_mb() {
 #[test]
 fn the_program_writes_the_page() {
     let run = |name: &str, input: &[u8]| {
-        let mut program = Command::new(PROGRAM)
-            .args(["page", name])
-            .current_dir(examples())
-            .stdin(Stdio::piped())
-            .stdout(Stdio::piped())
-            .stderr(Stdio::piped())
-            .spawn()
-            .expect("the program runs");
-        let mut stdin = program.stdin.take().expect("a pipe");
-        stdin.write_all(input).expect("it reads or is closed");
-        drop(stdin);
-        let output = program.wait_with_output().expect("the program exits");
-        let text = |bytes| String::from_utf8(bytes).expect("text");
-        (
-            output.status.code(),
-            text(output.stdout),
-            text(output.stderr),
-        )
+        let (status, page, err) = program_on(&["page", name], input);
+        (status, String::from_utf8(page).expect("text"), err)
     };
     let script = fs::read(examples().join("show.txt")).expect("the script");
     for (name, input, title) in [
@@ -452,14 +430,14 @@ fn the_program_writes_the_page() {
         ("-", &script, "standard input"),
     ] {
         let (status, page, err) = run(name, input);
-        assert_eq!((status, err.as_str()), (Some(0), ""));
+        assert_eq!((status, err.as_str()), (0, ""));
         assert_eq!(data(&pieces(&page)).list_at("steps").len(), 70);
         assert!(page.contains(&format!("<title>{title}</title>")));
     }
     let (status, page, _) = run("-", b"/quit\n");
-    assert_eq!(status, Some(1));
+    assert_eq!(status, 1);
     assert!(page.contains("/quit is no command"));
     let (status, page, err) = run("no such script", b"");
-    assert_eq!((status, page.as_str()), (Some(2), ""));
+    assert_eq!((status, page.as_str()), (2, ""));
     assert!(err.starts_with("limudvek: no such script: "), "{err}");
 }
