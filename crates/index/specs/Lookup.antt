@@ -4,14 +4,14 @@ use mathlib.Core.Bool.{Bool, true, false}
 use mathlib.Core.Path.{_≡_, refl, sym, ap, _∙_}
 use mathlib.Core.List.{List}
 use native.Mathlib.Omega.{arith}
-use borrow.Author.Tests.{ltb-true, ltb-false, leb-true, leb-false, eqb-true, eqb-false, le-leb}
+use borrow.Author.Tests.{ltb-true, ltb-false, leb-true, leb-false, eqb-true, eqb-false, le-leb, lt-leb, eq-eqb, ne-eqb}
 use lib.ListN.{length, getD}
 use lib.Dec.{ltb, leb, eqb}
 use Rattle.words.specs.Choice.{pick}
 use Rattle.nodes.specs.declared.Node.{Node}
 use Rattle.nodes.specs.Place.{place}
 use Rattle.index.specs.Index.{numbers, numberAt, indexed}
-use Rattle.index.specs.Rising.{Rising, entry, higher}
+use Rattle.index.specs.Rising.{entry, higher}
 use Rattle.index.specs.Afresh.{Stands, all-stand, all-differ}
 use Rattle.index.specs.Nodes.{indexed-parts, lives-none, place-at}
 
@@ -30,24 +30,30 @@ abbrev pub answer : ℕ → Known → ℕ
 answer count (between low high) = count
 answer count (found p) = p
 
--- the entry in the middle, and the one behind it
-abbrev pub halfway : ℕ → ℕ → ℕ
-halfway low high = low + (high - low) / 2
+-- how many entries a step leaves out, of those from one on and below another: half of them; and the entry behind so many, the middle one
+abbrev pub half : ℕ → ℕ → ℕ
+half low high = (high - low) / 2
 
-abbrev pub behind : ℕ → ℕ → ℕ
-behind low high = halfway low high + 1
+abbrev pub halfway : ℕ → ℕ → ℕ
+halfway low high = low + half low high
 
 -- the entry that a step looks at
 abbrev pub middle : Known → ℕ
 middle (between low high) = halfway low high
 middle (found p) = 0
 
+-- a step at the one entry that is left: found, or no entry is left, behind it or before it
+abbrev pub compared : ℕ → ℕ → ℕ → ℕ → ℕ → Known
+compared n p stored low high = pick (eqb stored n) (found p) (pick (ltb stored n) (between high high) (between low low))
+
+-- a step at several: half of them are left out, the first ones or the last ones, so that how many are left does not depend on what is stored
+abbrev pub halved : ℕ → ℕ → ℕ → ℕ → Known
+halved n stored low high = pick (leb stored n) (between (halfway low high) high) (between low (high - half low high))
+
 -- one step: what is known after it, of the number asked for, the place at that entry and ONE stored node number, that of the node there
 unfoldable pub step : ℕ → ℕ → ℕ → Known → Known
 step n p stored (found q) = found q
-step n p stored (between low high) =
-    pick (leb high low) (between low high)
-    (pick (eqb stored n) (found p) (pick (ltb stored n) (between (behind low high) high) (between low (halfway low high))))
+step n p stored (between low high) = pick (leb high low) (between low high) (pick (leb high (low + 1)) (compared n p stored low high) (halved n stored low high))
 
 -- so many steps over the entries ix, where the stored node numbers are ks
 unfoldable pub afterSteps : ℕ → ℕ → List ℕ → List ℕ → Known → Known
@@ -61,61 +67,116 @@ lookup m n ix t = afterSteps m n ix (numbers t) (between 0 (length t))
 abbrev pub mostSteps : ℕ
 mostSteps = 10
 
--- how many entries so many steps settle: fewer than this
-unfoldable twos : ℕ → ℕ
+-- of how many entries so many steps leave one at most
+unfoldable pub twos : ℕ → ℕ
 twos zero = 1
 twos (suc m) = 2 * twos m
 
 module _ (n : ℕ) (ix ks : List ℕ) where
-  pub no-steps : (k : Known) → afterSteps 0 n ix ks k ≡ k
+  -- the place and the number that a step is given
+  abbrev pub stepAt : Known → Known
+  stepAt k = step n (getD ix (middle k) 0) (numberAt ks (getD ix (middle k) 0)) k
+
+  -- one step more
+  pub one-more : (m : ℕ) (k : Known) → afterSteps (suc m) n ix ks k ≡ stepAt (afterSteps m n ix ks k)
   unfolding afterSteps
-  no-steps k = refl
+  one-more zero k = refl
+  one-more (suc m) k = one-more m (stepAt k)
 
-  pub found-stays : (m p : ℕ) → afterSteps m n ix ks (found p) ≡ found p
+  -- what is settled stays
+  pub settled-stays : (m : ℕ) (k : Known) → settled k ≡ true → afterSteps m n ix ks k ≡ k
   unfolding afterSteps step
-  found-stays zero p = refl
-  found-stays (suc m) p = found-stays m p
+  settled-stays zero k e = refl
+  settled-stays (suc m) (found p) e = settled-stays m (found p) e
+  settled-stays (suc m) (between low high) e = rw e (settled-stays m (between low high) e)
 
-  -- with no entry left nothing changes
-  pub none-stays : (m low high : ℕ) → high ≤ low → afterSteps m n ix ks (between low high) ≡ between low high
-  unfolding afterSteps step
-  none-stays zero low high h = refl
-  none-stays (suc m) low high h = rw (le-leb high low h) (none-stays m low high h)
+  -- and more steps say no more
+  pub settled-later : (m j : ℕ) (k : Known) → m ≤ j → settled (afterSteps m n ix ks k) ≡ true → afterSteps j n ix ks k ≡ afterSteps m n ix ks k
+  unfolding afterSteps
+  settled-later zero j k h e = settled-stays j k e
+  settled-later (suc m) zero k h e = absurd (omega arith)
+  settled-later (suc m) (suc j) k h e = settled-later m j (stepAt k) (omega arith) e
 
-  -- each step leaves less than half of the entries
-  settles : (m low high : ℕ) → high < low + twos m → settled (afterSteps m n ix ks (between low high)) ≡ true
-  unfolding afterSteps step twos
-  settles zero low high h = le-leb high low (omega arith)
-  settles (suc m) low high h = go (leb high low) refl (eqb s n) (ltb s n) (settles m)
+  -- what a step says of several entries
+  pub step-up : (low high : ℕ) → low + 1 < high → numberAt ks (getD ix (halfway low high) 0) ≤ n → stepAt (between low high) ≡ between (halfway low high) high
+  unfolding step
+  step-up low high more e = rw (lt-leb high low (omega arith), lt-leb high (low + 1) more, le-leb (numberAt ks (getD ix (halfway low high) 0)) n e)
+
+  pub step-down : (low high : ℕ) → low + 1 < high → n < numberAt ks (getD ix (halfway low high) 0) → stepAt (between low high) ≡ between low (high - half low high)
+  unfolding step
+  step-down low high more e = rw (lt-leb high low (omega arith), lt-leb high (low + 1) more, lt-leb (numberAt ks (getD ix (halfway low high) 0)) n e)
+
+  -- with one entry left at most, a step settles
+  pub one-left : (low high : ℕ) → high ≤ low + 1 → settled (stepAt (between low high)) ≡ true
+  unfolding step
+  one-left low high h = rw (le-leb high (low + 1) h) (go (leb high low) refl (eqb s n) (ltb s n))
     where
-      mid : ℕ
-      mid = halfway low high
-
       p : ℕ
-      p = getD ix mid 0
+      p = getD ix (halfway low high) 0
 
       s : ℕ
       s = numberAt ks p
 
-      go : (a : Bool) → leb high low ≡ a → (b d : Bool) → ((l u : ℕ) → u < l + twos m → settled (afterSteps m n ix ks (between l u)) ≡ true)
-          → settled (afterSteps m n ix ks (pick a (between low high) (pick b (found p) (pick d (between (behind low high) high) (between low mid))))) ≡ true
-      go true e b d ih = ap settled (none-stays m low high (leb-true high low e)) ∙ e
-      go false e true d ih = ap settled (found-stays m p)
-      go false e false true ih = ih (behind low high) high (omega arith)
-      go false e false false ih = let some = leb-false high low e in ih low mid (omega arith)
+      go : (a : Bool) → leb high low ≡ a → (b d : Bool) → settled (pick a (between low high) (pick b (found p) (pick d (between high high) (between low low)))) ≡ true
+      go true e b d = e
+      go false e true d = refl
+      go false e false true = le-leb high high (omega arith)
+      go false e false false = le-leb low low (omega arith)
+
+  -- what it says of the one entry
+  pub step-found : (low : ℕ) → numberAt ks (getD ix low 0) ≡ n → stepAt (between low (low + 1)) ≡ found (getD ix low 0)
+  unfolding step
+  step-found low e =
+      let same : halfway low (low + 1) ≡ low = omega arith in
+      rw (same, lt-leb (low + 1) low (omega arith), le-leb (low + 1) (low + 1) (omega arith), eq-eqb (numberAt ks (getD ix low 0)) n e)
+
+  pub step-other : (count low : ℕ) → (numberAt ks (getD ix low 0) ≡ n → ⊥) → answer count (stepAt (between low (low + 1))) ≡ count
+  unfolding step
+  step-other count low e =
+      let same : halfway low (low + 1) ≡ low = omega arith in
+      rw (same, lt-leb (low + 1) low (omega arith), le-leb (low + 1) (low + 1) (omega arith), ne-eqb (numberAt ks (getD ix low 0)) n e) (go (ltb (numberAt ks (getD ix low 0)) n))
+    where
+      go : (a : Bool) → answer count (pick a (between (low + 1) (low + 1)) (between low low)) ≡ count
+      go true = refl
+      go false = refl
+
+  -- each step leaves half of the entries, and the last one compares
+  settles : (m low high : ℕ) → high ≤ low + twos m → settled (afterSteps (suc m) n ix ks (between low high)) ≡ true
+  unfolding afterSteps step twos
+  settles zero low high h = one-left low high (omega arith)
+  settles (suc m) low high h = go (leb high (low + 1)) refl (leb s n) refl (settles m)
+    where
+      s : ℕ
+      s = numberAt ks (getD ix (halfway low high) 0)
+
+      go : (a : Bool) → leb high (low + 1) ≡ a → (b : Bool) → leb s n ≡ b → ((l u : ℕ) → u ≤ l + twos m → settled (afterSteps (suc m) n ix ks (between l u)) ≡ true)
+          → settled (afterSteps (suc m) n ix ks (stepAt (between low high))) ≡ true
+      go true e b f ih =
+          let done = one-left low high (leb-true high (low + 1) e) in
+          ap settled (settled-stays (suc m) (stepAt (between low high)) done) ∙ done
+      go false e true f ih =
+          let more = leb-false high (low + 1) e in
+          rw (step-up low high more (leb-true s n f)) (ih (halfway low high) high (omega arith))
+      go false e false f ih =
+          let more = leb-false high (low + 1) e in
+          rw (step-down low high more (leb-false s n f)) (ih low (high - half low high) (omega arith))
+
+  -- the entries are places below c, and the numbers there rise
+  abbrev pub Rises : ℕ → Type 0
+  Rises c = ((i : ℕ) → i < length ix → getD ix i 0 < c) × ((i j : ℕ) → i < j → j < length ix → numberAt ks (getD ix i 0) < numberAt ks (getD ix j 0))
 
   -- what is known is true, of places below c
-  abbrev Sound : ℕ → Known → Type 0
+  abbrev pub Sound : ℕ → Known → Type 0
   Sound c (between low high) =
       (high ≤ length ix)
       × ((i : ℕ) → i < low → i < length ix → numberAt ks (getD ix i 0) < n)
       × ((i : ℕ) → high ≤ i → i < length ix → n < numberAt ks (getD ix i 0))
   Sound c (found p) = (p < c) × (numberAt ks p ≡ n)
 
-  step-sound : (c : ℕ) → Rising ks c 0 ix → (k : Known) → Sound c k → Sound c (step n (getD ix (middle k) 0) (numberAt ks (getD ix (middle k) 0)) k)
+  step-sound : (c : ℕ) → Rises c → (k : Known) → Sound c k → Sound c (stepAt k)
   unfolding step
   step-sound c r (found p) h = h
-  step-sound c r (between low high) h = go (leb high low) refl (eqb s n) refl (ltb s n) refl
+  step-sound c r (between low high) h = go (leb high low) refl (leb high (low + 1)) refl (eqb s n) refl (ltb s n) refl (leb s n) refl
     where
       mid : ℕ
       mid = halfway low high
@@ -126,51 +187,63 @@ module _ (n : ℕ) (ix ks : List ℕ) where
       s : ℕ
       s = numberAt ks p
 
-      near : low < high → mid < high
-      near some = omega arith
-
       same : (i : ℕ) → i ≡ mid → numberAt ks (getD ix i 0) ≡ s
       same i e = ap (λ (j : ℕ). numberAt ks (getD ix j 0)) e
 
-      up : s < n → mid < length ix → (i : ℕ) → i < behind low high → i < length ix → numberAt ks (getD ix i 0) < n
-      up less inside i a b = split (ltb i mid) refl
+      -- up to the middle no number is higher than the one there, from it on none is lower
+      before : mid < length ix → (i : ℕ) → i < mid → numberAt ks (getD ix i 0) < s
+      before inside i a = r .1 i mid a inside
+
+      upTo : s < n → (i : ℕ) → i ≤ mid → mid < length ix → numberAt ks (getD ix i 0) < n
+      upTo less i a inside = split (ltb i mid) refl
         where
           split : (t : Bool) → ltb i mid ≡ t → numberAt ks (getD ix i 0) < n
-          split true e = let q = higher r i mid (ltb-true i mid e) inside in omega arith
+          split true e = let q = before inside i (ltb-true i mid e) in omega arith
           split false e =
               let w = ltb-false i mid e in
               let q = same i (omega arith) in
               omega arith
 
-      down : n < s → mid < length ix → (i : ℕ) → mid ≤ i → i < length ix → n < numberAt ks (getD ix i 0)
-      down more inside i a b = split (ltb mid i) refl
+      behind : (i : ℕ) → mid ≤ i → i < length ix → s ≤ numberAt ks (getD ix i 0)
+      behind i a b = split (ltb mid i) refl
         where
-          split : (t : Bool) → ltb mid i ≡ t → n < numberAt ks (getD ix i 0)
-          split true e = let q = higher r mid i (ltb-true mid i e) b in omega arith
+          split : (t : Bool) → ltb mid i ≡ t → s ≤ numberAt ks (getD ix i 0)
+          split true e = let q = r .1 mid i (ltb-true mid i e) b in omega arith
           split false e =
               let w = ltb-false mid i e in
               let q = same i (omega arith) in
               omega arith
 
-      go : (a : Bool) → leb high low ≡ a → (b : Bool) → eqb s n ≡ b → (d : Bool) → ltb s n ≡ d
-          → Sound c (pick a (between low high) (pick b (found p) (pick d (between (behind low high) high) (between low mid))))
-      go true x b y d z = h
-      go false x true y d z =
-          let q = near (leb-false high low x) in
-          (entry r mid (omega arith) .0, eqb-true s n y)
-      go false x false y true z =
-          let q = near (leb-false high low x) in
-          (h .0, up (ltb-true s n z) (omega arith), h .2)
-      go false x false y false z =
-          let q = near (leb-false high low x) in
-          let w = ltb-false s n z in
-          let v = eqb-false s n y in
-          (omega arith, h .1, down (omega arith) (omega arith))
+      go : (a : Bool) → leb high low ≡ a → (b : Bool) → leb high (low + 1) ≡ b → (d : Bool) → eqb s n ≡ d → (e : Bool) → ltb s n ≡ e → (f : Bool) → leb s n ≡ f
+          → Sound c (pick a (between low high) (pick b (pick d (found p) (pick e (between high high) (between low low))) (pick f (between mid high) (between low (high - half low high)))))
+      go true u b v d w e x f y = h
+      go false u true v true w e x f y = let q = leb-false high low u in (r .0 mid (omega arith), eqb-true s n w)
+      go false u true v false w true x f y =
+          let q = leb-true high (low + 1) v in
+          let z = ltb-true s n x in
+          (h .0, (λ i k l. upTo z i (omega arith) (omega (arith, h .0, leb-false high low u))), h .2)
+      go false u true v false w false x f y =
+          let q = leb-false high low u in
+          let z = ltb-false s n x in
+          let o = eqb-false s n w in
+          (omega (arith, h .0), h .1, (λ i k l. omega (arith, behind i (omega (arith, leb-true high (low + 1) v)) l)))
+      go false u false v d w e x true y =
+          let q = leb-false high (low + 1) v in
+          let z = leb-true s n y in
+          (h .0, (λ i k l. omega (arith, before (omega (arith, h .0)) i k)), h .2)
+      go false u false v d w e x false y =
+          let q = leb-false high (low + 1) v in
+          let z = leb-false s n y in
+          (omega (arith, h .0), h .1, (λ i k l. omega (arith, behind i (omega arith) l)))
 
-  steps-sound : (c : ℕ) → Rising ks c 0 ix → (m : ℕ) (k : Known) → Sound c k → Sound c (afterSteps m n ix ks k)
+  steps-sound : (c : ℕ) → Rises c → (m : ℕ) (k : Known) → Sound c k → Sound c (afterSteps m n ix ks k)
   unfolding afterSteps
   steps-sound c r zero k h = h
-  steps-sound c r (suc m) k h = steps-sound c r m (step n (getD ix (middle k) 0) (numberAt ks (getD ix (middle k) 0)) k) (step-sound c r k h)
+  steps-sound c r (suc m) k h = steps-sound c r m (stepAt k) (step-sound c r k h)
+
+  -- what so many steps from the first entries on say is true
+  pub lookup-sound : (c : ℕ) → Rises c → (m : ℕ) → Sound c (afterSteps m n ix ks (between 0 (length ix)))
+  lookup-sound c r m = steps-sound c r m (between 0 (length ix)) (omega arith, (λ i h k. absurd (omega arith)), (λ i h k. absurd (omega arith)))
 
 -- what a settled lookup says is right
 pub record Settles (n : ℕ) (t : List Node) (k : Known) : Type 0 where
@@ -201,19 +274,18 @@ module _ (n : ℕ) (ix : List ℕ) (t : List Node) (rule : indexed ix t ≡ true
                   omega arith
 
   -- so many steps as these few entries need
-  enough : (m : ℕ) → length t < twos m → Settles n t (lookup m n ix t)
+  enough : (m : ℕ) → length t ≤ twos m → Settles n t (lookup (suc m) n ix t)
   enough m few =
       let b = indexed-parts ix t rule in
       let e = settles n ix (numbers t) m 0 (length t) (omega arith) in
-      let first : Sound n ix (numbers t) (length t) (between 0 (length t)) = (omega arith, (λ i h k. absurd (omega arith)), (λ i h k. absurd (omega arith))) in
-      let s = steps-sound n ix (numbers t) (length t) (b .1) m (between 0 (length t)) first in
-      record { settles = e; right = right-of (lookup m n ix t) s e }
+      let s = lookup-sound n ix (numbers t) (length t) ((λ i h. entry (b .1) i h .0), higher (b .1)) (suc m) in
+      record { settles = e; right = right-of (lookup (suc m) n ix t) (rw (b .0) at s) e }
 
   -- of 256 nodes, ten steps settle every lookup; nine do
   pub ten-settle : length t ≤ 256 → Settles n t (lookup mostSteps n ix t)
   unfolding twos
-  ten-settle few = enough mostSteps (omega arith)
+  ten-settle few = enough 9 (omega arith)
 
   pub nine-settle : length t ≤ 256 → Settles n t (lookup 9 n ix t)
   unfolding twos
-  nine-settle few = enough 9 (omega arith)
+  nine-settle few = enough 8 (omega arith)

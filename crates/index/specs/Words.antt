@@ -1,10 +1,10 @@
 -- The index in words, beside the words of the table: what the functions ask of them, and the steps of a lookup.
-use Prim.Native.Nat.{ℕ, zero, suc, _+_, _*_, _-_, _≤_, _<_}
+use Prim.Native.Nat.{ℕ, zero, suc, _+_, _*_, _-_, _/_, _≤_, _<_}
 use mathlib.Core.Bool.{true}
-use mathlib.Core.Path.{_≡_, refl, sym, ap, _∙_}
+use mathlib.Core.Path.{_≡_, refl, sym, ap, ap₂, _∙_}
 use mathlib.Core.List.{List}
 use native.Mathlib.Omega.{arith}
-use borrow.Author.Tests.{lt-ltb, le-ltb, lt-leb, eq-eqb, ne-eqb}
+use borrow.Author.Tests.{le-leb}
 use lib.ListN.{length, take, drop, getD}
 use lib.Seq.{getD-drop, getD-take, length-take-le}
 use Rattle.nodes.specs.Table.{width, rows, rows-length}
@@ -12,7 +12,7 @@ use Rattle.nodes.specs.Place.{place}
 use Rattle.index.specs.Index.{numbers, numberAt, indexed}
 use Rattle.index.specs.Rising.{entry}
 use Rattle.index.specs.Nodes.{indexed-parts}
-use Rattle.index.specs.Lookup.{Known, halfway, behind, between, found, step, afterSteps, answer, mostSteps, no-steps, found-stays, none-stays, ten-settle}
+use Rattle.index.specs.Lookup.{Known, half, halfway, between, afterSteps, answer, settled, mostSteps, twos, stepAt, one-more, settled-stays, settled-later, step-up, step-down, one-left, step-found, step-other, ten-settle}
 
 -- words that hold so many records, and words that hold as many entries
 pub record IndexFits (us ws : List ℕ) (count : ℕ) : Type 0 where
@@ -36,71 +36,149 @@ number-word (suc n) us (suc p) h =
     let more : width + width * p ≡ width * suc p = omega arith in
     number-word n (drop width us) p (omega arith) ∙ getD-drop width us (width * p) 0 ∙ ap (λ (k : ℕ). getD us k 0) more
 
--- one step of a lookup in words
-module _ (us ws : List ℕ) (count n : ℕ) (keeps : Keeps us ws count) where
-  abbrev pub afterLeft : ℕ → Known → Known
-  afterLeft m k = afterSteps m n (take count ws) (numbers (rows count us)) k
+-- words that hold entries, and each is the place of a record
+pub record Points (us ws : List ℕ) (count : ℕ) : Type 0 where
+  pub some : 0 < count
+  pub few : count ≤ 256
+  pub entries : count ≤ length ws
+  pub below : (i : ℕ) → i < count → (getD ws i 0 ≤ 256) × (width * getD ws i 0 < length us)
 
-  -- the place at an entry, and the number there
-  pub entry-word : (i : ℕ) → i < count → getD (take count ws) i 0 ≡ getD ws i 0
-  entry-word i h = getD-take count ws i 0 h
+-- a list with the stored node numbers
+abbrev pub Stored : List ℕ → List ℕ → ℕ → List ℕ → Type 0
+Stored us ws count ks = (i : ℕ) → i < count → numberAt ks (getD ws i 0) ≡ getD us (width * getD ws i 0) 0
 
+-- what so many steps of a lookup leave
+abbrev pub Leaves : List ℕ → List ℕ → ℕ → ℕ → ℕ → ℕ → ℕ → Type 0
+Leaves us ws count n m low high = (ks : List ℕ) → Stored us ws count ks → afterSteps m n (take count ws) ks (between 0 count) ≡ between low high
+
+-- steps that leave one entry; they and the comparison there are at most ten
+pub record Narrows (us ws : List ℕ) (count n r : ℕ) : Type 0 where
+  pub made : ℕ
+  pub few : made + 1 ≤ mostSteps
+  pub inside : r < count
+  pub leaves : Leaves us ws count n made r (r + 1)
+
+-- the turns of the loop that narrows, each of them a step: it counts them down from so many
+abbrev pub mostTurns : ℕ
+mostTurns = 8
+
+-- the bound on the code: however many turns are left when it ends, those made and the comparison are at most ten steps
+at-most-ten : (left : ℕ) → mostTurns - left + 1 ≤ mostSteps
+at-most-ten left = omega arith
+
+-- as many turns leave one entry of as many as there can be
+pub first-size : (count : ℕ) → count ≤ 256 → count ≤ twos mostTurns
+unfolding twos
+first-size count few = omega arith
+
+pub turn-halves : (left size : ℕ) → 0 < left → size ≤ twos left → size - size / 2 ≤ twos (left - 1)
+unfolding twos
+turn-halves zero size a b = absurd (omega arith)
+turn-halves (suc m) size a b =
+    let one : suc m - 1 ≡ m = omega arith in
+    rw one (omega arith)
+
+pub last-size : (left size : ℕ) → left ≡ 0 → size ≤ twos left → size ≤ 1
+unfolding twos
+last-size zero size e h = h
+last-size (suc m) size e h = absurd (omega arith)
+
+pub leaves-all : (us ws : List ℕ) (count n : ℕ) → Leaves us ws count n 0 0 (0 + count)
+unfolding afterSteps
+leaves-all us ws count n ks st = let same : count ≡ 0 + count = omega arith in ap (between 0) same
+
+-- one turn with so many left, at the place p of the middle entry
+module _ (us ws : List ℕ) (count n left low size p : ℕ) (more : 1 < size) (one : 0 < left) (most : left ≤ mostTurns) (near : low + size ≤ count) (is : p ≡ getD ws (low + size / 2) 0) (s : Leaves us ws count n (mostTurns - left) low (low + size))
+  where
+    stored-at : (ks : List ℕ) → Stored us ws count ks → numberAt ks (getD (take count ws) (halfway low (low + size)) 0) ≡ getD us (width * p) 0
+    stored-at ks st =
+        let same : halfway low (low + size) ≡ low + size / 2 = omega arith in
+        ap (λ (i : ℕ). numberAt ks (getD (take count ws) i 0)) same
+        ∙ ap (λ (q : ℕ). numberAt ks q) (getD-take count ws (low + size / 2) 0 (omega arith))
+        ∙ st (low + size / 2) (omega arith)
+        ∙ ap (λ (q : ℕ). getD us (width * q) 0) (sym is)
+
+    next : (ks : List ℕ) → Stored us ws count ks → afterSteps (mostTurns - (left - 1)) n (take count ws) ks (between 0 count) ≡ stepAt n (take count ws) ks (between low (low + size))
+    next ks st =
+        let turns : mostTurns - (left - 1) ≡ suc (mostTurns - left) = omega arith in
+        ap (λ (m : ℕ). afterSteps m n (take count ws) ks (between 0 count)) turns
+        ∙ one-more n (take count ws) ks (mostTurns - left) (between 0 count)
+        ∙ ap (λ (k : Known). stepAt n (take count ws) ks k) (s ks st)
+
+    pub turn-up : getD us (width * p) 0 ≤ n → Leaves us ws count n (mostTurns - (left - 1)) (low + size / 2) (low + size / 2 + (size - size / 2))
+    turn-up e ks st =
+        let a : halfway low (low + size) ≡ low + size / 2 = omega arith in
+        let b : low + size ≡ low + size / 2 + (size - size / 2) = omega arith in
+        next ks st
+        ∙ step-up n (take count ws) ks low (low + size) (omega arith) (omega (arith, stored-at ks st))
+        ∙ ap₂ between a b
+
+    pub turn-down : n < getD us (width * p) 0 → Leaves us ws count n (mostTurns - (left - 1)) low (low + (size - size / 2))
+    turn-down e ks st =
+        let b : low + size - half low (low + size) ≡ low + (size - size / 2) = omega arith in
+        next ks st
+        ∙ step-down n (take count ws) ks low (low + size) (omega arith) (omega (arith, stored-at ks st))
+        ∙ ap (between low) b
+
+-- with one entry left
+pub narrowed : (us ws : List ℕ) (count n left low size : ℕ) → size ≡ 1 → low + size ≤ count → Leaves us ws count n (mostTurns - left) low (low + size) → Narrows us ws count n low
+narrowed us ws count n left low size one near s = record {
+  made = mostTurns - left;
+  few = at-most-ten left;
+  inside = omega arith;
+  leaves = λ ks st. s ks st ∙ ap (λ (k : ℕ). between low (low + k)) one;
+}
+
+-- a lookup in words that keep the rule
+module _ (us ws : List ℕ) (count : ℕ) (keeps : Keeps us ws count) where
   pub entry-below : (i : ℕ) → i < count → getD ws i 0 < count
   entry-below i h =
       let e = entry (indexed-parts (take count ws) (rows count us) (keeps .rule) .1) i (rw (length-take-le count ws (keeps .entries)) h) .0 in
       let size = rows-length count us in
-      let word = entry-word i h in
+      let word = getD-take count ws i 0 h in
       omega arith
 
-  turn : (m low high : ℕ) → low < high → high ≤ count
-      → afterLeft (suc m) (between low high) ≡ afterLeft m (step n (getD ws (halfway low high) 0) (getD us (width * getD ws (halfway low high) 0) 0) (between low high))
-  unfolding afterSteps
-  turn m low high h k =
-      let near : halfway low high < count = omega arith in
-      rw (entry-word (halfway low high) near, number-word count us (getD ws (halfway low high) 0) (entry-below (halfway low high) near))
+  pub points : 0 < count → Points us ws count
+  points some = record { some = some; few = keeps .few; entries = keeps .entries; below = λ i h. (omega (arith, entry-below i h, keeps .few), omega (arith, entry-below i h, keeps .room)) }
 
-  -- one step with so many left, at the place p of the middle entry
-  module _ (left low high p : ℕ) (whole : Known) (more : 0 < left) (some : low < high) (near : high ≤ count) (is : p ≡ getD ws (halfway low high) 0) (s : afterLeft left (between low high) ≡ whole)
-    where
-      abbrev stored : ℕ
-      stored = getD us (width * p) 0
+  abbrev ks : List ℕ
+  ks = numbers (rows count us)
 
-      given : afterLeft (left - 1) (step n p stored (between low high)) ≡ whole
-      given =
-          let one : suc (left - 1) ≡ left = omega arith in
-          ap (λ (q : ℕ). afterLeft (left - 1) (step n q (getD us (width * q) 0) (between low high))) is
-          ∙ sym (turn (left - 1) low high some near)
-          ∙ ap (λ (m : ℕ). afterLeft m (between low high)) one
-          ∙ s
+  module _ (n : ℕ) where
+    abbrev all : Known
+    all = afterSteps mostSteps n (take count ws) ks (between 0 count)
 
-      pub turn-found : stored ≡ n → found p ≡ whole
-      unfolding step
-      turn-found e = sym (found-stays n (take count ws) (numbers (rows count us)) (left - 1) p) ∙ (rw (lt-leb high low some, eq-eqb stored n e) at given)
+    -- what ten steps leave is the answer
+    right : answer count all ≡ place n (rows count us)
+    right =
+        let size = rows-length count us in
+        rw size at (ten-settle n (take count ws) (rows count us) (keeps .rule) (omega arith) .right)
 
-      pub turn-up : (stored ≡ n → ⊥) → stored < n → afterLeft (left - 1) (between (behind low high) high) ≡ whole
-      unfolding step
-      turn-up other e = rw (lt-leb high low some, ne-eqb stored n other, lt-ltb stored n e) at given
+    pub ends-empty : count < 1 → count ≡ place n (rows count us)
+    ends-empty h = ap (λ (k : Known). answer count k) (sym (settled-stays n (take count ws) ks mostSteps (between 0 count) (le-leb count 0 (omega arith)))) ∙ right
 
-      pub turn-down : (stored ≡ n → ⊥) → n ≤ stored → afterLeft (left - 1) (between low (halfway low high)) ≡ whole
-      unfolding step
-      turn-down other e = rw (lt-leb high low some, ne-eqb stored n other, le-ltb stored n e) at given
+    module _ (r p : ℕ) (narrows : Narrows us ws count n r) (is : p ≡ getD ws r 0) where
+      here : numberAt ks (getD (take count ws) r 0) ≡ getD us (width * p) 0
+      here =
+          ap (λ (q : ℕ). numberAt ks q) (getD-take count ws r 0 (narrows .inside) ∙ sym is)
+          ∙ number-word count us p (omega (arith, is, entry-below r (narrows .inside)))
 
-  -- what ten steps leave is the answer
-  abbrev all : Known
-  all = afterLeft mostSteps (between 0 count)
+      -- the comparison is one of the ten steps, and the others say no more
+      last : all ≡ stepAt n (take count ws) ks (between r (r + 1))
+      last =
+          let next = one-more n (take count ws) ks (narrows .made) (between 0 count) ∙ ap (λ (k : Known). stepAt n (take count ws) ks k) (narrows .leaves ks (λ i h. number-word count us (getD ws i 0) (entry-below i h))) in
+          settled-later n (take count ws) ks (suc (narrows .made)) mostSteps (between 0 count) (omega (arith, narrows .few)) (ap settled next ∙ one-left n (take count ws) ks r (r + 1) (omega arith))
+          ∙ next
 
-  right : answer count all ≡ place n (rows count us)
-  right =
-      let size = rows-length count us in
-      rw size at (ten-settle n (take count ws) (rows count us) (keeps .rule) (omega arith) .right)
+      pub ends-found : getD us (width * p) 0 ≡ n → p ≡ place n (rows count us)
+      ends-found e =
+          is
+          ∙ sym (getD-take count ws r 0 (narrows .inside))
+          ∙ ap (λ (k : Known). answer count k) (sym (last ∙ step-found n (take count ws) ks r (here ∙ e)))
+          ∙ right
 
-  pub ends-found : (p : ℕ) → found p ≡ all → p ≡ place n (rows count us)
-  ends-found p e = ap (λ (k : Known). answer count k) e ∙ right
-
-  pub ends-none : (m low high : ℕ) → high ≤ low → afterLeft m (between low high) ≡ all → count ≡ place n (rows count us)
-  ends-none m low high h e =
-      ap (λ (k : Known). answer count k) (sym (none-stays n (take count ws) (numbers (rows count us)) m low high h) ∙ e) ∙ right
-
-  pub ends-last : (m low high : ℕ) → m ≡ 0 → afterLeft m (between low high) ≡ all → count ≡ place n (rows count us)
-  ends-last m low high h e =
-      ap (λ (k : Known). answer count k) (sym (no-steps n (take count ws) (numbers (rows count us)) (between low high)) ∙ ap (λ (j : ℕ). afterLeft j (between low high)) (sym h) ∙ e) ∙ right
+      pub ends-other : (getD us (width * p) 0 ≡ n → ⊥) → count ≡ place n (rows count us)
+      ends-other e =
+          sym (step-other n (take count ws) ks count r (λ h. e (sym here ∙ h)))
+          ∙ ap (λ (k : Known). answer count k) (sym last)
+          ∙ right

@@ -24,7 +24,9 @@ broken : (indexed (0 ∷ (1 ∷ (2 ∷ []))) three ≡ false) × ((indexed (0 �
 unfolding three numbers rises
 broken = (refl, (refl, refl))
 
--- one step finds 1000; after two, no entry is left for 1
-looked : (lookup 1 1000 (0 ∷ (2 ∷ (1 ∷ []))) three ≡ found 2) × (lookup 2 1 (0 ∷ (2 ∷ (1 ∷ []))) three ≡ between 1 1)
+-- of three entries a step leaves two, then one, and the third compares: it finds 1000, and leaves no entry for 1
+looked : (lookup 1 1000 (0 ∷ (2 ∷ (1 ∷ []))) three ≡ between 1 3)
+    × ((lookup 2 1000 (0 ∷ (2 ∷ (1 ∷ []))) three ≡ between 1 2)
+    × ((lookup 3 1000 (0 ∷ (2 ∷ (1 ∷ []))) three ≡ found 2) × ((lookup 2 1 (0 ∷ (2 ∷ (1 ∷ []))) three ≡ between 0 1) × (lookup 3 1 (0 ∷ (2 ∷ (1 ∷ []))) three ≡ between 1 1))))
 unfolding three numbers step afterSteps
-looked = (refl, refl)
+looked = (refl, (refl, (refl, (refl, refl))))

@@ -3,3 +3,4 @@ mod search;
 
 pub use search::find_indexed;
 pub use search::index_formed;
+pub use search::last_at_most;

@@ -1,39 +1,53 @@
 // Looking a node up by the index, and the rule of the index.
 use layout::RECORD;
+use words::wide;
 ghost use mathlib.Core.Path.{_≡_};
 ghost use lib.ListN.{take};
 ghost use Rattle.nodes.specs.Table.{rows};
 ghost use Rattle.nodes.specs.Place.{place};
 ghost use Rattle.index.specs.Index.{indexed};
-ghost use Rattle.index.specs.Words.{IndexFits, Keeps};
+ghost use Rattle.index.specs.Words.{IndexFits, Keeps, Points, Narrows};
 
-// The steps that settle every lookup.
-const MOST_STEPS: usize = 10;
+// So many steps leave one entry of 256, and one more compares: at most nine of the ten that settle every lookup.
+const MOST_TURNS: usize = 8;
 
-// The place of the node with this number, or the count. Each step halves the entries at which it can stand.
+// The last entry whose number is at most this one, or else the first. Each turn is one step of a lookup: it leaves out half of the entries, the first ones or the last ones, so that how many are left depends on the count alone.
+// So few turns the compiler writes out one by one, and then `low` is chosen without a jump.
+pub fn last_at_most(nodes: &[u32], index: &[u32], count: usize, number: u32) -> usize
+    requires { ⌜ Points (now nodes) (now index) count ⌝ }
+    ensures { λ r. ⌜ Narrows (now (nodes .entry)) (now (index .entry)) count number r ⌝ }
+{
+    let mut low = 0;
+    let mut size = count;
+    let mut left = MOST_TURNS;
+    while 0 < left {
+        left -= 1;
+        if size <= 1 {
+            return low;
+        }
+        let half = size / 2;
+        size -= half;
+        let middle = low + half;
+        let stored = nodes[RECORD * wide(index[middle])];
+        if stored <= number {
+            low = middle;
+        }
+    }
+    low
+}
+
+// The place of the node with this number, or the count.
 pub fn find_indexed(nodes: &[u32], index: &[u32], count: usize, number: u32) -> usize
     requires { ⌜ Keeps (now nodes) (now index) count ⌝ }
     ensures { λ r. ⌜ r ≡ place number (rows count (now (nodes .entry))) ⌝ }
 {
-    let mut low = 0;
-    let mut high = count;
-    let mut left = MOST_STEPS;
-    while 0 < left {
-        left -= 1;
-        if high <= low {
-            return count;
-        }
-        let middle = low + (high - low) / 2;
-        let place = words::wide(index[middle]);
-        let stored = nodes[RECORD * place];
-        if stored == number {
-            return place;
-        }
-        if stored < number {
-            low = middle + 1;
-        } else {
-            high = middle;
-        }
+    if count < 1 {
+        return count;
+    }
+    let place = wide(index[last_at_most(nodes, index, count, number)]);
+    let stored = nodes[RECORD * place];
+    if stored == number {
+        return place;
     }
     count
 }
@@ -46,11 +60,11 @@ pub fn index_formed(nodes: &[u32], index: &[u32], count: usize) -> bool
     let mut least: usize = 0;
     let mut i = 0;
     while i < count {
-        let place = words::wide(index[i]);
+        let place = wide(index[i]);
         if count <= place {
             return false;
         }
-        let number = words::wide(nodes[RECORD * place]);
+        let number = wide(nodes[RECORD * place]);
         if number < least {
             return false;
         }
