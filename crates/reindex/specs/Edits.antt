@@ -30,11 +30,24 @@ newPlace (Cut from to) p = closed from to 0 p
 newPlace (Put from to) p = closed from to 1 p
 newPlace (Swap a b c) p = swapped a b c p
 
--- places in order, of a table of at most 256 nodes
-abbrev pub Bounded : Edit → Type 0
-Bounded (Cut from to) = (from ≤ to) × (to ≤ gone)
-Bounded (Put from to) = (from ≤ to) × (to ≤ gone)
-Bounded (Swap a b c) = (a ≤ b) × ((b ≤ c) × (c ≤ gone))
+-- places in order, of a table of so many nodes, of which at most 256 are there after
+abbrev pub Bounded : Edit → ℕ → Type 0
+Bounded (Cut from to) count = (from ≤ to) × (to ≤ count)
+Bounded (Put from to) count = (from ≤ to) × ((to ≤ count) × (count < gone + (to - from)))
+Bounded (Swap a b c) count = (a ≤ b) × ((b ≤ c) × (c ≤ count))
+
+-- in the run a node is gone
+pub closed-gone : (from to by p : ℕ) → from ≤ p → p < to → closed from to by p ≡ gone
+closed-gone from to by p h k = rw (le-ltb p from h, lt-ltb p to k)
+
+-- beside it, where there is room, none is
+pub closed-low : (from to by p : ℕ) → p + by < gone → (from ≤ p → p < to → ⊥) → closed from to by p < gone
+closed-low from to by p low out = go (ltb p from) refl (ltb p to) refl
+  where
+    go : (u : Bool) → ltb p from ≡ u → (v : Bool) → ltb p to ≡ v → pick u p (pick v gone (p - (to - from) + by)) < gone
+    go true e v f = omega arith
+    go false e true f = absurd (out (ltb-false p from e) (ltb-true p to f))
+    go false e false f = omega arith
 
 -- an exchange keeps places below 256
 pub swapped-low : (a b c p : ℕ) → a ≤ b → b ≤ c → c ≤ gone → p < gone → swapped a b c p < gone

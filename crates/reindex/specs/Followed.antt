@@ -13,7 +13,7 @@ use Rattle.nodes.specs.Table.{width, rows, rows-length}
 use Rattle.nodes.specs.Place.{lives}
 use Rattle.nodes.specs.Formed.{apart}
 use Rattle.index.specs.Index.{numbers, numberAt, indexed, putIn, indexOf}
-use Rattle.index.specs.Rising.{entry}
+use Rattle.index.specs.Rising.{Rising, entry, higher}
 use Rattle.index.specs.Afresh.{put-length}
 use Rattle.index.specs.Nodes.{indexed-parts, indexed-apart, indexed-afresh}
 use Rattle.index.specs.Words.{number-word}
@@ -54,14 +54,21 @@ module _ (ws : List ℕ) (before : ℕ) (us : List ℕ) (count : ℕ) (t : List 
   size : length s ≡ count
   size = rows-length count us
 
-  -- the entries are places
+  risen : Rising (numbers t) (length t) 0 (take before ws)
+  risen = indexed-parts (take before ws) t (g .rule) .1
+
+  long : length (take before ws) ≡ before
+  long = length-take-le before ws (omega (arith, g .few, g .entries))
+
+  -- the entries are places, each once
   pub ground-entries : Entries ws before
   ground-entries = record {
     many = omega (arith, g .few, g .entries);
-    below = λ i h.
-        let rising = indexed-parts (take before ws) t (g .rule) .1 in
-        let long = length-take-le before ws (omega (arith, g .few, g .entries)) in
-        omega (arith, entry rising i (omega (arith, long)) .0, getD-take before ws i 0 h, g .size, g .few);
+    few = g .few;
+    below = λ i h. omega (arith, entry risen i (omega (arith, long)) .0, getD-take before ws i 0 h, g .size);
+    differ = λ i j h k e.
+        let same : getD (take before ws) i 0 ≡ getD (take before ws) j 0 = getD-take before ws i 0 (omega arith) ∙ e ∙ sym (getD-take before ws j 0 k) in
+        omega (arith, higher risen i j h (omega (arith, long)), ap (λ (p : ℕ). numberAt (numbers t) p) same);
   }
 
   module _ (to : ℕ → ℕ) (carries : Carries to t s) where
@@ -134,10 +141,12 @@ module _ (ws : List ℕ) (before : ℕ) (us : List ℕ) (count : ℕ) (t : List 
   few-after : length (rows count us) ≤ 256
   few-after = omega (arith, rows-length count us, g .fewAfter)
 
-  pub edit-bounds : (edit : Edit) → Does edit t (rows count us) → Bounded edit
-  edit-bounds (Cut from to) d = (d .order, omega (arith, d .end, g .size, g .few))
-  edit-bounds (Put from to) d = (d .replaced .order, omega (arith, d .replaced .end, g .size, g .few))
-  edit-bounds (Swap a b c) d = (d .first, (d .second, omega (arith, d .end, g .size, g .few)))
+  pub edit-bounds : (edit : Edit) → Does edit t (rows count us) → Bounded edit before
+  edit-bounds (Cut from to) d = (d .order, omega (arith, d .end, g .size))
+  edit-bounds (Put from to) d =
+      let r = d .replaced in
+      (r .order, (omega (arith, r .end, g .size), omega (arith, r .order, r .end, g .size, few-after, replaced-size from to (d .number ∷ []) t (rows count us) r)))
+  edit-bounds (Swap a b c) d = (d .first, (d .second, omega (arith, d .end, g .size)))
 
   module _ (from to : ℕ) (d : Replaced from to [] t (rows count us)) where
     cut-came : (q : ℕ) → q < length (rows count us) → Came (closed from to 0) t q

@@ -1,7 +1,10 @@
 // The entries of the index at their nodes' new places, in place.
 use crate::edit::Edit;
+use crate::one::cut_entry;
+use crate::one::entry_spot;
+use crate::one::open_entries;
 ghost use mathlib.Core.Path.{_≡_};
-ghost use Prim.Native.Nat.{_≤_, _<_};
+ghost use Prim.Native.Nat.{_+_, _-_, _≤_, _<_};
 ghost use Rattle.reindex.specs.Follow.{gone};
 ghost use Rattle.reindex.specs.FollowWords.{Followed, Entries};
 ghost use Rattle.reindex.specs.Edits.{closed, swapped, newPlace, Bounded};
@@ -70,14 +73,42 @@ fn swap_entries(index: &mut [u32], count: usize, a: u32, b: u32, c: u32)
     }
 }
 
+// The entries after a run was taken out.
+fn follow_cut(index: &mut [u32], count: usize, from: u32, to: u32) -> usize
+    requires { ⌜ (from ≤ to) × ((to ≤ gone) × Entries (now index) count) ⌝ }
+    ensures { λ r. ⌜ Followed (closed from to 0) (now (index .entry)) count (now (index .exit)) r ⌝ }
+{
+    if to - from == 1 {
+        let spot = entry_spot(index, count, from);
+        if spot < count {
+            if index[spot] == from {
+                return cut_entry(index, count, spot, from);
+            }
+        }
+    }
+    close_entries(index, count, from, to, 0)
+}
+
+// The entries after a new node took the place of a run, but for the new one's.
+fn follow_put(index: &mut [u32], count: usize, from: u32, to: u32) -> usize
+    requires { ⌜ (from ≤ to) × ((to ≤ gone) × ((count < gone + (to - from)) × Entries (now index) count)) ⌝ }
+    ensures { λ r. ⌜ Followed (closed from to 1) (now (index .entry)) count (now (index .exit)) r ⌝ }
+{
+    if from == to {
+        open_entries(index, count, to);
+        return count;
+    }
+    close_entries(index, count, from, to, 1)
+}
+
 // The entries after an edit, but for that of a new node; and how many they are.
 pub fn follow_edit(index: &mut [u32], count: usize, edit: Edit) -> usize
-    requires { ⌜ Bounded edit × Entries (now index) count ⌝ }
+    requires { ⌜ Bounded edit count × Entries (now index) count ⌝ }
     ensures { λ r. ⌜ Followed (newPlace edit) (now (index .entry)) count (now (index .exit)) r ⌝ }
 {
     match edit {
-        Edit::Cut(from, to) => close_entries(index, count, from as u32, to as u32, 0),
-        Edit::Put(from, to) => close_entries(index, count, from as u32, to as u32, 1),
+        Edit::Cut(from, to) => follow_cut(index, count, from as u32, to as u32),
+        Edit::Put(from, to) => follow_put(index, count, from as u32, to as u32),
         Edit::Swap(a, b, c) => {
             swap_entries(index, count, a as u32, b as u32, c as u32);
             count

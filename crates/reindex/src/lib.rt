@@ -2,6 +2,7 @@
 mod edit;
 mod follow;
 mod kept;
+mod one;
 mod spot;
 
 pub use edit::Edit;

@@ -21,7 +21,7 @@ use Rattle.treecommands.specs.Ready.{nodeWords}
 use Rattle.treecommands.specs.Settle.{indexRegion, Changed, Sifted, index-size, index-by, put-again}
 
 -- what following asks
-pub changed-follows : (edit : Edit) (count : ℕ) (ws : List ℕ) → Changed edit count ws → Bounded edit × Entries (indexRegion ws) (countIn ws)
+pub changed-follows : (edit : Edit) (count : ℕ) (ws : List ℕ) → Changed edit count ws → Bounded edit (countIn ws) × Entries (indexRegion ws) (countIn ws)
 changed-follows edit count ws c =
     let e = c .edited in (
       edit-bounds (indexRegion ws) (countIn ws) (nodeWords ws) count (e .old) (e .ground) edit (e .does),

@@ -9,92 +9,92 @@ use Rattle.reindex.specs.Edits.{newPlace, Bounded}
 use Rattle.reindex.proofs.follow.follow_edit.Statement.{statement}
 use Rattle.reindex.proofs.follow.follow_edit.Tie as tie
 
-cast-close-entries : tie.Need-cast-close-entries
-cast-close-entries c =
+cast-follow-cut : tie.Need-cast-follow-cut
+cast-follow-cut c =
     let s = c .before .before .before .before .before in
     let at = c .before .before .edit .given in
     let fact : s .args .edit ≡ Cut (at .0 .0) (at .0 .1 .0) = at .1 in
-    let bounds : Bounded (Cut (at .0 .0) (at .0 .1 .0)) = subst (λ (x : Edit). Bounded x) fact (s .pre .0) in
-    omega (arith, bounds .0, bounds .1)
+    let bounds : Bounded (Cut (at .0 .0) (at .0 .1 .0)) (s .args .count) = subst (λ (x : Edit). Bounded x (s .args .count)) fact (s .pre .0) in
+    omega (arith, bounds .0, bounds .1, s .pre .1 .few)
 
-cast-close-entries-2 : tie.Need-cast-close-entries-2
-cast-close-entries-2 c =
+cast-follow-cut-2 : tie.Need-cast-follow-cut-2
+cast-follow-cut-2 c =
     let s = c .before .before .before .before .before in
     let at = c .before .before .edit .given in
     let fact : s .args .edit ≡ Cut (at .0 .0) (at .0 .1 .0) = at .1 in
-    let bounds : Bounded (Cut (at .0 .0) (at .0 .1 .0)) = subst (λ (x : Edit). Bounded x) fact (s .pre .0) in
-    omega (arith, bounds .0, bounds .1)
+    let bounds : Bounded (Cut (at .0 .0) (at .0 .1 .0)) (s .args .count) = subst (λ (x : Edit). Bounded x (s .args .count)) fact (s .pre .0) in
+    omega (arith, bounds .0, bounds .1, s .pre .1 .few)
 
-close-entries-requires : tie.Need-close-entries-requires
-close-entries-requires c κs =
+follow-cut-requires : tie.Need-follow-cut-requires
+follow-cut-requires c κs =
     let s = c .before .before .before .before .before in
     let at = c .before .before .edit .given in
     let fact : s .args .edit ≡ Cut (at .0 .0) (at .0 .1 .0) = at .1 in
-    let bounds : Bounded (Cut (at .0 .0) (at .0 .1 .0)) = subst (λ (x : Edit). Bounded x) fact (s .pre .0) in
-    (bounds .0, (omega arith, s .pre .1))
+    let bounds : Bounded (Cut (at .0 .0) (at .0 .1 .0)) (s .args .count) = subst (λ (x : Edit). Bounded x (s .args .count)) fact (s .pre .0) in
+    (bounds .0, (omega (arith, bounds .1, s .pre .1 .few), s .pre .1))
 
-cast-close-entries-3 : tie.Need-cast-close-entries-3
-cast-close-entries-3 c =
+cast-follow-put : tie.Need-cast-follow-put
+cast-follow-put c =
     let s = c .before .before .before .before .before in
     let at = c .before .before .edit2 .given in
     let fact : s .args .edit ≡ Put (at .0 .0) (at .0 .1 .0) = at .1 in
-    let bounds : Bounded (Put (at .0 .0) (at .0 .1 .0)) = subst (λ (x : Edit). Bounded x) fact (s .pre .0) in
-    omega (arith, bounds .0, bounds .1)
+    let bounds : Bounded (Put (at .0 .0) (at .0 .1 .0)) (s .args .count) = subst (λ (x : Edit). Bounded x (s .args .count)) fact (s .pre .0) in
+    omega (arith, bounds .0, bounds .1 .0, s .pre .1 .few)
 
-cast-close-entries-4 : tie.Need-cast-close-entries-4
-cast-close-entries-4 c =
+cast-follow-put-2 : tie.Need-cast-follow-put-2
+cast-follow-put-2 c =
     let s = c .before .before .before .before .before in
     let at = c .before .before .edit2 .given in
     let fact : s .args .edit ≡ Put (at .0 .0) (at .0 .1 .0) = at .1 in
-    let bounds : Bounded (Put (at .0 .0) (at .0 .1 .0)) = subst (λ (x : Edit). Bounded x) fact (s .pre .0) in
-    omega (arith, bounds .0, bounds .1)
+    let bounds : Bounded (Put (at .0 .0) (at .0 .1 .0)) (s .args .count) = subst (λ (x : Edit). Bounded x (s .args .count)) fact (s .pre .0) in
+    omega (arith, bounds .0, bounds .1 .0, s .pre .1 .few)
 
-close-entries-requires-2 : tie.Need-close-entries-requires-2
-close-entries-requires-2 c κs =
+follow-put-requires : tie.Need-follow-put-requires
+follow-put-requires c κs =
     let s = c .before .before .before .before .before in
     let at = c .before .before .edit2 .given in
     let fact : s .args .edit ≡ Put (at .0 .0) (at .0 .1 .0) = at .1 in
-    let bounds : Bounded (Put (at .0 .0) (at .0 .1 .0)) = subst (λ (x : Edit). Bounded x) fact (s .pre .0) in
-    (bounds .0, (omega arith, s .pre .1))
+    let bounds : Bounded (Put (at .0 .0) (at .0 .1 .0)) (s .args .count) = subst (λ (x : Edit). Bounded x (s .args .count)) fact (s .pre .0) in
+    (bounds .0, (omega (arith, bounds .1 .0, s .pre .1 .few), (bounds .1 .1, s .pre .1)))
 
 cast-swap-entries : tie.Need-cast-swap-entries
 cast-swap-entries c =
     let s = c .before .before .before .before .before in
     let at = c .before .before .edit3 .given in
     let fact : s .args .edit ≡ Swap (at .0 .0) (at .0 .1 .0) (at .0 .1 .1 .0) = at .1 in
-    let bounds : Bounded (Swap (at .0 .0) (at .0 .1 .0) (at .0 .1 .1 .0)) = subst (λ (x : Edit). Bounded x) fact (s .pre .0) in
-    omega (arith, bounds .0, bounds .1 .0, bounds .1 .1)
+    let bounds : Bounded (Swap (at .0 .0) (at .0 .1 .0) (at .0 .1 .1 .0)) (s .args .count) = subst (λ (x : Edit). Bounded x (s .args .count)) fact (s .pre .0) in
+    omega (arith, bounds .0, bounds .1 .0, bounds .1 .1, s .pre .1 .few)
 
 cast-swap-entries-2 : tie.Need-cast-swap-entries-2
 cast-swap-entries-2 c =
     let s = c .before .before .before .before .before in
     let at = c .before .before .edit3 .given in
     let fact : s .args .edit ≡ Swap (at .0 .0) (at .0 .1 .0) (at .0 .1 .1 .0) = at .1 in
-    let bounds : Bounded (Swap (at .0 .0) (at .0 .1 .0) (at .0 .1 .1 .0)) = subst (λ (x : Edit). Bounded x) fact (s .pre .0) in
-    omega (arith, bounds .0, bounds .1 .0, bounds .1 .1)
+    let bounds : Bounded (Swap (at .0 .0) (at .0 .1 .0) (at .0 .1 .1 .0)) (s .args .count) = subst (λ (x : Edit). Bounded x (s .args .count)) fact (s .pre .0) in
+    omega (arith, bounds .0, bounds .1 .0, bounds .1 .1, s .pre .1 .few)
 
 cast-swap-entries-3 : tie.Need-cast-swap-entries-3
 cast-swap-entries-3 c =
     let s = c .before .before .before .before .before in
     let at = c .before .before .edit3 .given in
     let fact : s .args .edit ≡ Swap (at .0 .0) (at .0 .1 .0) (at .0 .1 .1 .0) = at .1 in
-    let bounds : Bounded (Swap (at .0 .0) (at .0 .1 .0) (at .0 .1 .1 .0)) = subst (λ (x : Edit). Bounded x) fact (s .pre .0) in
-    omega (arith, bounds .0, bounds .1 .0, bounds .1 .1)
+    let bounds : Bounded (Swap (at .0 .0) (at .0 .1 .0) (at .0 .1 .1 .0)) (s .args .count) = subst (λ (x : Edit). Bounded x (s .args .count)) fact (s .pre .0) in
+    omega (arith, bounds .0, bounds .1 .0, bounds .1 .1, s .pre .1 .few)
 
 swap-entries-requires : tie.Need-swap-entries-requires
 swap-entries-requires c κs =
     let s = c .before .before .before .before .before in
     let at = c .before .before .edit3 .given in
     let fact : s .args .edit ≡ Swap (at .0 .0) (at .0 .1 .0) (at .0 .1 .1 .0) = at .1 in
-    let bounds : Bounded (Swap (at .0 .0) (at .0 .1 .0) (at .0 .1 .1 .0)) = subst (λ (x : Edit). Bounded x) fact (s .pre .0) in
-    (bounds .0, (bounds .1 .0, (bounds .1 .1, s .pre .1)))
+    let bounds : Bounded (Swap (at .0 .0) (at .0 .1 .0) (at .0 .1 .1 .0)) (s .args .count) = subst (λ (x : Edit). Bounded x (s .args .count)) fact (s .pre .0) in
+    (bounds .0, (bounds .1 .0, (omega (arith, bounds .1 .1, s .pre .1 .few), s .pre .1)))
 
 returns : tie.Need-returns
 returns c =
     let a = c .before .before .before .before .before .before .before .before .args in
     let at = c .before .before .before .before .before .edit .given in
     let fact : a .edit ≡ Cut (at .0 .0) (at .0 .1 .0) = at .1 in
-    let done = c .before .before .close-entries in
+    let done = c .before .before .follow-cut in
     subst (λ (x : Edit). Followed (newPlace x) (a .index .now) (a .count) (done .last .0) (done .result)) (sym fact) (done .ensures)
 
 returns-2 : tie.Need-returns-2
@@ -102,7 +102,7 @@ returns-2 c =
     let a = c .before .before .before .before .before .before .before .before .args in
     let at = c .before .before .before .before .before .edit2 .given in
     let fact : a .edit ≡ Put (at .0 .0) (at .0 .1 .0) = at .1 in
-    let done = c .before .before .close-entries2 in
+    let done = c .before .before .follow-put in
     subst (λ (x : Edit). Followed (newPlace x) (a .index .now) (a .count) (done .last .0) (done .result)) (sym fact) (done .ensures)
 
 returns-3 : tie.Need-returns-3
@@ -116,7 +116,7 @@ returns-3 c =
 pub follow-edit-spec : {M : Type 1} → statement M
 follow-edit-spec =
     tie.close
-    (tie.spec (λ c. search needs) cast-close-entries cast-close-entries-2 close-entries-requires (λ c. search needs)
-    cast-close-entries-3 cast-close-entries-4 close-entries-requires-2 (λ c. search needs) cast-swap-entries
+    (tie.spec (λ c. search needs) cast-follow-cut cast-follow-cut-2 follow-cut-requires (λ c. search needs)
+    cast-follow-put cast-follow-put-2 follow-put-requires (λ c. search needs) cast-swap-entries
     cast-swap-entries-2 cast-swap-entries-3 swap-entries-requires (λ c. search needs) returns (λ c. search needs)
     returns-2 (λ c. search needs) returns-3)
