@@ -1,13 +1,14 @@
 -- Searches: a number in the kept order, and a node's row in the table.
-use Prim.Native.Nat.{ℕ, suc, _+_, _≤_, _<_}
+use Prim.Native.Nat.{ℕ, suc, _+_, _-_, _≤_, _<_}
 use mathlib.Core.Bool.{Bool, true, false}
-use mathlib.Core.Path.{_≡_, refl, sym, ap, ap₂, _∙_}
+use mathlib.Core.Path.{_≡_, refl, sym, ap, _∙_}
 use mathlib.Core.List.{List, [], _∷_, _++_, append-assoc, append-nil}
 use mathlib.Core.Option.{Option, none, some}
 use native.Mathlib.Omega.{arith}
+use native.Mathlib.Nat.{zero-add}
 use native.Mathlib.Numerals.{add-one}
-use lib.ListN.{length, take, drop, getD}
-use lib.Seq.{drop-cons, drop-length, getD-take, length-take-le}
+use lib.ListN.{length, take, drop, getD, length-take, length-drop, take-append-drop, drop-of-length-le}
+use lib.Seq.{drop-cons, drop-drop}
 use lib.Dec.{eqb}
 use Rattle.words.specs.Choice.{pick, either}
 use Rattle.nodes.specs.declared.Node.{Node}
@@ -58,19 +59,47 @@ module _ (n : ℕ) where
       go true h = refl
       go false h = omega arith
 
-  -- one step along the first so many numbers, and the end
-  pub before-turn : (us : List ℕ) (many i : ℕ) → many ≤ length us → i < many
-      → before n (drop i (take many us)) ≡ pick (eqb (getD us i 0) n) 0 (suc (before n (drop (i + 1) (take many us))))
-  unfolding before
-  before-turn us many i long h =
-      let size : length (take many us) ≡ many = length-take-le many us long in
-      ap (λ (l : List ℕ). before n l) (drop-cons (take many us) i 0 (omega arith))
-      ∙ ap₂ (λ (k j : ℕ). pick (eqb k n) 0 (suc (before n (drop j (take many us))))) (getD-take many us i 0 h) (sym (add-one i))
+  -- past numbers that it is none of
+  before-past : (l r : List ℕ) → stands n l ≡ false → before n (l ++ r) ≡ length l + before n r
+  unfolding before stands
+  before-past [] r h = sym (zero-add (before n r))
+  before-past (m ∷ l) r h = go (eqb m n) h (before-past l r)
+    where
+      go : (p : Bool) → either p (stands n l) ≡ false → (stands n l ≡ false → before n (l ++ r) ≡ length l + before n r) → pick p 0 (suc (before n (l ++ r))) ≡ suc (length l) + before n r
+      go true k ih = cc
+      go false k ih = omega (arith, ih k)
 
-  pub before-end : (us : List ℕ) (many : ℕ) → many ≤ length us → before n (drop many (take many us)) ≡ 0
-  unfolding before
-  before-end us many long =
-      ap (λ (l : List ℕ). before n l) (ap (λ (k : ℕ). drop k (take many us)) (sym (length-take-le many us long)) ∙ drop-length (take many us))
+  module _ (us : List ℕ) (i : ℕ) where
+    -- past the part from here to a place, where it does not stand in it
+    pub before-part : (j : ℕ) → i ≤ j → j ≤ length us → stands n (take (j - i) (drop i us)) ≡ false → j + before n (drop j us) ≡ i + before n (drop i us)
+    before-part j low high gone =
+        let part = take (j - i) (drop i us) in
+        let size : length part ≡ j - i = simp (length-take, length-drop) (omega arith) in
+        let there : i + (j - i) ≡ j = omega arith in
+        let rest : drop (j - i) (drop i us) ≡ drop j us = drop-drop (j - i) i us ∙ ap (λ (k : ℕ). drop k us) there in
+        let past : before n (drop i us) ≡ length part + before n (drop j us) =
+        ap (λ (l : List ℕ). before n l) (sym (take-append-drop (j - i) (drop i us)) ∙ ap (λ (l : List ℕ). part ++ l) rest) ∙ before-past part (drop j us) gone in
+        omega arith
+
+    -- one step, and the end
+    next : i < length us → drop i us ≡ getD us i 0 ∷ drop (i + 1) us
+    next h = drop-cons us i 0 h ∙ ap (λ (j : ℕ). getD us i 0 ∷ drop j us) (sym (add-one i))
+
+    pub before-turn : i < length us → before n (drop i us) ≡ pick (eqb (getD us i 0) n) 0 (suc (before n (drop (i + 1) us)))
+    unfolding before
+    before-turn h = ap (λ (l : List ℕ). before n l) (next h)
+
+    pub before-end : length us ≤ i → before n (drop i us) ≡ 0
+    unfolding before
+    before-end h = ap (λ (l : List ℕ). before n l) (drop-of-length-le us h)
+
+    pub stands-turn : i < length us → stands n (drop i us) ≡ either (eqb (getD us i 0) n) (stands n (drop (i + 1) us))
+    unfolding stands
+    stands-turn h = ap (λ (l : List ℕ). stands n l) (next h)
+
+    pub stands-end : length us ≤ i → stands n (drop i us) ≡ false
+    unfolding stands
+    stands-end h = ap (λ (l : List ℕ). stands n l) (drop-of-length-le us h)
 
 -- the first row of a number
 unfoldable pub rowOf : ℕ → List Node → Option Node

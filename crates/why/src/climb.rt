@@ -1,14 +1,12 @@
-// The rows above a node's own, and the numbers of the kept order.
+// The rows above a node's own.
 use layout::DEPTH;
 use layout::RECORD;
 use layout::RUN;
-ghost use Prim.Native.Nat.{_≤_};
 ghost use mathlib.Core.Path.{_≡_};
-ghost use lib.ListN.{length, take};
 ghost use lib.Dec.{eqb};
 ghost use Rattle.words.specs.Choice.{pick};
 ghost use Rattle.nodes.specs.Sizes.{depthAt};
-ghost use Rattle.why.specs.Rows.{climb, lastFirst, before, BelowRoot};
+ghost use Rattle.why.specs.Rows.{climb, lastFirst, BelowRoot};
 
 // The number of an ancestor that is off, or else the one named below it.
 fn named_by(run: u32, number: u32, named: u32) -> u32
@@ -40,19 +38,4 @@ pub fn off_above(nodes: &[u32], at: usize) -> u32
         }
     }
     named
-}
-
-// How many of the first `many` numbers stand before a number; `many` where it is none of them.
-pub fn before_in(numbers: &[u32], many: usize, number: u32) -> usize
-    requires { ⌜ many ≤ length (now numbers) ⌝ }
-    ensures { λ r. ⌜ r ≡ before number (take many (now (numbers .entry))) ⌝ }
-{
-    let mut i = 0;
-    while i < many {
-        if numbers[i] == number {
-            return i;
-        }
-        i += 1;
-    }
-    many
 }

@@ -2,6 +2,7 @@
 mod climb;
 mod number;
 mod reasons;
+mod search;
 
 use refusals::Refusal;
 

@@ -1,8 +1,8 @@
 // The reason of a node, and `why`.
 use crate::Reason;
 use crate::Told;
-use crate::climb::before_in;
 use crate::climb::off_above;
+use crate::search::before_in;
 use layout::COUNT;
 use layout::GROUP;
 use layout::LATEST;
