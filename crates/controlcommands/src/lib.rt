@@ -4,9 +4,14 @@ mod buses;
 pub use buses::bus_step;
 use controls::Asked;
 use controls::Change;
+use controls::asked_by;
 use controls::change_all;
+use controls::change_node;
 use controls::controls_asked;
+use controls::cover_for;
 use controls::is_bus;
+use controls::node_definition;
+use controls::node_is_group;
 use layout::COUNT;
 use layout::NODES;
 use layout::NODES_END;
@@ -23,17 +28,20 @@ use values::ValuePattern;
 use values::value_pattern;
 use words::wide;
 ghost use Prim.Native.Nat.{_<_};
+ghost use mathlib.Core.Bool.{false};
 ghost use mathlib.Core.Path.{_≡_};
 ghost use lib.Dec.{eqb};
 ghost use Rattle.words.specs.Choice.{either};
+ghost use Rattle.nodes.specs.Place.{isGroup};
 ghost use Rattle.model.specs.declared.ControlCommand.{ControlCommand};
 ghost use Rattle.model.specs.Layout.{countIn};
 ghost use Rattle.model.specs.Meaning.{minusOne, isBus, mappingTo};
 ghost use Rattle.state.specs.Known.{Known};
+ghost use Rattle.controls.specs.Ready.{nodeIn};
 ghost use Rattle.controlcommands.specs.Steps.{Steps, Changed};
 
-// Refusal 21, refusal 28, or the controls of the node at a place and of all below it changed.
-fn change_run(
+// Refusal 21, refusal 28, or the controls of the synths below the group at a place changed.
+fn change_group(
     words: &mut [u32],
     arena: &[u8],
     at: usize,
@@ -55,6 +63,50 @@ fn change_run(
         Asked::Missing => Answer::Refused(Refusal::NoControl),
         Asked::PastWidth => Answer::Refused(Refusal::PastWidth),
     }
+}
+
+// The same of the synth at a place: its definition is looked up once, and a negative index or count is not there.
+fn change_synth(
+    words: &mut [u32],
+    arena: &[u8],
+    at: usize,
+    key: Key,
+    bytes: &[u8],
+    count: u32,
+    change: Change,
+) -> Answer
+    requires { ⌜ Known (now words) (now arena) × (at < countIn (now words)) × (isGroup (nodeIn (now words) at) ≡ false) ⌝ }
+    ensures { λ r. ⌜ Changed change key count (now (bytes .entry)) at (now (words .entry)) (now (arena .entry)) r (now (words .exit)) ⌝ }
+{
+    let definition = node_definition(words, arena, at);
+    let cover = cover_for(definition, key, bytes, count);
+    match asked_by(definition, cover, count) {
+        Asked::There => {
+            change_node(words, at, cover, count, change);
+            Answer::Done
+        }
+        Asked::Missing => Answer::Refused(Refusal::NoControl),
+        Asked::PastWidth => Answer::Refused(Refusal::PastWidth),
+    }
+}
+
+// Refusal 21, refusal 28, or the controls of the node at a place and of all below it changed.
+fn change_run(
+    words: &mut [u32],
+    arena: &[u8],
+    at: usize,
+    key: Key,
+    bytes: &[u8],
+    count: u32,
+    change: Change,
+) -> Answer
+    requires { ⌜ Known (now words) (now arena) × (at < countIn (now words)) ⌝ }
+    ensures { λ r. ⌜ Changed change key count (now (bytes .entry)) at (now (words .entry)) (now (arena .entry)) r (now (words .exit)) ⌝ }
+{
+    if node_is_group(words, at) {
+        return change_group(words, arena, at, key, bytes, count, change);
+    }
+    change_synth(words, arena, at, key, bytes, count, change)
 }
 
 // /n_fill; /n_set is the same with a count of one

@@ -104,6 +104,14 @@ module _ (f : ControlValue → ControlValue) (key : Key) (name : List ℕ) (coun
   unfolding changeAll
   all-none n l xs e = ap (λ (k : ℕ). changeAll f key name count slots (take k l) xs) e
 
+  -- one synth alone
+  pub all-one : (i : ℕ) (xs : List ℕ) → i < countIn ws → isGroup (nodeIn ws i) ≡ false
+      → changeAll f key name count slots (take (i + 1 - i) (drop i (nodesIn ws))) xs ≡ changeCovered f (coverOf key name (definitionOf slots (nodeIn ws i))) (nodeIn ws i .row) count xs
+  all-one i xs h single =
+      all-turn (i + 1) i xs (omega arith) (omega arith)
+      ∙ all-none (i + 1 - (i + 1)) (drop (i + 1) (nodesIn ws)) (changeOne f key name count slots (nodeIn ws i) xs) (omega arith)
+      ∙ rw single
+
 -- as many items were put in as were there
 pub put-size : (a k : ℕ) (ys ws : List ℕ) → a + k ≤ length ws → length (put a k ys ws) ≡ length ws → length ys ≡ k
 put-size a k ys ws h e = omega (arith, simp (length-append, length-take, length-drop) at e)

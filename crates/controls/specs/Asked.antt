@@ -1,33 +1,35 @@
 -- What is asked of a node's controls: whether they are there, and what reading one gives.
 use Prim.Native.Nat.{ℕ, zero, suc, _+_, _*_, _≤_, _<_}
-use mathlib.Core.Bool.{Bool, true, false, not}
+use mathlib.Core.Bool.{Bool, true, false, not, false≢true}
 use mathlib.Core.Path.{_≡_, refl, sym, ap, ap₂, _∙_}
 use mathlib.Core.List.{List}
 use mathlib.Core.Option.{Option, none, some}
 use native.Mathlib.Omega.{arith}
-use borrow.Author.Tests.{not-false}
+use borrow.Author.Tests.{not-false, leb-true, lt-leb}
 use lib.ListN.{length, drop, getD}
 use lib.Dec.{leb}
 use lib.Seq.{getD-drop}
 use Rattle.words.specs.Choice.{pick, either, either-false}
 use Rattle.format.specs.Definition.{Front, Definition}
 use Rattle.format.specs.Names.{Covered}
+use Rattle.format.specs.Reader.{mostParameters}
 use Rattle.nodes.specs.declared.Node.{Node}
 use Rattle.nodes.specs.Place.{isGroup}
 use Rattle.values.specs.declared.Key.{Key}
+use Rattle.values.specs.declared.Key.the-variants.{Index, Name}
 use Rattle.values.specs.Controls.{ControlValue, controlAt, shownBy}
 use Rattle.model.specs.Layout.{rowWords, countIn, controlsIn, busesIn}
 use Rattle.model.specs.Engine.{Slot, decode, definitionOf, controlsFrom, controlsOf}
-use Rattle.model.specs.Meaning.{isNegative, negativeKey, coverOf, hasControls, pastWidth}
+use Rattle.model.specs.Meaning.{firstNegative, isNegative, negativeKey, coverOf, hasControls, pastWidth}
 use Rattle.model.specs.Replies.{noControl, readAt}
 use Rattle.readable.specs.declared.cover.Cover.{Cover}
 use Rattle.readable.specs.Lookup.{coverAt}
 use Rattle.controls.specs.declared.definition.Asked.{Asked}
 use Rattle.controls.specs.declared.definition.Asked.the-variants.{There, Missing, PastWidth}
-use Rattle.controls.specs.Encoded.{frontIn, frontOnly, cover-front}
+use Rattle.controls.specs.Encoded.{frontIn, frontOnly, values-few, cover-front}
 use Rattle.controls.specs.Cover.{askedBy, askedIn, Bounded, bounded, one-covered, cover-there}
 use Rattle.slots.specs.Slots.{slotBytes}
-use Rattle.controls.specs.Ready.{Ready, nodeIn, synth-ready}
+use Rattle.controls.specs.Ready.{Ready, nodeIn, either-true, synth-ready}
 
 -- refusal 21's test on a node
 abbrev pub controlsMissing : Key → ℕ → List ℕ → List Slot → Node → Bool
@@ -42,6 +44,26 @@ controlsPast key count name slots r = pick (isGroup r) false (pastWidth (coverOf
 -- the one behind the other
 abbrev pub controlsAsked : Key → ℕ → List ℕ → List Slot → Node → Asked
 controlsAsked key count name slots r = askedBy (controlsMissing key count name slots r) (controlsPast key count name slots r)
+
+-- a synth lacks a negative index, and a negative number of controls
+negative-lacks : (key : Key) (name : List ℕ) (count : ℕ) (d : Definition) → length (d .front .values) ≤ mostParameters
+    → either (either (negativeKey key) (isNegative count)) (not (hasControls (coverOf key name d) count d)) ≡ not (hasControls (coverOf key name d) count d)
+negative-lacks key name count d few = go (hasControls (coverOf key name d) count d) refl
+  where
+    at-most : (i : ℕ) → leb (i + count) (length (d .front .values)) ≡ true → i + count ≤ mostParameters
+    at-most i h = omega (arith, leb-true (i + count) (length (d .front .values)) h)
+
+    none-negative : (key : Key) → hasControls (coverOf key name d) count d ≡ true → either (negativeKey key) (isNegative count) ≡ false
+    none-negative (Index i) h = rw (lt-leb firstNegative i (omega (arith, at-most i h)), lt-leb firstNegative count (omega (arith, at-most i h)))
+    none-negative Name h = named (coverOf Name name d) h
+      where
+        named : (o : Option Covered) → hasControls o count d ≡ true → isNegative count ≡ false
+        named none k = absurd (false≢true k)
+        named (some c) k = lt-leb firstNegative count (omega (arith, at-most (c .index) k))
+
+    go : (b : Bool) → hasControls (coverOf key name d) count d ≡ b → either (either (negativeKey key) (isNegative count)) (not b) ≡ not b
+    go true h = rw (none-negative key h)
+    go false h = either-true (either (negativeKey key) (isNegative count))
 
 -- one control that is there is not past the width
 pub one-there : (key : Key) (name : List ℕ) (slots : List Slot) (r : Node) → controlsMissing key 1 name slots r ≡ false → controlsPast key 1 name slots r ≡ false
@@ -109,13 +131,15 @@ module _ (ws arena : List ℕ) (ready : Ready ws arena) (i : ℕ) (few : i < cou
   has-front (some c) count d e h = ap (λ (f : Front). leb (c .index + count) (length (f .values))) h
 
   pub synth-asked : (key : Key) (name : List ℕ) (count : ℕ)
-      → askedIn (coverOf key name (definitionOf (decode ws arena .slots) (nodeIn ws i))) count (definitionOf (decode ws arena .slots) (nodeIn ws i))
+      → controlsAsked key count name (decode ws arena .slots) (nodeIn ws i)
       ≡ askedIn (coverOf key name (frontOnly (slotBytes ws arena (nodeIn ws i .slot)))) count (frontOnly (slotBytes ws arena (nodeIn ws i .slot)))
   synth-asked key name count =
       let d = definitionOf (decode ws arena .slots) (nodeIn ws i) in
       let e = frontOnly (slotBytes ws arena (nodeIn ws i .slot)) in
-      ap (λ (o : Option Covered). askedIn o count d) (synth-cover key name)
-      ∙ ap (λ (b : Bool). askedBy (not b) (pastWidth (coverOf key name e) count)) (has-front (coverOf key name e) count d e front)
+      rw single
+      (ap (λ (b : Bool). askedBy b (pastWidth (coverOf key name d) count)) (negative-lacks key name count d (rw synth-many (values-few (slotBytes ws arena (nodeIn ws i .slot)))))
+      ∙ ap (λ (o : Option Covered). askedIn o count d) (synth-cover key name)
+      ∙ ap (λ (b : Bool). askedBy (not b) (pastWidth (coverOf key name e) count)) (has-front (coverOf key name e) count d e front))
 
   -- what reading a control gives, by the lookup's answer
   module _ (key : Key) (name : List ℕ) (c : Cover) (said : coverAt c ≡ coverOf key name (frontOnly (slotBytes ws arena (nodeIn ws i .slot)))) where

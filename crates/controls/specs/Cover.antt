@@ -81,31 +81,37 @@ Inside c = c .found ≡ true → 0 < c .width → c .index + c .width ≤ mostPa
 pub cover-there : (c : Cover) → c .found ≡ true → coverAt c ≡ some (record { index = c .index; width = c .width })
 cover-there c found = rw found
 
-pub cover-inside : (key : Key) (name s : List ℕ) (c : Cover) → coverAt c ≡ coverOf key name (frontOnly s) → Inside c
-cover-inside key name s c e found h =
-    omega (arith, bounded key name (frontOnly s) (record { index = c .index; width = c .width }) (sym e ∙ cover-there c found) .ends h, values-few s)
+-- and among a definition's controls
+abbrev pub Within : List ℕ → Cover → Type 0
+Within s c = c .found ≡ true → 0 < c .width → c .index + c .width ≤ length (frontIn s .values)
 
--- refusal 21's test and 28's, by the lookup's answer
-module _ (key : Key) (name : List ℕ) (d : Definition) (c : Cover) (said : coverAt c ≡ coverOf key name d) (count : ℕ) where
-  pub asked-none : c .found ≡ false → Missing ≡ askedIn (coverOf key name d) count d
-  asked-none lacks = sym (ap (λ (o : Option Covered). askedIn o count d) (sym said) ∙ rw lacks)
+pub cover-within : (key : Key) (name s : List ℕ) (c : Cover) → coverAt c ≡ coverOf key name (frontOnly s) → Within s c
+cover-within key name s c e found = bounded key name (frontOnly s) (record { index = c .index; width = c .width }) (sym e ∙ cover-there c found) .ends
+
+pub within-inside : (s : List ℕ) (c : Cover) → Within s c → Inside c
+within-inside s c within found h = omega (arith, within found h, values-few s)
+
+pub cover-inside : (key : Key) (name s : List ℕ) (c : Cover) → coverAt c ≡ coverOf key name (frontOnly s) → Inside c
+cover-inside key name s c e = within-inside s c (cover-within key name s c e)
+
+-- refusal 21's test and 28's, by what is covered
+module _ (s : List ℕ) (c : Cover) (count : ℕ) where
+  pub asked-none : c .found ≡ false → Missing ≡ askedIn (coverAt c) count (frontOnly s)
+  asked-none lacks = sym (rw lacks)
 
   module _ (found : c .found ≡ true) where
-    by-cover : askedIn (coverOf key name d) count d ≡ askedBy (not (leb (c .index + count) (length (d .front .values)))) (ltb (c .width) count)
-    by-cover = ap (λ (o : Option Covered). askedIn o count d) (sym said ∙ cover-there c found)
+    pub asked-missing : length (frontIn s .values) < c .index + count → Missing ≡ askedIn (coverAt c) count (frontOnly s)
+    asked-missing h = sym (rw (found, lt-leb (c .index + count) (length (frontIn s .values)) h))
 
-    pub asked-missing : length (d .front .values) < c .index + count → Missing ≡ askedIn (coverOf key name d) count d
-    asked-missing h = sym (by-cover ∙ rw (lt-leb (c .index + count) (length (d .front .values)) h))
+    pub asked-past : c .index + count ≤ length (frontIn s .values) → c .width < count → PastWidth ≡ askedIn (coverAt c) count (frontOnly s)
+    asked-past h l = sym (rw (found, le-leb (c .index + count) (length (frontIn s .values)) h, lt-ltb (c .width) count l))
 
-    pub asked-past : c .index + count ≤ length (d .front .values) → c .width < count → PastWidth ≡ askedIn (coverOf key name d) count d
-    asked-past h l = sym (by-cover ∙ rw (le-leb (c .index + count) (length (d .front .values)) h, lt-ltb (c .width) count l))
-
-    pub asked-there : c .index + count ≤ length (d .front .values) → count ≤ c .width → There ≡ askedIn (coverOf key name d) count d
-    asked-there h l = sym (by-cover ∙ rw (le-leb (c .index + count) (length (d .front .values)) h, le-ltb (c .width) count l))
+    pub asked-there : c .index + count ≤ length (frontIn s .values) → count ≤ c .width → There ≡ askedIn (coverAt c) count (frontOnly s)
+    asked-there h l = sym (rw (found, le-leb (c .index + count) (length (frontIn s .values)) h, le-ltb (c .width) count l))
 
     -- what is covered is there
-    pub asked-covered : 0 < c .width → count ≤ c .width → There ≡ askedIn (coverOf key name d) count d
-    asked-covered h l = asked-there (omega (arith, bounded key name d (record { index = c .index; width = c .width }) (sym said ∙ cover-there c found) .ends h)) l
+    pub asked-covered : Within s c → 0 < c .width → count ≤ c .width → There ≡ askedIn (coverAt c) count (frontOnly s)
+    asked-covered within h l = asked-there (omega (arith, within found h)) l
 
 -- how many of the controls that are covered a count reaches
 abbrev pub reachedBy : Cover → ℕ → ℕ

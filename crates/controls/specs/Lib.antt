@@ -9,3 +9,4 @@ pub mod Cover
 pub mod All
 pub mod Formed
 pub mod Asked
+pub mod Serves

@@ -19,8 +19,9 @@ ghost use Rattle.model.specs.Meaning.{coverOf};
 ghost use Rattle.model.specs.Effects.{initialWords};
 ghost use Rattle.readable.specs.Lookup.{coverAt};
 ghost use Rattle.controls.specs.Encoded.{frontIn, frontOnly};
-ghost use Rattle.controls.specs.Cover.{askedIn};
+ghost use Rattle.controls.specs.Cover.{askedIn, Within};
 ghost use Rattle.controls.specs.Initial.{floatsFrom};
+ghost use Rattle.controls.specs.Serves.{Serves};
 
 // Controls that are asked for: they are there, or some are not, or they are more than the key covers.
 pub enum Asked {
@@ -37,10 +38,12 @@ pub fn parameter_count(definition: &[u8]) -> u32
     readable::parameters(definition)
 }
 
-// The controls from an index on, of so many.
-fn index_cover(index: u32, many: u32) -> Cover
-    ensures { λ r. ⌜ coverAt r ≡ some (record { index = index; width = many - index }) ⌝ }
+// The controls from an index on.
+fn index_cover(definition: &[u8], index: u32) -> Cover
+    requires { ⌜ Readable (now definition) ⌝ }
+    ensures { λ r. ⌜ coverAt r ≡ some (record { index = index; width = length (frontIn (now (definition .entry)) .values) - index }) ⌝ }
 {
+    let many = parameter_count(definition);
     if many <= index {
         return Cover {
             found: true,
@@ -61,17 +64,30 @@ pub fn key_cover(definition: &[u8], key: Key, name: &[u8]) -> Cover
     ensures { λ r. ⌜ coverAt r ≡ coverOf key (now (name .entry)) (frontOnly (now (definition .entry))) ⌝ }
 {
     match key {
-        Key::Index(i) => index_cover(i, parameter_count(definition)),
+        Key::Index(i) => index_cover(definition, i),
         Key::Name => readable::name_cover(definition, name),
     }
 }
 
-// Whether the controls that are asked for are there, and whether the key covers them. Those that it covers are there.
-pub fn asked_of(definition: &[u8], key: Key, name: &[u8], count: u32) -> Asked
+// What a key covers, for so many controls: of a name the first control is enough for one.
+pub fn cover_for(definition: &[u8], key: Key, name: &[u8], count: u32) -> Cover
     requires { ⌜ Readable (now definition) ⌝ }
-    ensures { λ r. ⌜ r ≡ askedIn (coverOf key (now (name .entry)) (frontOnly (now (definition .entry)))) count (frontOnly (now (definition .entry))) ⌝ }
+    ensures { λ r. ⌜ Serves key (now (name .entry)) count (now (definition .entry)) r ⌝ }
 {
-    let cover = key_cover(definition, key, name);
+    if 1 < count {
+        return key_cover(definition, key, name);
+    }
+    match key {
+        Key::Index(i) => index_cover(definition, i),
+        Key::Name => readable::name_first(definition, name),
+    }
+}
+
+// Whether the controls that are asked for are there, and whether what is covered holds them. Those that are covered are there.
+pub fn asked_by(definition: &[u8], cover: Cover, count: u32) -> Asked
+    requires { ⌜ Readable (now definition) × Within (now definition) cover ⌝ }
+    ensures { λ r. ⌜ r ≡ askedIn (coverAt cover) count (frontOnly (now (definition .entry))) ⌝ }
+{
     if !cover.found {
         return Asked::Missing;
     }
@@ -91,6 +107,14 @@ pub fn asked_of(definition: &[u8], key: Key, name: &[u8], count: u32) -> Asked
         return Asked::PastWidth;
     }
     Asked::There
+}
+
+// The same, by the key.
+pub fn asked_of(definition: &[u8], key: Key, name: &[u8], count: u32) -> Asked
+    requires { ⌜ Readable (now definition) ⌝ }
+    ensures { λ r. ⌜ r ≡ askedIn (coverOf key (now (name .entry)) (frontOnly (now (definition .entry)))) count (frontOnly (now (definition .entry))) ⌝ }
+{
+    asked_by(definition, key_cover(definition, key, name), count)
 }
 
 // The pattern of the float at a place, 0 where it is not whole.

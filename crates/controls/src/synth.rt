@@ -38,7 +38,7 @@ fn reached(cover: Cover, count: u32) -> u32
 }
 
 // The controls of the synth at a place of the table changed, as far as they are covered.
-pub(crate) fn change_node(words: &mut [u32], place: usize, cover: Cover, count: u32, change: Change)
+pub fn change_node(words: &mut [u32], place: usize, cover: Cover, count: u32, change: Change)
     requires { ⌜ (length (now words) ≡ wordsLength) × (place < mostNodes) × (nodeIn (now words) place .row < mostRows) × Inside cover ⌝ }
     ensures { λ r. ⌜ now (words .exit) ≡ putControls (changeCovered (changeOf change) (coverAt cover) (nodeIn (now (words .entry)) place .row) count (controlsIn (now (words .entry)))) (now (words .entry)) ⌝ }
 {

@@ -57,19 +57,19 @@ pub fn part(s: &[u8], from: usize, to: usize) -> &[u8]
     &s[from..to]
 }
 
-// Two names are the same.
+// Two names are the same. Their last bytes are compared first: names of a family differ at the end.
 pub fn same_name(a: &[u8], b: &[u8]) -> bool
     ensures { λ r. ⌜ r ≡ sameName (now (a .entry)) (now (b .entry)) ⌝ }
 {
     if a.len() != b.len() {
         return false;
     }
-    let mut i = 0;
-    while i < a.len() {
+    let mut i = a.len();
+    while 0 < i {
+        i -= 1;
         if a[i] != b[i] {
             return false;
         }
-        i += 1;
     }
     true
 }

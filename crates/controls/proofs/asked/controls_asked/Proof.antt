@@ -48,13 +48,10 @@ returns-4 c =
     let a = c .before .before .before .before .before .before .before .before .before .before .args in
     let p = c .before .before .before .before .before .before .before .before .before .before .pre in
     let ws = a .words .now in
-    let key : negativeKey (a .key) ≡ false = sym (c .before .before .before .before .before .before .negative-key .ensures) ∙ c .before .before .before .before .before .if1 .left in
-    let count : isNegative (a .count) ≡ false = lt-leb 2147483648 (a .count) (omega arith) in
     let single : isGroup (nodeIn ws (a .place)) ≡ false = sym (c .before .before .before .node-is-group .ensures) ∙ c .before .before .if3 .left in
     c .asked-of .ensures
     ∙ ap (λ (s : List ℕ). askedIn (coverOf (a .key) (a .name .now) (frontOnly s)) (a .count) (frontOnly s)) (c .before .node-definition .ensures)
     ∙ sym (synth-asked ws (a .arena .now) (p .0) (a .place) (p .1) single (a .key) (a .name .now) (a .count))
-    ∙ sym (rw (key, count, single))
 
 pub controls-asked-spec : {M : Type 1} → statement M
 controls-asked-spec =
