@@ -9,22 +9,12 @@ use layout::SLOT;
 use layout::WORDS;
 use model::Answer;
 use refusals::Refusal;
+use treecommands::zero_words;
 ghost use mathlib.Core.Path.{_≡_};
 ghost use lib.ListN.{length, replicate};
 ghost use Rattle.model.specs.Layout.{wordsLength};
 ghost use Rattle.model.specs.After.{freshState};
 ghost use Rattle.model.specs.Apply.{Freshly};
-
-// Every word zero.
-fn zero_words(words: &mut [u32])
-    ensures { λ r. ⌜ now (words .exit) ≡ replicate (length (now (words .entry))) 0 ⌝ }
-{
-    let mut i = 0;
-    while i < words.len() {
-        words[i] = 0;
-        i += 1;
-    }
-}
 
 // Every byte zero.
 fn zero_bytes(arena: &mut [u8])

@@ -1,9 +1,10 @@
 -- The row for a new synth: the lowest that is free among the nodes that stay.
-use Prim.Native.Nat.{ℕ, _*_, _≤_, _<_}
-use mathlib.Core.Path.{_≡_, refl, ap, ap₂, _∙_}
-use mathlib.Core.List.{List}
+use Prim.Native.Nat.{ℕ, _+_, _*_, _≤_, _<_}
+use mathlib.Core.Path.{_≡_, refl, sym, ap, ap₂, _∙_}
+use mathlib.Core.List.{List, _++_}
 use native.Mathlib.Omega.{arith}
-use lib.ListN.{length, length-append, length-take, length-drop}
+use lib.ListN.{length, take, length-append, length-take, length-drop, take-append-drop, drop-of-length-le}
+use lib.Seq.{paste}
 use Rattle.nodes.specs.declared.Node.{Node}
 use Rattle.nodes.specs.Table.{width, rows, rows-length, fill-length, rows-fill}
 use Rattle.nodes.specs.Place.{place}
@@ -17,6 +18,11 @@ use Rattle.tree.specs.declared.action.Action.the-variants.{Put, Replace}
 use Rattle.tree.specs.declared.action.Position.the-variants.{Head, Tail, Before, After}
 use Rattle.tree.specs.Sizes.{Leaves}
 use Rattle.tree.specs.Action.{numberOf}
+
+-- a run copied whole
+pub paste-whole : (d s : List ℕ) (i : ℕ) → i ≡ length s → length d ≡ length s → paste d 0 s i ≡ s
+paste-whole d s i all same =
+    ap (λ (l : List ℕ). take 0 d ++ take i s ++ l) (drop-of-length-le d {i = 0 + i} (omega arith) ∙ sym (drop-of-length-le s {i = i} (omega arith))) ∙ take-append-drop i s
 
 -- a node region, with a place in its table
 pub record Standing (us : List ℕ) (count at : ℕ) : Type 0 where

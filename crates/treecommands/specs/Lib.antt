@@ -2,6 +2,8 @@ pub mod Ready
 pub mod Finding
 pub mod Edits
 pub mod Settle
+pub mod Zeros
+pub mod Ordering
 pub mod Indexing
 pub mod Steps
 pub mod Freeing

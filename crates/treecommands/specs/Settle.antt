@@ -4,8 +4,8 @@ use mathlib.Core.Bool.{true}
 use mathlib.Core.Path.{_≡_, refl, sym, ap, ap₂, _∙_, subst}
 use mathlib.Core.List.{List, [], _∷_, _++_}
 use native.Mathlib.Omega.{arith}
-use lib.ListN.{length, take, drop, getD, set, take-append-drop, drop-of-length-le}
-use lib.Seq.{take-at, drop-drop, length-take-le, paste}
+use lib.ListN.{length, take, drop, getD, set, take-append-drop}
+use lib.Seq.{take-at, drop-drop, length-take-le}
 use lib.Dec.{eqb}
 use Rattle.words.specs.Choice.{both}
 use Rattle.words.specs.Parts.{region, put, region-length, region-put, past-put, before-put}
@@ -27,10 +27,9 @@ use Rattle.model.specs.Effects.{latestAmong, withNodes}
 use Rattle.model.specs.After.{putTree}
 use Rattle.state.specs.Regions.{region-before, region-past, word-before, put-size}
 use Rattle.state.specs.Decoded.{order-region-length, index-many, index-region-length}
-use Rattle.order.specs.declared.Order.{Order}
-use Rattle.order.specs.Kept.{Kept}
-use Rattle.order.specs.Pad.{pad-is}
-use Rattle.order.specs.Few.{order-most}
+
+
+
 use Rattle.tree.specs.Sizes.{Leaves}
 use Rattle.treecommands.specs.Ready.{Ready, nodeWords, words-long}
 
@@ -64,23 +63,6 @@ settled count next latest ws =
 abbrev pub renewed : ℕ → List ℕ → List ℕ
 renewed count ws = settled count (nextIn ws) (latestAmong (rows count (nodeWords ws)) (latestIn ws)) ws
 
--- a run copied whole
-pub paste-whole : (d s : List ℕ) (i : ℕ) → i ≡ length s → length d ≡ length s → paste d 0 s i ≡ s
-paste-whole d s i all same =
-    ap (λ (l : List ℕ). take 0 d ++ take i s ++ l) (drop-of-length-le d {i = 0 + i} (omega arith) ∙ sym (drop-of-length-le s {i = i} (omega arith))) ∙ take-append-drop i s
-
--- the running order as it was worked out, and written
-module _ (count : ℕ) (ws : List ℕ) (r : Order) (k : Kept (rows count (nodeWords ws)) r) where
-  pub order-by : length ws ≡ wordsLength → put orderPlace orderWords (paste (region orderPlace orderWords ws) 0 (r .numbers) orderWords) ws ≡ putOrder (order (rows count (nodeWords ws))) ws
-  order-by size =
-      let here : r .numbers ≡ orderRegion (order (rows count (nodeWords ws))) = k .numbers ∙ pad-is orderWords (order (rows count (nodeWords ws))) in
-      let long : length (r .numbers) ≡ orderWords = ap length here ∙ order-region-length (order (rows count (nodeWords ws))) in
-      let room : length (region orderPlace orderWords ws) ≡ orderWords = region-length orderPlace orderWords ws (omega (arith, size)) in
-      ap (λ (l : List ℕ). put orderPlace orderWords l ws) (paste-whole (region orderPlace orderWords ws) (r .numbers) orderWords (sym long) (room ∙ sym long) ∙ here)
-
-  pub many-few : r .length ≤ count
-  many-few = omega (arith, k .many, order-most 0 (rows count (nodeWords ws)), rows-length count (nodeWords ws))
-
 -- the first words, one after the other
 pub header-sets : (a b c d : ℕ) (ws : List ℕ) → 4 ≤ length ws → set (set (set (set ws 0 a) 1 b) 2 c) 3 d ≡ putHeader a b c d ws
 header-sets a b c d [] h = absurd (omega arith)
@@ -90,7 +72,7 @@ header-sets a b c d (w ∷ (x ∷ (y ∷ []))) h = absurd (omega arith)
 header-sets a b c d (w ∷ (x ∷ (y ∷ (z ∷ ws)))) h = refl
 
 -- a part put where it is
-put-own : (a k : ℕ) (ws : List ℕ) → put a k (region a k ws) ws ≡ ws
+pub put-own : (a k : ℕ) (ws : List ℕ) → put a k (region a k ws) ws ≡ ws
 put-own a k ws = ap (λ (l : List ℕ). take a ws ++ l) (take-append-drop k (drop a ws)) ∙ take-append-drop a ws
 
 -- what a lookup asks

@@ -1,27 +1,23 @@
 // What is derived from the tree, written afresh after its nodes changed.
 use crate::indexing::renew_index;
 use crate::indexing::sift_index;
+use crate::ordering::renew_order;
 use index::find_indexed;
 use layout::COUNT;
 use layout::INDEX;
 use layout::INDEX_END;
 use layout::LATEST;
-use layout::MOST_ORDER;
 use layout::NEXT;
 use layout::NODES;
 use layout::NODES_END;
-use layout::ORDER;
-use layout::ORDER_END;
 use layout::ORDER_LENGTH;
 use reindex::Edit;
-use tree::copy_words;
 ghost use mathlib.Core.Path.{_≡_};
 ghost use Prim.Native.Nat.{_≤_};
 ghost use lib.ListN.{length};
 ghost use Rattle.nodes.specs.Table.{rows};
-ghost use Rattle.nodes.specs.Order.{order};
-ghost use Rattle.nodes.specs.Formed.{mostNodes};
-ghost use Rattle.model.specs.Layout.{wordsLength, nextIn, latestIn, putHeader, putOrder};
+
+ghost use Rattle.model.specs.Layout.{nextIn, latestIn, putHeader};
 ghost use Rattle.model.specs.Effects.{latestAmong};
 ghost use Rattle.treecommands.specs.Ready.{nodeWords};
 ghost use Rattle.treecommands.specs.Settle.{Sorted, Changed, Sifted, settled, renewed};
@@ -35,17 +31,6 @@ fn write_header(words: &mut [u32], count: u32, many: u32, next: u32, latest: u32
     words[ORDER_LENGTH] = many;
     words[NEXT] = next;
     words[LATEST] = latest;
-}
-
-// The whole order region, for the table of so many nodes, and how long the order is.
-fn renew_order(words: &mut [u32], count: usize) -> u32
-    requires { ⌜ (length (now words) ≡ wordsLength) × (count ≤ mostNodes) ⌝ }
-    ensures { λ r. ⌜ (now (words .exit) ≡ putOrder (order (rows count (nodeWords (now (words .entry))))) (now (words .entry))) × (r ≡ length (order (rows count (nodeWords (now (words .entry)))))) ⌝ }
-{
-    let order = order::running_order(&words[NODES..NODES_END], count);
-    let many = order.length;
-    copy_words(&mut words[ORDER..ORDER_END], 0, &order.numbers, MOST_ORDER);
-    many as u32
 }
 
 // The order, the index and the first words, for the table of so many nodes, after an edit.

@@ -5,6 +5,7 @@ mod free;
 mod group;
 mod indexing;
 mod moves;
+mod ordering;
 mod place;
 
 pub use adding::bad_target;
@@ -21,4 +22,5 @@ pub use moves::move_after;
 pub use moves::move_before;
 pub use moves::move_head;
 pub use moves::move_tail;
+pub use ordering::zero_words;
 pub use place::is_synth;

@@ -4,8 +4,7 @@ use native.Mathlib.Omega.{arith}
 use borrow.Author.Needs.{needs}
 use mathlib.Core.Path.{_≡_, refl, sym, _∙_}
 use lib.ListN.{length, replicate, length-replicate}
-use Rattle.treecommands.specs.Settle.{paste-whole}
-use Rattle.making.specs.Rows.{left-sized, free-left}
+use Rattle.making.specs.Rows.{paste-whole, left-sized, free-left}
 use Rattle.making.proofs.rows.row_without.Statement.{statement}
 use Rattle.making.proofs.rows.row_without.Tie as tie
 
