@@ -25,7 +25,7 @@ rooted-some : (t : List Node) → rooted t ≡ true → 1 ≤ length t
 rooted-some t h = omega (arith, order-short t h)
 
 -- a synth that lives is a node that lives
-no-synth : (n : ℕ) (t : List Node) → lives n t ≡ false → synthLives n t ≡ false
+pub no-synth : (n : ℕ) (t : List Node) → lives n t ≡ false → synthLives n t ≡ false
 no-synth n t h =
     let none = ltb-false 0 (tally (numbered n) t) (sym (lives-some n t) ∙ h) in
     synthLives-some n t ∙ le-ltb 0 (tally (synthNumbered n) t) (omega (arith, kinds n t))

@@ -1,7 +1,7 @@
 -- /n_run and /n_free.
 use Prim.Native.Nat.{ℕ, _+_, _-_, _≤_, _<_}
 use mathlib.Core.Bool.{Bool, true, false}
-use mathlib.Core.Path.{_≡_, refl, ap}
+use mathlib.Core.Path.{_≡_, refl, ap, _∙_}
 use mathlib.Core.List.{List, [], _∷_}
 use native.Mathlib.Omega.{arith}
 use lib.ListN.{length}
@@ -15,14 +15,14 @@ use Rattle.nodes.specs.Table.{rows, rows-length, fill}
 use Rattle.nodes.specs.Edit.{withRun, editRows, editAt, freeHere, setRunHere, cut, setRun}
 use Rattle.nodes.specs.Formed.{mostNodes}
 use Rattle.treerefinement.specs.Tally.{cut-within}
-use Rattle.treerefinement.specs.Keep.{setRun-length}
+use Rattle.treerefinement.specs.Keep.{setRun-length, setRun-lives}
 use Rattle.values.specs.declared.NodeArgument.{NodeArgument}
 use Rattle.model.specs.declared.TreeCommand.the-variants as tree
 use Rattle.model.specs.declared.Command.the-variants as command
 use Rattle.model.specs.declared.Answer.the-variants.{Done, Refused}
 use Rattle.index.specs.Index.{numbers}
 use Rattle.reindex.specs.declared.edit.Edit.the-variants as edit
-use Rattle.model.specs.Layout.{nodesPlace, nodesWords, countIn, nodesIn}
+use Rattle.model.specs.Layout.{nodesPlace, nodesWords, countIn, latestIn, nodesIn}
 use Rattle.model.specs.Engine.{decode}
 use Rattle.model.specs.Meaning.{known}
 use Rattle.model.specs.Checks.{firstOf}
@@ -37,7 +37,8 @@ use Rattle.treecommands.specs.Ready.{Ready, nodeWords}
 use Rattle.treecommands.specs.Finding.{meantIn, NodeFound, found, missing, is-root, not-root}
 use Rattle.treecommands.specs.Edits.{cut-does}
 use Rattle.treecommands.specs.Settle.{Sorted, Changed, renewed}
-use Rattle.treecommands.specs.Steps.{Steps, left-few, edited-ready, edited-in-place, edited-left}
+use Rattle.treecommands.specs.Staying.{Stays}
+use Rattle.treecommands.specs.Steps.{Steps, left-few, edited-ready, edited-stays, edited-in-place, edited-left}
 
 -- a run flag changes no number
 setRun-numbers : (n flag : ℕ) (t : List Node) → numbers (setRun n flag t) ≡ numbers t
@@ -68,9 +69,12 @@ module _ (n : NodeArgument) (flag : ℕ) (ws : List ℕ) where
       run-few = omega (arith, setRun-length (meantIn n ws) flag (nodesIn ws), rows-length (countIn ws) (nodeWords ws), k .few)
 
       -- every node is where it was
-      pub run-sorted : Sorted count (put nodesPlace nodesWords us ws)
+      pub run-sorted : Sorted count (put nodesPlace nodesWords us ws) × Stays count (put nodesPlace nodesWords us ws)
       run-sorted =
-          edited-in-place n ws k count same at run-at (setRunHere flag) us count (run-leaves (nodeWords ws) count at flag live us does) (setRun-length (meantIn n ws) flag (nodesIn ws)) (setRun-numbers (meantIn n ws) flag (nodesIn ws))
+          let left = run-leaves (nodeWords ws) count at flag live us does in (
+            edited-in-place n ws k count same at run-at (setRunHere flag) us count left (setRun-length (meantIn n ws) flag (nodesIn ws)) (setRun-numbers (meantIn n ws) flag (nodesIn ws)),
+            edited-stays n ws k count same at run-at (setRunHere flag) us count left run-few (λ e. setRun-lives (meantIn n ws) flag (nodesIn ws) (latestIn ws) ∙ e),
+          )
 
       pub run-done : (out : List ℕ) → out ≡ renewed count (put nodesPlace nodesWords us ws) → Steps (tree.Run n flag) ws Done out
       unfolding answerIn firstOf decode wordsAfter effect

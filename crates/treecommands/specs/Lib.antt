@@ -2,6 +2,7 @@ pub mod Ready
 pub mod Finding
 pub mod Edits
 pub mod Settle
+pub mod Staying
 pub mod Zeros
 pub mod Ordering
 pub mod Indexing

@@ -13,6 +13,7 @@ use Rattle.nodes.specs.Place.{lives, found}
 use Rattle.nodes.specs.Sizes.{endAt}
 use Rattle.nodes.specs.Edit.{runOf, editRows, cut}
 use Rattle.nodes.specs.Formed.{mostNodes}
+use Rattle.treerefinement.specs.Keep.{same-lives}
 use Rattle.treerefinement.specs.Tally.{Same, tally-length, moveHead-same, moveTail-same, moveBefore-same, moveAfter-same}
 use Rattle.reindex.specs.declared.edit.Edit.{Edit}
 use Rattle.reindex.specs.Edits as edits
@@ -22,7 +23,7 @@ use Rattle.model.specs.declared.TreeCommand.the-variants as tree
 use Rattle.model.specs.declared.Command.the-variants as command
 use Rattle.model.specs.declared.Answer.{Answer}
 use Rattle.model.specs.declared.Answer.the-variants.{Done, Refused}
-use Rattle.model.specs.Layout.{nodesPlace, nodesWords, countIn, nodesIn}
+use Rattle.model.specs.Layout.{nodesPlace, nodesWords, countIn, latestIn, nodesIn}
 use Rattle.model.specs.Engine.{Engine, decode}
 use Rattle.model.specs.Effects.{withNodes, effect}
 use Rattle.model.specs.After.{putTree, wordsAfter}
@@ -43,7 +44,8 @@ use Rattle.treecommands.specs.declared.moves.Pair.the-variants as pair
 use Rattle.treecommands.specs.Ready.{Ready, nodeWords}
 use Rattle.treecommands.specs.Finding.{meantIn}
 use Rattle.treecommands.specs.Edits.{moveEdit, move-does}
-use Rattle.treecommands.specs.Settle.{Changed, renewed, changed-left, renewed-left}
+use Rattle.treecommands.specs.Settle.{renewed, changed-left, renewed-left}
+use Rattle.treecommands.specs.Staying.{Staying, stays-left}
 use Rattle.treecommands.specs.Steps.{Steps}
 use Rattle.treecommands.specs.Sighting.{besideChecks, intoChecks, Clear, PairFound}
 
@@ -81,12 +83,13 @@ module _ (checks : Engine → List Check) (moved to : NodeArgument) (ws : List �
       size = same ∙ sym size;
     }
 
-    moved-ready : Changed (moveEdit i (endAt count (nodeWords ws) i) (placeBy p count (nodeWords ws) j .at)) count (put nodesPlace nodesWords us ws)
+    moved-ready : Staying (moveEdit i (endAt count (nodeWords ws) i) (placeBy p count (nodeWords ws) j .at)) count (put nodesPlace nodesWords us ws)
     moved-ready =
-        rw same
-        (changed-left ws k t few (moveEdit i (endAt (countIn ws) (nodeWords ws) i) (placeBy p (countIn ws) (nodeWords ws) j .at))
+        let there : Leaves (nodeWords ws) t us (countIn ws) = rw same at left in
+        let changed = changed-left ws k t few (moveEdit i (endAt (countIn ws) (nodeWords ws) i) (placeBy p (countIn ws) (nodeWords ws) j .at))
         (subst (λ (l : List Node). edits.Does (moveEdit i (endAt (countIn ws) (nodeWords ws) i) (placeBy p (countIn ws) (nodeWords ws) j .at)) (nodesIn ws) l) table
-        (move-does (countIn ws) (nodeWords ws) i (placeBy p (countIn ws) (nodeWords ws) j) (move-place (nodeWords ws) (countIn ws) i j (c .moving) p))) us (countIn ws) (rw same at left))
+        (move-does (countIn ws) (nodeWords ws) i (placeBy p (countIn ws) (nodeWords ws) j) (move-place (nodeWords ws) (countIn ws) i j (c .moving) p))) us (countIn ws) there in
+        rw same (record { changed = changed; stays = stays-left ws k t few (λ e. same-lives (latestIn ws) all ∙ e) us (countIn ws) there })
 
     moved-left : (out : List ℕ) → out ≡ renewed count (put nodesPlace nodesWords us ws) → (bs : List ℕ) → out ≡ putTree (withNodes t (decode ws bs)) ws
     moved-left out o bs = o ∙ renewed-left ws (k .size) t few bs us count left
@@ -99,7 +102,7 @@ movedWords p ws a b = put nodesPlace nodesWords (fill (nodeWords ws) (movedTo (c
 abbrev pub Movable : Pair → Position → List ℕ → Type 0
 Movable (pair.At a b) p ws =
     Moving (nodeWords ws) (countIn ws) a b
-    × Changed (moveEdit a (endAt (countIn ws) (nodeWords ws) a) (placeBy p (countIn ws) (nodeWords ws) b .at)) (countIn ws) (movedWords p ws a b)
+    × Staying (moveEdit a (endAt (countIn ws) (nodeWords ws) a) (placeBy p (countIn ws) (nodeWords ws) b .at)) (countIn ws) (movedWords p ws a b)
 Movable (pair.Refused r) p ws = Unit {0}
 
 abbrev pub Goes : Pair → Position → List ℕ → Answer → List ℕ → Type 0
@@ -115,7 +118,7 @@ gone a b p ws count same us moves out o =
 
 -- what that asks
 pub gone-ready : (a b : ℕ) (p : Position) (ws : List ℕ) (count : ℕ) → count ≡ countIn ws → (us : List ℕ) → us ≡ fill (nodeWords ws) (movedTo count (nodeWords ws) a (placeBy p count (nodeWords ws) b))
-    → Movable (pair.At a b) p ws → (edit : Edit) → edit ≡ moveEdit a (endAt count (nodeWords ws) a) (placeBy p count (nodeWords ws) b .at) → Changed edit count (put nodesPlace nodesWords us ws)
+    → Movable (pair.At a b) p ws → (edit : Edit) → edit ≡ moveEdit a (endAt count (nodeWords ws) a) (placeBy p count (nodeWords ws) b .at) → Staying edit count (put nodesPlace nodesWords us ws)
 gone-ready a b p ws count same us moves m edit is = rw (is, moves, same) (m .1)
 
 -- one law for every move: a command that has these checks, and leaves the node at this position

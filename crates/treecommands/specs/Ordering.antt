@@ -5,9 +5,9 @@ use mathlib.Core.List.{List, [], _∷_, _++_, append-assoc, append-nil}
 use native.Mathlib.Omega.{arith}
 use native.Mathlib.Nat.{zero-add, suc-add}
 use lib.ListN.{length, take, drop, getD, set, length-append, length-replicate}
-use lib.Seq.{drop-drop, length-take-le, set-append-left}
+use lib.Seq.{length-take-le, set-append-left}
 use borrow.Author.Tests.{le-leb, lt-leb, eq-eqb, ne-eqb}
-use Rattle.words.specs.Parts.{region, put, region-length, region-put, before-put, past-put}
+use Rattle.words.specs.Parts.{region, put, region-length, region-put}
 use Rattle.nodes.specs.declared.Node.{Node}
 use Rattle.nodes.specs.Table.{width, nodeFrom, rows, row-from}
 use Rattle.nodes.specs.Order.{orderFrom, order}
@@ -16,7 +16,7 @@ use Rattle.model.specs.Layout.{wordsLength, nodesPlace, nodesWords, orderPlace,
 use Rattle.state.specs.Regions.{region-before, word-before, put-size}
 use Rattle.order.specs.Pad.{padTo, zeros, pad-is, pad-none, pad-full, pad-more, pad-length}
 use Rattle.treecommands.specs.Ready.{nodeWords, node-word}
-use Rattle.treecommands.specs.Settle.{put-own}
+use Rattle.treecommands.specs.Settle.{put-own, put-again}
 
 -- the order region holds zeros, and the table of so many nodes has room
 pub record Cleared (count : ℕ) (ws : List ℕ) : Type 0 where
@@ -164,16 +164,9 @@ module _ (count : ℕ) (few : count ≤ mostNodes) (ws : List ℕ) (size : lengt
     clear = region-put orderPlace orderWords zs ws (omega (arith, size)) many ∙ zeroed;
   }
 
-  over : (ys : List ℕ) → put orderPlace orderWords ys (put orderPlace orderWords zs ws) ≡ put orderPlace orderWords ys ws
-  over ys =
-      ap₂ (λ (p q : List ℕ). p ++ (ys ++ q)) (before-put orderPlace orderWords orderPlace zs ws (omega (arith, size)) (omega arith))
-      (drop-drop orderWords orderPlace (put orderPlace orderWords zs ws)
-      ∙ past-put orderPlace orderWords (orderPlace + orderWords) zs ws (omega (arith, size)) many (omega arith)
-      ∙ sym (drop-drop orderWords orderPlace ws))
-
   pub ordered-over : (out : List ℕ) (r : ℕ)
       → (out ≡ putOrder (order (rows count (nodeWords (put orderPlace orderWords zs ws)))) (put orderPlace orderWords zs ws)) × (r ≡ length (order (rows count (nodeWords (put orderPlace orderWords zs ws)))))
       → (out ≡ putOrder (order (rows count (nodeWords ws))) ws) × (r ≡ length (order (rows count (nodeWords ws))))
   ordered-over out r o =
       let table = ap (λ (us : List ℕ). order (rows count us)) (region-before orderPlace orderWords zs ws (omega (arith, size)) many nodesPlace nodesWords (omega arith)) in
-      (o .0 ∙ over (orderRegion (order (rows count (nodeWords (put orderPlace orderWords zs ws))))) ∙ ap (λ (l : List ℕ). putOrder l ws) table, o .1 ∙ ap (λ (l : List ℕ). length l) table)
+      (o .0 ∙ put-again orderPlace orderWords (orderRegion (order (rows count (nodeWords (put orderPlace orderWords zs ws))))) zs ws (omega (arith, size)) many ∙ ap (λ (l : List ℕ). putOrder l ws) table, o .1 ∙ ap (λ (l : List ℕ). length l) table)

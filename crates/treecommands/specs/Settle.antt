@@ -27,9 +27,6 @@ use Rattle.model.specs.Effects.{latestAmong, withNodes}
 use Rattle.model.specs.After.{putTree}
 use Rattle.state.specs.Regions.{region-before, region-past, word-before, put-size}
 use Rattle.state.specs.Decoded.{order-region-length, index-many, index-region-length}
-
-
-
 use Rattle.tree.specs.Sizes.{Leaves}
 use Rattle.treecommands.specs.Ready.{Ready, nodeWords, words-long}
 
@@ -233,9 +230,8 @@ module _ (count : ℕ) (few : count ≤ mostNodes) (ws : List ℕ) (size : lengt
   renewed-by w2 e out o = o ∙ ap₂ (λ (m : ℕ) (l : List ℕ). headed m l) (first .1) (second w2 e) ∙ read-there
 
   -- and where the index was right
-  pub renewed-there : Sorted count ws → (out : List ℕ) → out ≡ headed many w1 → out ≡ renewed count ws
-  renewed-there s out o =
-      renewed-by w1 (sym (index-own count w1 (order-sorted count ws s w1 (first .0)))) out o
+  pub settled-there : Sorted count ws → (next latest : ℕ) (out : List ℕ) → out ≡ putHeader count many next latest w1 → out ≡ settled count next latest ws
+  settled-there s = settled-by w1 (sym (index-own count w1 (order-sorted count ws s w1 (first .0))))
 
 module _ (ws : List ℕ) (size : length ws ≡ wordsLength) (t : List Node) (few : length t ≤ mostNodes) where
   filled : length (fill (nodeWords ws) t) ≡ nodesWords
@@ -245,11 +241,11 @@ module _ (ws : List ℕ) (size : length ws ≡ wordsLength) (t : List Node) (few
   nodes-size = put-size nodesPlace nodesWords (fill (nodeWords ws) t) ws (omega arith) filled ∙ size
 
   -- the table is there, and the words before it are as they were
-  nodes-back : rows (length t) (nodeWords (putNodes t ws)) ≡ t
+  pub nodes-back : rows (length t) (nodeWords (putNodes t ws)) ≡ t
   nodes-back =
       ap (λ (us : List ℕ). rows (length t) us) (region-put nodesPlace nodesWords (fill (nodeWords ws) t) ws (omega arith) filled) ∙ rows-fill (nodeWords ws) t
 
-  first-word : (i : ℕ) → i < nodesPlace → getD (putNodes t ws) i 0 ≡ getD ws i 0
+  pub first-word : (i : ℕ) → i < nodesPlace → getD (putNodes t ws) i 0 ≡ getD ws i 0
   first-word i h = word-before nodesPlace nodesWords (fill (nodeWords ws) t) ws (omega arith) filled i h
 
   -- the controls are as they were

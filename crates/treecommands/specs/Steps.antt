@@ -1,5 +1,6 @@
 -- What each command does: its answer by the table, and the words after it. Most look neither at the arena nor at the bytes beside the command.
 use Prim.Native.Nat.{ℕ, _≤_, _<_}
+use mathlib.Core.Bool.{true}
 use mathlib.Core.Path.{_≡_, sym, ap, subst₂, _∙_}
 use mathlib.Core.List.{List}
 use native.Mathlib.Omega.{arith}
@@ -7,6 +8,7 @@ use lib.ListN.{length}
 use Rattle.words.specs.Parts.{put}
 use Rattle.nodes.specs.declared.Node.{Node}
 use Rattle.nodes.specs.Table.{rows, rows-length}
+use Rattle.nodes.specs.Place.{lives}
 use Rattle.nodes.specs.Edit.{editRows, editAt}
 use Rattle.nodes.specs.Split.{edit-first}
 use Rattle.nodes.specs.Formed.{mostNodes}
@@ -21,7 +23,7 @@ use Rattle.reindex.specs.declared.edit.Edit.{Edit}
 use Rattle.reindex.specs.Follow.{Carries, Came}
 use Rattle.reindex.specs.Edits.{Does}
 use Rattle.reindex.specs.Kept.{sift, placeIn, Sieved}
-use Rattle.model.specs.Layout.{nodesPlace, nodesWords, countIn, nodesIn}
+use Rattle.model.specs.Layout.{nodesPlace, nodesWords, countIn, latestIn, nodesIn}
 use Rattle.model.specs.Engine.{decode}
 use Rattle.model.specs.Effects.{withNodes}
 use Rattle.model.specs.After.{putTree}
@@ -29,6 +31,7 @@ use Rattle.state.specs.Does.{WordsStep}
 use Rattle.tree.specs.Sizes.{Leaves, leaves-first}
 use Rattle.treecommands.specs.Ready.{Ready, nodeWords}
 use Rattle.treecommands.specs.Finding.{meantIn, NodeFound}
+use Rattle.treecommands.specs.Staying.{Stays, stays-left}
 use Rattle.treecommands.specs.Settle.{Sorted, Changed, Sifted, renewed, changed-left, sifted-left, sorted-left, renewed-left}
 
 abbrev pub Steps : TreeCommand → List ℕ → Answer → List ℕ → Type 0
@@ -59,6 +62,10 @@ module _ (a : NodeArgument) (ws : List ℕ) (k : Ready ws) (count : ℕ) (same :
       sifted-left ws k (editRows (meantIn a ws) H (nodesIn ws)) few ps
       (subst₂ (λ (n : ℕ) (l : List Node). Carries (placeIn ps) (rows n (nodeWords ws)) l) same there (s .carries))
       (subst₂ (λ (n : ℕ) (l : List Node). (q : ℕ) → q < length l → Came (placeIn ps) (rows n (nodeWords ws)) q) same there (s .came)) us many left
+
+  pub edited-stays : length (editRows (meantIn a ws) H (nodesIn ws)) ≤ mostNodes → (lives (latestIn ws) (nodesIn ws) ≡ true → lives (latestIn ws) (editRows (meantIn a ws) H (nodesIn ws)) ≡ true)
+      → Stays many (put nodesPlace nodesWords us ws)
+  edited-stays few still = stays-left ws k (editRows (meantIn a ws) H (nodesIn ws)) few still us many left
 
   pub edited-in-place : length (editRows (meantIn a ws) H (nodesIn ws)) ≡ length (nodesIn ws) → numbers (editRows (meantIn a ws) H (nodesIn ws)) ≡ numbers (nodesIn ws)
       → Sorted many (put nodesPlace nodesWords us ws)

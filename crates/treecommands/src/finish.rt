@@ -16,11 +16,11 @@ ghost use mathlib.Core.Path.{_≡_};
 ghost use Prim.Native.Nat.{_≤_};
 ghost use lib.ListN.{length};
 ghost use Rattle.nodes.specs.Table.{rows};
-
 ghost use Rattle.model.specs.Layout.{nextIn, latestIn, putHeader};
 ghost use Rattle.model.specs.Effects.{latestAmong};
 ghost use Rattle.treecommands.specs.Ready.{nodeWords};
 ghost use Rattle.treecommands.specs.Settle.{Sorted, Changed, Sifted, settled, renewed};
+ghost use Rattle.treecommands.specs.Staying.{Stays, Staying};
 
 // The first words, one after the other.
 fn write_header(words: &mut [u32], count: u32, many: u32, next: u32, latest: u32)
@@ -83,11 +83,23 @@ pub fn renew_sifted(words: &mut [u32], places: &[u32], count: usize)
     renew_header(words, count, many);
 }
 
-// The same, where the nodes are where they were, so that the index is right.
-pub fn renew_in_place(words: &mut [u32], count: usize)
-    requires { ⌜ Sorted count (now words) ⌝ }
+// The same, where no node was freed, so that the latest synth stays.
+pub fn renew_kept(words: &mut [u32], edit: Edit, count: usize)
+    requires { ⌜ Staying edit count (now words) ⌝ }
     ensures { λ r. ⌜ now (words .exit) ≡ renewed count (now (words .entry)) ⌝ }
 {
+    let next = words[NEXT];
+    let latest = words[LATEST];
+    settle(words, edit, count, next, latest);
+}
+
+// The same, where the nodes are where they were, so that the index is right too.
+pub fn renew_in_place(words: &mut [u32], count: usize)
+    requires { ⌜ Sorted count (now words) × Stays count (now words) ⌝ }
+    ensures { λ r. ⌜ now (words .exit) ≡ renewed count (now (words .entry)) ⌝ }
+{
+    let next = words[NEXT];
+    let latest = words[LATEST];
     let many = renew_order(words, count);
-    renew_header(words, count, many);
+    write_header(words, count as u32, many, next, latest);
 }

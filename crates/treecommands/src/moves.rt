@@ -1,5 +1,5 @@
 // Commands that move a node with all below it.
-use crate::finish::renew;
+use crate::finish::renew_kept;
 use crate::indexing::move_edit;
 use crate::place::is_synth;
 use layout::COUNT;
@@ -85,7 +85,7 @@ fn move_pair(pair: Pair, position: Position, words: &mut [u32]) -> Answer
             let count = wide(words[COUNT]);
             let edit = move_edit(&words[NODES..NODES_END], count, a, position, b);
             tree::move_node(&mut words[NODES..NODES_END], count, a, position, b);
-            renew(words, edit, count);
+            renew_kept(words, edit, count);
             Answer::Done
         }
         Pair::Refused(why) => Answer::Refused(why),

@@ -25,8 +25,8 @@ move-node-requires c κs =
     let moving : Movable (pair.At (found .0 .0) (found .0 .1 .0)) (s .args .position) (s .args .words .now) = subst (λ (x : Pair). Movable x (s .args .position) (s .args .words .now)) fact (s .pre .1) in
     rw (c .before .before .before .before .wide .ensures) (moving .0)
 
-renew-requires : tie.Need-renew-requires
-renew-requires c κs =
+renew-kept-requires : tie.Need-renew-kept-requires
+renew-kept-requires c κs =
     let s = c .before .before .before .before .before .before .before .before .before .before .before .before .before .before in
     let found = c .before .before .before .before .before .before .before .before .before .before .before .pair .given in
     let fact : s .args .pair ≡ pair.At (found .0 .0) (found .0 .1 .0) = found .1 in
@@ -43,7 +43,7 @@ returns c =
     let fact : a .pair ≡ pair.At (found .0 .0) (found .0 .1 .0) = found .1 in
     let wide = c .before .before .before .before .before .before .before .before .before .before .before .wide in
     let moved = c .before .before .before .before .before .before .move-node in
-    let renew = c .before .before .renew in
+    let renew = c .before .before .renew-kept in
     subst (λ (x : Pair). Goes x (a .position) (a .words .now) Done (renew .last .0)) (sym fact)
     (gone (found .0 .0) (found .0 .1 .0) (a .position) (a .words .now) (wide .result) (wide .ensures) (moved .last .0) (moved .ensures) (renew .last .0) (renew .ensures))
 
@@ -59,4 +59,4 @@ move-pair-spec =
     tie.close
     (tie.spec (λ c. search needs) (λ c. search needs) (λ c κs. search needs) (λ c. search needs) (λ c. search needs)
     (λ c. search needs) move-edit-requires (λ c. search needs) (λ c. search needs) (λ c. search needs)
-    move-node-requires renew-requires (λ c. search needs) (λ c. search needs) returns returns-2)
+    move-node-requires renew-kept-requires (λ c. search needs) (λ c. search needs) returns returns-2)
