@@ -175,7 +175,7 @@ fn read_many(s: &[u8], cursor: Cursor, width: Width, constants: u32, count: u32,
         return read_many(s, cursor, width, constants, count, wide(count));
     }
     if 2 * MANY_MARKS < most {
-        let stride = most / MOST_MARKS + 2;
+        let stride = most / MOST_MARKS + 1;
         return read_most(s, cursor, width, constants, count, stride as u32);
     }
     let mut marks = [0u32; MANY_MARKS];

@@ -1,7 +1,6 @@
 use Rattle.definitions.specs.Retired.{retired-formed}
 use Rattle.definitions.specs.Loading.{load-whole}
 use borrow.Author.Needs.{needs}
-use borrow.Author.Needs.{needs}
 use Rattle.definitions.proofs.load.Statement.{statement}
 use Rattle.definitions.proofs.load.Tie as tie
 

@@ -3,7 +3,6 @@ use mathlib.Core.Path.{_≡_, ap}
 use native.Mathlib.Omega.{arith}
 use borrow.Author.Needs.{needs}
 use lib.ListN.{take, drop, getD}
-use borrow.Author.Needs.{needs}
 use Rattle.definitions.proofs.name_at.Statement.{statement}
 use Rattle.definitions.proofs.name_at.Tie as tie
 

@@ -4,7 +4,6 @@ use mathlib.Core.Path.{ap}
 use native.Mathlib.Omega.{arith}
 use borrow.Author.Needs.{needs}
 use lib.ListN.{set}
-use borrow.Author.Needs.{needs}
 use Rattle.definitions.proofs.retire.Statement.{statement}
 use Rattle.definitions.proofs.retire.Tie as tie
 

@@ -1,5 +1,4 @@
 use borrow.Author.Needs.{needs}
-use borrow.Author.Needs.{needs}
 use Rattle.definitions.proofs.retire_named.Statement.{statement}
 use Rattle.definitions.proofs.retire_named.Tie as tie
 

@@ -9,7 +9,6 @@ use mathlib.Core.List.{List}
 use borrow.Author.Needs.{needs}
 use borrow.Author.Tests.{eq-eqb, ne-eqb}
 use lib.ListN.{getD}
-use borrow.Author.Needs.{needs}
 use Rattle.definitions.proofs.slot_named.Statement.{statement}
 use Rattle.definitions.proofs.slot_named.Tie as tie
 

@@ -2,7 +2,6 @@ use Rattle.format.specs.Writer.{versionOf}
 use Rattle.synthdef.specs.Reading.{accepted, refused, version-accepted, version-refused}
 use mathlib.Core.Path.{sym, ap, _∙_}
 use borrow.Author.Needs.{needs}
-use borrow.Author.Needs.{needs}
 use Rattle.synthdef.proofs.synthdef_version.Statement.{statement}
 use Rattle.synthdef.proofs.synthdef_version.Tie as tie
 

@@ -2,7 +2,6 @@ use Rattle.synthdef.specs.Reading.{accepted, refused, widens-none, widen
 use mathlib.Core.Path.{sym, _∙_}
 use native.Mathlib.Omega.{arith}
 use borrow.Author.Needs.{needs}
-use borrow.Author.Needs.{needs}
 use Rattle.synthdef.proofs.synthdef_widen.Statement.{statement}
 use Rattle.synthdef.proofs.synthdef_widen.Tie as tie
 

@@ -5,7 +5,6 @@ use Rattle.lists.specs.Acting.{definitions-acted}
 use mathlib.Core.Path.{sym}
 use native.Mathlib.Omega.{arith}
 use borrow.Author.Needs.{needs}
-use borrow.Author.Needs.{needs}
 use Rattle.lists.proofs.act.act.Statement.{statement}
 use Rattle.lists.proofs.act.act.Tie as tie
 

@@ -7,7 +7,6 @@ use Prim.Native.Nat.{_≤_}
 use mathlib.Core.Path.{_≡_, sym}
 use native.Mathlib.Omega.{arith}
 use borrow.Author.Needs.{needs}
-use borrow.Author.Needs.{needs}
 use Rattle.lists.proofs.act.tree_act.Statement.{statement}
 use Rattle.lists.proofs.act.tree_act.Tie as tie
 

@@ -11,7 +11,6 @@ use Prim.Native.Nat.{_<_}
 use mathlib.Core.Path.{sym}
 use native.Mathlib.Omega.{arith}
 use borrow.Author.Needs.{needs}
-use borrow.Author.Needs.{needs}
 use Rattle.lists.proofs.act.words_act.Statement.{statement}
 use Rattle.lists.proofs.act.words_act.Tie as tie
 

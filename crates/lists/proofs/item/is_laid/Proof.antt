@@ -6,7 +6,6 @@ use mathlib.Core.Path.{sym, _∙_}
 use native.Mathlib.Omega.{arith}
 use borrow.Author.Needs.{needs}
 use lib.ListN.{drop}
-use borrow.Author.Needs.{needs}
 use Rattle.lists.proofs.item.is_laid.Statement.{statement}
 use Rattle.lists.proofs.item.is_laid.Tie as tie
 

@@ -5,7 +5,6 @@ use mathlib.Core.Path.{sym, ap, _∙_}
 use native.Mathlib.Omega.{arith}
 use borrow.Author.Needs.{needs}
 use lib.ListN.{drop}
-use borrow.Author.Needs.{needs}
 use Rattle.lists.proofs.item.item_kind.Statement.{statement}
 use Rattle.lists.proofs.item.item_kind.Tie as tie
 

@@ -5,7 +5,6 @@ use Prim.Native.Nat.{ℕ}
 use mathlib.Core.Path.{sym, ap, _∙_}
 use borrow.Author.Needs.{needs}
 use lib.ListN.{drop, getD}
-use borrow.Author.Needs.{needs}
 use Rattle.lists.proofs.item.later_zero.Statement.{statement}
 use Rattle.lists.proofs.item.later_zero.Tie as tie
 

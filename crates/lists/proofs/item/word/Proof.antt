@@ -2,7 +2,6 @@
 use lib.Seq.{getD-drop}
 use mathlib.Core.Path.{sym}
 use borrow.Author.Needs.{needs}
-use borrow.Author.Needs.{needs}
 use Rattle.lists.proofs.item.word.Statement.{statement}
 use Rattle.lists.proofs.item.word.Tie as tie
 

@@ -5,7 +5,6 @@ use Rattle.lists.specs.declared.Kind.{Kind}
 use Rattle.words.specs.Choice.{both}
 use mathlib.Core.Path.{sym, ap, _∙_}
 use borrow.Author.Needs.{needs}
-use borrow.Author.Needs.{needs}
 use Rattle.lists.proofs.judged.still_fit.Statement.{statement}
 use Rattle.lists.proofs.judged.still_fit.Tie as tie
 

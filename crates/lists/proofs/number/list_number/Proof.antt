@@ -5,7 +5,6 @@ use mathlib.Core.Path.{ap₂}
 use Prim.Native.Nat.{ℕ, _+_, _*_}
 use mathlib.Core.Path.{sym, ap, _∙_}
 use borrow.Author.Needs.{needs}
-use borrow.Author.Needs.{needs}
 use Rattle.lists.proofs.number.list_number.Statement.{statement}
 use Rattle.lists.proofs.number.list_number.Tie as tie
 

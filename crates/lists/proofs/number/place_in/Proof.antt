@@ -2,7 +2,6 @@
 use Rattle.lists.specs.OneByOne.{placeIn}
 use mathlib.Core.Path.{sym, ap}
 use borrow.Author.Needs.{needs}
-use borrow.Author.Needs.{needs}
 use Rattle.lists.proofs.number.place_in.Statement.{statement}
 use Rattle.lists.proofs.number.place_in.Tie as tie
 

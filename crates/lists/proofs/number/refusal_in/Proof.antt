@@ -2,7 +2,6 @@
 use Rattle.model.specs.Demands.{refusalIn}
 use mathlib.Core.Path.{sym, ap, _∙_}
 use borrow.Author.Needs.{needs}
-use borrow.Author.Needs.{needs}
 use Rattle.lists.proofs.number.refusal_in.Statement.{statement}
 use Rattle.lists.proofs.number.refusal_in.Tie as tie
 

@@ -2,7 +2,6 @@
 use Rattle.model.specs.Apply.{isAccepted}
 use mathlib.Core.Path.{sym, ap}
 use borrow.Author.Needs.{needs}
-use borrow.Author.Needs.{needs}
 use Rattle.lists.proofs.run.is_accepted.Statement.{statement}
 use Rattle.lists.proofs.run.is_accepted.Tie as tie
 

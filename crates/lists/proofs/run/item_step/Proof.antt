@@ -8,7 +8,6 @@ use mathlib.Core.Path.{_≡_, sym, ap, _∙_}
 use native.Mathlib.Omega.{arith}
 use borrow.Author.Needs.{needs}
 use lib.ListN.{length, drop}
-use borrow.Author.Needs.{needs}
 use Rattle.lists.proofs.run.item_step.Statement.{statement}
 use Rattle.lists.proofs.run.item_step.Tie as tie
 

@@ -3,7 +3,6 @@ use Rattle.lists.specs.Ending.{lists-none, lists-unfit, lists-unfit-bad,
 use borrow.Author.Tests.{not-true, not-false}
 use mathlib.Core.Path.{sym, _∙_}
 use borrow.Author.Needs.{needs}
-use borrow.Author.Needs.{needs}
 use Rattle.lists.proofs.run.list.Statement.{statement}
 use Rattle.lists.proofs.run.list.Tie as tie
 

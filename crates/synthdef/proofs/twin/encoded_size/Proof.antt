@@ -1,6 +1,5 @@
 use native.Mathlib.Omega.{arith}
 use borrow.Author.Needs.{needs}
-use borrow.Author.Needs.{needs}
 use Rattle.synthdef.proofs.twin.encoded_size.Statement.{statement}
 use Rattle.synthdef.proofs.twin.encoded_size.Tie as tie
 

@@ -7,7 +7,6 @@ use mathlib.Core.Path.{refl, ap, _∙_}
 use mathlib.Core.List.{List, [], _∷_, _++_}
 use native.Mathlib.Omega.{arith}
 use borrow.Author.Needs.{needs}
-use borrow.Author.Needs.{needs}
 use Rattle.synthdef.proofs.twin.write_head.Statement.{statement}
 use Rattle.synthdef.proofs.twin.write_head.Tie as tie
 

@@ -8,7 +8,6 @@ use mathlib.Core.Path.{sym, ap}
 use native.Mathlib.Omega.{arith}
 use borrow.Author.Needs.{needs}
 use lib.ListN.{length}
-use borrow.Author.Needs.{needs}
 use Rattle.widening.proofs.definition.widen.Statement.{statement}
 use Rattle.widening.proofs.definition.widen.Tie as tie
 

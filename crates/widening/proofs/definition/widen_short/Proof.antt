@@ -12,7 +12,6 @@ use mathlib.Core.Path.{_≡_, ap}
 use mathlib.Core.List.{_++_}
 use native.Mathlib.Omega.{arith}
 use borrow.Author.Needs.{needs}
-use borrow.Author.Needs.{needs}
 use Rattle.widening.proofs.definition.widen_short.Statement.{statement}
 use Rattle.widening.proofs.definition.widen_short.Tie as tie
 

@@ -7,7 +7,6 @@ use Prim.Native.Nat.{_+_, _*_}
 use mathlib.Core.Path.{_∙_}
 use native.Mathlib.Omega.{arith}
 use borrow.Author.Needs.{needs}
-use borrow.Author.Needs.{needs}
 use Rattle.widening.proofs.fronts.widen_floats.Statement.{statement}
 use Rattle.widening.proofs.fronts.widen_floats.Tie as tie
 

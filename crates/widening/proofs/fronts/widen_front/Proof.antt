@@ -7,7 +7,6 @@ use Prim.Native.Nat.{_+_}
 use mathlib.Core.List.{_++_}
 use native.Mathlib.Omega.{arith}
 use borrow.Author.Needs.{needs}
-use borrow.Author.Needs.{needs}
 use Rattle.widening.proofs.fronts.widen_front.Statement.{statement}
 use Rattle.widening.proofs.fronts.widen_front.Tie as tie
 

@@ -3,7 +3,6 @@ use Rattle.words.specs.Bytes.{bytes32}
 use Prim.Native.Nat.{ℕ}
 use mathlib.Core.Path.{refl, ap, _∙_}
 use borrow.Author.Needs.{needs}
-use borrow.Author.Needs.{needs}
 use Rattle.widening.proofs.places.widen_integer.Statement.{statement}
 use Rattle.widening.proofs.places.widen_integer.Tie as tie
 

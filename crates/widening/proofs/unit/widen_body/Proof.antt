@@ -6,7 +6,6 @@ use Prim.Native.Nat.{_+_}
 use mathlib.Core.List.{_++_}
 use native.Mathlib.Omega.{arith}
 use borrow.Author.Needs.{needs}
-use borrow.Author.Needs.{needs}
 use Rattle.widening.proofs.unit.widen_body.Statement.{statement}
 use Rattle.widening.proofs.unit.widen_body.Tie as tie
 

@@ -3,7 +3,6 @@ use Rattle.widening.specs.Pieces.{integerWide}
 use Prim.Native.Nat.{_+_}
 use native.Mathlib.Omega.{arith}
 use borrow.Author.Needs.{needs}
-use borrow.Author.Needs.{needs}
 use Rattle.widening.proofs.unit.widen_input.Statement.{statement}
 use Rattle.widening.proofs.unit.widen_input.Tie as tie
 

@@ -9,7 +9,6 @@ use mathlib.Core.List.{_++_}
 use native.Mathlib.Omega.{arith}
 use borrow.Author.Needs.{needs}
 use lib.ListN.{getD}
-use borrow.Author.Needs.{needs}
 use Rattle.widening.proofs.unit.widen_unit.Statement.{statement}
 use Rattle.widening.proofs.unit.widen_unit.Tie as tie
 
