@@ -13,6 +13,7 @@ ghost use mathlib.Core.Path.{_≡_};
 ghost use Prim.Native.Nat.{_+_, _-_, _*_, _≤_, _<_};
 ghost use lib.ListN.{length, take, drop};
 ghost use Rattle.nodes.specs.Table.{width, fill};
+ghost use Rattle.nodes.specs.Sizes.{endAt};
 ghost use Rattle.nodes.specs.Formed.{mostNodes};
 ghost use Rattle.tree.specs.Add.{placeBy};
 ghost use Rattle.tree.specs.Moves.{without, putIn, Opened};
@@ -93,12 +94,11 @@ fn place_without(place: usize, from: usize, to: usize) -> usize
     }
 }
 
-// The run of the node at a place moved to another place, which is not inside the run.
-fn move_to(nodes: &mut [u32], count: usize, at: usize, place: Place)
-    requires { ⌜ MoveTo (now nodes) count at place ⌝ }
+// The run of the node at a place, up to its end, moved to another place, which is not inside the run.
+pub fn move_to(nodes: &mut [u32], count: usize, at: usize, end: usize, place: Place)
+    requires { ⌜ MoveTo (now nodes) count at place × (end ≡ endAt count (now nodes) at) ⌝ }
     ensures { λ r. ⌜ now (nodes .exit) ≡ fill (now (nodes .entry)) (movedTo count (now (nodes .entry)) at place) ⌝ }
 {
-    let end = subtree_end(nodes, count, at);
     let old = nodes[RECORD * at + DEPTH];
     let to = place_without(place.at, at, end);
     move_run(nodes, at, end, to, old, place.depth);
@@ -109,6 +109,7 @@ pub fn move_node(nodes: &mut [u32], count: usize, a: usize, position: Position, 
     requires { ⌜ Moving (now nodes) count a b ⌝ }
     ensures { λ r. ⌜ now (nodes .exit) ≡ fill (now (nodes .entry)) (movedTo count (now (nodes .entry)) a (placeBy position count (now (nodes .entry)) b)) ⌝ }
 {
+    let end = subtree_end(nodes, count, a);
     let to = place_by(nodes, count, position, b);
-    move_to(nodes, count, a, to);
+    move_to(nodes, count, a, end, to);
 }

@@ -33,6 +33,7 @@ use Rattle.state.specs.Does.{WordsStep, step-refused, step-done}
 use Rattle.preservation.specs.TreeSteps.{still-lives}
 use Rattle.tree.specs.declared.action.Position.{Position}
 use Rattle.tree.specs.declared.action.Position.the-variants.{Head, Tail, Before, After}
+use Rattle.tree.specs.declared.add.Place.{Place}
 use Rattle.tree.specs.Sizes.{Leaves}
 use Rattle.tree.specs.Action.{putHere}
 use Rattle.tree.specs.Add.{placeBy}
@@ -110,16 +111,16 @@ Goes (pair.At a b) p ws r out =
     (r ≡ Done) × (out ≡ renewed (countIn ws) (movedWords p ws a b))
 Goes (pair.Refused why) p ws r out = (r ≡ Refused why) × (out ≡ ws)
 
--- a node moved, and what is derived written afresh
-pub gone : (a b : ℕ) (p : Position) (ws : List ℕ) (count : ℕ) → count ≡ countIn ws → (us : List ℕ) → us ≡ fill (nodeWords ws) (movedTo count (nodeWords ws) a (placeBy p count (nodeWords ws) b))
-    → (out : List ℕ) → out ≡ renewed count (put nodesPlace nodesWords us ws) → Goes (pair.At a b) p ws Done out
-gone a b p ws count same us moves out o =
-    (refl, o ∙ ap₂ (λ (n : ℕ) (l : List ℕ). renewed n (put nodesPlace nodesWords l ws)) same (moves ∙ ap (λ (n : ℕ). fill (nodeWords ws) (movedTo n (nodeWords ws) a (placeBy p n (nodeWords ws) b))) same))
+-- a node moved to the place at a position, and what is derived written afresh
+module _ (a b : ℕ) (p : Position) (ws : List ℕ) (count : ℕ) (same : count ≡ countIn ws) (to : Place) (there : to ≡ placeBy p count (nodeWords ws) b)
+    (us : List ℕ) (moves : us ≡ fill (nodeWords ws) (movedTo count (nodeWords ws) a to)) where
+  pub gone : (out : List ℕ) → out ≡ renewed count (put nodesPlace nodesWords us ws) → Goes (pair.At a b) p ws Done out
+  gone out o =
+      (refl, o ∙ ap₂ (λ (n : ℕ) (l : List ℕ). renewed n (put nodesPlace nodesWords l ws)) same (moves ∙ ap₂ (λ (n : ℕ) (x : Place). fill (nodeWords ws) (movedTo n (nodeWords ws) a x)) same (there ∙ ap (λ (n : ℕ). placeBy p n (nodeWords ws) b) same)))
 
--- what that asks
-pub gone-ready : (a b : ℕ) (p : Position) (ws : List ℕ) (count : ℕ) → count ≡ countIn ws → (us : List ℕ) → us ≡ fill (nodeWords ws) (movedTo count (nodeWords ws) a (placeBy p count (nodeWords ws) b))
-    → Movable (pair.At a b) p ws → (edit : Edit) → edit ≡ moveEdit a (endAt count (nodeWords ws) a) (placeBy p count (nodeWords ws) b .at) → Staying edit count (put nodesPlace nodesWords us ws)
-gone-ready a b p ws count same us moves m edit is = rw (is, moves, same) (m .1)
+  -- what that asks
+  pub gone-ready : Movable (pair.At a b) p ws → (e : ℕ) → e ≡ endAt count (nodeWords ws) a → (edit : Edit) → edit ≡ moveEdit a e (to .at) → Staying edit count (put nodesPlace nodesWords us ws)
+  gone-ready m e end edit is = rw (is, end, moves, there, same) (m .1)
 
 -- one law for every move: a command that has these checks, and leaves the node at this position
 module _ (checks : Engine → List Check) (moved to : NodeArgument) (ws : List ℕ) where

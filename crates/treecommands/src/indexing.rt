@@ -19,11 +19,10 @@ ghost use Prim.Native.Nat.{_+_, _≤_};
 ghost use lib.ListN.{length, take, drop};
 ghost use Rattle.words.specs.Parts.{put};
 ghost use Rattle.nodes.specs.Table.{rows};
-ghost use Rattle.nodes.specs.Sizes.{endAt};
 ghost use Rattle.index.specs.Index.{numbers, indexOf, putIn};
 ghost use Rattle.reindex.specs.Spot.{Reads};
 ghost use Rattle.model.specs.Layout.{wordsLength, indexPlace, indexWords, putIndex};
-ghost use Rattle.tree.specs.Sizes.{Placed, TwoPlaces};
+ghost use Rattle.tree.specs.Sizes.{Placed};
 ghost use Rattle.tree.specs.Add.{placeBy};
 ghost use Rattle.treecommands.specs.Ready.{nodeWords};
 ghost use Rattle.treecommands.specs.Edits.{editBy, moveEdit};
@@ -59,13 +58,10 @@ pub fn edit_by(nodes: &[u32], count: usize, action: Action, at: usize) -> Edit
     }
 }
 
-// What a move of the node at the place a to a position by the node at the place b does.
-pub fn move_edit(nodes: &[u32], count: usize, a: usize, position: Position, b: usize) -> Edit
-    requires { ⌜ TwoPlaces (now nodes) count a b ⌝ }
-    ensures { λ r. ⌜ r ≡ moveEdit a (endAt count (now (nodes .entry)) a) (placeBy position count (now (nodes .entry)) b .at) ⌝ }
+// What a move of the run from the place a up to its end to another place does.
+pub fn move_edit(a: usize, end: usize, place: usize) -> Edit
+    ensures { λ r. ⌜ r ≡ moveEdit a end place ⌝ }
 {
-    let end = subtree_end(nodes, count, a);
-    let place = place_at(nodes, count, position, b);
     if place <= a {
         return Edit::Swap(place, a, end);
     }

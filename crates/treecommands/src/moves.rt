@@ -9,6 +9,9 @@ use model::Answer;
 use names::node_place;
 use refusals::Refusal;
 use tree::Position;
+use tree::move_to;
+use tree::place_by;
+use tree::subtree_end;
 use values::NodeArgument;
 use words::wide;
 ghost use Rattle.model.specs.declared.TreeCommand.{TreeCommand};
@@ -83,8 +86,10 @@ fn move_pair(pair: Pair, position: Position, words: &mut [u32]) -> Answer
     match pair {
         Pair::At(a, b) => {
             let count = wide(words[COUNT]);
-            let edit = move_edit(&words[NODES..NODES_END], count, a, position, b);
-            tree::move_node(&mut words[NODES..NODES_END], count, a, position, b);
+            let end = subtree_end(&words[NODES..NODES_END], count, a);
+            let to = place_by(&words[NODES..NODES_END], count, position, b);
+            let edit = move_edit(a, end, to.at);
+            move_to(&mut words[NODES..NODES_END], count, a, end, to);
             renew_kept(words, edit, count);
             Answer::Done
         }
