@@ -61,14 +61,14 @@ fn reason_for(words: &[u32], number: u32) -> Reason
     requires { ⌜ Settled (now words) ⌝ }
     ensures { λ r. ⌜ r ≡ tableReason number (latestIn (now (words .entry))) (nodesIn (now (words .entry))) ⌝ }
 {
+    let mut asked = number;
     if number == 4294967295 {
-        let latest = words[LATEST];
-        if latest == 0 {
+        asked = words[LATEST];
+        if asked == 0 {
             return Reason::NoNode;
         }
-        return reason_of(words, latest);
     }
-    reason_of(words, number)
+    reason_of(words, asked)
 }
 
 // Why the node that a number names is silent, or where it runs, in any state at all: refusal 1 where the state is not well formed.

@@ -1,7 +1,17 @@
 -- `why::reasons::reason_for` meets its contract.
+use Prim.Native.Nat.{ℕ}
+use mathlib.Core.Path.{ap, _∙_}
+use mathlib.Core.Logic.{⊎-elim}
 use borrow.Author.Needs.{needs}
 use borrow.Author.Tests.{eq-eqb, ne-eqb}
 use lib.ListN.{getD}
+use Rattle.nodes.specs.Place.{isGroup}
+use Rattle.nodes.specs.Order.{isOn}
+use Rattle.treerefinement.specs.Flatten.{key}
+use Rattle.treerefinement.specs.Shape.{build}
+use Rattle.model.specs.Layout.{nodesIn}
+use Rattle.why.specs.declared.Reason.{Reason}
+use Rattle.why.specs.Reasons.{reason}
 use Rattle.why.proofs.reasons.reason_for.Statement.{statement}
 use Rattle.why.proofs.reasons.reason_for.Tie as tie
 
@@ -12,14 +22,14 @@ returns c =
 
 returns-2 : tie.Need-returns-2
 returns-2 c =
-    let a = c .before .before .before .before .before .args in
-    rw (eq-eqb (a .number) 4294967295 (c .before .before .before .if1 .taken), ne-eqb (getD (a .words .now) 3 0) 0 (c .before .if2 .left)) (c .reason-of .ensures)
-
-returns-3 : tie.Need-returns-3
-returns-3 c =
     let a = c .before .before .before .args in
-    rw (ne-eqb (a .number) 4294967295 (c .before .if1 .left)) (c .reason-of2 .ensures)
+    let us = a .words .now in
+    let of : ℕ → Reason = λ k. reason key isGroup isOn k (build (nodesIn us)) in
+    ⊎-elim
+    (λ w. rw (eq-eqb (a .number) 4294967295 (w .0 .taken), ne-eqb (getD us 3 0) 0 (w .2 .left)) (c .reason-of .ensures ∙ ap of (w .3)))
+    (λ w. rw (ne-eqb (a .number) 4294967295 (w .0 .left)) (c .reason-of .ensures ∙ ap of (w .1)))
+    (c .before .if1 .came)
 
 pub reason-for-spec : {M : Type 1} → statement M
 reason-for-spec =
-    tie.close (tie.spec (λ c. search needs) returns (λ c κs. search needs) returns-2 (λ c κs. search needs) returns-3)
+    tie.close (tie.spec (λ c. search needs) returns (λ c κs. search needs) returns-2)
