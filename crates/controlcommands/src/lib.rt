@@ -38,7 +38,7 @@ ghost use Rattle.model.specs.Layout.{countIn};
 ghost use Rattle.model.specs.Meaning.{minusOne, isBus, mappingTo};
 ghost use Rattle.state.specs.Known.{Known};
 ghost use Rattle.controls.specs.Ready.{nodeIn};
-ghost use Rattle.controlcommands.specs.Steps.{Steps, Changed};
+ghost use Rattle.controlcommands.specs.Steps.{Steps, answerTo, Changed};
 
 // Refusal 21, refusal 28, or the controls of the synths below the group at a place changed.
 fn change_group(
@@ -49,19 +49,19 @@ fn change_group(
     bytes: &[u8],
     count: u32,
     change: Change,
-) -> Answer
+) -> Asked
     requires { ⌜ Known (now words) (now arena) × (at < countIn (now words)) ⌝ }
-    ensures { λ r. ⌜ Changed change key count (now (bytes .entry)) at (now (words .entry)) (now (arena .entry)) r (now (words .exit)) ⌝ }
+    ensures { λ r. ⌜ Changed change key count (now (bytes .entry)) at (now (words .entry)) (now (arena .entry)) (answerTo r) (now (words .exit)) ⌝ }
 {
     match controls_asked(words, arena, at, key, bytes, count) {
         Asked::There => {
             let many = wide(words[COUNT]);
             let end = subtree_end(&words[NODES..NODES_END], many, at);
             change_all(words, arena, at, end, key, bytes, count, change);
-            Answer::Done
+            Asked::There
         }
-        Asked::Missing => Answer::Refused(Refusal::NoControl),
-        Asked::PastWidth => Answer::Refused(Refusal::PastWidth),
+        Asked::Missing => Asked::Missing,
+        Asked::PastWidth => Asked::PastWidth,
     }
 }
 
@@ -74,19 +74,19 @@ fn change_synth(
     bytes: &[u8],
     count: u32,
     change: Change,
-) -> Answer
+) -> Asked
     requires { ⌜ Known (now words) (now arena) × (at < countIn (now words)) × (isGroup (nodeIn (now words) at) ≡ false) ⌝ }
-    ensures { λ r. ⌜ Changed change key count (now (bytes .entry)) at (now (words .entry)) (now (arena .entry)) r (now (words .exit)) ⌝ }
+    ensures { λ r. ⌜ Changed change key count (now (bytes .entry)) at (now (words .entry)) (now (arena .entry)) (answerTo r) (now (words .exit)) ⌝ }
 {
     let definition = node_definition(words, arena, at);
     let cover = cover_for(definition, key, bytes, count);
     match asked_by(definition, cover, count) {
         Asked::There => {
             change_node(words, at, cover, count, change);
-            Answer::Done
+            Asked::There
         }
-        Asked::Missing => Answer::Refused(Refusal::NoControl),
-        Asked::PastWidth => Answer::Refused(Refusal::PastWidth),
+        Asked::Missing => Asked::Missing,
+        Asked::PastWidth => Asked::PastWidth,
     }
 }
 
@@ -99,14 +99,25 @@ fn change_run(
     bytes: &[u8],
     count: u32,
     change: Change,
-) -> Answer
+) -> Asked
     requires { ⌜ Known (now words) (now arena) × (at < countIn (now words)) ⌝ }
-    ensures { λ r. ⌜ Changed change key count (now (bytes .entry)) at (now (words .entry)) (now (arena .entry)) r (now (words .exit)) ⌝ }
+    ensures { λ r. ⌜ Changed change key count (now (bytes .entry)) at (now (words .entry)) (now (arena .entry)) (answerTo r) (now (words .exit)) ⌝ }
 {
     if node_is_group(words, at) {
         return change_group(words, arena, at, key, bytes, count, change);
     }
     change_synth(words, arena, at, key, bytes, count, change)
+}
+
+// The answer to what was asked: refusal 21, refusal 28, or done.
+fn answer_to(asked: Asked) -> Answer
+    ensures { λ r. ⌜ r ≡ answerTo asked ⌝ }
+{
+    match asked {
+        Asked::There => Answer::Done,
+        Asked::Missing => Answer::Refused(Refusal::NoControl),
+        Asked::PastWidth => Answer::Refused(Refusal::PastWidth),
+    }
 }
 
 // /n_fill; /n_set is the same with a count of one
@@ -129,7 +140,7 @@ pub fn fill_controls(
     match value_pattern(value) {
         ValuePattern::Pattern(pattern) => {
             let change = Change::Set(pattern);
-            change_run(words, arena, at, key, bytes, count, change)
+            answer_to(change_run(words, arena, at, key, bytes, count, change))
         }
         ValuePattern::OutOfBounds => Answer::Refused(Refusal::BadValue),
     }
@@ -176,7 +187,7 @@ pub fn map_control(
     }
     let mapping = mapping_to(bus);
     let change = Change::Map(mapping);
-    change_run(words, arena, at, key, bytes, 1, change)
+    answer_to(change_run(words, arena, at, key, bytes, 1, change))
 }
 
 // A command of controls.

@@ -23,9 +23,10 @@ returns c =
 
 returns-2 : tie.Need-returns-2
 returns-2 c =
-    let a = c .before .before .before .before .before .before .before .before .before .before .before .before .before .before .before .before .args in
-    fill-ran (a .node) (a .key) (a .bytes .now) (a .words .now) (a .arena .now) (c .before .before .before .before .before .before .before .before .before .before .before .node-place .result) (c .before .before .before .before .before .before .before .before .before .before .before .node-place .ensures) (omega arith) _ _
-    (a .count) (a .value) (c .before .before .before .before .before .pattern .given .0 .0) (sym (c .before .before .before .before .before .before .before .value-pattern .ensures) ∙ c .before .before .before .before .before .pattern .given .1) (c .before .before .change-run .ensures)
+    let a = c .before .before .before .before .before .before .before .before .before .before .before .before .before .before .before .before .before .args in
+    rw (c .answer-to .ensures)
+    (fill-ran (a .node) (a .key) (a .bytes .now) (a .words .now) (a .arena .now) (c .before .before .before .before .before .before .before .before .before .before .before .before .node-place .result) (c .before .before .before .before .before .before .before .before .before .before .before .before .node-place .ensures) (omega arith) _ _
+    (a .count) (a .value) (c .before .before .before .before .before .before .pattern .given .0 .0) (sym (c .before .before .before .before .before .before .before .before .value-pattern .ensures) ∙ c .before .before .before .before .before .before .pattern .given .1) (c .before .before .before .change-run .ensures))
 
 returns-3 : tie.Need-returns-3
 returns-3 c =
@@ -37,5 +38,5 @@ pub fill-controls-spec : {M : Type 1} → statement M
 fill-controls-spec =
     tie.close
     (tie.spec node-place-requires (λ c. search needs) (λ c κs. search needs) (λ c. search needs) returns
-    (λ c κs. search needs) (λ c. search needs) (λ c κs. search needs) (λ c. search needs) (λ c. search needs) returns-2
-    (λ c. search needs) returns-3)
+    (λ c κs. search needs) (λ c. search needs) (λ c κs. search needs) (λ c κs. search needs) (λ c. search needs)
+    (λ c. search needs) returns-2 (λ c. search needs) returns-3)

@@ -29,14 +29,15 @@ returns-2 c =
 
 returns-3 : tie.Need-returns-3
 returns-3 c =
-    let a = c .before .before .before .before .before .before .before .before .before .before .before .before .before .before .before .args in
-    let fine = sym (c .before .before .before .before .before .before .can-map .ensures) ∙ not-false (c .before .before .before .before .before .before .can-map .result) (c .before .before .before .before .before .if2 .left) in
-    map-ran (a .node) (a .key) (a .bytes .now) (a .words .now) (a .arena .now) (c .before .before .before .before .before .before .before .before .before .before .node-place .result) (c .before .before .before .before .before .before .before .before .before .before .node-place .ensures) (omega arith) _ _
-    (a .bus) fine (rw (c .before .before .before .before .mapping-to .ensures) at (c .before .before .change-run .ensures))
+    let a = c .before .before .before .before .before .before .before .before .before .before .before .before .before .before .before .before .args in
+    let fine = sym (c .before .before .before .before .before .before .before .can-map .ensures) ∙ not-false (c .before .before .before .before .before .before .before .can-map .result) (c .before .before .before .before .before .before .if2 .left) in
+    rw (c .answer-to .ensures)
+    (map-ran (a .node) (a .key) (a .bytes .now) (a .words .now) (a .arena .now) (c .before .before .before .before .before .before .before .before .before .before .before .node-place .result) (c .before .before .before .before .before .before .before .before .before .before .before .node-place .ensures) (omega arith) _ _
+    (a .bus) fine (rw (c .before .before .before .before .before .mapping-to .ensures) at (c .before .before .before .change-run .ensures)))
 
 pub map-control-spec : {M : Type 1} → statement M
 map-control-spec =
     tie.close
     (tie.spec node-place-requires (λ c. search needs) (λ c κs. search needs) (λ c. search needs) returns
     (λ c κs. search needs) (λ c. search needs) returns-2 (λ c κs. search needs) (λ c κs. search needs)
-    (λ c. search needs) returns-3)
+    (λ c κs. search needs) (λ c. search needs) returns-3)
