@@ -10,8 +10,6 @@ use lib.Seq.{drop-drop}
 use Rattle.words.specs.Choice.{pick}
 use Rattle.words.specs.Parts.{region, put, region-length, region-put, past-put, before-put}
 use Rattle.format.specs.Names.{Covered}
-use Rattle.readable.specs.declared.cover.Cover.{Cover}
-use Rattle.readable.specs.Lookup.{coverAt}
 use Rattle.readable.specs.Readable.{Readable, whole-readable}
 use Rattle.nodes.specs.declared.Node.{Node}
 use Rattle.nodes.specs.Table.{width, rows, nodeFrom, row-from}
@@ -31,7 +29,6 @@ use Rattle.controls.specs.Encoded.{frontIn, frontOnly, cover-front}
 use Rattle.slots.specs.Slots.{slotBytes}
 use Rattle.controls.specs.Ready.{Ready, nodeIn, synth-ready}
 use Rattle.controls.specs.Synth.{changeSynth, changeNode, Bounds, same-controls}
-use Rattle.controls.specs.Cover.{coverOn}
 
 -- a part put over another put at the same place
 pub put-put : (a k : ℕ) (xs ys ws : List ℕ) → a ≤ length ws → length xs ≡ k → put a k ys (put a k xs ws) ≡ put a k ys ws
@@ -191,14 +188,8 @@ synth-lent ws₀ arena ws i ready size rest few single =
       kept = ap (λ (us : List ℕ). slotBytes us arena (nodeIn ws i .slot)) rest ∙ bytes-kept (controlsIn ws) ws₀ (ready .size) many arena (nodeIn ws i .slot) (b .slot single);
     }
 
--- its change, by what a key covers; and no change of a group
+-- no change of a group
 module _ (f : ControlValue → ControlValue) (key : Key) (name : List ℕ) (count : ℕ) (ws arena : List ℕ) (i : ℕ) where
-  pub cover-change : isGroup (nodeIn ws i) ≡ false → (c : Cover) → coverAt c ≡ coverOn key name ws arena (nodeIn ws i .slot)
-      → changeCovered f (coverAt c) (nodeIn ws i .row) count (controlsIn ws) ≡ changeNode f key name count ws arena i (controlsIn ws)
-  cover-change single c e =
-      ap (λ (o : Option Covered). changeCovered f o (nodeIn ws i .row) count (controlsIn ws)) e
-      ∙ sym (ap (λ (b : Bool). pick b (controlsIn ws) (changeSynth f key name count (nodeIn ws i .row) (slotBytes ws arena (nodeIn ws i .slot)) (controlsIn ws))) single)
-
   pub no-change : isGroup (nodeIn ws i) ≡ true → ws ≡ putControls (changeNode f key name count ws arena i (controlsIn ws)) ws
   no-change group =
       sym (ap (λ (b : Bool). putControls (pick b (controlsIn ws) (changeSynth f key name count (nodeIn ws i .row) (slotBytes ws arena (nodeIn ws i .slot)) (controlsIn ws))) ws) group ∙ same-controls ws)

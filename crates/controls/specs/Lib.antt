@@ -10,3 +10,4 @@ pub mod All
 pub mod Formed
 pub mod Asked
 pub mod Serves
+pub mod Reaches

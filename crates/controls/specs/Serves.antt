@@ -1,4 +1,4 @@
--- What is looked up for a change of one synth: for so many controls it is as good as what the key covers.
+-- What is looked up for a change of a synth: for so many controls it is as good as what the key covers.
 use Prim.Native.Nat.{ℕ, _+_, _-_, _≤_, _<_, min}
 use mathlib.Core.Bool.{Bool, true, false, not}
 use mathlib.Core.Path.{_≡_, refl, sym, ap, _∙_}

@@ -39,7 +39,7 @@ pub fn parameter_count(definition: &[u8]) -> u32
 }
 
 // The controls from an index on.
-fn index_cover(definition: &[u8], index: u32) -> Cover
+pub(crate) fn index_cover(definition: &[u8], index: u32) -> Cover
     requires { ⌜ Readable (now definition) ⌝ }
     ensures { λ r. ⌜ coverAt r ≡ some (record { index = index; width = length (frontIn (now (definition .entry)) .values) - index }) ⌝ }
 {
