@@ -1,6 +1,6 @@
 // The row of controls that a new synth takes: the lowest that no live synth has.
-use layout::NODES_WORDS;
 use tree::Action;
+use tree::subtree_end;
 ghost use mathlib.Core.Path.{_≡_};
 ghost use Rattle.nodes.specs.Table.{rows};
 ghost use Rattle.nodes.specs.Edit.{editAt, freeHere};
@@ -12,10 +12,8 @@ fn row_without(nodes: &[u32], count: usize, at: usize) -> u32
     requires { ⌜ Standing (now nodes) count at ⌝ }
     ensures { λ r. ⌜ r ≡ freeRow (editAt at freeHere (rows count (now (nodes .entry)))) ⌝ }
 {
-    let mut left = [0u32; NODES_WORDS];
-    tree::copy_words(&mut left, 0, nodes, nodes.len());
-    let many = tree::cut(&mut left, count, at);
-    tree::free_row(&left, many)
+    let end = subtree_end(nodes, count, at);
+    tree::free_row_without(nodes, count, at, end)
 }
 
 // The row for a synth that goes in by an add action; one that replaces frees the target's subtree first.

@@ -2,15 +2,15 @@
 use Prim.Native.Nat.{ℕ, suc, _+_, _*_, _≤_, _<_}
 use mathlib.Core.Bool.{Bool, true, false}
 use mathlib.Core.Path.{_≡_, refl, sym, ap, _∙_}
-use mathlib.Core.List.{List}
+use mathlib.Core.List.{List, [], _∷_, _++_}
 use native.Mathlib.Omega.{arith}
-use lib.ListN.{length, drop, getD, set, replicate, getD-replicate}
+use lib.ListN.{length, take, drop, getD, set, replicate, getD-replicate}
 use lib.Seq.{getD-set-same, getD-set-other}
 use lib.Dec.{eqb}
 use borrow.Author.Tests.{ne-eqb, eqb-true, eqb-false}
 use Rattle.words.specs.Choice.{pick, either}
 use Rattle.nodes.specs.declared.Node.{Node}
-use Rattle.nodes.specs.Table.{width, nodeFrom, rows, rows-end, row-from}
+use Rattle.nodes.specs.Table.{width, nodeFrom, rows, rows-take, rows-end, row-from}
 use Rattle.nodes.specs.Place.{isGroup}
 use Rattle.nodes.specs.Formed.{mostRows, rowTaken, freeRowFrom}
 
@@ -35,15 +35,27 @@ either-none : (b : Bool) → either b false ≡ b
 either-none true = refl
 either-none false = refl
 
--- marks of rows, of which the first i records were looked at
-abbrev pub Marked : List Bool → ℕ → List ℕ → ℕ → Type 0
-Marked marks n us i = (k : ℕ) → k < 256 → either (getD marks k false) (rowTaken k (drop i (rows n us))) ≡ rowTaken k (rows n us)
+either-three : (a b c : Bool) → either a (either b c) ≡ either (either a b) c
+either-three true b c = refl
+either-three false b c = refl
 
-pub marked-start : (n : ℕ) (us : List ℕ) → Marked (replicate 256 false) n us 0
-marked-start n us k h = rw (getD-replicate 256 k false false h)
+taken-append : (k : ℕ) (s t : List Node) → rowTaken k (s ++ t) ≡ either (rowTaken k s) (rowTaken k t)
+unfolding rowTaken
+taken-append k [] t = refl
+taken-append k (r ∷ s) t = ap (λ (b : Bool). either (rowIs k r) b) (taken-append k s t) ∙ either-three (rowIs k r) (rowTaken k s) (rowTaken k t)
 
-pub marked-end : (marks : List Bool) (n : ℕ) (us : List ℕ) (i : ℕ) → n ≤ i → Marked marks n us i → (k : ℕ) → k < 256 → getD marks k false ≡ rowTaken k (rows n us)
-marked-end marks n us i h all k s = sym (either-none (getD marks k false)) ∙ ap (λ (b : Bool). either (getD marks k false) b) (sym (taken-end n us k i h)) ∙ all k s
+-- the marks of the records before a place and from another on, one after the other
+pub taken-beside : (n : ℕ) (us : List ℕ) (from to k : ℕ) → from ≤ n → k < 256
+    → either (either (getD (replicate 256 false) k false) (rowTaken k (drop 0 (rows from us)))) (rowTaken k (drop to (rows n us))) ≡ rowTaken k (take from (rows n us) ++ drop to (rows n us))
+taken-beside n us from to k h s =
+    rw (getD-replicate 256 k false false s, ← rows-take from n us h) (sym (taken-append k (take from (rows n us)) (drop to (rows n us))))
+
+-- marks of rows, which with those of the n records from i on are all of these
+abbrev pub Marked : List Bool → (ℕ → Bool) → ℕ → List ℕ → ℕ → Type 0
+Marked marks all n us i = (k : ℕ) → k < 256 → either (getD marks k false) (rowTaken k (drop i (rows n us))) ≡ all k
+
+pub marked-end : (marks : List Bool) (all : ℕ → Bool) (n : ℕ) (us : List ℕ) (i : ℕ) → n ≤ i → Marked marks all n us i → (k : ℕ) → k < 256 → getD marks k false ≡ all k
+marked-end marks all n us i h is k s = sym (either-none (getD marks k false)) ∙ ap (λ (b : Bool). either (getD marks k false) b) (sym (taken-end n us k i h)) ∙ is k s
 
 -- the row of a record is one below 256 where the record is a synth that has it
 row-is : (r : Node) (k : ℕ) → k < mostRows → eqb (rowOr r) k ≡ rowIs k r
@@ -54,14 +66,14 @@ row-is r k h = go (isGroup r)
     go false = refl
 
 -- one record looked at
-module _ (marks : List Bool) (n : ℕ) (us : List ℕ) (i row : ℕ) (inside : i < n) (own : row ≡ rowOr (nodeFrom us (width * i))) (all : Marked marks n us i) where
-  next : (k : ℕ) → k < 256 → either (getD marks k false) (either (eqb row k) (rowTaken k (drop (i + 1) (rows n us)))) ≡ rowTaken k (rows n us)
-  next k h = ap (λ (b : Bool). either (getD marks k false) (either b (rowTaken k (drop (i + 1) (rows n us))))) (ap (λ (j : ℕ). eqb j k) own ∙ row-is (nodeFrom us (width * i)) k h) ∙ ap (λ (b : Bool). either (getD marks k false) b) (sym (taken-turn n us k i inside)) ∙ all k h
+module _ (marks : List Bool) (all : ℕ → Bool) (n : ℕ) (us : List ℕ) (i row : ℕ) (inside : i < n) (own : row ≡ rowOr (nodeFrom us (width * i))) (is : Marked marks all n us i) where
+  next : (k : ℕ) → k < 256 → either (getD marks k false) (either (eqb row k) (rowTaken k (drop (i + 1) (rows n us)))) ≡ all k
+  next k h = ap (λ (b : Bool). either (getD marks k false) (either b (rowTaken k (drop (i + 1) (rows n us))))) (ap (λ (j : ℕ). eqb j k) own ∙ row-is (nodeFrom us (width * i)) k h) ∙ ap (λ (b : Bool). either (getD marks k false) b) (sym (taken-turn n us k i inside)) ∙ is k h
 
-  pub marked-skip : 256 ≤ row → Marked marks n us (i + 1)
+  pub marked-skip : 256 ≤ row → Marked marks all n us (i + 1)
   marked-skip h k s = rw (ne-eqb row k (λ e. omega arith)) at (next k s)
 
-  pub marked-set : row < 256 → length marks ≡ 256 → Marked (set marks row true) n us (i + 1)
+  pub marked-set : row < 256 → length marks ≡ 256 → Marked (set marks row true) all n us (i + 1)
   marked-set h size k s = go (eqb row k) refl
     where
       rest : Bool
@@ -71,7 +83,7 @@ module _ (marks : List Bool) (n : ℕ) (us : List ℕ) (i row : ℕ) (inside : i
       either-true true = refl
       either-true false = refl
 
-      go : (b : Bool) → eqb row k ≡ b → either (getD (set marks row true) k false) rest ≡ rowTaken k (rows n us)
+      go : (b : Bool) → eqb row k ≡ b → either (getD (set marks row true) k false) rest ≡ all k
       go true e =
           ap (λ (b : Bool). either b rest) (ap (λ (j : ℕ). getD (set marks row true) j false) (sym (eqb-true row k e)) ∙ getD-set-same marks row true false (omega arith))
           ∙ sym (either-true (getD marks k false))

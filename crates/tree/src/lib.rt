@@ -23,7 +23,7 @@ pub use deep::deep_free;
 pub use moves::move_node;
 pub use moves::move_to;
 pub use rows::free_row;
-pub use runs::copy_words;
+pub use rows::free_row_without;
 pub use search::find;
 pub use search::subtree_end;
 pub use structure::child_count;

@@ -1,44 +1,33 @@
--- `making::rows::row_without` meets its contract: the row is free among what is left in a copy of the region.
-use Prim.Native.Nat.{ℕ}
+-- `making::rows::row_without` meets its contract: what is left out is the node's run.
+use mathlib.Core.Path.{refl, sym, ap, _∙_}
 use native.Mathlib.Omega.{arith}
-use borrow.Author.Needs.{needs}
-use mathlib.Core.Path.{_≡_, refl, sym, _∙_}
-use lib.ListN.{length, replicate, length-replicate}
-use Rattle.making.specs.Rows.{paste-whole, left-sized, free-left}
+use Prim.Native.Nat.{_+_}
+use Rattle.nodes.specs.Place.{end-most}
+use Rattle.nodes.specs.Sizes.{depthAt}
+use Rattle.nodes.specs.Split.{cut-at}
+use Rattle.nodes.specs.Formed.{freeRow}
 use Rattle.making.proofs.rows.row_without.Statement.{statement}
 use Rattle.making.proofs.rows.row_without.Tie as tie
 
-copy-words-requires : tie.Need-copy-words-requires
-copy-words-requires c κs = let p = c .before .before .pre in (omega (arith, p .size), omega arith)
+subtree-end-requires : tie.Need-subtree-end-requires
+subtree-end-requires c κs = let p = c .before .pre in record { room = omega (arith, p .size, p .few); few = p .few; live = p .live }
 
-cut-requires : tie.Need-cut-requires
-cut-requires c κs =
-    let s = c .before .before .before .before .before in
-    let us = s .args .nodes .now in
-    let copy = c .before .before .copy-words in
-    let same : copy .last .0 ≡ us = copy .ensures ∙ paste-whole (replicate 1280 0) us (length us) refl (length-replicate {A = ℕ} 1280 0 ∙ sym (s .pre .size)) in
-    rw same (record { room = omega (arith, s .pre .size, s .pre .few); few = s .pre .few; live = s .pre .live })
-
-free-row-requires : tie.Need-free-row-requires
-free-row-requires c κs =
-    let s = c .before .before .before .before .before .before .before .before in
-    let us = s .args .nodes .now in
-    let copy = c .before .before .before .before .before .copy-words in
-    let same : copy .last .0 ≡ us = copy .ensures ∙ paste-whole (replicate 1280 0) us (length us) refl (length-replicate {A = ℕ} 1280 0 ∙ sym (s .pre .size)) in
-    let cut = c .before .before .cut in
-    left-sized us (s .args .count) (s .args .at) (s .pre .live) (cut .last .0) (cut .result) (rw same at (cut .ensures)) (s .pre .size) (s .pre .few)
+free-row-without-requires : tie.Need-free-row-without-requires
+free-row-without-requires c κs =
+    let s = c .before .before in
+    let a = s .args in
+    let p = s .pre in
+    let e = c .subtree-end .ensures in
+    let most = end-most (a .count) (a .nodes .now) (depthAt (a .nodes .now) (a .at)) (a .at + 1) (omega (arith, p .live)) in
+    (omega (arith, e), (omega (arith, e, most), record { room = omega (arith, p .size, p .few); few = p .few }))
 
 returns : tie.Need-returns
 returns c =
-    let s = c .before .before .before .before .before .before .before .before .before in
-    let us = s .args .nodes .now in
-    let copy = c .before .before .before .before .before .before .copy-words in
-    let same : copy .last .0 ≡ us = copy .ensures ∙ paste-whole (replicate 1280 0) us (length us) refl (length-replicate {A = ℕ} 1280 0 ∙ sym (s .pre .size)) in
-    let cut = c .before .before .before .cut in
-    c .free-row .ensures ∙ free-left us (s .args .count) (s .args .at) (s .pre .live) (cut .last .0) (cut .result) (rw same at (cut .ensures))
+    let s = c .before .before .before in
+    let a = s .args in
+    let us = a .nodes .now in
+    let e = c .before .subtree-end in
+    c .free-row-without .ensures ∙ ap freeRow (sym (cut-at (a .count) us (a .at) (s .pre .live) (depthAt us (a .at)) (e .result) refl (e .ensures)))
 
 pub row-without-spec : {M : Type 1} → statement M
-row-without-spec =
-    tie.close
-    (tie.spec (λ c. search needs) copy-words-requires (λ c. search needs) cut-requires (λ c. search needs)
-    free-row-requires returns)
+row-without-spec = tie.close (tie.spec subtree-end-requires free-row-without-requires returns)
