@@ -42,7 +42,10 @@ use Rattle.preservation.specs.TreeSteps.{NewSynthComes, synth-comes}
 use Rattle.preservation.specs.TreeKept.{known-sound}
 use Rattle.tree.specs.declared.action.Action.{Action}
 use Rattle.tree.specs.Sizes.{Leaves, leaves-first}
+use Rattle.tree.specs.declared.add.Gap.{Gap}
 use Rattle.tree.specs.Action.{numberOf, addHere, add-number}
+use Rattle.tree.specs.Gaps.{gapBy, inGap, gap-leaves}
+use Rattle.reindex.specs.declared.edit.Edit.the-variants as edit
 use Rattle.slots.specs.Slots.{slotsOn, slotOn, slots-lent, part-word}
 use Rattle.definitions.specs.Slots.{Whole, Formed}
 use Rattle.definitions.specs.Retiring.{slot-is}
@@ -148,8 +151,11 @@ module _ (number : ℕ) (action : Action) (target : NodeArgument) (at slot : ℕ
 
   -- the node region with the new node, as the table's function leaves it
   module _ (count : ℕ) (same : count ≡ countIn ws) (taken : ℕ) (free : taken ≡ freeRow (stayingAt action at (rows count (nodeWords ws))))
-      (next : ℕ) (counter : next ≡ nextIn ws) (given : ℕ) (named : given ≡ numberFor number next) (us : List ℕ) (many : ℕ)
-      (does : Leaves (nodeWords ws) (editAt at (addHere action (newSynth given slot taken ∷ [])) (rows count (nodeWords ws))) us many) where
+      (next : ℕ) (counter : next ≡ nextIn ws) (given : ℕ) (named : given ≡ numberFor number next) (gap : Gap) (opens : gap ≡ gapBy action count (nodeWords ws) at) (us : List ℕ) (many : ℕ)
+      (fills : Leaves (nodeWords ws) (inGap gap (newSynth given slot taken) (rows count (nodeWords ws))) us many) where
+    does : Leaves (nodeWords ws) (editAt at (addHere action (newSynth given slot taken ∷ [])) (rows count (nodeWords ws))) us many
+    does = gap-leaves (nodeWords ws) count action at (rw same (g .clear .spot .live)) gap opens (newSynth given slot taken) us many fills
+
     taken-row : taken ≡ row
     taken-row = (rw same at free) ∙ ap freeRow (staying-first action n at (nodesIn ws) (g .clear .spot .here))
 
@@ -168,10 +174,11 @@ module _ (number : ℕ) (action : Action) (target : NodeArgument) (at slot : ℕ
     unfolding decode
     new-number = comes .given .new
 
-    pub synth-ready : Changed (editBy action count (nodeWords ws) at) many (put nodesPlace nodesWords us ws)
+    pub synth-ready : Changed (edit.Put (gap .at) (gap .end)) many (put nodesPlace nodesWords us ws)
     synth-ready =
-        changed-left ws (ready ws bs k) after few (editBy action count (nodeWords ws) at)
-        (rw (same, ← table) (add-does (countIn ws) (nodeWords ws) at (g .clear .spot .live) action made new-number)) us many left
+        rw opens
+        (changed-left ws (ready ws bs k) after few (editBy action count (nodeWords ws) at)
+        (rw (same, ← table) (add-does (countIn ws) (nodeWords ws) at (g .clear .spot .live) action made new-number)) us many left)
 
     -- the engine before the controls are written
     abbrev half : Engine

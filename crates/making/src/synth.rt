@@ -13,11 +13,13 @@ use layout::NODES_END;
 use layout::RESIDENT_END;
 use model::Answer;
 use nodes::Node;
+use reindex::Edit;
 use slots::slot_bytes;
 use tree::Action;
 use tree::Asked;
+use tree::fill_gap;
+use tree::gap_by;
 use treecommands::Spot;
-use treecommands::edit_by;
 use treecommands::settle;
 use values::NodeArgument;
 use words::wide;
@@ -49,8 +51,9 @@ fn put_synth(number: u32, action: Action, at: usize, slot: u32, words: &mut [u32
         slot: slot,
         row: row,
     };
-    let edit = edit_by(&words[NODES..NODES_END], count, action, at);
-    let many = tree::add_node(&mut words[NODES..NODES_END], count, action, at, node);
+    let gap = gap_by(&words[NODES..NODES_END], count, action, at);
+    let edit = Edit::Put(gap.at, gap.end);
+    let many = fill_gap(&mut words[NODES..NODES_END], count, gap, node);
     let after = next_after(number, next);
     settle(words, edit, many, after, given);
     controls::initial_row(&mut words[CONTROLS..CONTROLS_END], row, definition);

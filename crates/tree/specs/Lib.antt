@@ -3,6 +3,7 @@ pub mod Words
 pub mod Action
 pub mod Moves
 pub mod Add
+pub mod Gaps
 pub mod Depths
 pub mod MoveRun
 pub mod Places

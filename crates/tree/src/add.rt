@@ -3,17 +3,21 @@ use crate::action::Action;
 use crate::action::Position;
 use crate::change::insert;
 use crate::change::remove;
+use crate::runs::put_node;
 use crate::search::subtree_end;
 use layout::DEPTH;
 use layout::RECORD;
 use nodes::Node;
 ghost use mathlib.Core.Path.{_≡_};
-ghost use mathlib.Core.List.{_∷_, []};
-ghost use Rattle.nodes.specs.Table.{rows};
-ghost use Rattle.nodes.specs.Edit.{level, editAt, overHere};
-ghost use Rattle.tree.specs.Sizes.{Placed, Leaves};
+ghost use mathlib.Core.List.{_∷_, [], _++_};
+ghost use Prim.Native.Nat.{_*_, _≤_, _<_};
+ghost use lib.ListN.{length, take, drop};
+ghost use Rattle.nodes.specs.Table.{width, rows};
+ghost use Rattle.nodes.specs.Edit.{level, editAt};
+ghost use Rattle.tree.specs.Sizes.{Leaves};
 ghost use Rattle.tree.specs.Action.{addHere};
 ghost use Rattle.tree.specs.Add.{Target, Room, placeBy};
+ghost use Rattle.tree.specs.Gaps.{gapBy, inGap, Gapped};
 
 // Where a record goes, and the depth that it has there.
 pub struct Place {
@@ -60,15 +64,57 @@ fn at_depth(node: Node, depth: u32) -> Node
     }
 }
 
-// The run at a place taken out, and the new record put in there.
-fn replace(nodes: &mut [u32], count: usize, at: usize, node: Node) -> usize
-    requires { ⌜ Placed (now nodes) count at ⌝ }
-    ensures { λ r. ⌜ Leaves (now (nodes .entry)) (editAt at (overHere (level 0 node ∷ [])) (rows count (now (nodes .entry)))) (now (nodes .exit)) r ⌝ }
+// What a new record comes for, the records from `at` up to `end`, and the depth that it has there.
+pub struct Gap {
+    pub at: usize,
+    pub end: usize,
+    pub depth: u32,
+}
+
+// The gap that an add action by the node at a place opens; one that replaces takes the target's run out.
+pub fn gap_by(nodes: &[u32], count: usize, action: Action, at: usize) -> Gap
+    requires { ⌜ Room (now nodes) count action at ⌝ }
+    ensures { λ r. ⌜ r ≡ gapBy action count (now (nodes .entry)) at ⌝ }
 {
-    let depth = nodes[RECORD * at + DEPTH];
-    let end = subtree_end(nodes, count, at);
-    let left = remove(nodes, count, at, end);
-    insert(nodes, left, at, at_depth(node, depth))
+    match action {
+        Action::Put(position) => {
+            let to = place_by(nodes, count, position, at);
+            Gap {
+                at: to.at,
+                end: to.at,
+                depth: to.depth,
+            }
+        }
+        Action::Replace => Gap {
+            at: at,
+            end: subtree_end(nodes, count, at),
+            depth: nodes[RECORD * at + DEPTH],
+        },
+    }
+}
+
+// The records from `at` up to `end` taken out, and another put in there.
+fn replace(nodes: &mut [u32], count: usize, at: usize, end: usize, node: Node) -> usize
+    requires { ⌜ (at < end) × ((end ≤ count) × (width * count ≤ length (now nodes))) ⌝ }
+    ensures { λ r. ⌜ Leaves (now (nodes .entry)) (take at (rows count (now (nodes .entry))) ++ node ∷ drop end (rows count (now (nodes .entry)))) (now (nodes .exit)) r ⌝ }
+{
+    let left = remove(nodes, count, at + 1, end);
+    put_node(nodes, at, node);
+    left
+}
+
+// A node put into a gap.
+pub fn fill_gap(nodes: &mut [u32], count: usize, gap: Gap, node: Node) -> usize
+    requires { ⌜ Gapped (now nodes) count gap ⌝ }
+    ensures { λ r. ⌜ Leaves (now (nodes .entry)) (inGap gap node (rows count (now (nodes .entry)))) (now (nodes .exit)) r ⌝ }
+{
+    let at = gap.at;
+    let end = gap.end;
+    let new = at_depth(node, gap.depth);
+    if at < end {
+        return replace(nodes, count, at, end, new);
+    }
+    insert(nodes, count, at, new)
 }
 
 // A node put in by an add action on the node at a place.
@@ -76,12 +122,6 @@ pub fn add_node(nodes: &mut [u32], count: usize, action: Action, at: usize, node
     requires { ⌜ Room (now nodes) count action at ⌝ }
     ensures { λ r. ⌜ Leaves (now (nodes .entry)) (editAt at (addHere action (level 0 node ∷ [])) (rows count (now (nodes .entry)))) (now (nodes .exit)) r ⌝ }
 {
-    match action {
-        Action::Put(position) => {
-            let to = place_by(nodes, count, position, at);
-            let place = to.at;
-            insert(nodes, count, place, at_depth(node, to.depth))
-        }
-        Action::Replace => replace(nodes, count, at, node),
-    }
+    let gap = gap_by(nodes, count, action, at);
+    fill_gap(nodes, count, gap, node)
 }

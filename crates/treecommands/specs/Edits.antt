@@ -26,14 +26,14 @@ use Rattle.tree.specs.declared.action.Action.the-variants.{Put, Replace}
 use Rattle.tree.specs.declared.add.Place.{Place}
 use Rattle.tree.specs.Action.{addHere}
 use Rattle.tree.specs.Add.{placeBy, place-most, put-at}
+use Rattle.tree.specs.Gaps.{gapBy}
 use Rattle.tree.specs.Moves.{drop-take}
 use Rattle.tree.specs.MoveRun.{placeWithout, movedTo}
 use Rattle.tree.specs.Ends.{MoveTo}
 
 -- an add action by the node at a place
 abbrev pub editBy : Action → ℕ → List ℕ → ℕ → Edit
-editBy (Put p) count us at = edit.Put (placeBy p count us at .at) (placeBy p count us at .at)
-editBy Replace count us at = edit.Put at (endAt count us at)
+editBy action count us at = edit.Put (gapBy action count us at .at) (gapBy action count us at .end)
 
 -- the run from a up to e moved to a place outside of it
 abbrev pub moveEdit : ℕ → ℕ → ℕ → Edit

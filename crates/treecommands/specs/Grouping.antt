@@ -32,7 +32,10 @@ use Rattle.state.specs.Does.{step-refused, step-done}
 use Rattle.tree.specs.declared.action.Action.{Action}
 use Rattle.tree.specs.Sizes.{Leaves}
 use Rattle.tree.specs.Action.{numberOf, addHere, number-most, add-number}
+use Rattle.tree.specs.declared.add.Gap.{Gap}
 use Rattle.tree.specs.Add.{Room}
+use Rattle.tree.specs.Gaps.{gapBy, inGap, gap-leaves}
+use Rattle.reindex.specs.declared.edit.Edit.the-variants as edit
 use Rattle.treecommands.specs.declared.group.Spot.{Spot}
 use Rattle.treecommands.specs.declared.group.Spot.the-variants as spot
 use Rattle.names.specs.Named.{Named}
@@ -114,8 +117,11 @@ module _ (number : ℕ) (action : Action) (target : NodeArgument) (ws : List ℕ
   unfolding answerIn
   group-refused r h bytes bs = step-refused (command.Tree (tree.NewGroup number (numberOf action) target)) bytes ws bs r (h bytes bs)
 
-  module _ (k : Ready ws) (count : ℕ) (same : count ≡ countIn ws) (at : ℕ) (g : GroupGround number action target ws at) (us : List ℕ) (many : ℕ)
-      (does : Leaves (nodeWords ws) (editAt at (addHere action (newGroup number ∷ [])) (rows count (nodeWords ws))) us many) where
+  module _ (k : Ready ws) (count : ℕ) (same : count ≡ countIn ws) (at : ℕ) (g : GroupGround number action target ws at) (gap : Gap) (opens : gap ≡ gapBy action count (nodeWords ws) at) (us : List ℕ) (many : ℕ)
+      (fills : Leaves (nodeWords ws) (inGap gap (newGroup number) (rows count (nodeWords ws))) us many) where
+    does : Leaves (nodeWords ws) (editAt at (addHere action (newGroup number ∷ [])) (rows count (nodeWords ws))) us many
+    does = gap-leaves (nodeWords ws) count action at (rw same (g .spot .live)) gap opens (newGroup number) us many fills
+
     added : editRows (meantIn target ws) (addHere action (newGroup number ∷ [])) (nodesIn ws) ≡ addBy (numberOf action) (newGroup number) (meantIn target ws) (nodesIn ws)
     added = add-number action (newGroup number) (meantIn target ws) (nodesIn ws)
 
@@ -130,10 +136,11 @@ module _ (number : ℕ) (action : Action) (target : NodeArgument) (ws : List ℕ
     few-there : length (editRows (meantIn target ws) (addHere action (newGroup number ∷ [])) (nodesIn ws)) ≤ mostNodes
     few-there = rw added few
 
-    pub group-ready : Changed (editBy action count (nodeWords ws) at) many (put nodesPlace nodesWords us ws)
+    pub group-ready : Changed (edit.Put (gap .at) (gap .end)) many (put nodesPlace nodesWords us ws)
     group-ready =
-        edited-ready target ws k count same at (g .spot) (addHere action (newGroup number ∷ [])) us many does few-there (editBy action count (nodeWords ws) at)
-        (add-does count (nodeWords ws) at (rw same (g .spot .live)) action (newGroup number) free)
+        rw opens
+        (edited-ready target ws k count same at (g .spot) (addHere action (newGroup number ∷ [])) us many does few-there (editBy action count (nodeWords ws) at)
+        (add-does count (nodeWords ws) at (rw same (g .spot .live)) action (newGroup number) free))
 
     pub group-done : (out : List ℕ) → out ≡ renewed many (put nodesPlace nodesWords us ws) → Steps (tree.NewGroup number (numberOf action) target) ws Done out
     unfolding answerIn decode wordsAfter effect

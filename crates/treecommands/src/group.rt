@@ -2,7 +2,6 @@
 use crate::adding::bad_target;
 use crate::adding::is_full;
 use crate::finish::renew;
-use crate::indexing::edit_by;
 use layout::COUNT;
 use layout::GROUP;
 use layout::NODES;
@@ -12,8 +11,11 @@ use names::node_place;
 use names::place_of;
 use nodes::Node;
 use refusals::Refusal;
+use reindex::Edit;
 use tree::Action;
 use tree::Asked;
+use tree::fill_gap;
+use tree::gap_by;
 use values::NodeArgument;
 use words::wide;
 ghost use Rattle.model.specs.declared.TreeCommand.{TreeCommand};
@@ -69,8 +71,9 @@ fn add_group(number: u32, action: Action, target: NodeArgument, words: &mut [u32
                 slot: GROUP,
                 row: 0,
             };
-            let edit = edit_by(&words[NODES..NODES_END], count, action, at);
-            let after = tree::add_node(&mut words[NODES..NODES_END], count, action, at, group);
+            let gap = gap_by(&words[NODES..NODES_END], count, action, at);
+            let edit = Edit::Put(gap.at, gap.end);
+            let after = fill_gap(&mut words[NODES..NODES_END], count, gap, group);
             renew(words, edit, after);
             Answer::Done
         }

@@ -9,9 +9,6 @@ use reindex::follow_edit;
 use reindex::follow_places;
 use reindex::put_entry;
 use reindex::spot_of;
-use tree::Action;
-use tree::Position;
-use tree::subtree_end;
 use words::wide;
 ghost use mathlib.Core.Path.{_≡_};
 ghost use mathlib.Core.List.{_++_};
@@ -22,41 +19,9 @@ ghost use Rattle.nodes.specs.Table.{rows};
 ghost use Rattle.index.specs.Index.{numbers, indexOf, putIn};
 ghost use Rattle.reindex.specs.Spot.{Reads};
 ghost use Rattle.model.specs.Layout.{wordsLength, indexPlace, indexWords, putIndex};
-ghost use Rattle.tree.specs.Sizes.{Placed};
-ghost use Rattle.tree.specs.Add.{placeBy};
 ghost use Rattle.treecommands.specs.Ready.{nodeWords};
-ghost use Rattle.treecommands.specs.Edits.{editBy, moveEdit};
+ghost use Rattle.treecommands.specs.Edits.{moveEdit};
 ghost use Rattle.treecommands.specs.Settle.{indexRegion, Changed, Sifted};
-
-// The place at a position by the node at another place.
-fn place_at(nodes: &[u32], count: usize, position: Position, at: usize) -> usize
-    requires { ⌜ Placed (now nodes) count at ⌝ }
-    ensures { λ r. ⌜ r ≡ placeBy position count (now (nodes .entry)) at .at ⌝ }
-{
-    match position {
-        Position::Head => at + 1,
-        Position::Tail => subtree_end(nodes, count, at),
-        Position::Before => at,
-        Position::After => subtree_end(nodes, count, at),
-    }
-}
-
-// What an add action by the node at a place does.
-pub fn edit_by(nodes: &[u32], count: usize, action: Action, at: usize) -> Edit
-    requires { ⌜ Placed (now nodes) count at ⌝ }
-    ensures { λ r. ⌜ r ≡ editBy action count (now (nodes .entry)) at ⌝ }
-{
-    match action {
-        Action::Put(position) => {
-            let place = place_at(nodes, count, position, at);
-            Edit::Put(place, place)
-        }
-        Action::Replace => {
-            let end = subtree_end(nodes, count, at);
-            Edit::Put(at, end)
-        }
-    }
-}
 
 // What a move of the run from the place a up to its end to another place does.
 pub fn move_edit(a: usize, end: usize, place: usize) -> Edit

@@ -17,7 +17,6 @@ pub use free::free_node;
 pub use free::run_node;
 pub use group::Spot;
 pub use group::new_group;
-pub use indexing::edit_by;
 pub use moves::move_after;
 pub use moves::move_before;
 pub use moves::move_head;

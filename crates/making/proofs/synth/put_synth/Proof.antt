@@ -8,7 +8,9 @@ use lib.ListN.{getD}
 use Rattle.words.specs.Parts.{region, put}
 use Rattle.readable.specs.Readable.{Readable}
 use Rattle.nodes.specs.Table.{over}
-use Rattle.model.specs.Layout.{controlsPlace, controlsWords}
+use Rattle.model.specs.Layout.{controlsPlace, controlsWords, countIn}
+use Rattle.tree.specs.Gaps.{gap-fits}
+use Rattle.treecommands.specs.Ready.{nodeWords}
 use Rattle.model.specs.Effects.{initialWords}
 use Rattle.slots.specs.Slots.{slotBytes}
 use Rattle.controls.specs.Encoded.{frontIn}
@@ -36,22 +38,20 @@ row-for-requires c κs =
     let p = c .before .before .before .before .before .before .before .before .before .before .pre in
     standing (a .number) (a .action) (p .target) (a .at) (a .slot) (p .bytes) (a .words .now) (a .arena .now) (p .ground) (c .before .before .before .before .before .before .wide .result) (c .before .before .before .before .before .before .wide .ensures)
 
-part-edit-by-end : tie.Need-part-edit-by-end
-part-edit-by-end c = omega (arith, c .before .before .before .before .before .before .before .before .before .before .before .before .before .pre .ground .known .size)
+part-gap-by-end : tie.Need-part-gap-by-end
+part-gap-by-end c = omega (arith, c .before .before .before .before .before .before .before .before .before .before .before .before .before .pre .ground .known .size)
 
-edit-by-requires : tie.Need-edit-by-requires
-edit-by-requires c κs =
-    let a = c .before .before .before .before .before .before .before .before .before .before .before .before .before .before .args in
-    let p = c .before .before .before .before .before .before .before .before .before .before .before .before .before .before .pre in
-    let count = c .before .before .before .before .before .before .before .before .before .before .wide in
-    let there = standing (a .number) (a .action) (p .target) (a .at) (a .slot) (p .bytes) (a .words .now) (a .arena .now) (p .ground) (count .result) (count .ensures) in
-    record { room = omega (arith, there .size, there .few); few = there .few; live = there .live }
+gap-by-requires : tie.Need-gap-by-requires
+gap-by-requires c κs = rw (c .before .before .before .before .before .before .before .before .before .before .wide .ensures) (c .before .before .before .before .before .before .before .before .before .before .before .before .before .before .pre .ground .clear .room)
 
-part-add-node-end : tie.Need-part-add-node-end
-part-add-node-end c = omega (arith, c .before .before .before .before .before .before .before .before .before .before .before .before .before .before .before .pre .ground .known .size)
+part-fill-gap-end : tie.Need-part-fill-gap-end
+part-fill-gap-end c = omega (arith, c .before .before .before .before .before .before .before .before .before .before .before .before .before .before .before .pre .ground .known .size)
 
-add-node-requires : tie.Need-add-node-requires
-add-node-requires c κs = rw (c .before .before .before .before .before .before .before .before .before .before .before .before .wide .ensures) (c .before .before .before .before .before .before .before .before .before .before .before .before .before .before .before .before .pre .ground .clear .room)
+fill-gap-requires : tie.Need-fill-gap-requires
+fill-gap-requires c κs =
+    let s = c .before .before .before .before .before .before .before .before .before .before .before .before .before .before .before .before in
+    let a = s .args in
+    rw (c .before .gap-by .ensures, c .before .before .before .before .before .before .before .before .before .before .before .before .wide .ensures) (gap-fits (nodeWords (a .words .now)) (countIn (a .words .now)) (a .action) (a .at) (s .pre .ground .clear .room))
 
 next-after-requires : tie.Need-next-after-requires
 next-after-requires c κs =
@@ -66,10 +66,9 @@ settle-requires c κs =
     let count = c .before .before .before .before .before .before .before .before .before .before .before .before .before .before .before .before .before .wide in
     let row = c .before .before .before .before .before .before .before .before .before .before .row-for in
     let given = c .before .before .before .before .before .before .before .before .before .number-for in
-    let add = c .before .before .before .before .add-node in
-    let edit = c .before .before .before .before .before .before .edit-by in
-    rw (edit .ensures)
-    (synth-ready (a .number) (a .action) (p .target) (a .at) (a .slot) (p .bytes) (a .words .now) (a .arena .now) (p .ground) (count .result) (count .ensures) (row .result) (row .ensures) (getD (a .words .now) 2 0) refl (given .result) (given .ensures) (add .last .0) (add .result) (add .ensures))
+    let gap = c .before .before .before .before .before .before .gap-by in
+    let add = c .before .before .before .before .fill-gap in
+    synth-ready (a .number) (a .action) (p .target) (a .at) (a .slot) (p .bytes) (a .words .now) (a .arena .now) (p .ground) (count .result) (count .ensures) (row .result) (row .ensures) (getD (a .words .now) 2 0) refl (given .result) (given .ensures) (gap .result) (gap .ensures) (add .last .0) (add .result) (add .ensures)
 
 part-initial-row-end : tie.Need-part-initial-row-end
 part-initial-row-end c =
@@ -78,10 +77,11 @@ part-initial-row-end c =
     let count = c .before .before .before .before .before .before .before .before .before .before .before .before .before .before .before .before .before .before .before .before .wide in
     let row = c .before .before .before .before .before .before .before .before .before .before .before .before .before .row-for in
     let given = c .before .before .before .before .before .before .before .before .before .before .before .before .number-for in
-    let add = c .before .before .before .before .before .before .before .add-node in
+    let gap = c .before .before .before .before .before .before .before .before .before .gap-by in
+    let add = c .before .before .before .before .before .before .before .fill-gap in
     let fell = c .before .before .before .before .next-after in
     let mid = c .before .before .settle in
-    omega (arith, mid-size (a .number) (a .action) (p .target) (a .at) (a .slot) (p .bytes) (a .words .now) (a .arena .now) (p .ground) (count .result) (count .ensures) (row .result) (row .ensures) (getD (a .words .now) 2 0) refl (given .result) (given .ensures) (add .last .0) (add .result) (add .ensures) (fell .result) (fell .ensures) (mid .last .0) (mid .ensures))
+    omega (arith, mid-size (a .number) (a .action) (p .target) (a .at) (a .slot) (p .bytes) (a .words .now) (a .arena .now) (p .ground) (count .result) (count .ensures) (row .result) (row .ensures) (getD (a .words .now) 2 0) refl (given .result) (given .ensures) (gap .result) (gap .ensures) (add .last .0) (add .result) (add .ensures) (fell .result) (fell .ensures) (mid .last .0) (mid .ensures))
 
 initial-row-requires : tie.Need-initial-row-requires
 initial-row-requires c κs =
@@ -90,11 +90,12 @@ initial-row-requires c κs =
     let count = c .before .before .before .before .before .before .before .before .before .before .before .before .before .before .before .before .before .before .before .before .before .wide in
     let row = c .before .before .before .before .before .before .before .before .before .before .before .before .before .before .row-for in
     let given = c .before .before .before .before .before .before .before .before .before .before .before .before .before .number-for in
-    let add = c .before .before .before .before .before .before .before .before .add-node in
+    let gap = c .before .before .before .before .before .before .before .before .before .before .gap-by in
+    let add = c .before .before .before .before .before .before .before .before .fill-gap in
     let fell = c .before .before .before .before .before .next-after in
     let mid = c .before .before .before .settle in
     let bytes = c .before .before .before .before .before .before .before .before .before .before .before .before .before .before .before .before .before .slot-bytes .ensures ∙ ap (slotBytes (a .words .now) (a .arena .now)) (c .before .before .before .before .before .before .before .before .before .before .before .before .before .before .before .before .before .before .wide2 .ensures) in (
-      row-fits (a .number) (a .action) (p .target) (a .at) (a .slot) (p .bytes) (a .words .now) (a .arena .now) (p .ground) (count .result) (count .ensures) (row .result) (row .ensures) (getD (a .words .now) 2 0) refl (given .result) (given .ensures) (add .last .0) (add .result) (add .ensures) (fell .result) (fell .ensures) (mid .last .0) (mid .ensures),
+      row-fits (a .number) (a .action) (p .target) (a .at) (a .slot) (p .bytes) (a .words .now) (a .arena .now) (p .ground) (count .result) (count .ensures) (row .result) (row .ensures) (getD (a .words .now) 2 0) refl (given .result) (given .ensures) (gap .result) (gap .ensures) (add .last .0) (add .result) (add .ensures) (fell .result) (fell .ensures) (mid .last .0) (mid .ensures),
       subst Readable (sym bytes) (definition-readable (a .number) (a .action) (p .target) (a .at) (a .slot) (p .bytes) (a .words .now) (a .arena .now) (p .ground) (getD (a .words .now) (4 + a .slot) 0) refl),
     )
 
@@ -105,10 +106,11 @@ same-length c =
     let count = c .before .before .before .before .before .before .before .before .before .before .before .before .before .before .before .before .before .before .before .before .before .before .before .before .wide in
     let row = c .before .before .before .before .before .before .before .before .before .before .before .before .before .before .before .before .before .row-for in
     let given = c .before .before .before .before .before .before .before .before .before .before .before .before .before .before .before .before .number-for in
-    let add = c .before .before .before .before .before .before .before .before .before .before .before .add-node in
+    let gap = c .before .before .before .before .before .before .before .before .before .before .before .before .before .gap-by in
+    let add = c .before .before .before .before .before .before .before .before .before .before .before .fill-gap in
     let fell = c .before .before .before .before .before .before .before .before .next-after in
     let mid = c .before .before .before .before .before .before .settle in
-    c .before .words5 .given .1 ∙ mid-size (a .number) (a .action) (p .target) (a .at) (a .slot) (p .bytes) (a .words .now) (a .arena .now) (p .ground) (count .result) (count .ensures) (row .result) (row .ensures) (getD (a .words .now) 2 0) refl (given .result) (given .ensures) (add .last .0) (add .result) (add .ensures) (fell .result) (fell .ensures) (mid .last .0) (mid .ensures) ∙ sym (p .ground .known .size)
+    c .before .words5 .given .1 ∙ mid-size (a .number) (a .action) (p .target) (a .at) (a .slot) (p .bytes) (a .words .now) (a .arena .now) (p .ground) (count .result) (count .ensures) (row .result) (row .ensures) (getD (a .words .now) 2 0) refl (given .result) (given .ensures) (gap .result) (gap .ensures) (add .last .0) (add .result) (add .ensures) (fell .result) (fell .ensures) (mid .last .0) (mid .ensures) ∙ sym (p .ground .known .size)
 
 returns : tie.Need-returns
 returns c =
@@ -117,12 +119,13 @@ returns c =
     let count = c .before .before .before .before .before .before .before .before .before .before .before .before .before .before .before .before .before .before .before .before .before .before .before .before .wide in
     let row = c .before .before .before .before .before .before .before .before .before .before .before .before .before .before .before .before .before .row-for in
     let given = c .before .before .before .before .before .before .before .before .before .before .before .before .before .before .before .before .number-for in
-    let add = c .before .before .before .before .before .before .before .before .before .before .before .add-node in
+    let gap = c .before .before .before .before .before .before .before .before .before .before .before .before .before .gap-by in
+    let add = c .before .before .before .before .before .before .before .before .before .before .before .fill-gap in
     let fell = c .before .before .before .before .before .before .before .before .next-after in
     let mid = c .before .before .before .before .before .before .settle in
     let own = c .before .before .before .before .before .before .before .before .before .before .before .before .before .before .before .before .before .before .before .before .slot-bytes .ensures ∙ ap (slotBytes (a .words .now) (a .arena .now)) (c .before .before .before .before .before .before .before .before .before .before .before .before .before .before .before .before .before .before .before .before .before .wide2 .ensures) in
     let controls = c .before .before .initial-row in
-    synth-done (a .number) (a .action) target (a .at) (a .slot) bytes (a .words .now) (a .arena .now) g (count .result) (count .ensures) (row .result) (row .ensures) (getD (a .words .now) 2 0) refl (given .result) (given .ensures) (add .last .0) (add .result) (add .ensures) (fell .result) (fell .ensures) (mid .last .0) (mid .ensures)
+    synth-done (a .number) (a .action) target (a .at) (a .slot) bytes (a .words .now) (a .arena .now) g (count .result) (count .ensures) (row .result) (row .ensures) (getD (a .words .now) 2 0) refl (given .result) (given .ensures) (gap .result) (gap .ensures) (add .last .0) (add .result) (add .ensures) (fell .result) (fell .ensures) (mid .last .0) (mid .ensures)
     (getD (a .words .now) (4 + a .slot) 0) refl
     (put controlsPlace controlsWords (controls .last .0) (mid .last .0))
     (ap (λ (l : List ℕ). put controlsPlace controlsWords l (mid .last .0))
@@ -133,6 +136,6 @@ put-synth-spec =
     tie.close
     (tie.spec slice-read-wide (λ c κs. search needs) slice-read-next (λ c κs. search needs) slot-bytes-requires
     (λ c. search needs) (λ c. search needs) part-row-for-end row-for-requires (λ c κs. search needs) (λ c. search needs)
-    (λ c. search needs) part-edit-by-end edit-by-requires (λ c. search needs) (λ c. search needs) part-add-node-end
-    add-node-requires next-after-requires settle-requires (λ c. search needs) (λ c. search needs) part-initial-row-end
+    (λ c. search needs) part-gap-by-end gap-by-requires (λ c. search needs) (λ c. search needs) part-fill-gap-end
+    fill-gap-requires next-after-requires settle-requires (λ c. search needs) (λ c. search needs) part-initial-row-end
     initial-row-requires same-length returns)

@@ -1,15 +1,16 @@
 -- `treecommands::group::add_group` meets its contract: the checks' refusal, or the law of the add action.
-use native.Mathlib.Omega.{arith}
 use borrow.Author.Needs.{needs}
 use mathlib.Core.Path.{_≡_}
+use Rattle.model.specs.Layout.{countIn}
+use Rattle.tree.specs.Gaps.{gap-fits}
 use Rattle.treecommands.specs.declared.group.Spot.the-variants as spot
-use Rattle.treecommands.specs.Ready.{words-long}
+use Rattle.treecommands.specs.Ready.{nodeWords}
 use Rattle.treecommands.specs.Grouping.{GroupGround, Answers, group-refused, group-ready, group-done}
 use Rattle.treecommands.proofs.group.add_group.Statement.{statement}
 use Rattle.treecommands.proofs.group.add_group.Tie as tie
 
-edit-by-requires : tie.Need-edit-by-requires
-edit-by-requires c κs =
+gap-by-requires : tie.Need-gap-by-requires
+gap-by-requires c κs =
     let s = c .before .before .before .before .before .before .before .before .before .before in
     let a = s .args in
     let at = c .before .before .before .before .before .spot .given in
@@ -17,11 +18,10 @@ edit-by-requires c κs =
     let fact : told .result ≡ spot.At (at .0 .0) = at .1 in
     let ground : GroupGround (a .number) (a .action) (a .target) (a .words .now) (at .0 .0) = rw fact at (told .ensures) in
     let count = c .before .before .wide in
-    let room = ground .room in
-    rw (count .ensures) (record { room = omega (arith, words-long (a .words .now) (s .pre .size), s .pre .few); few = s .pre .few; live = ground .spot .live })
+    rw (count .ensures) (ground .room)
 
-add-node-requires : tie.Need-add-node-requires
-add-node-requires c κs =
+fill-gap-requires : tie.Need-fill-gap-requires
+fill-gap-requires c κs =
     let s = c .before .before .before .before .before .before .before .before .before .before .before .before in
     let a = s .args in
     let at = c .before .before .before .before .before .before .before .spot .given in
@@ -29,7 +29,8 @@ add-node-requires c κs =
     let fact : told .result ≡ spot.At (at .0 .0) = at .1 in
     let ground : GroupGround (a .number) (a .action) (a .target) (a .words .now) (at .0 .0) = rw fact at (told .ensures) in
     let count = c .before .before .before .before .wide in
-    rw (count .ensures) (ground .room)
+    let gap = c .before .gap-by in
+    rw (gap .ensures, count .ensures) (gap-fits (nodeWords (a .words .now)) (countIn (a .words .now)) (a .action) (at .0 .0) (ground .room))
 
 renew-requires : tie.Need-renew-requires
 renew-requires c κs =
@@ -40,9 +41,9 @@ renew-requires c κs =
     let fact : told .result ≡ spot.At (at .0 .0) = at .1 in
     let ground : GroupGround (a .number) (a .action) (a .target) (a .words .now) (at .0 .0) = rw fact at (told .ensures) in
     let count = c .before .before .before .before .before .before .before .before .wide in
-    let edit = c .before .before .before .before .before .edit-by in
-    let add = c .before .before .before .add-node in
-    rw (edit .ensures) (group-ready (a .number) (a .action) (a .target) (a .words .now) (s .pre) (count .result) (count .ensures) (at .0 .0) ground (add .last .0) (add .result) (add .ensures))
+    let gap = c .before .before .before .before .before .gap-by in
+    let add = c .before .before .before .fill-gap in
+    (group-ready (a .number) (a .action) (a .target) (a .words .now) (s .pre) (count .result) (count .ensures) (at .0 .0) ground (gap .result) (gap .ensures) (add .last .0) (add .result) (add .ensures))
 
 returns : tie.Need-returns
 returns c =
@@ -53,9 +54,10 @@ returns c =
     let fact : told .result ≡ spot.At (at .0 .0) = at .1 in
     let ground : GroupGround (a .number) (a .action) (a .target) (a .words .now) (at .0 .0) = rw fact at (told .ensures) in
     let count = c .before .before .before .before .before .before .before .before .before .before .before .wide in
-    let add = c .before .before .before .before .before .before .add-node in
+    let gap = c .before .before .before .before .before .before .before .before .gap-by in
+    let add = c .before .before .before .before .before .before .fill-gap in
     let renew = c .before .before .renew in
-    group-done (a .number) (a .action) (a .target) (a .words .now) (s .pre) (count .result) (count .ensures) (at .0 .0) ground (add .last .0) (add .result) (add .ensures) (renew .last .0) (renew .ensures)
+    group-done (a .number) (a .action) (a .target) (a .words .now) (s .pre) (count .result) (count .ensures) (at .0 .0) ground (gap .result) (gap .ensures) (add .last .0) (add .result) (add .ensures) (renew .last .0) (renew .ensures)
 
 returns-2 : tie.Need-returns-2
 returns-2 c =
@@ -68,5 +70,5 @@ pub add-group-spec : {M : Type 1} → statement M
 add-group-spec =
     tie.close
     (tie.spec (λ c κs. search needs) (λ c. search needs) (λ c. search needs) (λ c κs. search needs) (λ c. search needs)
-    (λ c. search needs) (λ c. search needs) edit-by-requires (λ c. search needs) (λ c. search needs) (λ c. search needs)
-    add-node-requires renew-requires (λ c. search needs) (λ c. search needs) returns (λ c. search needs) returns-2)
+    (λ c. search needs) (λ c. search needs) gap-by-requires (λ c. search needs) (λ c. search needs) (λ c. search needs)
+    fill-gap-requires renew-requires (λ c. search needs) (λ c. search needs) returns (λ c. search needs) returns-2)
