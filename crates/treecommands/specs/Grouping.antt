@@ -1,12 +1,13 @@
 -- /g_new: its checks, and the words after it.
 use Prim.Native.Nat.{ℕ, _≤_, _<_}
-use mathlib.Core.Bool.{true, false}
+use mathlib.Core.Bool.{Bool, true, false}
 use mathlib.Core.Path.{_≡_, ap, _∙_}
 use mathlib.Core.List.{List, [], _∷_}
 use native.Mathlib.Omega.{arith}
 use lib.ListN.{length}
 use lib.Dec.{ltb}
 use borrow.Author.Tests.{lt-ltb, le-ltb, le-leb, lt-leb}
+use Rattle.words.specs.Choice.{either}
 use Rattle.words.specs.Parts.{put}
 use Rattle.refusals.specs.declared.Refusal.{Refusal}
 use Rattle.refusals.specs.declared.Refusal.the-variants.{BadFlag, BadNumber, NumberLive, NoNode, WrongKind, NodesFull}
@@ -16,11 +17,13 @@ use Rattle.nodes.specs.Place.{lives, place}
 use Rattle.nodes.specs.Edit.{editRows, editAt, addBy}
 use Rattle.nodes.specs.Place as nodes
 use Rattle.nodes.specs.Formed.{mostNodes}
+use Rattle.treerefinement.specs.Tally.{Grown, addHead-grown, addTail-grown, addBefore-grown, addAfter-grown}
+use Rattle.treerefinement.specs.Keep.{grown-lives}
 use Rattle.values.specs.declared.NodeArgument.{NodeArgument}
 use Rattle.model.specs.declared.TreeCommand.the-variants as tree
 use Rattle.model.specs.declared.Command.the-variants as command
 use Rattle.model.specs.declared.Answer.the-variants.{Done, Refused}
-use Rattle.model.specs.Layout.{nodesPlace, nodesWords, countIn, nodesIn}
+use Rattle.model.specs.Layout.{nodesPlace, nodesWords, countIn, latestIn, nodesIn}
 use Rattle.model.specs.Engine.{decode}
 use Rattle.model.specs.Meaning.{firstNegative}
 use Rattle.model.specs.Checks.{firstOf, treeChecks}
@@ -29,9 +32,12 @@ use Rattle.model.specs.After.{putTree, wordsAfter}
 use Rattle.model.specs.Apply.{answerIn, isAccepted}
 use Rattle.state.specs.Accepted.{accepted}
 use Rattle.state.specs.Does.{step-refused, step-done}
+use Rattle.tree.specs.declared.action.Position.{Position}
+use Rattle.tree.specs.declared.action.Position.the-variants.{Head, Tail, Before, After}
 use Rattle.tree.specs.declared.action.Action.{Action}
+use Rattle.tree.specs.declared.action.Action.the-variants.{Put}
 use Rattle.tree.specs.Sizes.{Leaves}
-use Rattle.tree.specs.Action.{numberOf, addHere, number-most, add-number}
+use Rattle.tree.specs.Action.{numberOf, putHere, addHere, number-most, add-number}
 use Rattle.tree.specs.declared.add.Gap.{Gap}
 use Rattle.tree.specs.Add.{Room}
 use Rattle.tree.specs.Gaps.{gapBy, inGap, gap-leaves}
@@ -43,7 +49,8 @@ use Rattle.treecommands.specs.Ready.{Ready, nodeWords}
 use Rattle.treecommands.specs.Finding.{meantIn, NodeFound, found, missing}
 use Rattle.treecommands.specs.Edits.{editBy, add-does}
 use Rattle.treecommands.specs.Settle.{Changed, renewed}
-use Rattle.treecommands.specs.Steps.{Steps, edited-ready, edited-left}
+use Rattle.treecommands.specs.Steps.{Steps, edited-ready, edited-stays, edited-left}
+use Rattle.treecommands.specs.Staying.{Added}
 use Rattle.treecommands.specs.Adding.{badAt, fullAt, bad-target, is-full, room, after-few}
 
 -- no check fires, and the target stands at its place, with room
@@ -111,6 +118,13 @@ pub group-unasked : (number action : ℕ) (target : NodeArgument) (ws : List ℕ
 unfolding answerIn firstOf
 group-unasked number action target ws h bytes bs = step-refused (command.Tree (tree.NewGroup number action target)) bytes ws bs BadFlag (rw (lt-ltb 4 action h))
 
+-- records put in at a position: none is taken out
+put-grown : (p : Position) (xs : List Node) (n : ℕ) (t : List Node) → lives n t ≡ true → Grown xs (editRows n (putHere p xs) t) t
+put-grown Head xs n t h = addHead-grown xs n t h
+put-grown Tail xs n t h = addTail-grown xs n t h
+put-grown Before xs n t h = addBefore-grown xs n t h
+put-grown After xs n t h = addAfter-grown xs n t h
+
 -- the words after it
 module _ (number : ℕ) (action : Action) (target : NodeArgument) (ws : List ℕ) where
   pub group-refused : (r : Refusal) → Answers number action target ws r → Steps (tree.NewGroup number (numberOf action) target) ws (Refused r) ws
@@ -136,11 +150,19 @@ module _ (number : ℕ) (action : Action) (target : NodeArgument) (ws : List ℕ
     few-there : length (editRows (meantIn target ws) (addHere action (newGroup number ∷ [])) (nodesIn ws)) ≤ mostNodes
     few-there = rw added few
 
-    pub group-ready : Changed (edit.Put (gap .at) (gap .end)) many (put nodesPlace nodesWords us ws)
-    group-ready =
+    still : (p : Position) → action ≡ Put p → lives (latestIn ws) (nodesIn ws) ≡ true → lives (latestIn ws) (editRows (meantIn target ws) (addHere action (newGroup number ∷ [])) (nodesIn ws)) ≡ true
+    still p is h =
+        let live = nodes.found (countIn ws) (nodeWords ws) (meantIn target ws) (omega (arith, g .spot .here, g .spot .live)) in
+        rw is (grown-lives (latestIn ws) (put-grown p (newGroup number ∷ []) (meantIn target ws) (nodesIn ws) live) ∙ ap (λ (b : Bool). either b (lives (latestIn ws) (newGroup number ∷ []))) h)
+
+    changed : Changed (edit.Put (gap .at) (gap .end)) many (put nodesPlace nodesWords us ws)
+    changed =
         rw opens
         (edited-ready target ws k count same at (g .spot) (addHere action (newGroup number ∷ [])) us many does few-there (editBy action count (nodeWords ws) at)
         (add-does count (nodeWords ws) at (rw same (g .spot .live)) action (newGroup number) free))
+
+    pub group-ready : Added action (edit.Put (gap .at) (gap .end)) many (put nodesPlace nodesWords us ws)
+    group-ready = record { changed = changed; stays = λ p is. edited-stays target ws k count same at (g .spot) (addHere action (newGroup number ∷ [])) us many does few-there (still p is) }
 
     pub group-done : (out : List ℕ) → out ≡ renewed many (put nodesPlace nodesWords us ws) → Steps (tree.NewGroup number (numberOf action) target) ws Done out
     unfolding answerIn decode wordsAfter effect

@@ -17,6 +17,9 @@ use Rattle.reindex.specs.declared.edit.Edit.{Edit}
 use Rattle.model.specs.Layout.{nodesPlace, nodesWords, nextIn, latestIn, nodesIn}
 use Rattle.model.specs.Effects.{latestAmong}
 use Rattle.preservation.specs.Nodes.{no-synth}
+use Rattle.tree.specs.declared.action.Position.{Position}
+use Rattle.tree.specs.declared.action.Action.{Action}
+use Rattle.tree.specs.declared.action.Action.the-variants.{Put}
 use Rattle.tree.specs.Sizes.{Leaves}
 use Rattle.treecommands.specs.Ready.{Ready, nodeWords}
 use Rattle.treecommands.specs.Settle.{Changed, settled, renewed, nodes-back, first-word}
@@ -29,6 +32,11 @@ Stays count ws = latestAmong (rows count (nodeWords ws)) (latestIn ws) ≡ lates
 pub record Staying (edit : Edit) (count : ℕ) (ws : List ℕ) : Type 0 where
   pub changed : Changed edit count ws
   pub stays : Stays count ws
+
+-- an add action's edit, which frees a node only where it replaces
+pub record Added (action : Action) (edit : Edit) (count : ℕ) (ws : List ℕ) : Type 0 where
+  pub changed : Changed edit count ws
+  pub stays : (p : Position) → action ≡ Put p → Stays count ws
 
 pub settled-renewed : (count : ℕ) (ws : List ℕ) → Stays count ws → (out : List ℕ) → out ≡ settled count (nextIn ws) (latestIn ws) ws → out ≡ renewed count ws
 settled-renewed count ws s out o = o ∙ ap (λ (m : ℕ). settled count (nextIn ws) m ws) (sym s)

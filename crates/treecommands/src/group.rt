@@ -2,6 +2,7 @@
 use crate::adding::bad_target;
 use crate::adding::is_full;
 use crate::finish::renew;
+use crate::finish::renew_kept;
 use layout::COUNT;
 use layout::GROUP;
 use layout::NODES;
@@ -18,9 +19,12 @@ use tree::fill_gap;
 use tree::gap_by;
 use values::NodeArgument;
 use words::wide;
+ghost use mathlib.Core.Path.{_≡_};
 ghost use Rattle.model.specs.declared.TreeCommand.{TreeCommand};
 ghost use Rattle.tree.specs.Action.{numberOf};
 ghost use Rattle.treecommands.specs.Ready.{Ready};
+ghost use Rattle.treecommands.specs.Settle.{renewed};
+ghost use Rattle.treecommands.specs.Staying.{Added};
 ghost use Rattle.treecommands.specs.Steps.{Steps};
 ghost use Rattle.treecommands.specs.Grouping.{GroupPlaced};
 
@@ -55,6 +59,17 @@ fn group_spot(number: u32, action: Action, target: NodeArgument, words: &[u32]) 
     Spot::At(at)
 }
 
+// What is derived, written afresh after an add action: only one that replaces frees nodes.
+fn renew_added(words: &mut [u32], action: Action, edit: Edit, count: usize)
+    requires { ⌜ Added action edit count (now words) ⌝ }
+    ensures { λ r. ⌜ now (words .exit) ≡ renewed count (now (words .entry)) ⌝ }
+{
+    match action {
+        Action::Put(_position) => renew_kept(words, edit, count),
+        Action::Replace => renew(words, edit, count),
+    }
+}
+
 // A new group put in by an add action.
 fn add_group(number: u32, action: Action, target: NodeArgument, words: &mut [u32]) -> Answer
     requires { ⌜ Ready (now words) ⌝ }
@@ -74,7 +89,7 @@ fn add_group(number: u32, action: Action, target: NodeArgument, words: &mut [u32
             let gap = gap_by(&words[NODES..NODES_END], count, action, at);
             let edit = Edit::Put(gap.at, gap.end);
             let after = fill_gap(&mut words[NODES..NODES_END], count, gap, group);
-            renew(words, edit, after);
+            renew_added(words, action, edit, after);
             Answer::Done
         }
         Spot::Refused(why) => Answer::Refused(why),

@@ -32,8 +32,8 @@ fill-gap-requires c κs =
     let gap = c .before .gap-by in
     rw (gap .ensures, count .ensures) (gap-fits (nodeWords (a .words .now)) (countIn (a .words .now)) (a .action) (at .0 .0) (ground .room))
 
-renew-requires : tie.Need-renew-requires
-renew-requires c κs =
+renew-added-requires : tie.Need-renew-added-requires
+renew-added-requires c κs =
     let s = c .before .before .before .before .before .before .before .before .before .before .before .before .before .before .before .before in
     let a = s .args in
     let at = c .before .before .before .before .before .before .before .before .before .before .before .spot .given in
@@ -56,7 +56,7 @@ returns c =
     let count = c .before .before .before .before .before .before .before .before .before .before .before .wide in
     let gap = c .before .before .before .before .before .before .before .before .gap-by in
     let add = c .before .before .before .before .before .before .fill-gap in
-    let renew = c .before .before .renew in
+    let renew = c .before .before .renew-added in
     group-done (a .number) (a .action) (a .target) (a .words .now) (s .pre) (count .result) (count .ensures) (at .0 .0) ground (gap .result) (gap .ensures) (add .last .0) (add .result) (add .ensures) (renew .last .0) (renew .ensures)
 
 returns-2 : tie.Need-returns-2
@@ -71,4 +71,4 @@ add-group-spec =
     tie.close
     (tie.spec (λ c κs. search needs) (λ c. search needs) (λ c. search needs) (λ c κs. search needs) (λ c. search needs)
     (λ c. search needs) (λ c. search needs) gap-by-requires (λ c. search needs) (λ c. search needs) (λ c. search needs)
-    fill-gap-requires renew-requires (λ c. search needs) (λ c. search needs) returns (λ c. search needs) returns-2)
+    fill-gap-requires renew-added-requires (λ c. search needs) (λ c. search needs) returns (λ c. search needs) returns-2)
