@@ -1,5 +1,5 @@
 -- The index in words, beside the words of the table: what the functions ask of them, and the steps of a lookup.
-use Prim.Native.Nat.{ℕ, zero, suc, _+_, _*_, _-_, _/_, _≤_, _<_}
+use Prim.Native.Nat.{ℕ, zero, suc, _+_, _*_, _-_, _/_, _%_, _≤_, _<_}
 use mathlib.Core.Bool.{true}
 use mathlib.Core.Path.{_≡_, refl, sym, ap, ap₂, _∙_}
 use mathlib.Core.List.{List}
@@ -36,12 +36,12 @@ number-word (suc n) us (suc p) h =
     let more : width + width * p ≡ width * suc p = omega arith in
     number-word n (drop width us) p (omega arith) ∙ getD-drop width us (width * p) 0 ∙ ap (λ (k : ℕ). getD us k 0) more
 
--- words that hold entries, and each is the place of a record
+-- words that hold entries, and each is the place of a record, below 256
 pub record Points (us ws : List ℕ) (count : ℕ) : Type 0 where
   pub some : 0 < count
   pub few : count ≤ 256
   pub entries : count ≤ length ws
-  pub below : (i : ℕ) → i < count → (getD ws i 0 ≤ 256) × (width * getD ws i 0 < length us)
+  pub below : (i : ℕ) → i < count → (getD ws i 0 < 256) × (width * getD ws i 0 < length us)
 
 -- a list with the stored node numbers
 abbrev pub Stored : List ℕ → List ℕ → ℕ → List ℕ → Type 0
@@ -57,6 +57,11 @@ pub record Narrows (us ws : List ℕ) (count n r : ℕ) : Type 0 where
   pub few : made + 1 ≤ mostSteps
   pub inside : r < count
   pub leaves : Leaves us ws count n made r (r + 1)
+
+-- the entry that is left and the place that it holds, as one number
+pub record Ends (us ws : List ℕ) (count n r : ℕ) : Type 0 where
+  pub narrows : Narrows us ws count n (r / 256)
+  pub holds : r % 256 ≡ getD ws (r / 256) 0
 
 -- the turns of the loop that narrows, each of them a step: it counts them down from so many
 abbrev pub mostTurns : ℕ
@@ -121,13 +126,27 @@ module _ (us ws : List ℕ) (count n left low size p : ℕ) (more : 1 < size) (o
         ∙ ap (between low) b
 
 -- with one entry left
-pub narrowed : (us ws : List ℕ) (count n left low size : ℕ) → size ≡ 1 → low + size ≤ count → Leaves us ws count n (mostTurns - left) low (low + size) → Narrows us ws count n low
+narrowed : (us ws : List ℕ) (count n left low size : ℕ) → size ≡ 1 → low + size ≤ count → Leaves us ws count n (mostTurns - left) low (low + size) → Narrows us ws count n low
 narrowed us ws count n left low size one near s = record {
   made = mostTurns - left;
   few = at-most-ten left;
   inside = omega arith;
   leaves = λ ks st. s ks st ∙ ap (λ (k : ℕ). between low (low + k)) one;
 }
+
+-- the same, with the place that was read ahead, which is that at the entry
+pub ended : (us ws : List ℕ) (count n left low size p : ℕ) → Points us ws count → size ≡ 1 → low + size ≤ count → p ≡ getD ws (low + size / 2) 0 → Leaves us ws count n (mostTurns - left) low (low + size)
+    → Ends us ws count n (256 * low + p)
+ended us ws count n left low size p points one near is s =
+    let here : low + size / 2 ≡ low = omega arith in
+    let holds : p ≡ getD ws low 0 = is ∙ ap (λ (i : ℕ). getD ws i 0) here in
+    let below : p < 256 = omega (arith, points .below low (omega arith) .0) in
+    let entry : (256 * low + p) / 256 ≡ low = omega arith in
+    let place : (256 * low + p) % 256 ≡ p = omega arith in
+    record {
+      narrows = rw entry (narrowed us ws count n left low size one near s);
+      holds = rw (entry, place) holds;
+    }
 
 -- a lookup in words that keep the rule
 module _ (us ws : List ℕ) (count : ℕ) (keeps : Keeps us ws count) where

@@ -1,7 +1,6 @@
 // A new node's entry put in.
 use index::last_at_most;
 use layout::RECORD;
-use words::wide;
 ghost use mathlib.Core.Path.{_≡_};
 ghost use mathlib.Core.List.{_∷_, _++_};
 ghost use Prim.Native.Nat.{_+_, _*_, _-_, _≤_, _<_};
@@ -20,8 +19,9 @@ pub fn spot_of(nodes: &[u32], index: &[u32], count: usize, at: usize) -> usize
         return 0;
     }
     let number = nodes[RECORD * at];
-    let low = last_at_most(nodes, index, count, number);
-    let place = wide(index[low]);
+    let last = last_at_most(nodes, index, count, number);
+    let low = last / 256;
+    let place = last % 256;
     if number < nodes[RECORD * place] {
         return low;
     }

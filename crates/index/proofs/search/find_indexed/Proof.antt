@@ -1,5 +1,5 @@
 -- `index::search::find_indexed` meets its contract: behind the steps that leave one entry, the comparison is one step more.
-use Prim.Native.Nat.{_<_}
+use Prim.Native.Nat.{_/_, _%_, _<_}
 use native.Mathlib.Omega.{arith}
 use Rattle.index.specs.Words.{entry-below, points, ends-empty, ends-found, ends-other}
 use Rattle.index.proofs.search.find_indexed.Statement.{statement}
@@ -17,32 +17,29 @@ last-at-most-requires c κs =
     let a = s .args in
     points (a .nodes .now) (a .index .now) (a .count) (s .pre) (omega arith)
 
--- the entry that is read is a node's place
-here : (c : tie.After-wide) → c .wide .result < c .before .before .before .before .before .before .args .count
+-- the place that is left is a node's
+here : (c : tie.After-last-at-most) → c .last-at-most .result % 256 < c .before .before .before .before .args .count
 here c =
-    let s = c .before .before .before .before .before .before in
+    let s = c .before .before .before .before in
     let a = s .args in
-    let at = c .before .before .last-at-most in
-    omega (arith, entry-below (a .nodes .now) (a .index .now) (a .count) (s .pre) (at .result) (at .ensures .inside))
+    let at = c .last-at-most in
+    omega (arith, entry-below (a .nodes .now) (a .index .now) (a .count) (s .pre) (at .result / 256) (at .ensures .narrows .inside))
 
 returns-2 : tie.Need-returns-2
 returns-2 c =
-    let s = c .before .before .before .before .before .before .before .before in
+    let s = c .before .before .before .before .before .before in
     let a = s .args in
-    let at = c .before .before .before .before .last-at-most in
-    let p = c .before .before .wide in
-    ends-found (a .nodes .now) (a .index .now) (a .count) (s .pre) (a .number) (at .result) (p .result) (at .ensures) (p .ensures) (c .if2 .taken)
+    let at = c .before .before .last-at-most in
+    ends-found (a .nodes .now) (a .index .now) (a .count) (s .pre) (a .number) (at .result / 256) (at .result % 256) (at .ensures .narrows) (at .ensures .holds) (c .if2 .taken)
 
 returns-3 : tie.Need-returns-3
 returns-3 c =
-    let s = c .before .before .before .before .before .before .before .before in
+    let s = c .before .before .before .before .before .before in
     let a = s .args in
-    let at = c .before .before .before .before .last-at-most in
-    let p = c .before .before .wide in
-    ends-other (a .nodes .now) (a .index .now) (a .count) (s .pre) (a .number) (at .result) (p .result) (at .ensures) (p .ensures) (c .if2 .left)
+    let at = c .before .before .last-at-most in
+    ends-other (a .nodes .now) (a .index .now) (a .count) (s .pre) (a .number) (at .result / 256) (at .result % 256) (at .ensures .narrows) (at .ensures .holds) (c .if2 .left)
 
 pub find-indexed-spec : {M : Type 1} → statement M
 find-indexed-spec =
     tie.close
-    (tie.spec returns last-at-most-requires (λ c. omega arith) (λ c. omega arith) (λ c κs. tt) (λ c. omega (arith, here c)) (λ c. omega (arith, here c))
-    (λ c. omega (arith, here (c .before))) returns-2 returns-3)
+    (tie.spec returns last-at-most-requires (λ c. omega arith) (λ c. omega arith) (λ c. omega (arith, here (c .before))) returns-2 returns-3)
