@@ -1,12 +1,12 @@
 -- A change of controls, and a row of controls changed one by one.
 use Prim.Native.Nat.{ℕ, suc, _+_, _≤_}
-use mathlib.Core.Path.{_≡_, ap₂, _∙_}
+use mathlib.Core.Path.{_≡_, sym, ap, ap₂, _∙_}
 use mathlib.Core.List.{List, [], _∷_, _++_, append-assoc}
 use native.Mathlib.Omega.{arith}
 use native.Mathlib.Nat.{add-zero}
 use native.Mathlib.Numerals.{add-one}
 use lib.ListN.{length, take, drop, getD, length-append, length-take, length-drop, take-append-drop, set}
-use lib.Seq.{sets-eq, take-at, drop-at, drop-drop, getD-drop}
+use lib.Seq.{sets-eq, set-getD, take-at, drop-at, drop-drop, getD-drop}
 use Rattle.nodes.specs.Table.{over}
 use Rattle.values.specs.Controls.{ControlValue, controlAt, setTo, mapTo}
 use Rattle.model.specs.Effects.{controlWords, changeWords}
@@ -45,6 +45,10 @@ changed-length f cs k h = simp (length-append, length-take, length-drop) (omega 
 -- two words stored one after the other
 pub set-two : (cs : List ℕ) (k x y : ℕ) → k + 2 ≤ length cs → set (set cs k x) (k + 1) y ≡ over k (x ∷ (y ∷ [])) cs
 set-two cs k x y h = rw add-one (sets-eq (x ∷ (y ∷ [])) cs k h)
+
+-- the second alone, where the first stays as it was
+pub set-second : (cs : List ℕ) (k y : ℕ) → k + 2 ≤ length cs → set cs (k + 1) y ≡ over k (getD cs k 0 ∷ (y ∷ [])) cs
+set-second cs k y h = ap (λ (l : List ℕ). set l (k + 1) y) (sym (set-getD cs k 0)) ∙ set-two cs k (getD cs k 0) y h
 
 -- no control changed
 pub change-none : (f : ControlValue → ControlValue) (cs : List ℕ) (k : ℕ) → changeFromPlace f k 0 cs ≡ cs

@@ -7,7 +7,7 @@ ghost use Prim.Native.Nat.{_+_, _*_, _≤_};
 ghost use mathlib.Core.Path.{_≡_};
 ghost use lib.ListN.{length, getD};
 ghost use Rattle.nodes.specs.Table.{over};
-ghost use Rattle.values.specs.Controls.{Holds, seen, controlAt};
+ghost use Rattle.values.specs.Controls.{controlAt};
 ghost use Rattle.model.specs.Layout.{rowWords};
 ghost use Rattle.model.specs.Effects.{controlWords, changeRow};
 ghost use Rattle.controls.specs.Change.{changeOf};
@@ -18,27 +18,26 @@ pub enum Change {
     Map(Mapping),
 }
 
-// A control changed.
-fn changed(control: Control, change: Change) -> Control
-    ensures { λ r. ⌜ Holds r (changeOf change (seen control)) ⌝ }
-{
-    match change {
-        Change::Set(pattern) => control.set(pattern),
-        Change::Map(mapping) => control.map_to(mapping),
-    }
-}
-
-// The control in the two words at a place, taken as its struct, changed and put back.
+// The control in the two words at a place, taken as its struct, changed and put back. Mapping keeps the own float, so its word is left as it stands.
 fn change_one(controls: &mut [u32], at: usize, change: Change)
     requires { ⌜ at + 2 ≤ length (now controls) ⌝ }
     ensures { λ r. ⌜ now (controls .exit) ≡ over at (controlWords (changeOf change (controlAt (getD (now (controls .entry)) at 0) (getD (now (controls .entry)) (at + 1) 0)))) (now (controls .entry)) ⌝ }
 {
     let before = Control::from_words(controls[at], controls[at + 1]);
-    let after = changed(before, change);
-    let own = after.own_word();
-    let mapping = after.mapping_word();
-    controls[at] = own;
-    controls[at + 1] = mapping;
+    match change {
+        Change::Set(pattern) => {
+            let after = before.set(pattern);
+            let own = after.own_word();
+            let word = after.mapping_word();
+            controls[at] = own;
+            controls[at + 1] = word;
+        }
+        Change::Map(mapping) => {
+            let after = before.map_to(mapping);
+            let word = after.mapping_word();
+            controls[at + 1] = word;
+        }
+    }
 }
 
 // The controls of a row from start on, so many.
