@@ -2,6 +2,7 @@
 use crate::children::tree_children;
 use crate::count::count_tree;
 use crate::places::Places;
+use crate::shapes::SHAPES;
 use crate::shapes::tree_shapes;
 use crate::write::put_tree;
 use controls::node_is_group;
@@ -73,7 +74,10 @@ fn send_tree(
     ensures { λ r. ⌜ Sends (treeMessage shown (now (words .entry)) (now (arena .entry)) end at) (now (out .entry)) r (now (out .exit)) ⌝ }
 {
     let from = at + 1;
-    let shapes = tree_shapes(words, arena, shown, from, end);
+    let mut shapes = [0u32; SHAPES];
+    if shown {
+        tree_shapes(&mut shapes, words, arena, from, end);
+    }
     let size = count_tree(words, arena, &shapes, shown, from, end);
     let many = size.tag;
     let front = 20 + padded_length(many + 4);

@@ -7,7 +7,6 @@ use controls::node_slot;
 use controls::parameter_count;
 use readable::labels;
 ghost use Prim.Native.Nat.{_<_};
-ghost use mathlib.Core.Bool.{true};
 ghost use mathlib.Core.Path.{_≡_};
 ghost use lib.ListN.{length};
 ghost use Rattle.readable.specs.Readable.{Readable};
@@ -73,25 +72,14 @@ fn look_up_row(shapes: &mut [u32; SHAPES], words: &[u32], arena: &[u8], place: u
     look_up(shapes, slot, node_definition(words, arena, place));
 }
 
-// The shapes of the synths' definitions, from one place of the table to another, where controls are shown.
-pub fn tree_shapes(
-    words: &[u32],
-    arena: &[u8],
-    shown: bool,
-    from: usize,
-    end: usize,
-) -> [u32; SHAPES]
-    requires { ⌜ Run (now words) (now arena) from end ⌝ }
-    ensures { λ r. ⌜ (shown ≡ true → Shapes (now (words .entry)) (now (arena .entry)) from end r) ⌝ }
+// The shapes of the synths' definitions, from one place of the table to another, into a table that is all zeros.
+pub fn tree_shapes(shapes: &mut [u32; SHAPES], words: &[u32], arena: &[u8], from: usize, end: usize)
+    requires { ⌜ (Run (now words) (now arena) from end) × (ShapesKnown (now words) (now arena) (now shapes)) ⌝ }
+    ensures { λ r. ⌜ Shapes (now (words .entry)) (now (arena .entry)) from end (now (shapes .exit)) ⌝ }
 {
-    let mut shapes = [0u32; SHAPES];
-    if !shown {
-        return shapes;
-    }
     let mut i = from;
     while i < end {
-        look_up_row(&mut shapes, words, arena, i);
+        look_up_row(shapes, words, arena, i);
         i += 1;
     }
-    shapes
 }
