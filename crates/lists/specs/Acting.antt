@@ -21,7 +21,7 @@ use Rattle.model.specs.Apply.{Does}
 use Rattle.state.specs.Does.{Step, WordsStep, definitions-do, tree-does, controls-do, buses-do}
 use Rattle.calls.specs.declared.Parsed.{Parsed}
 use Rattle.calls.specs.declared.Parsed.the-variants.{Call, Nothing}
-use Rattle.calls.specs.Ops.{commandOf, valued}
+use Rattle.calls.specs.Ops.{valued}
 use Rattle.lists.specs.declared.Kind.the-variants.{Acts}
 use Rattle.lists.specs.Lent.{ofParsed}
 
@@ -46,16 +46,6 @@ pub record Acted (p : Parsed) (bytes ws bs : List ℕ) (a : Answer) (ws′ bs′
   pub command : Command
   pub is : p ≡ Call command
   pub does : Does command bytes ws bs [] a ws′ bs′ []
-
--- the same of an op of the tree, which takes three numbers
-pub record TreeActed (op a b c : ℕ) (bytes ws bs : List ℕ) (r : Answer) (ws′ : List ℕ) : Type 0 where
-  pub command : TreeCommand
-  pub is : (d e : ℕ) → commandOf op a b c d e ≡ Call (kinds.Tree command)
-  pub goes : WordsStep (kinds.Tree command) bytes ws bs r ws′
-
-pub tree-goes : (op a b c : ℕ) (bytes ws bs : List ℕ) (r : Answer) (ws′ : List ℕ) (command : TreeCommand) → ((d e : ℕ) → commandOf op a b c d e ≡ Call (kinds.Tree command))
-    → WordsStep (kinds.Tree command) bytes ws bs r ws′ → TreeActed op a b c bytes ws bs r ws′
-tree-goes op a b c bytes ws bs r ws′ command is goes = record { command = command; is = is; goes = goes }
 
 -- each kind
 module _ (p : Parsed) (bytes ws bs : List ℕ) (a : Answer) (lent : AreBytes bytes) (kept : AreBytes bs) (h : formed ws bs ≡ true) where

@@ -72,6 +72,16 @@ beside-at d n (p ∷ ps) (x ∷ xs) (suc k) b =
     let here : suc n + k ≡ n + suc k = omega arith in
     beside-at d (suc n) ps xs k (b .1) ∙ ap (λ (m : ℕ). byLimit (getD xs k 0) d m) here
 
+-- an op from 1 on that is none of those up to n is past n
+unfoldable pub NoneTo : ℕ → ℕ → Type 0
+NoneTo zero op = Unit {0}
+NoneTo (suc n) op = NoneTo n op × (op ≡ suc n → ⊥)
+
+past-these : (n op : ℕ) → 1 ≤ op → NoneTo n op → n < op
+unfolding NoneTo
+past-these zero op low h = low
+past-these (suc n) op low h = let ih = past-these n op low (h .0) in let other = h .1 in omega arith
+
 module _ (a b c d e : ℕ) (small : d < past) where
   -- an op without a value
   any : (n : ℕ) → pick (ltb 20 n) Replies Acts ≡ byLimit past d n
@@ -184,7 +194,7 @@ module _ (a b c d e : ℕ) (small : d < past) where
   none {op} z less = let zero-limit = limit-is 0 op z in omega arith
 
   -- an op that acts is one from 1 to 20
-  pub acts-op : (op : ℕ) → ofParsed (commandOf op a b c d e) ≡ Acts → (1 ≤ op) × (op < 21)
+  acts-op : (op : ℕ) → ofParsed (commandOf op a b c d e) ≡ Acts → (1 ≤ op) × (op < 21)
   acts-op op h = go (leb (kindLimit op) d) (ltb 20 op) refl refl (sym (kind-is op) ∙ h)
     where
       go : (t u : Bool) → leb (kindLimit op) d ≡ t → ltb 20 op ≡ u → pick t NoItem (pick u Replies Acts) ≡ Acts → (1 ≤ op) × (op < 21)
@@ -194,6 +204,14 @@ module _ (a b c d e : ℕ) (small : d < past) where
           let most = ltb-false 20 op y in
           let some : op ≡ 0 → ⊥ = λ z. none z (leb-false (kindLimit op) d x) in
           (omega arith, omega arith)
+
+  -- so that one that is none of those up to 19 is 20
+  pub acts-last : (op : ℕ) → ofParsed (commandOf op a b c d e) ≡ Acts → NoneTo 19 op → op ≡ 20
+  acts-last op h others =
+      let ops = acts-op op h in
+      let high = ops .1 in
+      let low = past-these 19 op (ops .0) others in
+      omega arith
 
 -- an item whose part is laid as it should be, as the code tells its kind
 module _ (room : ℕ) (i : Item) (laid : isLaid room i ≡ true) (small : i .d < past) where
@@ -205,10 +223,3 @@ module _ (room : ℕ) (i : Item) (laid : isLaid room i ≡ true) (small : i .d <
 
   pub kind-acts : i .d < kindLimit (i .op) → i .op ≤ 20 → Acts ≡ kindOf room i
   kind-acts h k = rw (laid, kind-is (i .a) (i .b) (i .c) (i .d) (i .e) small (i .op), lt-leb (kindLimit (i .op)) (i .d) h, le-ltb 20 (i .op) k)
-
--- an op in a range that is not its end
-pub above : (n op : ℕ) → n ≤ op → (op ≡ n → ⊥) → suc n ≤ op
-above n op low other = omega arith
-
-pub below : (n op : ℕ) → op < suc n → (op ≡ n → ⊥) → op < n
-below n op high other = omega arith

@@ -19,15 +19,13 @@ use treecommands::run_node;
 use values::Key;
 use values::NodeArgument;
 use values::Value;
-ghost use Prim.Native.Nat.{_≤_, _<_};
 ghost use mathlib.Core.Bool.{true};
 ghost use mathlib.Core.Path.{_≡_};
 ghost use Rattle.model.specs.Formed.{formed};
 ghost use Rattle.calls.specs.Ops.{commandOf};
-ghost use Rattle.state.specs.Known.{Known};
 ghost use Rattle.lists.specs.declared.Kind.the-variants.{Acts};
 ghost use Rattle.lists.specs.Lent.{ofParsed};
-ghost use Rattle.lists.specs.Acting.{valueOf, TreeActed, Acted};
+ghost use Rattle.lists.specs.Acting.{valueOf, Acted};
 
 // The value of a kind that is one.
 fn value_of(kind: u32, value: u32) -> Value
@@ -39,80 +37,7 @@ fn value_of(kind: u32, value: u32) -> Value
     Value::Integer(value)
 }
 
-// Of the tree: the ops from 3 to 12.
-fn tree_act(
-    op: u32,
-    a: u32,
-    b: u32,
-    c: u32,
-    bytes: &[u8],
-    words: &mut [u32],
-    arena: &[u8],
-) -> Answer
-    requires { ⌜ Known (now words) (now arena) × ((3 ≤ op) × (op < 13)) ⌝ }
-    ensures { λ r. ⌜ TreeActed op a b c (now (bytes .entry)) (now (words .entry)) (now (arena .entry)) r (now (words .exit)) ⌝ }
-{
-    let first = NodeArgument { number: a };
-    let second = NodeArgument { number: b };
-    let third = NodeArgument { number: c };
-    match op {
-        3 => new_synth(a, b, third, bytes, words, arena),
-        4 => new_group(a, b, third, words),
-        5 => free_node(first, words),
-        6 => free_all(first, words),
-        7 => deep_free(first, words),
-        8 => move_before(first, second, words),
-        9 => move_after(first, second, words),
-        10 => move_head(first, second, words),
-        11 => move_tail(first, second, words),
-        _ => run_node(first, b, words),
-    }
-}
-
-// Of the tree, of controls or of buses: the ops from 3 to 20, which leave the arena.
-fn words_act(
-    op: u32,
-    a: u32,
-    b: u32,
-    c: u32,
-    d: u32,
-    e: u32,
-    bytes: &[u8],
-    words: &mut [u32],
-    arena: &[u8],
-) -> Answer
-    requires { ⌜ (formed (now words) (now arena) ≡ true) × ((3 ≤ op) × (ofParsed (commandOf op a b c d e) ≡ Acts)) ⌝ }
-    ensures { λ r. ⌜ Acted (commandOf op a b c d e) (now (bytes .entry)) (now (words .entry)) (now (arena .entry)) r (now (words .exit)) (now (arena .entry)) ⌝ }
-{
-    let node = NodeArgument { number: a };
-    let value = value_of(d, e);
-    match op {
-        13 => fill_controls(node, Key::Index(b), 1, value, bytes, words, arena),
-        14 => fill_controls(node, Key::Name, 1, value, bytes, words, arena),
-        15 => fill_controls(node, Key::Index(b), c, value, bytes, words, arena),
-        16 => fill_controls(node, Key::Name, c, value, bytes, words, arena),
-        17 => map_control(node, Key::Index(b), c, bytes, words, arena),
-        18 => map_control(node, Key::Name, c, bytes, words, arena),
-        19 => bus_step(
-            BusCommand::Set {
-                bus: a,
-                value: value,
-            },
-            words,
-        ),
-        20 => bus_step(
-            BusCommand::Fill {
-                start: a,
-                count: c,
-                value: value,
-            },
-            words,
-        ),
-        _ => tree_act(op, a, b, c, bytes, words, arena),
-    }
-}
-
-// The command of an op that acts, in a well-formed state.
+// The command of an op that acts, in a well-formed state: one match of all ops that act, of which 20 is the last.
 pub(crate) fn act(
     op: u32,
     a: u32,
@@ -130,6 +55,98 @@ pub(crate) fn act(
     match op {
         1 => definition_step(DefinitionCommand::Receive, bytes, words, arena),
         2 => definition_step(DefinitionCommand::Free, bytes, words, arena),
-        _ => words_act(op, a, b, c, d, e, bytes, words, arena),
+        3 => new_synth(a, b, NodeArgument { number: c }, bytes, words, arena),
+        4 => new_group(a, b, NodeArgument { number: c }, words),
+        5 => free_node(NodeArgument { number: a }, words),
+        6 => free_all(NodeArgument { number: a }, words),
+        7 => deep_free(NodeArgument { number: a }, words),
+        8 => move_before(
+            NodeArgument { number: a },
+            NodeArgument { number: b },
+            words,
+        ),
+        9 => move_after(
+            NodeArgument { number: a },
+            NodeArgument { number: b },
+            words,
+        ),
+        10 => move_head(
+            NodeArgument { number: a },
+            NodeArgument { number: b },
+            words,
+        ),
+        11 => move_tail(
+            NodeArgument { number: a },
+            NodeArgument { number: b },
+            words,
+        ),
+        12 => run_node(NodeArgument { number: a }, b, words),
+        13 => fill_controls(
+            NodeArgument { number: a },
+            Key::Index(b),
+            1,
+            value_of(d, e),
+            bytes,
+            words,
+            arena,
+        ),
+        14 => fill_controls(
+            NodeArgument { number: a },
+            Key::Name,
+            1,
+            value_of(d, e),
+            bytes,
+            words,
+            arena,
+        ),
+        15 => fill_controls(
+            NodeArgument { number: a },
+            Key::Index(b),
+            c,
+            value_of(d, e),
+            bytes,
+            words,
+            arena,
+        ),
+        16 => fill_controls(
+            NodeArgument { number: a },
+            Key::Name,
+            c,
+            value_of(d, e),
+            bytes,
+            words,
+            arena,
+        ),
+        17 => map_control(
+            NodeArgument { number: a },
+            Key::Index(b),
+            c,
+            bytes,
+            words,
+            arena,
+        ),
+        18 => map_control(
+            NodeArgument { number: a },
+            Key::Name,
+            c,
+            bytes,
+            words,
+            arena,
+        ),
+        19 => bus_step(
+            BusCommand::Set {
+                bus: a,
+                value: value_of(d, e),
+            },
+            words,
+        ),
+        _ => bus_step(
+            BusCommand::Fill {
+                start: a,
+                count: c,
+                value: value_of(d, e),
+            },
+            words,
+        ),
     }
 }
