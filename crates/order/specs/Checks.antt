@@ -6,12 +6,12 @@ use mathlib.Core.List.{List, [], _∷_}
 use native.Mathlib.Omega.{arith}
 use lib.ListN.{length, drop, getD}
 use lib.Dec.{ltb, leb, eqb}
-use borrow.Author.Tests.{le-leb, lt-leb}
+use borrow.Author.Tests.{leb-true, le-leb, lt-leb}
 use Rattle.words.specs.Choice.{pick, both, either, both-true}
 use Rattle.nodes.specs.declared.Node.{Node}
 use Rattle.nodes.specs.Table.{width, nodeFrom, rows, rows-end, row-from}
 use Rattle.nodes.specs.Place.{groupSlot, lives}
-use Rattle.nodes.specs.Formed.{firstGiven, lastGiven, mostRows, mostNodes, reach, steps, rooted, apart, numberFormed, fieldsFormed, rowFormed, allFormed, rowsApart, nextFormed, synthLives, latestFormed, nodesFormed}
+use Rattle.nodes.specs.Formed.{firstGiven, lastGiven, mostRows, mostNodes, countFormed, reach, steps, rooted, apart, numberFormed, fieldsFormed, rowFormed, allFormed, rowsApart, nextFormed, synthLives, latestFormed, nodesFormed}
 use Rattle.order.specs.Marks.{rowsFormed, rowsHold}
 
 -- a record's number, and its other fields, by the words
@@ -73,22 +73,43 @@ fields-rows next (r ∷ l) h =
     let d = both-true (leb (r .slot) groupSlot) (rowFormed r) (c .1) in
     rw (d .1) (fields-rows next l (a .1))
 
--- the rules one after the other, where the count is in bounds
+-- the rules on nodes, but for the one that no number stands twice
+unfoldable pub nodesHold : ℕ → ℕ → List Node → Bool
+nodesHold next latest t = both (countFormed t) (both (rooted t) (both (allFormed next t) (both (rowsApart t) (both (nextFormed next) (latestFormed latest t)))))
+
 module _ (next latest : ℕ) (t : List Node) where
-  pub formed-none : length t < 1 → nodesFormed next latest t ≡ false
-  unfolding nodesFormed
-  formed-none h = rw (lt-leb 1 (length t) h)
+  -- the rules together are these and that one
+  pub formed-apart : nodesFormed next latest t ≡ both (nodesHold next latest t) (apart t)
+  unfolding nodesFormed nodesHold
+  formed-apart = last (countFormed t) (rooted t) (apart t) (both (allFormed next t) (both (rowsApart t) (both (nextFormed next) (latestFormed latest t))))
+    where
+      last : (a b c d : Bool) → both a (both b (both c d)) ≡ both (both a (both b d)) c
+      last true true true true = refl
+      last true true true false = refl
+      last true true false true = refl
+      last true true false false = refl
+      last true false c d = refl
+      last false b c d = refl
 
-  pub formed-many : mostNodes < length t → nodesFormed next latest t ≡ false
-  unfolding nodesFormed
-  formed-many h = rw (le-leb 1 (length t) (omega arith), lt-leb (length t) mostNodes h)
+  -- one after the other, where the count is in bounds
+  pub hold-none : length t < 1 → nodesHold next latest t ≡ false
+  unfolding nodesHold
+  hold-none h = rw (lt-leb 1 (length t) h)
 
-  pub formed-some : 1 ≤ length t → length t ≤ mostNodes
-      → nodesFormed next latest t ≡ both (rooted t) (both (apart t) (both (allFormed next t) (both (rowsHold t) (both (nextFormed next) (latestFormed latest t)))))
-  unfolding nodesFormed
-  formed-some h few =
+  pub hold-many : mostNodes < length t → nodesHold next latest t ≡ false
+  unfolding nodesHold
+  hold-many h = rw (le-leb 1 (length t) (omega arith), lt-leb (length t) mostNodes h)
+
+  pub hold-few : nodesHold next latest t ≡ true → length t ≤ mostNodes
+  unfolding nodesHold
+  hold-few h = leb-true (length t) mostNodes (both-true (leb 1 (length t)) _ (both-true (countFormed t) _ h .0) .1)
+
+  pub hold-some : 1 ≤ length t → length t ≤ mostNodes
+      → nodesHold next latest t ≡ both (rooted t) (both (allFormed next t) (both (rowsHold t) (both (nextFormed next) (latestFormed latest t))))
+  unfolding nodesHold
+  hold-some h few =
       rw (le-leb 1 (length t) h, le-leb (length t) mostNodes few)
-      (ap (λ (b : Bool). both (rooted t) (both (apart t) b)) (go (allFormed next t) (fields-rows next t)))
+      (ap (λ (b : Bool). both (rooted t) b) (go (allFormed next t) (fields-rows next t)))
     where
       go : (f : Bool) → (f ≡ true → rowsFormed t ≡ true)
           → both f (both (rowsApart t) (both (nextFormed next) (latestFormed latest t))) ≡ both f (both (rowsHold t) (both (nextFormed next) (latestFormed latest t)))

@@ -17,7 +17,7 @@ ghost use Rattle.nodes.specs.Table.{width, rows};
 ghost use Rattle.nodes.specs.Place.{lives};
 ghost use Rattle.nodes.specs.Sizes.{TableFits};
 ghost use Rattle.nodes.specs.Formed.{mostNodes, steps, rooted, apart, allFormed, synthLives, nodesFormed};
-ghost use Rattle.order.specs.Checks.{numberHolds, fieldsHold};
+ghost use Rattle.order.specs.Checks.{numberHolds, fieldsHold, nodesHold};
 ghost use Rattle.order.specs.Order.{mostOrder};
 ghost use Rattle.order.specs.Same.{sameOrder};
 ghost use Rattle.order.specs.Kept.{Kept};
@@ -301,9 +301,10 @@ fn root_holds(nodes: &[u32], count: usize) -> bool
 }
 
 // The state check's part on nodes: the table of `count` records, the next number to give and the latest synth.
-pub fn nodes_formed(nodes: &[u32], count: usize, next: u32, latest: u32) -> bool
+// That numbers differ is not tested here: the rule of the index says it too.
+pub fn nodes_hold(nodes: &[u32], count: usize, next: u32, latest: u32) -> bool
     requires { ⌜ length (now nodes) ≡ width * mostNodes ⌝ }
-    ensures { λ r. ⌜ r ≡ nodesFormed next latest (rows count (now (nodes .entry))) ⌝ }
+    ensures { λ r. ⌜ r ≡ nodesHold next latest (rows count (now (nodes .entry))) ⌝ }
 {
     if count < 1 {
         return false;
@@ -312,9 +313,6 @@ pub fn nodes_formed(nodes: &[u32], count: usize, next: u32, latest: u32) -> bool
         return false;
     }
     if !root_holds(nodes, count) {
-        return false;
-    }
-    if !numbers_apart(nodes, count) {
         return false;
     }
     if !records_hold(nodes, count, next) {
@@ -333,4 +331,15 @@ pub fn nodes_formed(nodes: &[u32], count: usize, next: u32, latest: u32) -> bool
         return true;
     }
     synth_lives(nodes, count, latest)
+}
+
+// All the rules on nodes, of a table without an index.
+pub fn nodes_formed(nodes: &[u32], count: usize, next: u32, latest: u32) -> bool
+    requires { ⌜ length (now nodes) ≡ width * mostNodes ⌝ }
+    ensures { λ r. ⌜ r ≡ nodesFormed next latest (rows count (now (nodes .entry))) ⌝ }
+{
+    if !nodes_hold(nodes, count, next, latest) {
+        return false;
+    }
+    numbers_apart(nodes, count)
 }

@@ -15,11 +15,13 @@ use Rattle.nodes.specs.Formed.{mostNodes}
 use Rattle.nodes.specs.Formed as nodes
 use Rattle.index.specs.Index.{indexed}
 use Rattle.index.specs.Words.{IndexFits}
+use Rattle.index.specs.Nodes.{indexed-apart}
 use Rattle.model.specs.Layout.{wordsLength, arenaLength, nodesPlace, nodesWords, orderPlace, orderWords, indexPlace, indexWords, countIn, nextIn, latestIn, orderLengthIn, lengthsIn, flagsIn, nodesIn, controlsIn}
 use Rattle.model.specs.Engine.{decode}
 use Rattle.model.specs.Formed.{formed, orderFormed, flagsFormed, slotsFormed, namesApart, controlsFormed}
 use Rattle.state.specs.Known.{tree-known}
 use Rattle.order.specs.Same.{sameOrder}
+use Rattle.order.specs.Checks.{nodesHold, formed-apart}
 use Rattle.controls.specs.Ready.{Ready}
 
 -- the records of the node region, the region of the index, and that of the kept order
@@ -49,6 +51,13 @@ listsPart count ws = both (nodesPart count ws) (both (indexPart count ws) (order
 abbrev pub treePart : List ℕ → Bool
 treePart ws = both (leb (countIn ws) mostNodes) (listsPart (countIn ws) ws)
 
+-- the rules on nodes but that numbers differ, and the three as they are tested, where the index's rule says that too
+abbrev pub holdPart : ℕ → List ℕ → Bool
+holdPart count ws = nodesHold (nextIn ws) (latestIn ws) (nodesOf count ws)
+
+abbrev pub testedPart : ℕ → List ℕ → Bool
+testedPart count ws = both (holdPart count ws) (both (indexPart count ws) (orderPart (orderLengthIn ws) count ws))
+
 -- the rules on slots, and on controls
 abbrev pub slotsPart : List ℕ → List ℕ → Bool
 slotsPart ws bs = both (flagsFormed (flagsIn ws)) (both (slotsFormed 0 (lengthsIn ws) (decode ws bs .slots) (nodesIn ws)) (namesApart (decode ws bs .slots)))
@@ -56,16 +65,30 @@ slotsPart ws bs = both (flagsFormed (flagsIn ws)) (both (slotsFormed 0 (lengthsI
 abbrev pub controlsPart : List ℕ → List ℕ → Bool
 controlsPart ws bs = controlsFormed (decode ws bs .slots) (controlsIn ws) (nodesIn ws)
 
+-- a test that a later one implies need not be made
+spared : (a b c d : Bool) → (c ≡ true → b ≡ true) → both (both a b) (both c d) ≡ both a (both c d)
+spared true b true d h = rw (h refl)
+spared true true false d h = refl
+spared true false false d h = refl
+spared false b c d h = refl
+
+-- so that numbers differ need not: those that rise along the index do
+pub lists-tested : (count : ℕ) (ws : List ℕ) → listsPart count ws ≡ testedPart count ws
+lists-tested count ws =
+    let t = nodesOf count ws in
+    ap (λ (b : Bool). both b (both (indexPart count ws) (orderPart (orderLengthIn ws) count ws))) (formed-apart (nextIn ws) (latestIn ws) t)
+    ∙ spared (holdPart count ws) (nodes.apart t) (indexPart count ws) (orderPart (orderLengthIn ws) count ws) (indexed-apart (take count (entriesIn ws)) t)
+
 -- the tree's part, one test at a time
 module _ (ws : List ℕ) (count : ℕ) (counted : count ≡ countIn ws) where
   pub tree-many : mostNodes < count → treePart ws ≡ false
   tree-many h = ap (λ (b : Bool). both b (listsPart (countIn ws) ws)) (lt-leb (countIn ws) mostNodes (subst (λ (n : ℕ). mostNodes < n) counted h))
 
-  pub tree-few : count ≤ mostNodes → treePart ws ≡ listsPart count ws
+  pub tree-few : count ≤ mostNodes → treePart ws ≡ testedPart count ws
   tree-few h =
-      ap (λ (n : ℕ). both (leb n mostNodes) (listsPart n ws)) (sym counted) ∙ ap (λ (b : Bool). both b (listsPart count ws)) (le-leb count mostNodes h)
+      ap (λ (n : ℕ). both (leb n mostNodes) (listsPart n ws)) (sym counted) ∙ ap₂ both (le-leb count mostNodes h) (lists-tested count ws)
 
-  pub tree-nodes : count ≤ mostNodes → nodesPart count ws ≡ false → treePart ws ≡ false
+  pub tree-nodes : count ≤ mostNodes → holdPart count ws ≡ false → treePart ws ≡ false
   tree-nodes h e = tree-few h ∙ ap (λ (b : Bool). both b (both (indexPart count ws) (orderPart (orderLengthIn ws) count ws))) e
 
   -- the regions that the index's test is lent
@@ -75,7 +98,7 @@ module _ (ws : List ℕ) (count : ℕ) (counted : count ≡ countIn ws) where
       let entries : length (entriesIn ws) ≡ indexWords = region-length indexPlace indexWords ws (omega arith) in
       record { room = omega arith; few = h; entries = omega arith }
 
-  module _ (h : count ≤ mostNodes) (e : nodesPart count ws ≡ true) where
+  module _ (h : count ≤ mostNodes) (e : holdPart count ws ≡ true) where
     pub tree-index : indexPart count ws ≡ false → treePart ws ≡ false
     tree-index i = tree-few h ∙ ap₂ (λ (b d : Bool). both b (both d (orderPart (orderLengthIn ws) count ws))) e i
 

@@ -18,7 +18,7 @@ use layout::ORDER_END;
 use layout::ORDER_LENGTH;
 use layout::RESIDENT_END;
 use layout::WORDS;
-use order::nodes_formed;
+use order::nodes_hold;
 use order::same_order;
 use words::wide;
 ghost use Prim.Native.Nat.{_≤_};
@@ -40,9 +40,10 @@ fn tree_formed(words: &[u32]) -> bool
     }
     let next = words[NEXT];
     let latest = words[LATEST];
-    if !nodes_formed(&words[NODES..NODES_END], count, next, latest) {
+    if !nodes_hold(&words[NODES..NODES_END], count, next, latest) {
         return false;
     }
+    // That numbers differ, a rule on nodes, is the index's rule too, since they rise along it: it is tested here alone.
     if !index_formed(&words[NODES..NODES_END], &words[INDEX..INDEX_END], count) {
         return false;
     }

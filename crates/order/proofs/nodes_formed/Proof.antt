@@ -1,141 +1,36 @@
--- `order::nodes_formed` meets its contract: `formed`, one rule at a time by `formed-some`.
+-- `order::nodes_formed` meets its contract: all the rules are those of `nodes_hold` and that numbers differ (`formed-apart`).
 use mathlib.Core.Bool.{true, false}
 use mathlib.Core.Path.{_≡_, sym, _∙_}
 use native.Mathlib.Omega.{arith}
+use borrow.Author.Tests.{not-true, not-false}
 use borrow.Author.Needs.{needs}
-use borrow.Author.Tests.{le-leb, lt-leb, eq-eqb, ne-eqb, not-true, not-false}
 use Rattle.nodes.specs.Table.{rows, rows-length}
-use Rattle.nodes.specs.Formed.{rooted, apart, allFormed, noneLeft, firstGiven}
-use Rattle.order.specs.Marks.{rowsHold}
-use Rattle.order.specs.Checks.{formed-none, formed-many, formed-some}
+use Rattle.order.specs.Checks.{nodesHold, formed-apart, hold-few}
 use Rattle.order.proofs.nodes_formed.Statement.{statement}
 use Rattle.order.proofs.nodes_formed.Tie as tie
 
 returns : tie.Need-returns
 returns c =
-    let a = c .before .before .args in
+    let a = c .before .before .before .args in
     let t = rows (a .count) (a .nodes .now) in
+    let held : nodesHold (a .next) (a .latest) t ≡ false = sym (c .before .nodes-hold .ensures) ∙ not-true (c .before .nodes-hold .result) (c .if1 .taken) in
+    sym (rw held at (formed-apart (a .next) (a .latest) t))
+
+numbers-apart-requires : tie.Need-numbers-apart-requires
+numbers-apart-requires c κs =
+    let a = c .before .before .before .args in
+    let t = rows (a .count) (a .nodes .now) in
+    let held : nodesHold (a .next) (a .latest) t ≡ true = sym (c .before .nodes-hold .ensures) ∙ not-false (c .before .nodes-hold .result) (c .if1 .left) in
     let size = rows-length (a .count) (a .nodes .now) in
-    sym (formed-none (a .next) (a .latest) t (omega arith))
+    let few = hold-few (a .next) (a .latest) t held in
+    record { room = omega arith; few = omega arith }
 
 returns-2 : tie.Need-returns-2
 returns-2 c =
-    let a = c .before .before .before .args in
+    let a = c .before .before .before .before .args in
     let t = rows (a .count) (a .nodes .now) in
-    let size = rows-length (a .count) (a .nodes .now) in
-    sym (formed-many (a .next) (a .latest) t (omega arith))
-
-returns-3 : tie.Need-returns-3
-returns-3 c =
-    let a = c .before .before .before .before .before .args in
-    let t = rows (a .count) (a .nodes .now) in
-    let size = rows-length (a .count) (a .nodes .now) in
-    let root : rooted t ≡ false =
-    sym (c .before .root-holds .ensures) ∙ not-true (c .before .root-holds .result) (c .if3 .taken) in
-    sym (rw (root) at (formed-some (a .next) (a .latest) t (omega arith) (omega arith)))
-
-returns-4 : tie.Need-returns-4
-returns-4 c =
-    let a = c .before .before .before .before .before .before .before .args in
-    let t = rows (a .count) (a .nodes .now) in
-    let size = rows-length (a .count) (a .nodes .now) in
-    let root : rooted t ≡ true =
-    sym (c .before .before .before .root-holds .ensures) ∙ not-false (c .before .before .before .root-holds .result) (c .before .before .if3 .left) in
-    let distinct : apart t ≡ false =
-    sym (c .before .numbers-apart .ensures) ∙ not-true (c .before .numbers-apart .result) (c .if4 .taken) in
-    sym (rw (root, distinct) at (formed-some (a .next) (a .latest) t (omega arith) (omega arith)))
-
-returns-5 : tie.Need-returns-5
-returns-5 c =
-    let a = c .before .before .before .before .before .before .before .before .before .args in
-    let t = rows (a .count) (a .nodes .now) in
-    let size = rows-length (a .count) (a .nodes .now) in
-    let root : rooted t ≡ true =
-    sym (c .before .before .before .before .before .root-holds .ensures) ∙ not-false (c .before .before .before .before .before .root-holds .result) (c .before .before .before .before .if3 .left) in
-    let distinct : apart t ≡ true =
-    sym (c .before .before .before .numbers-apart .ensures) ∙ not-false (c .before .before .before .numbers-apart .result) (c .before .before .if4 .left) in
-    let fields : allFormed (a .next) t ≡ false =
-    sym (c .before .records-hold .ensures) ∙ not-true (c .before .records-hold .result) (c .if5 .taken) in
-    sym (rw (root, distinct, fields) at (formed-some (a .next) (a .latest) t (omega arith) (omega arith)))
-
-returns-6 : tie.Need-returns-6
-returns-6 c =
-    let rows-known = c .before in
-    let fields-known = rows-known .before .before in
-    let apart-known = fields-known .before .before in
-    let root-known = apart-known .before .before in
-    let a = root-known .before .before .before .before .args in
-    let t = rows (a .count) (a .nodes .now) in
-    let size = rows-length (a .count) (a .nodes .now) in
-    let root : rooted t ≡ true = sym (root-known .root-holds .ensures) ∙ not-false (root-known .root-holds .result) (apart-known .before .if3 .left) in
-    let distinct : apart t ≡ true = sym (apart-known .numbers-apart .ensures) ∙ not-false (apart-known .numbers-apart .result) (fields-known .before .if4 .left) in
-    let fields : allFormed (a .next) t ≡ true = sym (fields-known .records-hold .ensures) ∙ not-false (fields-known .records-hold .result) (rows-known .before .if5 .left) in
-    let held : rowsHold t ≡ false = sym (rows-known .rows-apart .ensures) ∙ not-true (rows-known .rows-apart .result) (c .if6 .taken) in
-    sym (rw (root, distinct, fields, held) at (formed-some (a .next) (a .latest) t (omega arith) (omega arith)))
-
-returns-7 : tie.Need-returns-7
-returns-7 c =
-    let rows-known = c .before .before in
-    let fields-known = rows-known .before .before in
-    let apart-known = fields-known .before .before in
-    let root-known = apart-known .before .before in
-    let a = root-known .before .before .before .before .args in
-    let t = rows (a .count) (a .nodes .now) in
-    let size = rows-length (a .count) (a .nodes .now) in
-    let root : rooted t ≡ true = sym (root-known .root-holds .ensures) ∙ not-false (root-known .root-holds .result) (apart-known .before .if3 .left) in
-    let distinct : apart t ≡ true = sym (apart-known .numbers-apart .ensures) ∙ not-false (apart-known .numbers-apart .result) (fields-known .before .if4 .left) in
-    let fields : allFormed (a .next) t ≡ true = sym (fields-known .records-hold .ensures) ∙ not-false (fields-known .records-hold .result) (rows-known .before .if5 .left) in
-    let held : rowsHold t ≡ true = sym (rows-known .rows-apart .ensures) ∙ not-false (rows-known .rows-apart .result) (c .before .if6 .left) in
-    sym (rw (root, distinct, fields, held, lt-leb noneLeft (a .next) (c .if7 .taken)) at (formed-some (a .next) (a .latest) t (omega arith) (omega arith)))
-
-returns-8 : tie.Need-returns-8
-returns-8 c =
-    let rows-known = c .before .before .before in
-    let fields-known = rows-known .before .before in
-    let apart-known = fields-known .before .before in
-    let root-known = apart-known .before .before in
-    let a = root-known .before .before .before .before .args in
-    let t = rows (a .count) (a .nodes .now) in
-    let size = rows-length (a .count) (a .nodes .now) in
-    let root : rooted t ≡ true = sym (root-known .root-holds .ensures) ∙ not-false (root-known .root-holds .result) (apart-known .before .if3 .left) in
-    let distinct : apart t ≡ true = sym (apart-known .numbers-apart .ensures) ∙ not-false (apart-known .numbers-apart .result) (fields-known .before .if4 .left) in
-    let fields : allFormed (a .next) t ≡ true = sym (fields-known .records-hold .ensures) ∙ not-false (fields-known .records-hold .result) (rows-known .before .if5 .left) in
-    let held : rowsHold t ≡ true = sym (rows-known .rows-apart .ensures) ∙ not-false (rows-known .rows-apart .result) (c .before .before .if6 .left) in
-    sym (rw (root, distinct, fields, held, le-leb noneLeft (a .next) (omega arith), lt-leb (a .next) firstGiven (c .if8 .taken)) at (formed-some (a .next) (a .latest) t (omega arith) (omega arith)))
-
-returns-9 : tie.Need-returns-9
-returns-9 c =
-    let rows-known = c .before .before .before .before in
-    let fields-known = rows-known .before .before in
-    let apart-known = fields-known .before .before in
-    let root-known = apart-known .before .before in
-    let a = root-known .before .before .before .before .args in
-    let t = rows (a .count) (a .nodes .now) in
-    let size = rows-length (a .count) (a .nodes .now) in
-    let root : rooted t ≡ true = sym (root-known .root-holds .ensures) ∙ not-false (root-known .root-holds .result) (apart-known .before .if3 .left) in
-    let distinct : apart t ≡ true = sym (apart-known .numbers-apart .ensures) ∙ not-false (apart-known .numbers-apart .result) (fields-known .before .if4 .left) in
-    let fields : allFormed (a .next) t ≡ true = sym (fields-known .records-hold .ensures) ∙ not-false (fields-known .records-hold .result) (rows-known .before .if5 .left) in
-    let held : rowsHold t ≡ true = sym (rows-known .rows-apart .ensures) ∙ not-false (rows-known .rows-apart .result) (c .before .before .before .if6 .left) in
-    sym (rw (root, distinct, fields, held, le-leb noneLeft (a .next) (omega arith), le-leb (a .next) firstGiven (omega arith), eq-eqb (a .latest) 0 (c .if9 .taken)) at (formed-some (a .next) (a .latest) t (omega arith) (omega arith)))
-
-returns-10 : tie.Need-returns-10
-returns-10 c =
-    let rows-known = c .before .before .before .before .before in
-    let fields-known = rows-known .before .before in
-    let apart-known = fields-known .before .before in
-    let root-known = apart-known .before .before in
-    let a = root-known .before .before .before .before .args in
-    let t = rows (a .count) (a .nodes .now) in
-    let size = rows-length (a .count) (a .nodes .now) in
-    let root : rooted t ≡ true = sym (root-known .root-holds .ensures) ∙ not-false (root-known .root-holds .result) (apart-known .before .if3 .left) in
-    let distinct : apart t ≡ true = sym (apart-known .numbers-apart .ensures) ∙ not-false (apart-known .numbers-apart .result) (fields-known .before .if4 .left) in
-    let fields : allFormed (a .next) t ≡ true = sym (fields-known .records-hold .ensures) ∙ not-false (fields-known .records-hold .result) (rows-known .before .if5 .left) in
-    let held : rowsHold t ≡ true = sym (rows-known .rows-apart .ensures) ∙ not-false (rows-known .rows-apart .result) (c .before .before .before .before .if6 .left) in
-    c .synth-lives .ensures
-    ∙ sym (rw (root, distinct, fields, held, le-leb noneLeft (a .next) (omega arith), le-leb (a .next) firstGiven (omega arith), ne-eqb (a .latest) 0 (c .before .if9 .left)) at (formed-some (a .next) (a .latest) t (omega arith) (omega arith)))
+    let held : nodesHold (a .next) (a .latest) t ≡ true = sym (c .before .before .nodes-hold .ensures) ∙ not-false (c .before .before .nodes-hold .result) (c .before .if1 .left) in
+    c .numbers-apart .ensures ∙ sym (rw held at (formed-apart (a .next) (a .latest) t))
 
 pub nodes-formed-spec : {M : Type 1} → statement M
-nodes-formed-spec =
-    tie.close
-    (tie.spec returns returns-2 (λ c κs. search needs) returns-3 (λ c κs. search needs) returns-4 (λ c κs. search needs)
-    returns-5 (λ c κs. search needs) returns-6 returns-7 returns-8 returns-9 (λ c κs. search needs) returns-10)
+nodes-formed-spec = tie.close (tie.spec (λ c κs. search needs) returns numbers-apart-requires returns-2)
