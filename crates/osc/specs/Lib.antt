@@ -1,3 +1,4 @@
 pub mod Message
 pub mod Over
 pub mod Lengths
+pub mod Padding

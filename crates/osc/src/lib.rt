@@ -2,7 +2,7 @@
 ghost use mathlib.Core.Path.{_≡_};
 ghost use Prim.Native.Nat.{_+_, _-_, _%_, _≤_, _<_};
 ghost use mathlib.Core.List.{[], _∷_};
-ghost use lib.ListN.{length, replicate};
+ghost use lib.ListN.{length, getD, replicate};
 ghost use Rattle.words.specs.Bytes.{bytes32};
 ghost use Rattle.osc.specs.Message.{padded, decimal};
 ghost use Rattle.osc.specs.Over.{over, Decimal};
@@ -58,14 +58,53 @@ pub fn padded_length(bytes: usize) -> usize
     bytes + (4 - bytes % 4)
 }
 
-// A string and the zeros that end it.
+// The byte at a place, 0 past the end.
+fn byte_or_zero(bytes: &[u8], i: usize) -> u8
+    ensures { λ r. ⌜ r ≡ getD (now (bytes .entry)) i 0 ⌝ }
+{
+    if i < bytes.len() {
+        return bytes[i];
+    }
+    0
+}
+
+// Four bytes at a place.
+fn put_four(out: &mut [u8], at: usize, a: u8, b: u8, c: u8, d: u8)
+    requires { ⌜ at + 4 ≤ length (now out) ⌝ }
+    ensures { λ r. ⌜ now (out .exit) ≡ over at (a ∷ (b ∷ (c ∷ (d ∷ [])))) (now (out .entry)) ⌝ }
+{
+    out[at] = a;
+    out[at + 1] = b;
+    out[at + 2] = c;
+    out[at + 3] = d;
+}
+
+// A string and the zeros that end it, four bytes at a time: for strings as short as names are, the compiler would make calls of loops over single bytes.
 pub fn put_padded(out: &mut [u8], at: usize, bytes: &[u8])
     requires { ⌜ at + length (padded (now bytes)) ≤ length (now out) ⌝ }
     ensures { λ r. ⌜ now (out .exit) ≡ over at (padded (now (bytes .entry))) (now (out .entry)) ⌝ }
 {
     let size = bytes.len();
-    put_bytes(out, at, bytes);
-    put_zeros(out, at + size, 4 - size % 4);
+    let mut i = 0;
+    while 3 < size - i {
+        put_four(
+            out,
+            at + i,
+            bytes[i],
+            bytes[i + 1],
+            bytes[i + 2],
+            bytes[i + 3],
+        );
+        i += 4;
+    }
+    put_four(
+        out,
+        at + i,
+        byte_or_zero(bytes, i),
+        byte_or_zero(bytes, i + 1),
+        byte_or_zero(bytes, i + 2),
+        0,
+    );
 }
 
 // How many decimal digits a number below 10,000 has.

@@ -1,0 +1,27 @@
+-- `osc::put_four` meets its contract: four stores (`stores-4`).
+use native.Mathlib.Omega.{arith}
+use borrow.Author.Needs.{needs}
+use lib.ListN.{length-set}
+use Rattle.osc.specs.Over.{stores-4}
+use Rattle.osc.proofs.put_four.Statement.{statement}
+use Rattle.osc.proofs.put_four.Tie as tie
+
+slice-write-out-2 : tie.Need-slice-write-out-2
+slice-write-out-2 c = simp length-set (omega arith)
+
+slice-write-out-3 : tie.Need-slice-write-out-3
+slice-write-out-3 c = simp length-set (omega arith)
+
+slice-write-out-4 : tie.Need-slice-write-out-4
+slice-write-out-4 c = simp length-set (omega arith)
+
+returns : tie.Need-returns
+returns c =
+    let a = c .args in
+    stores-4 (a .out .now) (a .at) (a .a) (a .b) (a .c) (a .d) (omega arith)
+
+pub put-four-spec : {M : Type 1} → statement M
+put-four-spec =
+    tie.close
+    (tie.spec (λ c. search needs) (λ c. search needs) slice-write-out-2 (λ c. search needs) slice-write-out-3
+    (λ c. search needs) slice-write-out-4 (λ c. search needs) returns)
