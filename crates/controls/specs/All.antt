@@ -2,13 +2,12 @@
 use Prim.Native.Nat.{ℕ, suc, _+_, _-_, _*_, _≤_, _<_}
 use mathlib.Core.Bool.{Bool, true, false}
 use mathlib.Core.Path.{_≡_, refl, sym, ap, ap₂, _∙_, subst}
-use mathlib.Core.List.{List, [], _∷_, _++_}
+use mathlib.Core.List.{List, [], _∷_}
 use mathlib.Core.Option.{Option}
 use native.Mathlib.Omega.{arith}
 use lib.ListN.{length, take, drop, getD, length-append, length-take, length-drop}
-use lib.Seq.{drop-drop}
 use Rattle.words.specs.Choice.{pick}
-use Rattle.words.specs.Parts.{region, put, region-length, region-put, past-put, before-put}
+use Rattle.words.specs.Parts.{region, put, region-length, region-put, put-put}
 use Rattle.format.specs.Names.{Covered}
 use Rattle.readable.specs.Readable.{Readable, whole-readable}
 use Rattle.nodes.specs.declared.Node.{Node}
@@ -29,12 +28,6 @@ use Rattle.controls.specs.Encoded.{frontIn, frontOnly, cover-front}
 use Rattle.slots.specs.Slots.{slotBytes}
 use Rattle.controls.specs.Ready.{Ready, nodeIn, synth-ready}
 use Rattle.controls.specs.Synth.{changeSynth, changeNode, Bounds, same-controls}
-
--- a part put over another put at the same place
-pub put-put : (a k : ℕ) (xs ys ws : List ℕ) → a ≤ length ws → length xs ≡ k → put a k ys (put a k xs ws) ≡ put a k ys ws
-put-put a k xs ys ws h e =
-    ap₂ (λ (p q : List ℕ). p ++ (ys ++ q)) (before-put a k a xs ws h (omega arith))
-    (drop-drop k a (put a k xs ws) ∙ past-put a k (a + k) xs ws h e (omega arith) ∙ sym (drop-drop k a ws))
 
 -- what a change does to the controls of one node
 abbrev pub changeOne : (ControlValue → ControlValue) → Key → List ℕ → ℕ → List Slot → Node → List ℕ → List ℕ

@@ -9,7 +9,7 @@ use layout::SLOT;
 use layout::WORDS;
 use model::Answer;
 use refusals::Refusal;
-use treecommands::zero_words;
+use words::zero_words;
 ghost use mathlib.Core.Path.{_≡_};
 ghost use lib.ListN.{length, replicate};
 ghost use Rattle.model.specs.Layout.{wordsLength};

@@ -8,7 +8,7 @@ use lib.ListN.{length, take, drop, getD, length-take}
 use lib.Dec.{leb}
 use borrow.Author.Tests.{lt-ltb, leb-true}
 use Rattle.words.specs.Choice.{both-true}
-use Rattle.words.specs.Parts.{region, put, region-length}
+use Rattle.words.specs.Parts.{region, put, region-length, put-put}
 use Rattle.refusals.specs.declared.Refusal.{Refusal}
 use Rattle.refusals.specs.declared.Refusal.the-variants.{BadFlag}
 use Rattle.format.specs.Read.{Read}
@@ -54,7 +54,7 @@ use Rattle.controls.specs.Encoded.{frontIn, front-read}
 use Rattle.treecommands.specs.Ready.{ready, nodeWords, words-long}
 use Rattle.treecommands.specs.Edits.{editBy, add-does}
 use Rattle.treecommands.specs.Finding.{meantIn}
-use Rattle.treecommands.specs.Settle.{Changed, settled, settled-tree, order-size, index-size, nodes-size, changed-left, put-again}
+use Rattle.treecommands.specs.Settle.{Changed, settled, settled-tree, order-size, index-size, nodes-size, changed-left}
 use Rattle.treecommands.specs.Adding.{after-few}
 use Rattle.making.specs.Checks.{Meant, Clear, Answers}
 use Rattle.making.specs.Rows.{Standing, stayingAt, staying-first}
@@ -217,7 +217,7 @@ module _ (number : ℕ) (action : Action) (target : NodeArgument) (at slot : ℕ
       put-made cs =
           header-put (length after) (length (order after)) (half .next) (half .latest) 1599 controlsWords cs (putControls (controlsIn ws) indexed) (omega (arith, third))
           ∙ ap (λ (l : List ℕ). putHeader (length after) (length (order after)) (half .next) (half .latest) l)
-          (put-again controlsPlace controlsWords cs (controlsIn ws) indexed (omega (arith, second)) many-controls)
+          (put-put controlsPlace controlsWords (controlsIn ws) cs indexed (omega (arith, second)) many-controls)
         where
           indexed : List ℕ
           indexed = putIndex (indexOf after) (putOrder (order after) (putNodes after ws))

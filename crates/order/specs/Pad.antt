@@ -3,7 +3,7 @@ use Prim.Native.Nat.{ℕ, suc, _+_, _-_, _≤_, _<_}
 use mathlib.Core.Path.{_≡_, refl, sym, ap, ap₂, _∙_}
 use mathlib.Core.List.{List, [], _∷_, _++_, append-assoc}
 use native.Mathlib.Omega.{arith}
-use lib.ListN.{length, take, set, replicate, length-append, length-take, length-replicate, replicate-append-replicate}
+use lib.ListN.{length, take, set, replicate, length-append, length-replicate, replicate-append-replicate}
 use lib.Seq.{take-all, take-append-le, take-append-add, take-at, set-at}
 
 -- numbers in n words: zeros past them, and no more than n are kept
@@ -50,7 +50,3 @@ module _ (n : ℕ) where
       ap (λ (k : List ℕ). set k (length l) x) (pad-few l (omega arith) ∙ ap (λ (k : ℕ). l ++ zeros k) one)
       ∙ set-at l 0 (zeros m) x (length l) refl
       ∙ sym (pad-few (l ++ x ∷ []) (omega arith) ∙ ap (λ (k : ℕ). (l ++ x ∷ []) ++ zeros (n - k)) size ∙ append-assoc l (x ∷ []) (zeros m))
-
-  pub pad-length : (l : List ℕ) → length (padTo n l) ≡ n
-  unfolding padTo
-  pad-length l = simp (length-take, length-append, length-replicate) (omega arith)

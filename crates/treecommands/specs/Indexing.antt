@@ -4,7 +4,7 @@ use mathlib.Core.Path.{_≡_, refl, sym, ap, ap₂, _∙_}
 use mathlib.Core.List.{List, _++_}
 use native.Mathlib.Omega.{arith}
 use lib.ListN.{length, take, drop}
-use Rattle.words.specs.Parts.{put, region-length, region-put}
+use Rattle.words.specs.Parts.{put, region-length, region-put, put-put}
 use Rattle.nodes.specs.Table.{rows, rows-length}
 use Rattle.nodes.specs.Formed.{mostNodes}
 use Rattle.index.specs.Index.{numbers, putIn, indexOf}
@@ -18,7 +18,7 @@ use Rattle.reindex.specs.Followed.{ground-entries, edit-bounds, follow-none, cu
 use Rattle.model.specs.Layout.{wordsLength, nodesPlace, nodesWords, indexPlace, indexWords, countIn, putIndex}
 use Rattle.state.specs.Regions.{region-before, put-size}
 use Rattle.treecommands.specs.Ready.{nodeWords}
-use Rattle.treecommands.specs.Settle.{indexRegion, Changed, Sifted, index-size, index-by, put-again}
+use Rattle.treecommands.specs.Settle.{indexRegion, Changed, Sifted, index-size, index-by}
 
 -- what following asks
 pub changed-follows : (edit : Edit) (count : ℕ) (ws : List ℕ) → Changed edit count ws → Bounded edit (countIn ws) × Entries (indexRegion ws) (countIn ws)
@@ -78,7 +78,7 @@ module _ (count : ℕ) (ws out : List ℕ) (left : ℕ) where
         let g = c .edited .ground in
         e
         ∙ ap₂ (λ (us r : List ℕ). put indexPlace indexWords (putIn (numbers (rows (left + 1) us)) at (take left r) ++ drop (left + 1) r) mid) mid-nodes mid-index
-        ∙ put-again indexPlace indexWords ix out ws (omega (arith, c .size)) (same ∙ region-size)
+        ∙ put-put indexPlace indexWords out ix ws (omega (arith, c .size)) (same ∙ region-size)
         ∙ index-by count ws (c .size) (g .fewAfter) ix (put-follows (indexRegion ws) (countIn ws) (nodeWords ws) count (c .edited .old) g at to (c .edited .does) out left f ix refl)
 
     pub new-size : (last : List ℕ) → last ≡ put indexPlace indexWords (putIn (numbers (rows (left + 1) (nodeWords mid))) at (take left (indexRegion mid)) ++ drop (left + 1) (indexRegion mid)) mid

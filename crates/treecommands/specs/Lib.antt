@@ -3,7 +3,6 @@ pub mod Finding
 pub mod Edits
 pub mod Settle
 pub mod Staying
-pub mod Zeros
 pub mod Ordering
 pub mod Indexing
 pub mod Steps

@@ -5,10 +5,10 @@ use mathlib.Core.Path.{_≡_, refl, sym, ap, ap₂, _∙_, subst}
 use mathlib.Core.List.{List, [], _∷_, _++_}
 use native.Mathlib.Omega.{arith}
 use lib.ListN.{length, take, drop, getD, set, take-append-drop}
-use lib.Seq.{take-at, drop-drop, length-take-le}
+use lib.Seq.{take-at, length-take-le}
 use lib.Dec.{eqb}
 use Rattle.words.specs.Choice.{both}
-use Rattle.words.specs.Parts.{region, put, region-length, region-put, past-put, before-put}
+use Rattle.words.specs.Parts.{region, put, region-length, region-put}
 use Rattle.nodes.specs.declared.Node.{Node}
 use Rattle.nodes.specs.Table.{rows, fill, rows-length, fill-length, rows-fill}
 use Rattle.nodes.specs.Order.{order}
@@ -176,13 +176,6 @@ pub sifted-sorted : (ps : List ℕ) (count : ℕ) (ws : List ℕ) → Sifted ps 
 sifted-sorted ps count ws c =
     let e = c .moved in
     index-sorted count ws (c .size) (e .ground .fewAfter) (follow-apart (indexRegion ws) (countIn ws) (nodeWords ws) count (e .old) (e .ground) (placeIn ps) (e .carries) (e .came))
-
--- the same part put in again
-module _ (a k : ℕ) (ys zs ws : List ℕ) (fits : a + k ≤ length ws) (size : length zs ≡ k) where
-  pub put-again : put a k ys (put a k zs ws) ≡ put a k ys ws
-  put-again =
-      ap₂ (λ (l r : List ℕ). l ++ (ys ++ r)) (before-put a k a zs ws (omega arith) (omega arith))
-      (drop-drop k a (put a k zs ws) ∙ past-put a k (a + k) zs ws (omega arith) size (omega arith) ∙ sym (drop-drop k a ws))
 
 -- the index as it was, where it is right
 pub index-own : (count : ℕ) (ws : List ℕ) → Sorted count ws → putIndex (indexOf (rows count (nodeWords ws))) ws ≡ ws

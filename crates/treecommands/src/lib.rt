@@ -21,5 +21,4 @@ pub use moves::move_after;
 pub use moves::move_before;
 pub use moves::move_head;
 pub use moves::move_tail;
-pub use ordering::zero_words;
 pub use place::is_synth;

@@ -8,9 +8,10 @@ use layout::ORDER_END;
 use layout::RECORD;
 use layout::RUN;
 use layout::SLOT;
+use words::zero_words;
 ghost use mathlib.Core.Path.{_≡_};
 ghost use Prim.Native.Nat.{_≤_};
-ghost use lib.ListN.{length, replicate};
+ghost use lib.ListN.{length};
 ghost use lib.Dec.{eqb};
 ghost use Rattle.words.specs.Choice.{pick};
 ghost use Rattle.nodes.specs.Table.{rows};
@@ -19,17 +20,6 @@ ghost use Rattle.nodes.specs.Formed.{mostNodes};
 ghost use Rattle.model.specs.Layout.{wordsLength, putOrder};
 ghost use Rattle.treecommands.specs.Ready.{nodeWords};
 ghost use Rattle.treecommands.specs.Ordering.{Leads};
-
-// Every word zero.
-pub fn zero_words(words: &mut [u32])
-    ensures { λ r. ⌜ now (words .exit) ≡ replicate (length (now (words .entry))) 0 ⌝ }
-{
-    let mut i = 0;
-    while i < words.len() {
-        words[i] = 0;
-        i += 1;
-    }
-}
 
 // One where a run flag is on, else nothing: a number, so that nothing is jumped by.
 fn one_if_on(run: u32) -> u32

@@ -1,3 +1,4 @@
 pub mod Choice
 pub mod Parts
 pub mod Bytes
+pub mod Zeros

@@ -1,6 +1,6 @@
 -- Parts of a run: the k items from a place on, and the run with other items there.
 use Prim.Native.Nat.{ℕ, _+_, _-_, _≤_}
-use mathlib.Core.Path.{_≡_, sym, ap, _∙_}
+use mathlib.Core.Path.{_≡_, sym, ap, ap₂, _∙_}
 use mathlib.Core.List.{List, _++_}
 use native.Mathlib.Omega.{arith}
 use lib.ListN.{length, take, drop, length-take, length-drop, length-append}
@@ -46,3 +46,9 @@ module _ {A : Type 0} where
   pub before-put : (a k b : ℕ) (ys ws : List A) → a ≤ length ws → b ≤ a → take b (put a k ys ws) ≡ take b ws
   before-put a k b ys ws h near =
       take-append-le b (take a ws) (ys ++ drop k (drop a ws)) (rw (length-take-le a ws h) near) ∙ take-take b a ws near
+
+  -- a part put over another put at the same place
+  pub put-put : (a k : ℕ) (xs ys ws : List A) → a ≤ length ws → length xs ≡ k → put a k ys (put a k xs ws) ≡ put a k ys ws
+  put-put a k xs ys ws h e =
+      ap₂ (λ (p q : List A). p ++ (ys ++ q)) (before-put a k a xs ws h (omega arith))
+      (drop-drop k a (put a k xs ws) ∙ past-put a k (a + k) xs ws h e (omega arith) ∙ sym (drop-drop k a ws))

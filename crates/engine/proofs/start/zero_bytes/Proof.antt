@@ -5,7 +5,7 @@ use mathlib.Core.List.{List}
 use native.Mathlib.Omega.{arith}
 use borrow.Author.Needs.{needs}
 use lib.ListN.{length, set, length-set}
-use Rattle.treecommands.specs.Zeros.{zeroed, zero-turn, zero-end}
+use Rattle.words.specs.Zeros.{zeroed, zero-turn, zero-end}
 use Rattle.engine.proofs.start.zero_bytes.Statement.{statement}
 use Rattle.engine.proofs.start.zero_bytes.Tie as tie
 

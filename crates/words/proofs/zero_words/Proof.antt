@@ -1,13 +1,13 @@
--- `treecommands::ordering::zero_words` meets its contract. The invariant: the first i items are zero, and the others as they were.
+-- `words::zero_words` meets its contract. The invariant: the first i items are zero, and the others as they were.
 use Prim.Native.Nat.{ℕ, _≤_, _-_}
 use mathlib.Core.Path.{_≡_, refl, ap, _∙_}
 use mathlib.Core.List.{List}
 use native.Mathlib.Omega.{arith}
 use borrow.Author.Needs.{needs}
 use lib.ListN.{length, set, length-set}
-use Rattle.treecommands.specs.Zeros.{zeroed, zero-turn, zero-end}
-use Rattle.treecommands.proofs.ordering.zero_words.Statement.{statement}
-use Rattle.treecommands.proofs.ordering.zero_words.Tie as tie
+use Rattle.words.specs.Zeros.{zeroed, zero-turn, zero-end}
+use Rattle.words.proofs.zero_words.Statement.{statement}
+use Rattle.words.proofs.zero_words.Tie as tie
 
 abbrev Inv-loop : tie.InvT-loop
 Inv-loop words₀ i₀ words i = (i ≤ length words₀) × ((words ≡ zeroed i words₀) × (length words ≡ length words₀))
