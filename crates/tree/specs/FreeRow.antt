@@ -1,13 +1,16 @@
 -- The lowest row of controls that no synth of the table has, found by a mark at each row that one has.
-use Prim.Native.Nat.{ℕ, suc, _+_, _*_, _≤_, _<_}
+use Prim.Native.Nat.{ℕ, zero, suc, _+_, _*_, _-_, _≤_, _<_}
 use mathlib.Core.Bool.{Bool, true, false}
 use mathlib.Core.Path.{_≡_, refl, sym, ap, _∙_}
 use mathlib.Core.List.{List, [], _∷_, _++_}
+use mathlib.Core.Logic.{⊎-elim}
+use native.Mathlib.Nat.{eq-or-lt-of-le}
+use native.Mathlib.Numerals.{add-one}
 use native.Mathlib.Omega.{arith}
 use lib.ListN.{length, take, drop, getD, set, replicate, getD-replicate}
 use lib.Seq.{getD-set-same, getD-set-other}
-use lib.Dec.{eqb}
-use borrow.Author.Tests.{ne-eqb, eqb-true, eqb-false}
+use lib.Dec.{ltb, eqb}
+use borrow.Author.Tests.{ltb-true, ltb-false, ne-eqb, eqb-true, eqb-false}
 use Rattle.words.specs.Choice.{pick, either}
 use Rattle.nodes.specs.declared.Node.{Node}
 use Rattle.nodes.specs.Table.{width, nodeFrom, rows, rows-take, rows-end, row-from}
@@ -104,3 +107,28 @@ module _ (n k : ℕ) (t : List Node) where
 pub free-end : (k : ℕ) (t : List Node) → freeRowFrom 0 k t ≡ k
 unfolding freeRowFrom
 free-end k t = refl
+
+-- where each row before this one is taken, the first free one from it on is the first of all
+free-behind : (n r : ℕ) (t : List Node) → ((k : ℕ) → k < r → rowTaken k t ≡ true) → freeRowFrom n r t ≡ freeRowFrom (n + r) 0 t
+free-behind n zero t all = ap (λ (m : ℕ). freeRowFrom m 0 t) (omega arith)
+free-behind n (suc r) t all =
+    ap (λ (k : ℕ). freeRowFrom n k t) (sym (add-one r))
+    ∙ sym (free-on n r t (all r (omega arith)))
+    ∙ free-behind (suc n) r t (λ k h. all k (omega arith))
+    ∙ ap (λ (m : ℕ). freeRowFrom m 0 t) (omega arith)
+
+-- by the marks of rows: each before `from` has one, and so has each from there up to this one, which has none or is the end
+module _ (marks : List Bool) (t : List Node) (are : (k : ℕ) → k < 256 → getD marks k false ≡ rowTaken k t) where
+  pub free-first : (from r : ℕ) → ((k : ℕ) → k < from → getD marks k false ≡ true) → r ≤ 256 → ((k : ℕ) → k < r → from ≤ k → getD marks k false ≡ true) → (r < 256 → getD marks r false ≡ false) → r ≡ freeRowFrom 256 0 t
+  free-first from r before most on none =
+      ⊎-elim
+      (λ (e : r ≡ 256). sym (free-end r t) ∙ free-behind 0 r t taken ∙ ap (λ (m : ℕ). freeRowFrom m 0 t) (omega arith))
+      (λ h. sym (free-here (255 - r) r t (sym (are r h) ∙ none h)) ∙ free-behind (suc (255 - r)) r t taken ∙ ap (λ (m : ℕ). freeRowFrom m 0 t) (omega arith))
+      (eq-or-lt-of-le most)
+    where
+      marked : (k : ℕ) → k < r → (b : Bool) → ltb k from ≡ b → getD marks k false ≡ true
+      marked k h true e = before k (ltb-true k from e)
+      marked k h false e = on k h (ltb-false k from e)
+
+      taken : (k : ℕ) → k < r → rowTaken k t ≡ true
+      taken k h = sym (are k (omega arith)) ∙ marked k h (ltb k from) refl

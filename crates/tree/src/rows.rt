@@ -6,7 +6,7 @@ use layout::ROWS;
 use layout::SLOT;
 use words::wide;
 ghost use mathlib.Core.Path.{_≡_};
-ghost use mathlib.Core.Bool.{false};
+ghost use mathlib.Core.Bool.{true, false};
 ghost use Prim.Native.Nat.{ℕ, _+_, _*_, _≤_, _<_};
 ghost use mathlib.Core.List.{_++_};
 ghost use lib.ListN.{length, take, drop, getD};
@@ -56,20 +56,37 @@ fn taken_rows(nodes: &[u32], count: usize, from: usize, to: usize) -> [bool; ROW
 // How many rows there are, as a word.
 const MOST: u32 = ROWS as u32;
 
-// The lowest row that no synth has, of the records before `from` and those from `to` on, or 256.
-pub fn free_row_without(nodes: &[u32], count: usize, from: usize, to: usize) -> u32
-    requires { ⌜ (from ≤ to) × ((to ≤ count) × TableFits (now nodes) count) ⌝ }
-    ensures { λ r. ⌜ r ≡ freeRow (take from (rows count (now (nodes .entry))) ++ drop to (rows count (now (nodes .entry)))) ⌝ }
+// The first row from one up to another that has no mark, or the end.
+fn first_free(marks: &[bool; ROWS], from: u32, to: u32) -> u32
+    requires { ⌜ (from ≤ to) × (to ≤ mostRows) ⌝ }
+    ensures { λ r. ⌜ (from ≤ r) × ((r ≤ to) × (((k : ℕ) → k < r → from ≤ k → getD (now (marks .entry)) k false ≡ true) × (r < to → getD (now (marks .entry)) r false ≡ false))) ⌝ }
 {
-    let marks = taken_rows(nodes, count, from, to);
-    let mut row: u32 = 0;
-    while row < MOST {
+    let mut row = from;
+    while row < to {
         if !marks[wide(row)] {
             return row;
         }
         row += 1;
     }
     row
+}
+
+// The lowest row that no synth has, of the records before `from` and those from `to` on, or 256.
+pub fn free_row_without(nodes: &[u32], count: usize, from: usize, to: usize) -> u32
+    requires { ⌜ (from ≤ to) × ((to ≤ count) × TableFits (now nodes) count) ⌝ }
+    ensures { λ r. ⌜ r ≡ freeRow (take from (rows count (now (nodes .entry))) ++ drop to (rows count (now (nodes .entry)))) ⌝ }
+{
+    let marks = taken_rows(nodes, count, from, to);
+    // With few nodes a free row is among the first so many, and the compiler looks at single marks there.
+    if count < ROWS {
+        let most = count as u32;
+        let few = first_free(&marks, 0, most);
+        if few < most {
+            return few;
+        }
+        return first_free(&marks, few, MOST);
+    }
+    first_free(&marks, 0, MOST)
 }
 
 // The lowest row that no synth has, or 256.
