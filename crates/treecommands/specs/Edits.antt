@@ -1,20 +1,21 @@
 -- Which edit by places each edit of the table is.
-use Prim.Native.Nat.{ℕ, _+_, _-_, _≤_, _<_}
+use Prim.Native.Nat.{ℕ, _+_, _*_, _-_, _≤_, _<_}
 use mathlib.Core.Bool.{Bool, true, false}
 use mathlib.Core.Path.{_≡_, refl, sym, ap, ap₂, subst, _∙_}
 use mathlib.Core.List.{List, [], _∷_, _++_, append-assoc}
 use native.Mathlib.Omega.{arith}
 use borrow.Author.Tests.{leb-true, leb-false}
-use lib.ListN.{length, take, drop}
+use lib.ListN.{length, take, drop, take-append-drop}
 use lib.Seq.{take-take, take-append-le, drop-append-le, take-append-add, drop-append-add, drop-drop, length-take-le}
 use lib.Dec.{leb}
 use Rattle.words.specs.Choice.{pick}
 use Rattle.nodes.specs.declared.Node.{Node}
-use Rattle.nodes.specs.Table.{rows, rows-length}
+use Rattle.nodes.specs.Table.{width, nodeFrom, rows, rows-length, row-from}
 use Rattle.nodes.specs.Place.{lives, deeper, end-most}
 use Rattle.nodes.specs.Sizes.{depthAt, endAt}
 use Rattle.nodes.specs.Edit.{lift, sink, onlyGroups, editAt, freeHere, freeAllHere, deepFreeHere}
 use Rattle.nodes.specs.Split.{cut-at, cutBelow-at, deepFree-at, addOver-at}
+use Rattle.treerefinement.specs.Tally.{tally, tally-append, Grown}
 use Rattle.index.specs.Index.{numbers}
 use Rattle.reindex.specs.declared.edit.Edit.{Edit}
 use Rattle.reindex.specs.declared.edit.Edit.the-variants as edit
@@ -70,14 +71,11 @@ module _ (c : ℕ) (us : List ℕ) (at : ℕ) (live : at < c) where
   taken from low s is = record { order = low; end = omega (arith, end, size); left = ap numbers is ∙ simp (numbers-append, numbers-take, numbers-drop) }
 
   -- the nodes from a place up to the end of the run taken out, told by how many are left
-  cut-from : (from : ℕ) → from ≤ e → (s : List Node) → s ≡ take from t ++ drop e t → (left : ℕ) → left ≡ length s → Does (edit.Cut from (from + (c - left))) t s
-  cut-from from low s is left many = subst (λ (j : ℕ). Replaced from j [] t s) (sym same) whole
-    where
-      whole : Replaced from e [] t s
-      whole = taken from low s is
+  cut-end : (from : ℕ) → from ≤ e → (s : List Node) → s ≡ take from t ++ drop e t → (left : ℕ) → left ≡ length s → from + (c - left) ≡ e
+  cut-end from low s is left many = omega (arith, many, replaced-size from e [] t s (taken from low s is), size, end)
 
-      same : from + (c - left) ≡ e
-      same = omega (arith, many, replaced-size from e [] t s whole, size, end)
+  cut-from : (from : ℕ) → from ≤ e → (s : List Node) → s ≡ take from t ++ drop e t → (left : ℕ) → left ≡ length s → Does (edit.Cut from (from + (c - left))) t s
+  cut-from from low s is left many = subst (λ (j : ℕ). Replaced from j [] t s) (sym (cut-end from low s is left many)) (taken from low s is)
 
   fewer : (from : ℕ) → from ≤ e → (s : List Node) → s ≡ take from t ++ drop e t → length s ≤ c
   fewer from low s is = omega (arith, replaced-size from e [] t s (taken from low s is), size, end)
@@ -90,6 +88,25 @@ module _ (c : ℕ) (us : List ℕ) (at : ℕ) (live : at < c) where
 
   pub cut-does : (left : ℕ) → left ≡ length (editAt at freeHere t) → Does (edit.Cut at (at + (c - left))) t (editAt at freeHere t)
   cut-does = cut-from at (omega arith) (editAt at freeHere t) (cut-at c us at live (depthAt us at) e refl refl)
+
+  -- where one node alone is taken out, it is the record at the place that is missing
+  pub cut-one : (left : ℕ) → left ≡ length (editAt at freeHere t) → at + (c - left) ≡ at + 1 → Grown (nodeFrom us (width * at) ∷ []) t (editAt at freeHere t)
+  unfolding tally
+  cut-one left many one = record { sum = λ p b. omega (arith, whole p, part p) }
+    where
+      freed : editAt at freeHere t ≡ take at t ++ drop e t
+      freed = cut-at c us at live (depthAt us at) e refl refl
+
+      next : e ≡ at + 1
+      next = sym (cut-end at (omega arith) (editAt at freeHere t) freed left many) ∙ one
+
+      part : (p : Node → Bool) → tally p (editAt at freeHere t) ≡ tally p (take at t) + tally p (drop (at + 1) t)
+      part p = ap (tally p) (freed ∙ ap (λ (j : ℕ). take at t ++ drop j t) next) ∙ tally-append p (take at t) (drop (at + 1) t)
+
+      whole : (p : Node → Bool) → tally p t ≡ tally p (take at t) + tally p (nodeFrom us (width * at) ∷ drop (at + 1) t)
+      whole p =
+          ap (tally p) (sym (take-append-drop at t) ∙ ap (λ (l : List Node). take at t ++ l) (row-from c us at live))
+          ∙ tally-append p (take at t) (nodeFrom us (width * at) ∷ drop (at + 1) t)
 
   pub cutBelow-does : (left : ℕ) → left ≡ length (editAt at freeAllHere t) → Does (edit.Cut (at + 1) (at + 1 + (c - left))) t (editAt at freeAllHere t)
   cutBelow-does = cut-from (at + 1) (omega arith) (editAt at freeAllHere t) (cutBelow-at c us at live (depthAt us at) e refl refl)

@@ -33,12 +33,12 @@ use Rattle.state.specs.Does.{step-refused, step-done}
 use Rattle.tree.specs.Sizes.{Leaves}
 use Rattle.tree.specs.Words.{run-leaves}
 use Rattle.names.specs.Named.{Named}
-use Rattle.treecommands.specs.Ready.{Ready, nodeWords}
+use Rattle.treecommands.specs.Ready.{Ready, nodeWords, nodeIn}
 use Rattle.treecommands.specs.Finding.{meantIn, NodeFound, found, missing, is-root, not-root}
-use Rattle.treecommands.specs.Edits.{cut-does}
+use Rattle.treecommands.specs.Edits.{cut-does, cut-one}
 use Rattle.treecommands.specs.Settle.{Sorted, Changed, renewed}
-use Rattle.treecommands.specs.Staying.{Stays}
-use Rattle.treecommands.specs.Steps.{Steps, left-few, edited-ready, edited-stays, edited-in-place, edited-left}
+use Rattle.treecommands.specs.Staying.{Stays, Freed}
+use Rattle.treecommands.specs.Steps.{Steps, left-few, edited-ready, edited-stays, edited-freed, edited-in-place, edited-left}
 
 -- a run flag changes no number
 setRun-numbers : (n flag : ℕ) (t : List Node) → numbers (setRun n flag t) ≡ numbers t
@@ -101,6 +101,13 @@ module _ (n : NodeArgument) (ws : List ℕ) (k : Ready ws) (count : ℕ) (same :
 
       pub free-ready : Changed (edit.Cut at (at + (count - many))) many (put nodesPlace nodesWords us ws)
       free-ready = edited-ready n ws k count same at free-at freeHere us many does free-few (edit.Cut at (at + (count - many))) (cut-does count (nodeWords ws) at live many (does .size))
+
+      -- one node alone: the latest synth is told by the number that stood at its place
+      pub free-one : (gone : ℕ) → gone ≡ nodeIn ws at .number → at + (count - many) ≡ at + 1 → Freed (edit.Cut at (at + (count - many))) many gone (put nodesPlace nodesWords us ws)
+      free-one gone is one =
+          rw is
+          (edited-freed n ws k count same at free-at freeHere us many does free-few (edit.Cut at (at + (count - many))) (cut-does count (nodeWords ws) at live many (does .size))
+          (nodeIn ws at) (cut-one count (nodeWords ws) at live many (does .size) one))
 
       pub free-done : (out : List ℕ) → (at ≡ 0 → ⊥) → out ≡ renewed many (put nodesPlace nodesWords us ws) → Steps (tree.Free n) ws Done out
       unfolding answerIn firstOf decode wordsAfter effect

@@ -42,6 +42,10 @@ words-long ws h = region-length nodesPlace nodesWords ws (omega arith)
 pub node-word : (ws : List ℕ) (i : ℕ) → i < nodesWords → getD (nodeWords ws) i 0 ≡ getD ws (nodesPlace + i) 0
 node-word ws i h = rw (getD-take, getD-drop)
 
+-- the number of the record at a place
+pub node-number : (ws : List ℕ) (at : ℕ) → at < mostNodes → getD ws (68 + 5 * at) 0 ≡ nodeIn ws at .number
+node-number ws at h = sym (node-word ws (width * at) (omega arith))
+
 -- whether the record at a place is a synth's, by its slot word
 pub node-slot : (ws : List ℕ) (at : ℕ) → at < mostNodes → not (eqb (getD ws (68 + 5 * at + 3) 0) 32) ≡ not (isGroup (nodeIn ws at))
 node-slot ws at h =

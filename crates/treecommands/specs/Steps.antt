@@ -2,7 +2,7 @@
 use Prim.Native.Nat.{ℕ, _≤_, _<_}
 use mathlib.Core.Bool.{true}
 use mathlib.Core.Path.{_≡_, sym, ap, subst₂, _∙_}
-use mathlib.Core.List.{List}
+use mathlib.Core.List.{List, [], _∷_}
 use native.Mathlib.Omega.{arith}
 use lib.ListN.{length}
 use Rattle.words.specs.Parts.{put}
@@ -12,7 +12,7 @@ use Rattle.nodes.specs.Place.{lives}
 use Rattle.nodes.specs.Edit.{editRows, editAt}
 use Rattle.nodes.specs.Split.{edit-first}
 use Rattle.nodes.specs.Formed.{mostNodes}
-use Rattle.treerefinement.specs.Tally.{Within}
+use Rattle.treerefinement.specs.Tally.{Within, Grown}
 use Rattle.treerefinement.specs.Keep.{within-length}
 use Rattle.values.specs.declared.NodeArgument.{NodeArgument}
 use Rattle.model.specs.declared.TreeCommand.{TreeCommand}
@@ -31,7 +31,7 @@ use Rattle.state.specs.Does.{WordsStep}
 use Rattle.tree.specs.Sizes.{Leaves, leaves-first}
 use Rattle.treecommands.specs.Ready.{Ready, nodeWords}
 use Rattle.treecommands.specs.Finding.{meantIn, NodeFound}
-use Rattle.treecommands.specs.Staying.{Stays, stays-left}
+use Rattle.treecommands.specs.Staying.{Stays, Freed, stays-left, freed-left}
 use Rattle.treecommands.specs.Settle.{Sorted, Changed, Sifted, renewed, changed-left, sifted-left, sorted-left, renewed-left}
 
 abbrev pub Steps : TreeCommand → List ℕ → Answer → List ℕ → Type 0
@@ -66,6 +66,13 @@ module _ (a : NodeArgument) (ws : List ℕ) (k : Ready ws) (count : ℕ) (same :
   pub edited-stays : length (editRows (meantIn a ws) H (nodesIn ws)) ≤ mostNodes → (lives (latestIn ws) (nodesIn ws) ≡ true → lives (latestIn ws) (editRows (meantIn a ws) H (nodesIn ws)) ≡ true)
       → Stays many (put nodesPlace nodesWords us ws)
   edited-stays few still = stays-left ws k (editRows (meantIn a ws) H (nodesIn ws)) few still us many left
+
+  pub edited-freed : length (editRows (meantIn a ws) H (nodesIn ws)) ≤ mostNodes → (edit : Edit) → Does edit (rows count (nodeWords ws)) (editAt at H (rows count (nodeWords ws)))
+      → (r : Node) → Grown (r ∷ []) (rows count (nodeWords ws)) (editAt at H (rows count (nodeWords ws))) → Freed edit many (r .number) (put nodesPlace nodesWords us ws)
+  edited-freed few edit d r g = record {
+    changed = edited-ready few edit d;
+    without = freed-left ws k (editRows (meantIn a ws) H (nodesIn ws)) few r (subst₂ (λ (n : ℕ) (l : List Node). Grown (r ∷ []) (rows n (nodeWords ws)) l) same edits g) us many left;
+  }
 
   pub edited-in-place : length (editRows (meantIn a ws) H (nodesIn ws)) ≡ length (nodesIn ws) → numbers (editRows (meantIn a ws) H (nodesIn ws)) ≡ numbers (nodesIn ws)
       → Sorted many (put nodesPlace nodesWords us ws)

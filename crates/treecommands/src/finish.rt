@@ -20,7 +20,7 @@ ghost use Rattle.model.specs.Layout.{nextIn, latestIn, putHeader};
 ghost use Rattle.model.specs.Effects.{latestAmong};
 ghost use Rattle.treecommands.specs.Ready.{nodeWords};
 ghost use Rattle.treecommands.specs.Settle.{Sorted, Changed, Sifted, settled, renewed};
-ghost use Rattle.treecommands.specs.Staying.{Stays, Staying};
+ghost use Rattle.treecommands.specs.Staying.{Stays, Staying, latestWithout, Freed};
 
 // The first words, one after the other.
 fn write_header(words: &mut [u32], count: u32, many: u32, next: u32, latest: u32)
@@ -63,6 +63,16 @@ fn renew_header(words: &mut [u32], count: usize, many: u32)
     }
 }
 
+// The latest synth after the node with a number was freed: none if it was that one.
+fn latest_without(latest: u32, gone: u32) -> u32
+    ensures { λ r. ⌜ r ≡ latestWithout gone latest ⌝ }
+{
+    if latest == gone {
+        return 0;
+    }
+    latest
+}
+
 // What `settle` writes, where the next number stays, and the latest synth too while it lives.
 pub fn renew(words: &mut [u32], edit: Edit, count: usize)
     requires { ⌜ Changed edit count (now words) ⌝ }
@@ -81,6 +91,16 @@ pub fn renew_sifted(words: &mut [u32], places: &[u32], count: usize)
     let many = renew_order(words, count);
     sift_index(words, places, count);
     renew_header(words, count, many);
+}
+
+// The same, where the node with this number alone was freed: the latest synth lives if its number is another.
+pub fn renew_without(words: &mut [u32], edit: Edit, count: usize, gone: u32)
+    requires { ⌜ Freed edit count gone (now words) ⌝ }
+    ensures { λ r. ⌜ now (words .exit) ≡ renewed count (now (words .entry)) ⌝ }
+{
+    let next = words[NEXT];
+    let latest = latest_without(words[LATEST], gone);
+    settle(words, edit, count, next, latest);
 }
 
 // The same, where no node was freed, so that the latest synth stays.

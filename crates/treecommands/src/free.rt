@@ -2,10 +2,12 @@
 use crate::finish::renew;
 use crate::finish::renew_in_place;
 use crate::finish::renew_sifted;
+use crate::finish::renew_without;
 use crate::place::is_synth;
 use layout::COUNT;
 use layout::NODES;
 use layout::NODES_END;
+use layout::RECORD;
 use model::Answer;
 use names::node_place;
 use refusals::Refusal;
@@ -49,8 +51,13 @@ pub fn free_node(node: NodeArgument, words: &mut [u32]) -> Answer
     if at == 0 {
         return Answer::Refused(Refusal::WrongKind);
     }
+    let gone = words[NODES + RECORD * at];
     let left = tree::cut(&mut words[NODES..NODES_END], count, at);
     let end = at + (count - left);
+    if end == at + 1 {
+        renew_without(words, Edit::Cut(at, end), left, gone);
+        return Answer::Done;
+    }
     renew(words, Edit::Cut(at, end), left);
     Answer::Done
 }
