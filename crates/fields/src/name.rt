@@ -1,6 +1,9 @@
 // Names: the bytes of a pstring.
 ghost use Prim.Native.Nat.{_-_};
 ghost use mathlib.Core.Path.{_≡_};
+ghost use lib.ListN.{length};
+ghost use lib.Dec.{eqb};
+ghost use Rattle.words.specs.Choice.{both};
 ghost use Rattle.words.specs.Parts.{region};
 ghost use Rattle.format.specs.Fields.{nameBytes, stringAt};
 ghost use Rattle.format.specs.Reader.{sameName};
@@ -57,13 +60,38 @@ pub fn part(s: &[u8], from: usize, to: usize) -> &[u8]
     &s[from..to]
 }
 
-// Two names are the same. Their last bytes are compared first: names of a family differ at the end.
-pub fn same_name(a: &[u8], b: &[u8]) -> bool
-    ensures { λ r. ⌜ r ≡ sameName (now (a .entry)) (now (b .entry)) ⌝ }
+// How many bytes are compared at once.
+const PART: usize = 16;
+
+// Bytes that were the same so far, with one more of each.
+fn still_same(same: bool, a: u8, b: u8) -> bool
+    ensures { λ r. ⌜ r ≡ both same (eqb a b) ⌝ }
 {
-    if a.len() != b.len() {
+    if a != b {
         return false;
     }
+    same
+}
+
+// Two parts are the same. It goes to the end whatever it meets, so that all bytes are compared at once.
+fn same_part(a: &[u8], b: &[u8]) -> bool
+    requires { ⌜ (length (now a) ≡ 16) × (length (now b) ≡ 16) ⌝ }
+    ensures { λ r. ⌜ r ≡ sameName (now (a .entry)) (now (b .entry)) ⌝ }
+{
+    let mut same = true;
+    let mut i = 0;
+    while i < PART {
+        same = still_same(same, a[i], b[i]);
+        i += 1;
+    }
+    same
+}
+
+// Two runs of one length are the same, the last bytes compared first.
+fn same_run(a: &[u8], b: &[u8]) -> bool
+    requires { ⌜ length (now a) ≡ length (now b) ⌝ }
+    ensures { λ r. ⌜ r ≡ sameName (now (a .entry)) (now (b .entry)) ⌝ }
+{
     let mut i = a.len();
     while 0 < i {
         i -= 1;
@@ -72,4 +100,23 @@ pub fn same_name(a: &[u8], b: &[u8]) -> bool
         }
     }
     true
+}
+
+// Two names are the same. Their last bytes are compared first, since names of a family differ at the end, and long ones by whole parts: they may
+// be made to differ late.
+pub fn same_name(a: &[u8], b: &[u8]) -> bool
+    ensures { λ r. ⌜ r ≡ sameName (now (a .entry)) (now (b .entry)) ⌝ }
+{
+    if a.len() != b.len() {
+        return false;
+    }
+    let mut i = a.len();
+    while PART <= i {
+        let end = i;
+        i -= PART;
+        if !same_part(&a[i..end], &b[i..end]) {
+            return false;
+        }
+    }
+    same_run(&a[..i], &b[..i])
 }
