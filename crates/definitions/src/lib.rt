@@ -1,7 +1,7 @@
 // Definition slots in the lent state: 64 words, the slots' lengths and then their resident flags, and the arena with 2,048 bytes for each slot.
 use fields::Cursor;
 use fields::Step;
-use fields::same_name;
+use fields::same_long;
 use files::read_definition;
 use files::width_of;
 use format::FIRST_PLACE;
@@ -15,7 +15,7 @@ use slots::resident_count;
 use widening::widen;
 use words::wide;
 ghost use Prim.Native.Nat.{ℕ, _+_, _*_, _≤_, _<_};
-ghost use mathlib.Core.Bool.{true, not};
+ghost use mathlib.Core.Bool.{true, false, not};
 ghost use mathlib.Core.Path.{_≡_};
 ghost use mathlib.Core.List.{List, _++_};
 ghost use lib.ListN.{length, drop, getD, set};
@@ -24,7 +24,7 @@ ghost use Rattle.words.specs.Choice.{both, either};
 ghost use Rattle.words.specs.Parts.{put};
 ghost use Rattle.format.specs.Definition.{Definition};
 ghost use Rattle.format.specs.Read.{got};
-ghost use Rattle.format.specs.Reader.{definitionBy, readDefinition, sizeLimit};
+ghost use Rattle.format.specs.Reader.{definitionBy, readDefinition, sizeLimit, sameName};
 ghost use Rattle.format.specs.HeaderLaws.{fileWidth};
 ghost use Rattle.format.specs.Writer.{writeDefinition};
 ghost use Rattle.format.specs.Fields.{stringAt};
@@ -132,6 +132,20 @@ fn slot_name<'a, 'b>(table: &'b [u32], arena: &'a [u8], k: usize) -> &'a [u8]
     name_at(bytes_on(table, arena, k), 0)
 }
 
+// Two names may be the same: they are as long, and end alike. It tells most names apart on the spot.
+fn ends_alike(a: &[u8], b: &[u8]) -> bool
+    ensures { λ r. ⌜ (r ≡ false → sameName (now (a .entry)) (now (b .entry)) ≡ false) ⌝ }
+{
+    let size = a.len();
+    if size != b.len() {
+        return false;
+    }
+    if size == 0 {
+        return true;
+    }
+    a[size - 1] == b[size - 1]
+}
+
 // A slot's definition is resident under a name.
 fn slot_named(table: &[u32], arena: &[u8], k: usize, name: &[u8]) -> bool
     requires { ⌜ Formed (now table) (now arena) × (k < slotCount) ⌝ }
@@ -140,7 +154,11 @@ fn slot_named(table: &[u32], arena: &[u8], k: usize, name: &[u8]) -> bool
     if table[SLOTS + k] != 1 {
         return false;
     }
-    same_name(slot_name(table, arena, k), name)
+    let own = slot_name(table, arena, k);
+    if !ends_alike(own, name) {
+        return false;
+    }
+    same_long(own, name)
 }
 
 // The resident of a name; 32 where there is none.

@@ -11,4 +11,5 @@ pub use cursor::word_at;
 pub use name::name_at;
 pub use name::name_bytes;
 pub use name::part;
+pub use name::same_long;
 pub use name::same_name;

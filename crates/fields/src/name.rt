@@ -102,9 +102,18 @@ fn same_run(a: &[u8], b: &[u8]) -> bool
     true
 }
 
-// Two names are the same. Their last bytes are compared first, since names of a family differ at the end, and long ones by whole parts: they may
-// be made to differ late.
+// Two names are the same. Their last bytes are compared first: names of a family differ at the end.
 pub fn same_name(a: &[u8], b: &[u8]) -> bool
+    ensures { λ r. ⌜ r ≡ sameName (now (a .entry)) (now (b .entry)) ⌝ }
+{
+    if a.len() != b.len() {
+        return false;
+    }
+    same_run(a, b)
+}
+
+// The same, by whole parts: where many names are compared with each other, long ones that differ late take no longer than they must.
+pub fn same_long(a: &[u8], b: &[u8]) -> bool
     ensures { λ r. ⌜ r ≡ sameName (now (a .entry)) (now (b .entry)) ⌝ }
 {
     if a.len() != b.len() {

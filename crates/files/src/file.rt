@@ -6,7 +6,7 @@ use fields::Cursor;
 use fields::Number;
 use fields::Step;
 use fields::name_at;
-use fields::same_name;
+use fields::same_long;
 use fields::word_at;
 use format::FILE_TYPE;
 use format::FILE_VERSION;
@@ -102,7 +102,7 @@ fn same_names(s: &[u8], other: usize, at: usize) -> bool
             return false;
         }
     }
-    same_name(name_at(s, other), name_at(s, at))
+    same_long(name_at(s, other), name_at(s, at))
 }
 
 // The name of the definition at a place is that of one of those that start at the first so many of `starts`.

@@ -4,13 +4,17 @@ use Rattle.format.specs.Reader.{sameName}
 use Rattle.words.specs.Choice.{both}
 use Prim.Native.Nat.{ℕ, _+_}
 use mathlib.Core.Bool.{Bool, true, false}
-use mathlib.Core.Path.{_≡_, sym, ap, _∙_}
+use mathlib.Core.Path.{_≡_, refl, sym, ap, _∙_}
 use mathlib.Core.List.{List}
 use borrow.Author.Needs.{needs}
-use borrow.Author.Tests.{eq-eqb, ne-eqb}
+use borrow.Author.Tests.{eq-eqb, ne-eqb, not-true}
 use lib.ListN.{getD}
 use Rattle.definitions.proofs.slot_named.Statement.{statement}
 use Rattle.definitions.proofs.slot_named.Tie as tie
+
+none : (b : Bool) → both b false ≡ false
+none true = refl
+none false = refl
 
 returns : tie.Need-returns
 returns c = let a = c .before .before .before .before .before .args in
@@ -24,14 +28,21 @@ slot-name-requires c κs =
 
 returns-2 : tie.Need-returns-2
 returns-2 c =
-    let a = c .before .before .before .before .before .before .before .args in
-    let in-slot : residentOn (a .table .now) (a .k) ≡ true = eq-eqb (getD (a .table .now) (32 + a .k) 0) 1 (c .before .before .if1 .left) in
-    c .same-name .ensures
-    ∙ ap (λ (n : List ℕ). sameName n (a .name .now)) (c .before .slot-name .ensures)
+    let a = c .before .before .before .before .before .before .before .before .args in
+    let other : sameName (nameOn (a .table .now) (a .arena .now) (a .k)) (a .name .now) ≡ false =
+    ap (λ (n : List ℕ). sameName n (a .name .now)) (sym (c .before .before .slot-name .ensures)) ∙ c .before .ends-alike .ensures (not-true (c .before .ends-alike .result) (c .if2 .taken)) in
+    sym (ap (λ (b : Bool). both (residentOn (a .table .now) (a .k)) b) other ∙ none (residentOn (a .table .now) (a .k)))
+
+returns-3 : tie.Need-returns-3
+returns-3 c =
+    let a = c .before .before .before .before .before .before .before .before .before .args in
+    let in-slot : residentOn (a .table .now) (a .k) ≡ true = eq-eqb (getD (a .table .now) (32 + a .k) 0) 1 (c .before .before .before .before .if1 .left) in
+    c .same-long .ensures
+    ∙ ap (λ (n : List ℕ). sameName n (a .name .now)) (c .before .before .before .slot-name .ensures)
     ∙ sym (ap (λ (b : Bool). both b (sameName (nameOn (a .table .now) (a .arena .now) (a .k)) (a .name .now))) in-slot)
 
 pub slot-named-spec : {M : Type 1} → statement M
 slot-named-spec =
     tie.close
     (tie.spec (λ c. search needs) (λ c. search needs) (λ c. search needs) returns slot-name-requires
-    (λ c κs. search needs) returns-2)
+    (λ c κs. search needs) returns-2 (λ c κs. search needs) returns-3)

@@ -24,7 +24,7 @@ returns c =
     sym (names-apart (a .s .now) (a .other) (a .at) (c .before .before .before .before .before .before .before .before .before .pre) (c .before .before .before .before .before .before .before .if1 .taken) (λ same. c .if2 .taken (c .before .before .before .before .name-key .ensures ∙ same ∙ sym (c .before .name-key2 .ensures))))
 
 returns-2 : tie.Need-returns-2
-returns-2 c = c .same-name .ensures ∙ ap₂ sameName (c .before .before .name-at .ensures) (c .before .name-at2 .ensures)
+returns-2 c = c .same-long .ensures ∙ ap₂ sameName (c .before .before .name-at .ensures) (c .before .name-at2 .ensures)
 
 pub same-names-spec : {M : Type 1} → statement M
 same-names-spec =
