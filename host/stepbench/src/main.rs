@@ -1,7 +1,7 @@
 //! The proved engine's time as a multiple of the independent Rust engine's, for the same commands in
 //! one run: whole (`apply`), with the time of its state check taken off (`step`), and in lists, where the
 //! check is a small part; and messages against commands as they are, their reading and writing against
-//! plain Rust; the lookup of a node; lists; and why a number is silent.
+//! plain Rust; the lookup of a node; lists; why a number is silent; and the most that a call takes.
 //!
 //! Run it from `host/`, after `./archives engine`, by `cargo run --release -p stepbench`; words after `--`, as `lists`, ask
 //! for parts of it.
@@ -14,6 +14,7 @@ mod lookups;
 mod messages;
 mod steps;
 mod why;
+mod worst;
 
 use clock::{least, SAMPLES};
 use commands::{commands, definition, definitions, engine_of};
@@ -61,7 +62,7 @@ impl State {
 }
 
 /// The parts, each by the word that asks for it alone.
-const PARTS: [(&str, fn()); 7] = [
+const PARTS: [(&str, fn()); 8] = [
     ("commands", every_command),
     ("steps", steps::measure),
     ("lookups", lookups::measure),
@@ -69,6 +70,7 @@ const PARTS: [(&str, fn()); 7] = [
     ("messages", messages::measure),
     ("why", why::measure),
     ("checks", checks),
+    ("worst", worst::measure),
 ];
 
 fn main() {
