@@ -1,4 +1,6 @@
 // The running order and the rules of the state on nodes, over the node region in lent words.
+mod walk;
+
 use layout::DEPTH;
 use layout::GROUP;
 use layout::MOST_NODES;
@@ -9,6 +11,9 @@ use layout::ROW;
 use layout::ROWS;
 use layout::RUN;
 use layout::SLOT;
+pub use walk::Walk;
+pub use walk::astray;
+pub use walk::walk_over;
 ghost use mathlib.Core.Bool.{false};
 ghost use mathlib.Core.Path.{_≡_};
 ghost use Prim.Native.Nat.{_+_, _*_, _≤_, _<_};
@@ -126,19 +131,17 @@ pub fn same_order(kept: &[u32], many: usize, nodes: &[u32], count: usize) -> boo
     if MOST_ORDER < many {
         return false;
     }
-    let fresh = running_order(nodes, count);
-    if many != fresh.length {
+    let start = Walk {
+        same: true,
+        limit: 0,
+        many: 0,
+        named: 0,
+    };
+    let whole = walk_over(&kept[..many], nodes, 0, count, start);
+    if !whole.same {
         return false;
     }
-    let numbers = fresh.numbers;
-    let mut i = 0;
-    while i < many {
-        if kept[i] != numbers[i] {
-            return false;
-        }
-        i += 1;
-    }
-    true
+    whole.many == many
 }
 
 // Every record past the first is below the root, and none deeper than the one before it lets it be.
