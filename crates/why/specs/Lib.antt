@@ -5,9 +5,10 @@ pub mod Worked
 pub mod Rows
 pub mod Table
 pub mod Runs
-pub mod Climb
+pub mod Sight
 pub mod Search
 pub mod Settle
+pub mod Seen
 pub mod Returns
 pub mod Mapped
 pub mod Exactly

@@ -10,25 +10,22 @@ use Rattle.nodes.specs.declared.Node.{Node}
 use Rattle.nodes.specs.Place.{isGroup}
 use Rattle.nodes.specs.Forest.{Forest, node, mapForest, has}
 use Rattle.nodes.specs.Forest as forest
-use Rattle.nodes.specs.Order.{isOn, order, orderTree}
-use Rattle.order.specs.Same.{same-true}
+use Rattle.nodes.specs.Order.{isOn, orderTree}
 use Rattle.treerefinement.specs.Tally.{one}
 use Rattle.treerefinement.specs.Flatten.{key}
 use Rattle.treerefinement.specs.Shape.{build}
 use Rattle.treerefinement.specs.MapForest.{map-has, map-order}
-use Rattle.model.specs.Layout.{latestIn, nodesIn, orderIn}
+use Rattle.model.specs.Layout.{latestIn, nodesIn}
 use Rattle.model.specs.Engine.{Slot, decode, definitionOf, controlsOf}
 use Rattle.model.specs.View.{group, synth, isGroupKind, viewOf}
 use Rattle.model.specs.Formed.{formed}
 use Rattle.model.specs.Plain.{ifSome, minusOne, numberIn, isGroupNode, isOnNode}
-use Rattle.state.specs.Known.{Known}
 use Rattle.why.specs.declared.Reason.{Reason}
 use Rattle.why.specs.declared.Reason.the-variants.{NoNode}
 use Rattle.why.specs.declared.Told.the-variants.{Refused, Because}
 use Rattle.refusals.specs.declared.Refusal.the-variants.{BadState}
 use Rattle.why.specs.Reasons.{nodeOf, ancestors, firstOff, placeFrom1, firstTrue, reason, plainReason}
 use Rattle.why.specs.Held.{heldTree, heldWhy, whyTold}
-use Rattle.why.specs.Rows.{Settled}
 use Rattle.why.specs.Table.{tableReason}
 use Rattle.why.specs.Runs.{times}
 
@@ -100,18 +97,6 @@ view-kind slots controls x = go (isGroup x)
 pub view-reason : (slots : List Slot) (controls : List ℕ) (n : ℕ) (f : Forest Node) → plainReason n (mapForest (viewOf slots controls) f) ≡ reason key isGroup isOn n f
 view-reason slots controls n f =
     map-reason (viewOf slots controls) key numberIn (λ x. refl) isGroup isOn isGroupNode isOnNode (view-kind slots controls) (λ x. refl) n f
-
--- what is known of a state that passed the check
-pub settled : (ws bs : List ℕ) → Known ws bs → Settled ws
-settled ws bs k = record {
-  size = k .size;
-  few = k .few;
-  index = k .index;
-  root = k .tree .root;
-  distinct = k .tree .distinct;
-  orderShort = k .orderShort;
-  ordered = same-true (orderIn ws) (order (nodesIn ws)) (k .orderSame);
-}
 
 held-reason : (number : ℕ) (ws bs : List ℕ) → tableReason number (latestIn ws) (nodesIn ws) ≡ heldWhy number (decode ws bs)
 unfolding decode

@@ -1,89 +1,111 @@
--- Each return of the reason's function, by the words that it read.
+-- Each return of the reason's function, by the words that it read; and what the parts of `why` give each other.
 use Prim.Native.Nat.{ℕ, _+_, _*_, _≤_, _<_}
-use mathlib.Core.Bool.{true, false}
-use mathlib.Core.Path.{_≡_, sym, ap, _∙_}
+use mathlib.Core.Bool.{Bool, true, false}
+use mathlib.Core.Path.{_≡_, sym, ap, subst, _∙_}
 use mathlib.Core.List.{List}
 use native.Mathlib.Omega.{arith}
-use lib.ListN.{length, drop, getD}
-use lib.Seq.{getD-take, getD-drop, length-take-le}
-use lib.Dec.{eqb}
-use borrow.Author.Tests.{eq-eqb, ne-eqb}
-use Rattle.words.specs.Parts.{region, region-length}
-use Rattle.nodes.specs.Table.{width}
-use Rattle.nodes.specs.Place.{isGroup, place}
-use Rattle.nodes.specs.Sizes.{depthAt}
+use lib.ListN.{drop, getD}
+use lib.Seq.{getD-take, getD-drop}
+use lib.Dec.{leb, eqb}
+use borrow.Author.Tests.{eq-eqb, ne-eqb, le-leb, lt-leb}
+use Rattle.words.specs.Choice.{pick}
+use Rattle.words.specs.Parts.{region}
+use Rattle.nodes.specs.Table.{width, nodeFrom, rows-length}
+use Rattle.nodes.specs.Place.{groupSlot, isGroup, place, place-most}
 use Rattle.nodes.specs.Order.{isOn}
-use Rattle.treerefinement.specs.Flatten.{key}
-use Rattle.treerefinement.specs.Shape.{build}
-use Rattle.model.specs.Layout.{nodesPlace, nodesWords, orderPlace, orderWords, countIn, orderLengthIn, nodesIn, orderIn}
-use Rattle.why.specs.declared.Reason.{Reason}
+use Rattle.order.specs.declared.walk.Walk.{Walk}
+use Rattle.model.specs.Layout.{nodesPlace, nodesWords, countIn, nextIn, latestIn, nodesIn}
+use Rattle.model.specs.Plain.{minusOne}
+use Rattle.state.specs.Known.{tree-known}
+use Rattle.statecheck.specs.Parts.{Numbered}
 use Rattle.why.specs.declared.Reason.the-variants.{NoNode, Group, Off, AncestorOff, Running}
-use Rattle.why.specs.Reasons.{reason}
-use Rattle.why.specs.Rows.{climb, lastFirst, before, BelowRoot, Settled}
-use Rattle.why.specs.Settle.{settle-none, settle-group, settle-off, settle-running, settle-climb, settle-root, settle-deep}
+use Rattle.why.specs.Rows.{sightTo, rowReason, askedPlace, stopAt, Settled}
+use Rattle.why.specs.Seen.{SeenTo, Looked}
 
--- a word of the nodes is a word
-node-word : (ws : List ℕ) (k : ℕ) → k < nodesWords → getD (region nodesPlace nodesWords ws) k 0 ≡ getD ws (nodesPlace + k) 0
-node-word ws k h = getD-take nodesWords (drop nodesPlace ws) k 0 h ∙ getD-drop nodesPlace ws k 0
+-- a word of a row is a word
+row-word : (ws : List ℕ) (at k : ℕ) → at < 256 → k < width → getD ws (nodesPlace + width * at + k) 0 ≡ getD (region nodesPlace nodesWords ws) (width * at + k) 0
+row-word ws at k h small =
+    let same : nodesPlace + width * at + k ≡ nodesPlace + (width * at + k) = omega arith in
+    ap (λ (j : ℕ). getD ws j 0) same
+    ∙ sym (getD-take nodesWords (drop nodesPlace ws) (width * at + k) 0 (omega arith) ∙ getD-drop nodesPlace ws (width * at + k) 0)
 
-abbrev reasonIn : ℕ → List ℕ → Reason
-reasonIn n ws = reason key isGroup isOn n (build (nodesIn ws))
+module _ (ws : List ℕ) (at : ℕ) (seen : Walk) (l : Looked ws at seen) (count : ℕ) (counted : count ≡ countIn ws) where
+  abbrev us : List ℕ
+  us = region nodesPlace nodesWords ws
 
-module _ (ws : List ℕ) (s : Settled ws) (n at count : ℕ) (found : at ≡ place n (nodesIn ws)) (many : count ≡ countIn ws) where
-  pub return-none : count ≤ at → NoNode ≡ reasonIn n ws
-  return-none h = sym (settle-none ws s n (omega arith))
+  pub return-none : count ≤ at → NoNode ≡ rowReason (region nodesPlace nodesWords ws) (countIn ws) at
+  return-none h = sym (rw (le-leb (countIn ws) at (omega arith)))
 
   module _ (h : at < count) where
-    here : place n (nodesIn ws) < countIn ws
-    here = omega arith
+    live : leb (countIn ws) at ≡ false
+    live = lt-leb (countIn ws) at (omega arith)
 
-    few : countIn ws ≤ 256
-    few = s .few
+    word : (k : ℕ) → k < width → getD ws (nodesPlace + width * at + k) 0 ≡ getD (region nodesPlace nodesWords ws) (width * at + k) 0
+    word k small = row-word ws at k (omega (arith, l .few)) small
 
-    -- a word of the row
-    row-word : (k v : ℕ) → k < 5 → eqb (getD ws (nodesPlace + 5 * at + k) 0) v ≡ eqb (getD (region nodesPlace nodesWords ws) (width * place n (nodesIn ws) + k) 0) v
-    row-word k v small =
-        let same : nodesPlace + 5 * at + k ≡ nodesPlace + (width * place n (nodesIn ws) + k) = omega arith in
-        ap (λ (j : ℕ). eqb (getD ws j 0) v) same ∙ ap (λ (w : ℕ). eqb w v) (sym (node-word ws (width * place n (nodesIn ws) + k) (omega (arith, few, here))))
+    pub return-group : getD ws (nodesPlace + width * at + 3) 0 ≡ groupSlot → Group ≡ rowReason (region nodesPlace nodesWords ws) (countIn ws) at
+    return-group g = sym (rw (live, eq-eqb (getD us (width * at + 3) 0) groupSlot (sym (word 3 (omega arith)) ∙ g)))
 
-    pub return-group : getD ws (nodesPlace + 5 * at + 3) 0 ≡ 32 → Group ≡ reasonIn n ws
-    return-group g = sym (settle-group ws s n here (sym (row-word 3 32 (omega arith)) ∙ eq-eqb (getD ws (nodesPlace + 5 * at + 3) 0) 32 g))
+    module _ (g : getD ws (nodesPlace + width * at + 3) 0 ≡ groupSlot → ⊥) where
+      synth : isGroup (nodeFrom (region nodesPlace nodesWords ws) (width * at)) ≡ false
+      synth = ne-eqb (getD us (width * at + 3) 0) groupSlot (λ e. g (word 3 (omega arith) ∙ e))
 
-    module _ (g : getD ws (nodesPlace + 5 * at + 3) 0 ≡ 32 → ⊥) where
-      synth : eqb (getD (region nodesPlace nodesWords ws) (width * place n (nodesIn ws) + 3) 0) 32 ≡ false
-      synth = sym (row-word 3 32 (omega arith)) ∙ ne-eqb (getD ws (nodesPlace + 5 * at + 3) 0) 32 g
+      pub return-off : (getD ws (nodesPlace + width * at + 2) 0 ≡ 1 → ⊥) → Off ≡ rowReason (region nodesPlace nodesWords ws) (countIn ws) at
+      return-off o = sym (rw (live, synth, ne-eqb (getD us (width * at + 2) 0) 1 (λ e. o (word 2 (omega arith) ∙ e))))
 
-      pub return-off : (getD ws (nodesPlace + 5 * at + 2) 0 ≡ 1 → ⊥) → Off ≡ reasonIn n ws
-      return-off o = sym (settle-off ws s n here synth (sym (row-word 2 1 (omega arith)) ∙ ne-eqb (getD ws (nodesPlace + 5 * at + 2) 0) 1 o))
+      module _ (o : getD ws (nodesPlace + width * at + 2) 0 ≡ 1) where
+        sounding : isOn (nodeFrom (region nodesPlace nodesWords ws) (width * at)) ≡ true
+        sounding = eq-eqb (getD us (width * at + 2) 0) 1 (sym (word 2 (omega arith)) ∙ o)
 
-      module _ (o : getD ws (nodesPlace + 5 * at + 2) 0 ≡ 1) (k : ℕ) (b : k ≡ before n (orderIn ws)) where
-        sounding : eqb (getD (region nodesPlace nodesWords ws) (width * place n (nodesIn ws) + 2) 0) 1 ≡ true
-        sounding = sym (row-word 2 1 (omega arith)) ∙ eq-eqb (getD ws (nodesPlace + 5 * at + 2) 0) 1 o
+        pub return-above : seen .limit < getD ws (nodesPlace + width * at + 1) 0 → AncestorOff (seen .named) ≡ rowReason (region nodesPlace nodesWords ws) (countIn ws) at
+        return-above deep =
+            let k = l .there (omega arith) synth sounding in
+            let d = word 1 (omega arith) in
+            let e = k .0 in
+            ap AncestorOff (k .2) ∙ sym (rw (live, synth, sounding, lt-leb (getD us (width * at + 1) 0) (sightTo us at .0) (omega arith)))
 
-        size : length (orderIn ws) ≡ orderLengthIn ws
-        size =
-            let room : length (region orderPlace orderWords ws) ≡ orderWords = region-length orderPlace orderWords ws (omega (arith, s .size)) in
-            length-take-le (orderLengthIn ws) (region orderPlace orderWords ws) (omega (arith, s .orderShort))
+        pub return-running : getD ws (nodesPlace + width * at + 1) 0 ≤ seen .limit → Running (seen .many + 1) ≡ rowReason (region nodesPlace nodesWords ws) (countIn ws) at
+        return-running near =
+            let k = l .there (omega arith) synth sounding in
+            let d = word 1 (omega arith) in
+            let e = k .0 in
+            ap (λ (n : ℕ). Running (n + 1)) (k .1) ∙ sym (rw (live, synth, sounding, le-leb (getD us (width * at + 1) 0) (sightTo us at .0) (omega arith)))
 
-        pub return-running : k < orderLengthIn ws → Running (k + 1) ≡ reasonIn n ws
-        return-running h = ap (λ (j : ℕ). Running (j + 1)) b ∙ sym (settle-running ws s n here synth sounding (omega (arith, size)))
+-- the place that is asked for, and the stop, are at most the count
+pub asked-most : (number : ℕ) (ws : List ℕ) → askedPlace number ws ≤ countIn ws
+asked-most number ws = go (eqb number minusOne) (eqb (latestIn ws) 0)
+  where
+    most : (n : ℕ) → place n (nodesIn ws) ≤ countIn ws
+    most n = rw rows-length at (place-most n (nodesIn ws))
 
-        module _ (absent : orderLengthIn ws ≤ k) where
-          pub return-root : (getD ws (nodesPlace + 2) 0 ≡ 1 → ⊥) → AncestorOff 0 ≡ reasonIn n ws
-          return-root r =
-              sym (settle-root ws s n here synth sounding (omega (arith, size)) (ap (λ (w : ℕ). eqb w 1) (node-word ws 2 (omega arith)) ∙ ne-eqb (getD ws (nodesPlace + 2) 0) 1 r))
+    go : (p q : Bool) → pick p (pick q (countIn ws) (place (latestIn ws) (nodesIn ws))) (place number (nodesIn ws)) ≤ countIn ws
+    go true true = omega arith
+    go true false = most (latestIn ws)
+    go false q = most number
 
-          pub return-climb : (m : ℕ) → m ≡ climb (depthAt (region nodesPlace nodesWords ws) at) 0 (lastFirst (region nodesPlace nodesWords ws) at) → AncestorOff m ≡ reasonIn n ws
-          return-climb m e =
-              ap AncestorOff (e ∙ ap (λ (j : ℕ). climb (depthAt (region nodesPlace nodesWords ws) j) 0 (lastFirst (region nodesPlace nodesWords ws) j)) found)
-              ∙ sym (settle-climb ws s n here synth sounding (omega (arith, size)))
+pub stop-most : (ws : List ℕ) (at : ℕ) → at ≤ countIn ws → stopAt ws at ≤ countIn ws
+stop-most ws at h = go (eqb (getD ws (nodesPlace + width * at + 3) 0) groupSlot) (eqb (getD ws (nodesPlace + width * at + 2) 0) 1)
+  where
+    go : (g o : Bool) → pick g (countIn ws) (pick o at (countIn ws)) ≤ countIn ws
+    go true o = omega arith
+    go false true = h
+    go false false = omega arith
 
-    pub below-root : getD ws (nodesPlace + 2) 0 ≡ 1 → BelowRoot (region nodesPlace nodesWords ws) at
-    below-root r =
-        let nodes : length (region nodesPlace nodesWords ws) ≡ nodesWords = region-length nodesPlace nodesWords ws (omega (arith, s .size)) in
-        record {
-          room = omega (arith, nodes, few);
-          few = omega (arith, few);
-          rootOn = ap (λ (w : ℕ). eqb w 1) (node-word ws 2 (omega arith)) ∙ eq-eqb (getD ws (nodesPlace + 2) 0) 1 r;
-          deep = λ i p q. settle-deep ws s n i p (omega arith);
-        }
+-- what is known of the tree behind the first part of the check
+pub settled : (ws bs : List ℕ) → Numbered ws bs → Settled ws
+settled ws bs n =
+    let t = tree-known (nextIn ws) (latestIn ws) (nodesIn ws) (n .nodes) in
+    record { size = n .size; few = n .few; root = t .root; distinct = t .distinct }
+
+-- the walk stopped at the row, where that asks for it
+pub looked : (ws bs : List ℕ) (at to : ℕ) (seen : Walk) → Numbered ws bs → to ≡ stopAt ws at → SeenTo ws to seen → seen .same ≡ true → Looked ws at seen
+looked ws bs at to seen n e s h = record {
+  size = n .size;
+  few = n .few;
+  manyFew = s .few;
+  there = λ live g o.
+      let word : (k : ℕ) → k < width → getD ws (nodesPlace + width * at + k) 0 ≡ getD (region nodesPlace nodesWords ws) (width * at + k) 0 = λ k small. row-word ws at k (let few = n .few in omega arith) small in
+      let here : to ≡ at = e ∙ rw (ap (λ (w : ℕ). eqb w groupSlot) (word 3 (omega arith)) ∙ g, ap (λ (w : ℕ). eqb w 1) (word 2 (omega arith)) ∙ o) in
+      let t : SeenTo ws at seen = subst (λ (k : ℕ). SeenTo ws k seen) here s in
+      (t .limit h, t .many h, t .named h);
+}

@@ -1,52 +1,55 @@
--- The same of the table: the rows before a node's own, walked from the last to the first.
-use Prim.Native.Nat.{ℕ, zero, suc, _+_, _*_, _≤_, _<_}
+-- The same of the table: what is seen on the way along the rows before a node's own.
+use Prim.Native.Nat.{ℕ, _+_, _*_, _≤_}
 use mathlib.Core.Bool.{true}
 use mathlib.Core.Path.{_≡_}
 use mathlib.Core.List.{List, [], _∷_}
 use lib.ListN.{length, getD}
-use lib.Dec.{ltb, eqb}
+use lib.Dec.{leb, eqb}
 use Rattle.words.specs.Choice.{pick}
 use Rattle.nodes.specs.declared.Node.{Node}
-use Rattle.nodes.specs.Table.{width, nodeFrom}
-use Rattle.nodes.specs.Sizes.{depthAt}
-use Rattle.nodes.specs.Order.{isOn, order}
+use Rattle.nodes.specs.Table.{width, nodeFrom, rows}
+use Rattle.nodes.specs.Place.{groupSlot, isGroup, place}
+use Rattle.nodes.specs.Order.{isOn, orderFrom}
 use Rattle.nodes.specs.Formed.{rooted, apart}
-use Rattle.index.specs.Index.{indexed}
-use Rattle.model.specs.Layout.{wordsLength, countIn, orderLengthIn, orderWords, nodesIn, orderIn, indexIn}
+use Rattle.model.specs.Layout.{wordsLength, nodesPlace, countIn, latestIn, nodesIn}
+use Rattle.model.specs.Plain.{minusOne}
+use Rattle.why.specs.declared.Reason.{Reason}
+use Rattle.why.specs.declared.Reason.the-variants.{NoNode, Group, Off, AncestorOff, Running}
 
--- up from the depth d along rows, the last first: each that is less deep than d is the next ancestor. The one passed last that is off, or m
-unfoldable pub climb : ℕ → ℕ → List Node → ℕ
-climb d m [] = m
-climb d m (r ∷ up) = pick (ltb (r .depth) d) (climb (r .depth) (pick (isOn r) m (r .number)) up) (climb d m up)
+-- how deep a record may be with every node above it on, and the number of the last record that had: one record later
+abbrev pub see : ℕ × ℕ → Node → ℕ × ℕ
+see s r = pick (leb (r .depth) (s .0)) (pick (isOn r) (r .depth + 1) (r .depth), r .number) s
 
--- the rows before that of n, the last first, on top of others
-unfoldable pub back : ℕ → List Node → List Node → List Node
-back n up [] = up
-back n up (r ∷ l) = pick (eqb (r .number) n) up (back n (r ∷ up) l)
+-- and past rows
+unfoldable pub sight : ℕ × ℕ → List Node → ℕ × ℕ
+sight s [] = s
+sight s (r ∷ l) = sight (see s r) l
 
--- the first so many rows in the words us, the last first
-unfoldable pub lastFirst : List ℕ → ℕ → List Node
-lastFirst us zero = []
-lastFirst us (suc i) = nodeFrom us (width * i) ∷ lastFirst us i
+-- the first so many rows in the words us, from the root on
+abbrev pub sightTo : List ℕ → ℕ → ℕ × ℕ
+sightTo us at = sight (0, 0) (rows at us)
 
--- how many numbers stand before the first n
-unfoldable pub before : ℕ → List ℕ → ℕ
-before n [] = 0
-before n (m ∷ l) = pick (eqb m n) 0 (suc (before n l))
+-- the reason of the row at a place among so many: a row too deep for what was seen before it is below the last that was not, and that one is off
+abbrev pub rowReason : List ℕ → ℕ → ℕ → Reason
+rowReason us count at =
+    pick (leb count at) NoNode
+    (pick (isGroup (nodeFrom us (width * at))) Group
+    (pick (isOn (nodeFrom us (width * at)))
+    (pick (leb (nodeFrom us (width * at) .depth) (sightTo us at .0)) (Running (length (orderFrom 0 (rows at us)) + 1)) (AncestorOff (sightTo us at .1)))
+    Off))
 
--- a row in the words, below a root that is on
-pub record BelowRoot (us : List ℕ) (at : ℕ) : Type 0 where
-  pub room : width * at + width ≤ length us
-  pub few : at ≤ 256
-  pub rootOn : eqb (getD us 2 0) 1 ≡ true
-  pub deep : (i : ℕ) → 0 < i → i < at → 0 < depthAt us i
+-- the place of the node that a number asks for, or the count
+abbrev pub askedPlace : ℕ → List ℕ → ℕ
+askedPlace number ws = pick (eqb number minusOne) (pick (eqb (latestIn ws) 0) (countIn ws) (place (latestIn ws) (nodesIn ws))) (place number (nodesIn ws))
 
--- what the reason of a node asks of the words
+-- where the walk stops for a row: at a synth that is on, else at the end
+abbrev pub stopAt : List ℕ → ℕ → ℕ
+stopAt ws at =
+    pick (eqb (getD ws (nodesPlace + width * at + 3) 0) groupSlot) (countIn ws) (pick (eqb (getD ws (nodesPlace + width * at + 2) 0) 1) at (countIn ws))
+
+-- what the reason of a row asks of the words
 pub record Settled (ws : List ℕ) : Type 0 where
   pub size : length ws ≡ wordsLength
   pub few : countIn ws ≤ 256
-  pub index : indexed (indexIn ws) (nodesIn ws) ≡ true
   pub root : rooted (nodesIn ws) ≡ true
   pub distinct : apart (nodesIn ws) ≡ true
-  pub orderShort : orderLengthIn ws ≤ orderWords
-  pub ordered : orderIn ws ≡ order (nodesIn ws)

@@ -1,8 +1,8 @@
-// Why a node is silent: the state check, and then the reason of the node that a number names.
-mod climb;
+// Why a node is silent: the state check, with an eye on the node that a number names, and then its reason.
 mod number;
+mod place;
 mod reasons;
-mod search;
+mod sight;
 
 use refusals::Refusal;
 

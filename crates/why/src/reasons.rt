@@ -1,42 +1,34 @@
-// The reason of a node, and `why`.
+// The reason of a row, and `why`.
 use crate::Reason;
 use crate::Told;
-use crate::climb::off_above;
-use crate::search::before_in;
+use crate::place::asked_place;
+use crate::place::stop_at;
+use crate::sight::seen_to;
 use layout::COUNT;
+use layout::DEPTH;
 use layout::GROUP;
-use layout::LATEST;
 use layout::NODES;
-use layout::NODES_END;
-use layout::ORDER;
-use layout::ORDER_END;
-use layout::ORDER_LENGTH;
 use layout::RECORD;
 use layout::RUN;
 use layout::SLOT;
-use names::place_of;
+use order::Walk;
 use refusals::Refusal;
-use statecheck::well_formed;
+use statecheck::held_formed;
+use statecheck::numbers_formed;
 use words::wide;
 ghost use mathlib.Core.Path.{_≡_};
-ghost use Rattle.nodes.specs.Place.{isGroup};
-ghost use Rattle.nodes.specs.Order.{isOn};
-ghost use Rattle.treerefinement.specs.Flatten.{key};
-ghost use Rattle.treerefinement.specs.Shape.{build};
-ghost use Rattle.model.specs.Layout.{latestIn, nodesIn};
-ghost use Rattle.why.specs.Reasons.{reason};
+ghost use Rattle.words.specs.Parts.{region};
+ghost use Rattle.model.specs.Layout.{nodesPlace, nodesWords, countIn};
 ghost use Rattle.why.specs.Held.{whyTold};
-ghost use Rattle.why.specs.Rows.{Settled};
-ghost use Rattle.why.specs.Table.{tableReason};
+ghost use Rattle.why.specs.Rows.{rowReason};
+ghost use Rattle.why.specs.Seen.{Looked};
 
-// The reason of the node with a number: a synth that is on runs where the kept order has it, and else an ancestor is off.
-fn reason_of(words: &[u32], number: u32) -> Reason
-    requires { ⌜ Settled (now words) ⌝ }
-    ensures { λ r. ⌜ r ≡ reason key isGroup isOn number (build (nodesIn (now (words .entry)))) ⌝ }
+// The reason of the row at a place, by what was seen on the way to it: a row too deep for it is below the last that was not, and that one is off.
+fn reason_at(words: &[u32], at: usize, seen: Walk) -> Reason
+    requires { ⌜ Looked (now words) at seen ⌝ }
+    ensures { λ r. ⌜ r ≡ rowReason (region nodesPlace nodesWords (now (words .entry))) (countIn (now (words .entry))) at ⌝ }
 {
-    let at = place_of(words, number);
-    let count = wide(words[COUNT]);
-    if count <= at {
+    if wide(words[COUNT]) <= at {
         return Reason::NoNode;
     }
     if words[NODES + RECORD * at + SLOT] == GROUP {
@@ -45,38 +37,28 @@ fn reason_of(words: &[u32], number: u32) -> Reason
     if words[NODES + RECORD * at + RUN] != 1 {
         return Reason::Off;
     }
-    let many = wide(words[ORDER_LENGTH]);
-    let before = before_in(&words[ORDER..ORDER_END], many, number);
-    if before < many {
-        return Reason::Running(before as u32 + 1);
+    if seen.limit < words[NODES + RECORD * at + DEPTH] {
+        return Reason::AncestorOff(seen.named);
     }
-    if words[NODES + RUN] != 1 {
-        return Reason::AncestorOff(0);
-    }
-    Reason::AncestorOff(off_above(&words[NODES..NODES_END], at))
+    Reason::Running(seen.many as u32 + 1)
 }
 
-// The reason for a number: -1 means the latest synth, any other number its own node.
-fn reason_for(words: &[u32], number: u32) -> Reason
-    requires { ⌜ Settled (now words) ⌝ }
-    ensures { λ r. ⌜ r ≡ tableReason number (latestIn (now (words .entry))) (nodesIn (now (words .entry))) ⌝ }
-{
-    let mut asked = number;
-    if number == 4294967295 {
-        asked = words[LATEST];
-        if asked == 0 {
-            return Reason::NoNode;
-        }
-    }
-    reason_of(words, asked)
-}
-
-// Why the node that a number names is silent, or where it runs, in any state at all: refusal 1 where the state is not well formed.
+// Why the node that a number names is silent, or where it runs, in any state at all: refusal 1 where the state is not well formed. The row is looked up as soon as the index is known
+// to be right, so that the test of the kept order, which goes over all rows, shows what is asked of the rows before it.
 pub fn why(number: u32, words: &[u32], arena: &[u8]) -> Told
     ensures { λ r. ⌜ r ≡ whyTold number (now (words .entry)) (now (arena .entry)) ⌝ }
 {
-    if !well_formed(words, arena) {
+    if !numbers_formed(words, arena) {
         return Told::Refused(Refusal::BadState);
     }
-    Told::Because(reason_for(words, number))
+    let at = asked_place(words, number);
+    let to = stop_at(words, at);
+    let seen = seen_to(words, to);
+    if !seen.same {
+        return Told::Refused(Refusal::BadState);
+    }
+    if !held_formed(words, arena) {
+        return Told::Refused(Refusal::BadState);
+    }
+    Told::Because(reason_at(words, at, seen))
 }

@@ -55,9 +55,14 @@ impl State {
         )
     }
 
-    /// The state check alone: `/n_run` with a flag of 2, which is refused right behind it.
+    /// `/n_run` with a flag of 2, which is refused right behind the state check.
+    fn refused(&mut self) -> u64 {
+        self.apply(&Call::new(12, [0, 2, 0, 0, 0], b""))
+    }
+
+    /// The state check alone.
     fn check(&mut self) {
-        assert_eq!(self.apply(&Call::new(12, [0, 2, 0, 0, 0], b"")), 13);
+        assert_eq!(self.refused(), 13);
     }
 }
 

@@ -1,11 +1,13 @@
-//! Why a number is silent: the proved answer, with the time of its state check taken off, against plain
-//! Rust. The check is timed by the same call, on a copy of the state that is refused at the last word that it
-//! looks at.
+//! Why a number is silent: the proved answer, with the time of the state check taken off, against plain
+//! Rust. The answer looks at the rows while the check goes over them, so the check is timed by a command that
+//! is refused right behind it; what that call takes more than `why` on the way to its check and back is
+//! taken off by both calls on states that are refused at once.
 
 use super::State;
 use crate::clock::least;
 use crate::commands::{definition, done, engine_of};
-use independent::{layout, write, Call, Engine, Reason};
+use independent::{write, Call, Engine, Reason};
+use std::cell::RefCell;
 use std::hint::black_box;
 
 /// Reasons in words, and which they are.
@@ -26,7 +28,7 @@ const KINDS: [Kind; 6] = [
 pub fn measure() {
     println!();
     print!("{:44} {:>9}", "why a number is silent", "Rust");
-    println!(" {:>9} {:>9} {:>7}", "whole", "why", "ratio");
+    println!(" {:>9} {:>9} {:>9} {:>7}", "whole", "check", "why", "ratio");
     for nodes in [8, 64, 256] {
         for (tree, engine) in [("", flat(nodes)), (", deep", deep(nodes))] {
             let view = engine.view();
@@ -50,7 +52,12 @@ fn row(what: &str, engine: &Engine, numbers: &[i32]) {
     for number in numbers {
         assert_eq!(proved(number), engine.why(*number).packed());
     }
-    let refused = refused_last(&state);
+    let checked = RefCell::new(state.clone());
+    let empty = RefCell::new(State {
+        words: Vec::new(),
+        arena: Vec::new(),
+        reply: Vec::new(),
+    });
     let times = least(vec![
         Box::new(|| {
             for number in numbers {
@@ -63,30 +70,32 @@ fn row(what: &str, engine: &Engine, numbers: &[i32]) {
             }
         }),
         Box::new(|| {
+            for _ in numbers {
+                black_box(checked.borrow_mut().refused());
+            }
+        }),
+        Box::new(|| {
+            for _ in numbers {
+                black_box(empty.borrow_mut().refused());
+            }
+        }),
+        Box::new(|| {
             for number in numbers {
+                let state = empty.borrow();
                 black_box(engine::why(
                     black_box(*number) as u32,
-                    &refused.words,
-                    &refused.arena,
+                    &state.words,
+                    &state.arena,
                 ));
             }
         }),
     ]);
-    let [rust, whole, check] = [0, 1, 2].map(|way| times[way] / numbers.len() as f64);
+    let each = |way: usize| times[way] / numbers.len() as f64;
+    let (rust, whole) = (each(0), each(1));
+    let check = each(2) - each(3) + each(4);
     let why = whole - check;
-    print!("{what:44} {rust:>9.1} {whole:>9.1}");
+    print!("{what:44} {rust:>9.1} {whole:>9.1} {check:>9.1}");
     println!(" {why:>9.1} {:>7.2}", why / rust);
-}
-
-/// The state with a mapping that is none in the last synth's only control, which the check looks at last.
-fn refused_last(state: &State) -> State {
-    let mut refused = state.clone();
-    let records = layout::records(&state.words);
-    let last = records.iter().rfind(|record| !record.is_group());
-    let row = last.expect("it has a synth").row as usize;
-    refused.words[layout::row_words(row, 1).end - 1] = u32::MAX;
-    assert_eq!(engine::why(0, &refused.words, &refused.arena), 1);
-    refused
 }
 
 /// Four groups with synths in them by turns: those of group 2 are off, and group 3 is.
