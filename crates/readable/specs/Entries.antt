@@ -52,14 +52,30 @@ pub record Turn (s : List ℕ) (bound n i at : ℕ) : Type 0 where
   pub within : entryEnd s at ≤ length s
   pub more : Entries s bound (n - (i + 1)) (entryEnd s at)
   pub first : entriesFrom s (n - i) at ≡ entryAt s at ∷ entriesFrom s (n - (i + 1)) (entryEnd s at)
-  pub end : entriesEnd s (n - i) at ≡ entriesEnd s (n - (i + 1)) (entryEnd s at)
 
 pub entries-turn : (s : List ℕ) (bound n i at : ℕ) → i < n → Entries s bound (n - i) at → Turn s bound n i at
-unfolding Entries entriesFrom entriesEnd
+unfolding Entries entriesFrom
 entries-turn s bound n i at h l =
     let e : n - i ≡ suc (n - (i + 1)) = omega arith in
     let w : Entries s bound (suc (n - (i + 1))) at = rw e at l in
-    record { below = w .0; within = w .1; more = w .2; first = rw e; end = rw e }
+    record { below = w .0; within = w .1; more = w .2; first = rw e }
+
+-- what is left of so many entries: they end where all do
+pub record Left (s : List ℕ) (count first left at : ℕ) : Type 0 where
+  pub known : Entries s mostParameters left at
+  pub same : entriesEnd s left at ≡ entriesEnd s count first
+
+-- what is known of the first of those left, and of the n behind it
+pub record Step (s : List ℕ) (count first n at : ℕ) : Type 0 where
+  pub within : entryEnd s at ≤ length s
+  pub more : {next : ℕ} → next ≡ entryEnd s at → Left s count first n next
+
+pub entries-step : {s : List ℕ} {count first left at : ℕ} (n : ℕ) → left ≡ suc n → Left s count first left at → Step s count first n at
+unfolding Entries entriesEnd
+entries-step {s} {count} {first} {left} {at} n e l =
+    let w : Entries s mostParameters (suc n) at = rw e at (l .known) in
+    let ends : entriesEnd s (suc n) at ≡ entriesEnd s count first = rw e at (l .same) in
+    record { within = w .1; more = λ p. record { known = rw p (w .2); same = rw p ends } }
 
 pub entries-none : (s : List ℕ) (n i at : ℕ) → n ≤ i → entriesFrom s (n - i) at ≡ []
 unfolding entriesFrom
@@ -69,9 +85,10 @@ pub entries-past : (s : List ℕ) (bound n at : ℕ) → at ≤ length s → Ent
 unfolding Entries
 entries-past s bound n at h = let e : n - n ≡ 0 = omega arith in rw e h
 
-pub entries-last : (s : List ℕ) (n i at : ℕ) → n ≤ i → entriesEnd s (n - i) at ≡ at
+-- where none is left
+pub entries-last : {s : List ℕ} {count first left at : ℕ} → left ≤ 0 → Left s count first left at → at ≡ entriesEnd s count first
 unfolding entriesEnd
-entries-last s n i at h = let e : n - i ≡ 0 = omega arith in rw e
+entries-last {s} {count} {first} {left} {at} h l = let e : left ≡ 0 = omega arith in rw e at (l .same)
 
 -- an entry that was read
 pub record EntryGot (p : ℕ) (s : List ℕ) (at : ℕ) (x : ParameterName) (next : ℕ) : Type 0 where
