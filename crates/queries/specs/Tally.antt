@@ -1,11 +1,11 @@
 -- The nodes of the table counted by their slots' words.
-use Prim.Native.Nat.{ℕ, zero, suc, _+_, _*_, _≤_, _<_}
+use Prim.Native.Nat.{ℕ, zero, suc, _+_, _*_, _-_, _≤_, _<_}
 use mathlib.Core.Bool.{Bool, true, false}
 use mathlib.Core.Path.{_≡_, refl, sym, ap, _∙_}
 use mathlib.Core.List.{List, [], _∷_}
 use native.Mathlib.Omega.{arith}
 use native.Mathlib.Nat.{mul-le-mul-right}
-use lib.ListN.{length, drop, getD, set, replicate, length-set, length-replicate, getD-replicate}
+use lib.ListN.{length, drop, getD, set, replicate, length-set, length-drop, length-replicate, getD-replicate}
 use lib.Seq.{getD-set-same, getD-set-other}
 use lib.Dec.{ltb, eqb}
 use borrow.Author.Tests.{eqb-true, eqb-false, ltb-true, ltb-false, lt-ltb, le-ltb, ne-eqb}
@@ -17,7 +17,7 @@ use Rattle.nodes.specs.declared.Node.{Node}
 use Rattle.nodes.specs.Table.{row-from, rows-end, rows-length}
 use Rattle.nodes.specs.Place.{groupSlot, isGroup}
 use Rattle.nodes.specs.Formed.{mostNodes}
-use Rattle.model.specs.Layout.{wordsLength, slotCount, countIn, nodesIn, nodesPlace, nodesWords, controlsIn}
+use Rattle.model.specs.Layout.{slotCount, countIn, nodesIn, nodesPlace, nodesWords, controlsIn}
 use Rattle.model.specs.Engine.{Slot, decode}
 use Rattle.model.specs.View.{kindIn, viewRows, isGroupKind}
 use Rattle.model.specs.Replies.{unitsOf, unitCount, groupCount}
@@ -37,17 +37,17 @@ slotTally k (r ∷ l) = pick (eqb (r .slot) k) 1 0 + slotTally k l
 abbrev pub slotWords : ℕ
 slotWords = 33
 
-abbrev pub Tallies : List ℕ → List ℕ → Type 0
-Tallies ws counts = (k : ℕ) → k < slotWords → getD counts k 0 ≡ slotTally k (nodesIn ws)
+-- of four parts together
+abbrev pub Tallies : List ℕ → List ℕ → List ℕ → List ℕ → List ℕ → Type 0
+Tallies ws a b c d = (k : ℕ) → k < slotWords → getD a k 0 + getD b k 0 + getD c k 0 + getD d k 0 ≡ slotTally k (nodesIn ws)
 
 -- a table whose slots' words are slots, or say that it is a group
 pub record Slotted (ws : List ℕ) : Type 0 where
-  pub size : length ws ≡ wordsLength
   pub few : countIn ws ≤ mostNodes
   pub low : (i : ℕ) → i < countIn ws → nodeIn ws i .slot < slotWords
 
 pub slotted : (ws bs : List ℕ) → Known ws bs → Slotted ws
-slotted ws bs k = record { size = k .size; few = k .few; low = λ i h. by i h (isGroup (nodeIn ws i)) refl }
+slotted ws bs k = record { few = k .few; low = λ i h. by i h (isGroup (nodeIn ws i)) refl }
   where
     by : (i : ℕ) → i < countIn ws → (b : Bool) → isGroup (nodeIn ws i) ≡ b → nodeIn ws i .slot < slotWords
     by i h true e = omega (arith, eqb-true (nodeIn ws i .slot) groupSlot e)
@@ -74,35 +74,68 @@ module _ (ws : List ℕ) (k : ℕ) where
   unfolding slotTally
   tally-end i h = ap (slotTally k) (rows-end (countIn ws) (region nodesPlace nodesWords ws) i h)
 
--- the records before i were counted
-pub record Tallied (ws : List ℕ) (i : ℕ) (counts : List ℕ) : Type 0 where
+-- of the records from a place on i were counted
+pub record Tallied (ws : List ℕ) (from i : ℕ) (counts : List ℕ) : Type 0 where
   pub size : length counts ≡ slotWords
-  pub same : (k : ℕ) → k < slotWords → getD counts k 0 + slotTally k (drop i (nodesIn ws)) ≡ slotTally k (nodesIn ws)
+  pub same : (k : ℕ) → k < slotWords → getD counts k 0 + slotTally k (drop (from + i) (nodesIn ws)) ≡ slotTally k (drop from (nodesIn ws))
 
-pub tallied-none : (ws : List ℕ) → Tallied ws 0 (replicate slotWords 0)
-tallied-none ws = record { size = length-replicate {A = ℕ} slotWords 0; same = λ k h. omega (arith, getD-replicate {A = ℕ} slotWords k 0 0 h) }
+-- a place written in another way
+tally-place : (ws : List ℕ) (k i j : ℕ) → i ≡ j → slotTally k (drop i (nodesIn ws)) ≡ slotTally k (drop j (nodesIn ws))
+tally-place ws k i j e = ap (λ (n : ℕ). slotTally k (drop n (nodesIn ws))) e
 
-pub tallied-more : (ws : List ℕ) (i : ℕ) → Slotted ws → i < countIn ws → (counts : List ℕ) → Tallied ws i counts → (slot : ℕ) → slot ≡ nodeIn ws i .slot
-    → Tallied ws (i + 1) (set counts slot (getD counts slot 0 + 1))
-tallied-more ws i s h counts t slot is = record { size = length-set counts slot _ ∙ t .size; same = λ k l. by k l (eqb slot k) refl }
+pub tallied-none : (ws : List ℕ) (from : ℕ) → Tallied ws from 0 (replicate slotWords 0)
+tallied-none ws from =
+    record {
+      size = length-replicate {A = ℕ} slotWords 0;
+      same = λ k h. omega (arith, getD-replicate {A = ℕ} slotWords k 0 0 h, tally-place ws k (from + 0) from (omega arith));
+    }
+
+pub tallied-more : (ws : List ℕ) (from i : ℕ) → Slotted ws → from + i < countIn ws → (counts : List ℕ) → Tallied ws from i counts → (slot : ℕ) → slot ≡ nodeIn ws (from + i) .slot
+    → Tallied ws from (i + 1) (set counts slot (getD counts slot 0 + 1))
+tallied-more ws from i s h counts t slot is = record { size = length-set counts slot _ ∙ t .size; same = λ k l. by k l (eqb slot k) refl }
   where
-    turn : (k : ℕ) → slotTally k (drop i (nodesIn ws)) ≡ pick (eqb slot k) 1 0 + slotTally k (drop (i + 1) (nodesIn ws))
-    turn k = rw is (tally-turn ws k i h)
+    turn : (k : ℕ) → slotTally k (drop (from + i) (nodesIn ws)) ≡ pick (eqb slot k) 1 0 + slotTally k (drop (from + (i + 1)) (nodesIn ws))
+    turn k =
+        let next = tally-place ws k (from + i + 1) (from + (i + 1)) (omega arith) in
+        rw is (tally-turn ws k (from + i) h ∙ ap (λ (n : ℕ). pick (eqb (nodeIn ws (from + i) .slot) k) 1 0 + n) next)
 
-    by : (k : ℕ) → k < slotWords → (b : Bool) → eqb slot k ≡ b → getD (set counts slot (getD counts slot 0 + 1)) k 0 + slotTally k (drop (i + 1) (nodesIn ws)) ≡ slotTally k (nodesIn ws)
+    by : (k : ℕ) → k < slotWords → (b : Bool) → eqb slot k ≡ b
+        → getD (set counts slot (getD counts slot 0 + 1)) k 0 + slotTally k (drop (from + (i + 1)) (nodesIn ws)) ≡ slotTally k (drop from (nodesIn ws))
     by k l true e =
         let here : slot ≡ k = eqb-true slot k e in
         let now : getD (set counts slot (getD counts slot 0 + 1)) k 0 ≡ getD counts k 0 + 1 =
         ap (λ (j : ℕ). getD (set counts slot (getD counts slot 0 + 1)) j 0) (sym here)
-        ∙ getD-set-same counts slot _ 0 (omega (arith, t .size, s .low i h))
+        ∙ getD-set-same counts slot _ 0 (omega (arith, t .size, s .low (from + i) h))
         ∙ ap (λ (j : ℕ). getD counts j 0 + 1) here in
         omega (arith, now, rw e at (turn k), t .same k l)
     by k l false e =
         let now : getD (set counts slot (getD counts slot 0 + 1)) k 0 ≡ getD counts k 0 = getD-set-other counts slot k _ 0 (λ j. eqb-false slot k e (sym j)) in
         omega (arith, now, rw e at (turn k), t .same k l)
 
-pub tallied-all : (ws : List ℕ) (i : ℕ) (counts : List ℕ) → Tallied ws i counts → countIn ws ≤ i → Tallies ws counts
-tallied-all ws i counts t past k h = omega (arith, t .same k h, tally-end ws k i past)
+-- a count is at most as many as there are
+pub tallied-few : (ws : List ℕ) (from i : ℕ) → Slotted ws → (counts : List ℕ) → Tallied ws from i counts → (k : ℕ) → k < slotWords → getD counts k 0 ≤ mostNodes
+tallied-few ws from i s counts t k h =
+    omega
+    (arith, t .same k h, tally-list k (drop from (nodesIn ws)), length-drop from (nodesIn ws), rows-length (countIn ws) (region nodesPlace nodesWords ws), s .few)
+
+-- four parts side by side, of which the last goes on to the end
+pub tallied-all : (ws : List ℕ) (part i : ℕ) (a b c d : List ℕ)
+    → Tallied ws 0 part a → Tallied ws part part b → Tallied ws (2 * part) part c → Tallied ws (3 * part) i d → countIn ws ≤ 3 * part + i → Tallies ws a b c d
+tallied-all ws part i a b c d ta tb tc td past k h =
+    omega (
+      arith,
+      ta .same k h,
+      tb .same k h,
+      tc .same k h,
+      td .same k h,
+      tally-place ws k (0 + part) part (omega arith),
+      tally-place ws k (part + part) (2 * part) (omega arith),
+      tally-place ws k (2 * part + part) (3 * part) (omega arith),
+      tally-end ws k (3 * part + i) past,
+    )
+
+pub tallies-few : (ws a b c d : List ℕ) → Slotted ws → Tallies ws a b c d → (k : ℕ) → k < slotWords → getD a k 0 + getD b k 0 + getD c k 0 + getD d k 0 ≤ mostNodes
+tallies-few ws a b c d s t k h = omega (arith, t k h, tally-most ws k, s .few)
 
 -- a slot that a synth holds has one whole definition
 pub held-slot : (ws bs : List ℕ) (k : ℕ) → Known ws bs → k < slotCount → (n i : ℕ) → countIn ws ≤ i + n → 0 < slotTally k (drop i (nodesIn ws)) → ReadableWhole (slotBytes ws bs k)
@@ -147,18 +180,81 @@ unfolding unitsBefore
 before-none u [] = refl
 before-none u (r ∷ l) = rw (le-ltb (r .slot) 0 (omega arith)) (omega (arith, before-none u l))
 
+-- one for each: how many hold a slot before k
+abbrev one : ℕ → ℕ
+one j = 1
+
+before-rises : (j m : ℕ) → j ≤ m → (t : List Node) → unitsBefore one j t ≤ unitsBefore one m t
+unfolding unitsBefore
+before-rises j m h [] = omega arith
+before-rises j m h (r ∷ l) = by (before-rises j m h l) (ltb (r .slot) j) (ltb (r .slot) m) refl refl
+  where
+    by : unitsBefore one j l ≤ unitsBefore one m l → (a b : Bool) → ltb (r .slot) j ≡ a → ltb (r .slot) m ≡ b
+        → pick (ltb (r .slot) j) 1 0 + unitsBefore one j l ≤ pick (ltb (r .slot) m) 1 0 + unitsBefore one m l
+    by ih true true p q = rw (p, q) (omega arith)
+    by ih true false p q = absurd (omega (arith, ltb-true (r .slot) j p, ltb-false (r .slot) m q))
+    by ih false b p q = rw p (omega arith)
+
+-- where no more hold a slot, there are no more units
+before-same : (u : ℕ → ℕ) (j m : ℕ) → j ≤ m → (t : List Node) → unitsBefore one j t ≡ unitsBefore one m t → unitsBefore u j t ≡ unitsBefore u m t
+unfolding unitsBefore
+before-same u j m h [] e = refl
+before-same u j m h (r ∷ l) e = by (before-same u j m h l) (ltb (r .slot) j) (ltb (r .slot) m) refl refl e
+  where
+    by : (unitsBefore one j l ≡ unitsBefore one m l → unitsBefore u j l ≡ unitsBefore u m l) → (a b : Bool) → ltb (r .slot) j ≡ a → ltb (r .slot) m ≡ b
+        → pick (ltb (r .slot) j) 1 0 + unitsBefore one j l ≡ pick (ltb (r .slot) m) 1 0 + unitsBefore one m l
+        → pick (ltb (r .slot) j) (u (r .slot)) 0 + unitsBefore u j l ≡ pick (ltb (r .slot) m) (u (r .slot)) 0 + unitsBefore u m l
+    by ih true true p q e = rw (p, q) (omega (arith, ih (omega (arith, rw (p, q) at e))))
+    by ih true false p q e = absurd (omega (arith, ltb-true (r .slot) j p, ltb-false (r .slot) m q))
+    by ih false true p q e = absurd (omega (arith, rw (p, q) at e, before-rises j m h l))
+    by ih false false p q e = rw (p, q) (omega (arith, ih (omega (arith, rw (p, q) at e))))
+
+module _ (ws : List ℕ) where
+  abbrev pub heldTo : ℕ → ℕ
+  heldTo k = unitsBefore one k (nodesIn ws)
+
+  held-none : heldTo 0 ≡ 0
+  held-none = before-none one (nodesIn ws)
+
+  held-more : (k : ℕ) → heldTo (k + 1) ≡ heldTo k + slotTally k (nodesIn ws)
+  held-more k = omega (arith, before-step one k (nodesIn ws))
+
+  module _ (s : Slotted ws) where
+    held-from : (n i : ℕ) → i ≤ countIn ws → countIn ws ≤ i + n → i + unitsBefore one slotWords (drop i (nodesIn ws)) ≡ countIn ws
+    unfolding unitsBefore
+    held-from zero i low most = omega (arith, ap (unitsBefore one slotWords) (rows-end (countIn ws) (region nodesPlace nodesWords ws) i (omega arith)))
+    held-from (suc n) i low most = by (held-from n (i + 1)) (ltb i (countIn ws)) refl
+      where
+        by : (i + 1 ≤ countIn ws → countIn ws ≤ i + 1 + n → i + 1 + unitsBefore one slotWords (drop (i + 1) (nodesIn ws)) ≡ countIn ws) → (b : Bool) → ltb i (countIn ws) ≡ b
+            → i + unitsBefore one slotWords (drop i (nodesIn ws)) ≡ countIn ws
+        by ih true e =
+            let live = ltb-true i (countIn ws) e in
+            let turn : unitsBefore one slotWords (drop i (nodesIn ws)) ≡ pick (ltb (nodeIn ws i .slot) slotWords) 1 0 + unitsBefore one slotWords (drop (i + 1) (nodesIn ws)) =
+            ap (unitsBefore one slotWords) (row-from (countIn ws) (region nodesPlace nodesWords ws) i live) in
+            omega (arith, rw (lt-ltb (nodeIn ws i .slot) slotWords (s .low i live)) at turn, ih (omega arith) (omega arith))
+        by ih false e =
+            let past = ltb-false i (countIn ws) e in
+            omega (arith, ap (unitsBefore one slotWords) (rows-end (countIn ws) (region nodesPlace nodesWords ws) i past))
+
+    -- with the groups: all
+    held-all : heldTo slotCount + slotTally groupSlot (nodesIn ws) ≡ countIn ws
+    held-all = omega (arith, held-from (countIn ws) 0 (omega arith) (omega arith), held-more slotCount)
+
+    held-few : (k : ℕ) → k ≤ slotCount → heldTo k + slotTally groupSlot (nodesIn ws) ≤ countIn ws
+    held-few k h = omega (arith, held-all, before-rises k slotCount h (nodesIn ws))
+
 -- in the words
 module _ (ws bs : List ℕ) where
   abbrev pub unitsTo : ℕ → ℕ
   unitsTo k = unitsBefore (slotUnits ws bs) k (nodesIn ws)
 
-  pub units-to-none : unitsTo 0 ≡ 0
+  units-to-none : unitsTo 0 ≡ 0
   units-to-none = before-none (slotUnits ws bs) (nodesIn ws)
 
-  pub units-to-more : (k many units : ℕ) → many ≡ slotTally k (nodesIn ws) → units ≡ slotUnits ws bs k → unitsTo (k + 1) ≡ unitsTo k + many * units
+  units-to-more : (k many units : ℕ) → many ≡ slotTally k (nodesIn ws) → units ≡ slotUnits ws bs k → unitsTo (k + 1) ≡ unitsTo k + many * units
   units-to-more k many units m u = before-step (slotUnits ws bs) k (nodesIn ws) ∙ rw (sym m, sym u)
 
-  pub units-to-same : (k many : ℕ) → many ≡ slotTally k (nodesIn ws) → many ≡ 0 → unitsTo (k + 1) ≡ unitsTo k
+  units-to-same : (k many : ℕ) → many ≡ slotTally k (nodesIn ws) → many ≡ 0 → unitsTo (k + 1) ≡ unitsTo k
   units-to-same k many m none =
       let zeroed : slotTally k (nodesIn ws) * slotUnits ws bs k ≡ 0 = rw (sym m, none) (omega arith) in
       omega (arith, before-step (slotUnits ws bs) k (nodesIn ws))
@@ -191,8 +287,12 @@ module _ (ws bs : List ℕ) where
             let past = ltb-false i (countIn ws) e in
             ap (unitsBefore (slotUnits ws bs) slotCount) (rows-end (countIn ws) (region nodesPlace nodesWords ws) i past) ∙ sym (units-end ws bs i past)
 
-    pub units-all : unitsTo slotCount ≡ unitCount (viewFrom ws bs 0)
+    units-all : unitsTo slotCount ≡ unitCount (viewFrom ws bs 0)
     units-all = all-from (countIn ws) 0 (omega arith)
+
+    -- no synth is left: all synths
+    units-last : (k : ℕ) → k ≤ slotCount → heldTo ws k + slotTally groupSlot (nodesIn ws) ≡ countIn ws → unitsTo k ≡ unitCount (viewFrom ws bs 0)
+    units-last k h e = before-same (slotUnits ws bs) k slotCount h (nodesIn ws) (omega (arith, e, held-all ws (slotted ws bs s))) ∙ units-all
 
 -- the groups
 tally-groups : (slots : List Slot) (cs : List ℕ) (t : List Node) → slotTally groupSlot t ≡ groupCount (viewRows slots cs t)
@@ -206,5 +306,53 @@ pub groups-all : (ws bs : List ℕ) → slotTally groupSlot (nodesIn ws) ≡ gro
 groups-all ws bs = tally-groups (decode ws bs .slots) (controlsIn ws) (nodesIn ws)
 
 -- a slot's units: at most so many
-pub units-few : (many units : ℕ) → many ≤ mostNodes → units < 4294967296 → many * units ≤ 1099511627776
+units-few : (many units : ℕ) → many ≤ mostNodes → units < 4294967296 → many * units ≤ 1099511627776
 units-few many units m u = omega (arith, mul-le-mul-right units m)
+
+-- the units of the slots before k, and how many synths of the others are left
+pub record Summed (ws bs : List ℕ) (k left units : ℕ) : Type 0 where
+  pub low : k ≤ slotCount
+  pub few : units ≤ 1099511627776 * k
+  pub same : units ≡ unitsTo ws bs k
+  pub rest : left + heldTo ws k + slotTally groupSlot (nodesIn ws) ≡ countIn ws
+
+module _ (ws bs : List ℕ) where
+  pub summed-none : (groups : ℕ) → groups ≡ slotTally groupSlot (nodesIn ws) → Summed ws bs 0 (countIn ws - groups) 0
+  summed-none groups g =
+      record { low = omega arith; few = omega arith; same = sym (units-to-none ws bs); rest = omega (arith, g, tally-most ws groupSlot, held-none ws) }
+
+  module _ (s : Known ws bs) (k left units : ℕ) (t : Summed ws bs k left units) where
+    pub summed-last : left ≡ 0 → units ≡ unitCount (viewFrom ws bs 0)
+    summed-last none = t .same ∙ units-last ws bs s k (t .low) (omega (arith, t .rest))
+
+    pub summed-all : slotCount ≤ k → units ≡ unitCount (viewFrom ws bs 0)
+    summed-all past =
+        let end : k ≡ slotCount = omega (arith, t .low) in
+        t .same ∙ ap (unitsTo ws bs) end ∙ units-all ws bs s
+
+    -- the slot k
+    module _ (next : k < slotCount) (many : ℕ) (m : many ≡ slotTally k (nodesIn ws)) where
+      pub summed-left : many ≤ left
+      summed-left = omega (arith, t .rest, m, held-more ws k, held-few ws (slotted ws bs s) (k + 1) (omega arith))
+
+      pub summed-same : many ≡ 0 → (rest sum : ℕ) → rest ≡ left → sum ≡ units → Summed ws bs (k + 1) rest sum
+      summed-same none rest sum r u =
+          record {
+            low = omega arith;
+            few = omega (arith, t .few);
+            same = u ∙ t .same ∙ sym (units-to-same ws bs k many m none);
+            rest = omega (arith, t .rest, m, held-more ws k);
+          }
+
+      module _ (each : ℕ) (small : each < 4294967296) where
+        pub summed-few : units + many * each ≤ 1099511627776 * (k + 1)
+        summed-few = omega (arith, t .few, units-few many each (omega (arith, m, tally-most ws k, s .few)) small)
+
+        pub summed-more : each ≡ slotUnits ws bs k → (rest sum : ℕ) → rest ≡ left - many → sum ≡ units + many * each → Summed ws bs (k + 1) rest sum
+        summed-more e rest sum r u =
+            record {
+              low = omega arith;
+              few = omega (arith, summed-few);
+              same = u ∙ ap (λ (n : ℕ). n + many * each) (t .same) ∙ sym (units-to-more ws bs k many each m e);
+              rest = omega (arith, t .rest, m, held-more ws k, summed-left);
+            }

@@ -11,46 +11,74 @@ use slots::slot_bytes;
 use words::wide;
 ghost use mathlib.Core.Path.{_≡_};
 ghost use Rattle.model.specs.declared.Query.the-variants as query;
+ghost use Rattle.nodes.specs.Place.{groupSlot};
+ghost use Rattle.model.specs.Layout.{nodesIn};
 ghost use Rattle.model.specs.Replies.{unitCount};
 ghost use Rattle.state.specs.Known.{Known};
 ghost use Rattle.state.specs.Does.{Reply};
 ghost use Rattle.queries.specs.Status.{viewFrom};
-ghost use Rattle.queries.specs.Tally.{Slotted, Tallies};
+ghost use Rattle.queries.specs.Tally.{slotTally};
 
 // A count for each slot and, behind them, one for the groups.
 const COUNTS: usize = SLOTS + 1;
 
-// How many synths hold each slot, and behind the last slot how many groups there are.
-fn slot_counts(words: &[u32]) -> [u32; COUNTS]
-    requires { ⌜ Slotted (now words) ⌝ }
-    ensures { λ r. ⌜ Tallies (now (words .entry)) r ⌝ }
-{
-    let count = wide(words[COUNT]);
-    let mut counts = [0u32; COUNTS];
-    let mut i = 0;
-    while i < count {
-        let slot = node_slot(words, i);
-        counts[slot] += 1;
-        i += 1;
-    }
-    counts
+// Units over live synths, and how many groups there are, the root among them.
+struct Sums {
+    units: usize,
+    groups: u32,
 }
 
-// Units over live synths. Each slot is looked up once.
-fn unit_count(words: &[u32], arena: &[u8], counts: &[u32; COUNTS]) -> usize
-    requires { ⌜ (Known (now words) (now arena)) × (Tallies (now words) (now counts)) ⌝ }
-    ensures { λ r. ⌜ r ≡ unitCount (viewFrom (now (words .entry)) (now (arena .entry)) 0) ⌝ }
+// The nodes are counted by their slots' words in four parts of the table at once, each with counts of its own, since neighbours often hold one slot and a count would wait for the one before it.
+// Then each slot that a synth holds is looked up once, up to the last one that is held.
+fn totals(words: &[u32], arena: &[u8]) -> Sums
+    requires { ⌜ Known (now words) (now arena) ⌝ }
+    ensures { λ r. ⌜ (r .units ≡ unitCount (viewFrom (now (words .entry)) (now (arena .entry)) 0)) × (r .groups ≡ slotTally groupSlot (nodesIn (now (words .entry)))) ⌝ }
 {
+    let count = wide(words[COUNT]);
+    let part = count / 4;
+    let mut a = [0u32; COUNTS];
+    let mut b = [0u32; COUNTS];
+    let mut c = [0u32; COUNTS];
+    let mut d = [0u32; COUNTS];
+    let mut i = 0;
+    while i < part {
+        let first = node_slot(words, i);
+        a[first] += 1;
+        let second = node_slot(words, part + i);
+        b[second] += 1;
+        let third = node_slot(words, 2 * part + i);
+        c[third] += 1;
+        let fourth = node_slot(words, 3 * part + i);
+        d[fourth] += 1;
+        i += 1;
+    }
+    while 3 * part + i < count {
+        let last = node_slot(words, 3 * part + i);
+        d[last] += 1;
+        i += 1;
+    }
+    let groups = a[SLOTS] + b[SLOTS] + c[SLOTS] + d[SLOTS];
+    let mut left = words[COUNT] - groups;
     let mut units: usize = 0;
     let mut k = 0;
     while k < SLOTS {
-        let many = counts[k];
+        let many = a[k] + b[k] + c[k] + d[k];
         if many != 0 {
             units += wide(many) * wide(readable::units(slot_bytes(words, arena, k)));
+            left -= many;
+            if left == 0 {
+                return Sums {
+                    units: units,
+                    groups: groups,
+                };
+            }
         }
         k += 1;
     }
-    units
+    Sums {
+        units: units,
+        groups: groups,
+    }
 }
 
 // Units over live synths, synths, groups with the root, residents, as /status.reply.
@@ -58,11 +86,9 @@ pub fn status_query(words: &[u32], arena: &[u8], bytes: &[u8], out: &mut [u8]) -
     requires { ⌜ Known (now words) (now arena) ⌝ }
     ensures { λ r. ⌜ Reply query.Status (now (bytes .entry)) (now (words .entry)) (now (arena .entry)) (now (out .entry)) r (now (out .exit)) ⌝ }
 {
-    let counts = slot_counts(words);
-    let units = unit_count(words, arena, &counts);
-    let groups = counts[SLOTS];
-    let synths = words[COUNT] - groups;
+    let told = totals(words, arena);
+    let synths = words[COUNT] - told.groups;
     let names = resident_count(&words[LENGTHS..RESIDENT_END]);
-    let arguments = [(units % 4294967296) as u32, synths, groups, names];
+    let arguments = [(told.units % 4294967296) as u32, synths, told.groups, names];
     send_words(out, b"/status.reply", b",iiii", &arguments)
 }
