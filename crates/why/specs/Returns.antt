@@ -14,12 +14,11 @@ use Rattle.nodes.specs.Table.{width, nodeFrom, rows-length}
 use Rattle.nodes.specs.Place.{groupSlot, isGroup, place, place-most}
 use Rattle.nodes.specs.Order.{isOn}
 use Rattle.order.specs.declared.walk.Walk.{Walk}
-use Rattle.model.specs.Layout.{nodesPlace, nodesWords, countIn, nextIn, latestIn, nodesIn}
+use Rattle.model.specs.Layout.{nodesPlace, nodesWords, countIn, latestIn, nodesIn}
 use Rattle.model.specs.Plain.{minusOne}
-use Rattle.state.specs.Known.{tree-known}
 use Rattle.statecheck.specs.Parts.{Numbered}
 use Rattle.why.specs.declared.Reason.the-variants.{NoNode, Group, Off, AncestorOff, Running}
-use Rattle.why.specs.Rows.{sightTo, rowReason, askedPlace, stopAt, Settled}
+use Rattle.why.specs.Rows.{sightTo, rowReason, askedPlace, stopAt}
 use Rattle.why.specs.Seen.{SeenTo, Looked}
 
 -- a word of a row is a word
@@ -90,12 +89,6 @@ stop-most ws at h = go (eqb (getD ws (nodesPlace + width * at + 3) 0) groupSlot)
     go true o = omega arith
     go false true = h
     go false false = omega arith
-
--- what is known of the tree behind the first part of the check
-pub settled : (ws bs : List ℕ) → Numbered ws bs → Settled ws
-settled ws bs n =
-    let t = tree-known (nextIn ws) (latestIn ws) (nodesIn ws) (n .nodes) in
-    record { size = n .size; few = n .few; root = t .root; distinct = t .distinct }
 
 -- the walk stopped at the row, where that asks for it
 pub looked : (ws bs : List ℕ) (at to : ℕ) (seen : Walk) → Numbered ws bs → to ≡ stopAt ws at → SeenTo ws to seen → seen .same ≡ true → Looked ws at seen

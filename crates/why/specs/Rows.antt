@@ -1,7 +1,5 @@
 -- The same of the table: what is seen on the way along the rows before a node's own.
-use Prim.Native.Nat.{ℕ, _+_, _*_, _≤_}
-use mathlib.Core.Bool.{true}
-use mathlib.Core.Path.{_≡_}
+use Prim.Native.Nat.{ℕ, _+_, _*_}
 use mathlib.Core.List.{List, [], _∷_}
 use lib.ListN.{length, getD}
 use lib.Dec.{leb, eqb}
@@ -10,8 +8,7 @@ use Rattle.nodes.specs.declared.Node.{Node}
 use Rattle.nodes.specs.Table.{width, nodeFrom, rows}
 use Rattle.nodes.specs.Place.{groupSlot, isGroup, place}
 use Rattle.nodes.specs.Order.{isOn, orderFrom}
-use Rattle.nodes.specs.Formed.{rooted, apart}
-use Rattle.model.specs.Layout.{wordsLength, nodesPlace, countIn, latestIn, nodesIn}
+use Rattle.model.specs.Layout.{nodesPlace, countIn, latestIn, nodesIn}
 use Rattle.model.specs.Plain.{minusOne}
 use Rattle.why.specs.declared.Reason.{Reason}
 use Rattle.why.specs.declared.Reason.the-variants.{NoNode, Group, Off, AncestorOff, Running}
@@ -46,10 +43,3 @@ askedPlace number ws = pick (eqb number minusOne) (pick (eqb (latestIn ws) 0) (c
 abbrev pub stopAt : List ℕ → ℕ → ℕ
 stopAt ws at =
     pick (eqb (getD ws (nodesPlace + width * at + 3) 0) groupSlot) (countIn ws) (pick (eqb (getD ws (nodesPlace + width * at + 2) 0) 1) at (countIn ws))
-
--- what the reason of a row asks of the words
-pub record Settled (ws : List ℕ) : Type 0 where
-  pub size : length ws ≡ wordsLength
-  pub few : countIn ws ≤ 256
-  pub root : rooted (nodesIn ws) ≡ true
-  pub distinct : apart (nodesIn ws) ≡ true

@@ -17,7 +17,7 @@ use Rattle.nodes.specs.Structure.{depthOf}
 use Rattle.nodes.specs.Forest.{Forest, node, flatten, items, has}
 use Rattle.nodes.specs.Forest as forest
 use Rattle.nodes.specs.Order.{isOn, order, orderFrom, orderTree}
-use Rattle.nodes.specs.Formed.{apart}
+use Rattle.nodes.specs.Formed.{rooted, apart}
 use Rattle.treerefinement.specs.Flatten.{key, lives-has}
 use Rattle.treerefinement.specs.Tally.{one, tally, tally-append}
 use Rattle.treerefinement.specs.Keep.{numbered, apart-few}
@@ -28,7 +28,7 @@ use Rattle.model.specs.Layout.{nodesPlace, nodesWords, countIn, latestIn, nodes
 use Rattle.model.specs.Plain.{minusOne}
 use Rattle.why.specs.declared.Reason.the-variants.{NoNode, Group, Off, AncestorOff, Running}
 use Rattle.why.specs.Reasons.{nodeOf, ancestors, firstOff, placeFrom1, reasonOn, firstTrue, reason}
-use Rattle.why.specs.Rows.{sight, sightTo, rowReason, askedPlace, Settled}
+use Rattle.why.specs.Rows.{sight, sightTo, rowReason, askedPlace}
 use Rattle.why.specs.Table.{tableReason}
 use Rattle.why.specs.Runs.{times, no-node}
 use Rattle.why.specs.Sight.{rowsBefore, before-place, off-seen, order-on, order-before, place-behind}
@@ -46,7 +46,7 @@ pub times-once : (n : ℕ) (f : Forest Node) → apart (flatten 0 f) ≡ true �
 times-once n f h = rw (times-tally n 0 f) (apart-few (flatten 0 f) h n)
 
 -- the tests of the table settle the reason in its tree
-module _ (ws : List ℕ) (s : Settled ws) (n : ℕ) where
+module _ (ws : List ℕ) (root : rooted (nodesIn ws) ≡ true) (n : ℕ) where
   abbrev t : List Node
   t = nodesIn ws
 
@@ -63,7 +63,7 @@ module _ (ws : List ℕ) (s : Settled ws) (n : ℕ) where
   row = nodeFrom us (width * place n t)
 
   laid : flatten 0 (build (nodesIn ws)) ≡ nodesIn ws
-  laid = build-flatten t (s .root)
+  laid = build-flatten t root
 
   listed : items (build (nodesIn ws)) ≡ nodesIn ws
   listed = items-build t
@@ -145,8 +145,8 @@ module _ (ws : List ℕ) (s : Settled ws) (n : ℕ) where
           ∙ live h (isGroup row) (isOn row) (leb (row .depth) (sightTo us at .0)) refl refl refl
 
 -- the reason for a number is that of the row it asks for
-pub table-reason : (ws : List ℕ) → Settled ws → (number : ℕ) → tableReason number (latestIn ws) (nodesIn ws) ≡ rowReason (region nodesPlace nodesWords ws) (countIn ws) (askedPlace number ws)
-table-reason ws s number = go (eqb number minusOne) (eqb (latestIn ws) 0)
+pub table-reason : (ws : List ℕ) → rooted (nodesIn ws) ≡ true → (number : ℕ) → tableReason number (latestIn ws) (nodesIn ws) ≡ rowReason (region nodesPlace nodesWords ws) (countIn ws) (askedPlace number ws)
+table-reason ws root number = go (eqb number minusOne) (eqb (latestIn ws) 0)
   where
     us : List ℕ
     us = region nodesPlace nodesWords ws
@@ -154,5 +154,5 @@ table-reason ws s number = go (eqb number minusOne) (eqb (latestIn ws) 0)
     go : (p q : Bool) → pick p (pick q NoNode (reason key isGroup isOn (latestIn ws) (build (nodesIn ws)))) (reason key isGroup isOn number (build (nodesIn ws)))
         ≡ rowReason (region nodesPlace nodesWords ws) (countIn ws) (pick p (pick q (countIn ws) (place (latestIn ws) (nodesIn ws))) (place number (nodesIn ws)))
     go true true = sym (rw (le-leb (countIn ws) (countIn ws) (omega arith)))
-    go true false = row-reason ws s (latestIn ws)
-    go false q = row-reason ws s number
+    go true false = row-reason ws root (latestIn ws)
+    go false q = row-reason ws root number

@@ -6,12 +6,13 @@ use native.Mathlib.Omega.{arith}
 use borrow.Author.Needs.{needs}
 use borrow.Author.Tests.{not-true, not-false}
 use Rattle.words.specs.Parts.{region}
-use Rattle.model.specs.Layout.{nodesPlace, nodesWords, countIn}
+use Rattle.model.specs.Layout.{nodesPlace, nodesWords, countIn, nextIn, latestIn, nodesIn}
+use Rattle.state.specs.Known.{tree-known}
 use Rattle.statecheck.specs.Parts.{numbersPart, numbered, in-three}
 use Rattle.why.specs.Mapped.{told-bad, told-because}
 use Rattle.why.specs.Rows.{rowReason}
 use Rattle.why.specs.Settle.{table-reason}
-use Rattle.why.specs.Returns.{asked-most, stop-most, settled, looked}
+use Rattle.why.specs.Returns.{asked-most, stop-most, looked}
 use Rattle.why.proofs.reasons.why.Statement.{statement}
 use Rattle.why.proofs.reasons.why.Tie as tie
 
@@ -101,7 +102,7 @@ returns-4 c =
     ∙ rw (first, sym (seen .ensures .same) ∙ not-false (seen .result .same) (c .before .before .before .if2 .left), sym (held .ensures) ∙ not-false (held .result) (c .before .if3 .left)))
     (c .reason-at .ensures
     ∙ ap (λ (k : ℕ). rowReason (region nodesPlace nodesWords (a .words .now)) (countIn (a .words .now)) k) (at .ensures)
-    ∙ sym (table-reason (a .words .now) (settled (a .words .now) (a .arena .now) n) (a .number)))
+    ∙ sym (table-reason (a .words .now) (tree-known (nextIn (a .words .now)) (latestIn (a .words .now)) (nodesIn (a .words .now)) (n .nodes) .root) (a .number)))
 
 pub why-spec : {M : Type 1} → statement M
 why-spec =
