@@ -55,14 +55,14 @@ impl State {
         )
     }
 
-    /// `/n_run` with a flag of 2, which is refused right behind the state check.
-    fn refused(&mut self) -> u64 {
-        self.apply(&Call::new(12, [0, 2, 0, 0, 0], b""))
+    /// The state check alone: `/n_run` with a flag of 2, which is refused right behind it.
+    fn check(&mut self) {
+        assert_eq!(self.apply(&Call::new(12, [0, 2, 0, 0, 0], b"")), 13);
     }
 
-    /// The state check alone.
-    fn check(&mut self) {
-        assert_eq!(self.refused(), 13);
+    /// An empty list, which is the state check and nothing behind it.
+    fn nothing(&mut self) -> u64 {
+        engine::list(&[], b"", &mut self.words, &mut self.arena)
     }
 }
 
