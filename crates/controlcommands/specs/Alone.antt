@@ -17,6 +17,7 @@ use Rattle.values.specs.declared.Key.{Key}
 use Rattle.model.specs.declared.Answer.the-variants.{Done}
 use Rattle.model.specs.Layout.{nodesPlace, nodesWords, countIn, nodesIn, controlsIn, putControls}
 use Rattle.model.specs.Engine.{decode}
+use Rattle.model.specs.Meaning.{coverOf}
 use Rattle.model.specs.Effects.{changeCovered, changeAll}
 use Rattle.slots.specs.Slots.{slotBytes}
 use Rattle.state.specs.Known.{Known}
@@ -28,7 +29,8 @@ use Rattle.controls.specs.Change.{changeOf}
 use Rattle.controls.specs.Encoded.{frontOnly}
 use Rattle.controls.specs.Cover.{askedIn}
 use Rattle.controls.specs.Ready.{nodeIn, ready-known}
-use Rattle.controls.specs.Serves.{Serves, serves-asked, serves-change}
+use Rattle.controls.specs.Asked.{controlsAsked, cover-asked}
+use Rattle.controls.specs.All.{cover-alone}
 use Rattle.controlcommands.specs.Steps.{runEnd, answerTo, Changed}
 
 -- a record is as deep as it may be at most, and those behind it follow it
@@ -68,17 +70,24 @@ module _ (ws bs : List ℕ) (known : Known ws bs) (at : ℕ) (live : at < countI
       let none = leaf-rooted (nodesIn ws) at (nodeIn ws at) (drop (at + 1) (nodesIn ws)) (known .tree .root) (row-from (countIn ws) (region nodesPlace nodesWords ws) at live) single in
       omega arith
 
-  -- its change, by what was looked up in the bytes of its definition
-  pub changed-alone : (key : Key) (bytes : List ℕ) (count : ℕ) (s : List ℕ) → s ≡ slotBytes ws bs (nodeIn ws at .slot) → (c : Cover) → Serves key bytes count s c
-      → (h : Change) (ws′ : List ℕ) → There ≡ askedIn (coverAt c) count (frontOnly s)
-      → ws′ ≡ putControls (changeCovered (changeOf h) (coverAt c) (nodeIn ws at .row) count (controlsIn ws)) ws → Changed h key count bytes at ws bs Done ws′
-  changed-alone key bytes count s lent c serves h ws′ there o =
-      let ready = ready-known ws bs known in
-      record {
-        answers = ap answerTo (there ∙ serves-asked ws bs ready at live single key bytes count s lent c serves);
-        words =
-            o
-            ∙ ap (λ (l : List ℕ). putControls l ws)
-            (serves-change ws bs ready at live single key bytes count s lent c serves (changeOf h)
-            ∙ ap (λ (k : ℕ). changeAll (changeOf h) key bytes count (decode ws bs .slots) (take (k - at) (drop at (nodesIn ws))) (controlsIn ws)) (sym run-alone));
-      }
+  -- what a key covers, as it was looked up in the bytes of its definition
+  module _ (key : Key) (bytes : List ℕ) (count : ℕ) (s : List ℕ) (lent : s ≡ slotBytes ws bs (nodeIn ws at .slot)) (c : Cover) (said : coverAt c ≡ coverOf key bytes (frontOnly s)) where
+    covers : coverAt c ≡ coverOf key bytes (frontOnly (slotBytes ws bs (nodeIn ws at .slot)))
+    covers = said ∙ ap (λ (l : List ℕ). coverOf key bytes (frontOnly l)) lent
+
+    pub asked-alone : askedIn (coverAt c) count (frontOnly s) ≡ controlsAsked key count bytes (decode ws bs .slots) (nodeIn ws at)
+    asked-alone =
+        ap (λ (l : List ℕ). askedIn (coverAt c) count (frontOnly l)) lent
+        ∙ cover-asked ws bs (ready-known ws bs known) at live single key bytes c covers count
+
+    pub changed-alone : (h : Change) (ws′ : List ℕ) → There ≡ askedIn (coverAt c) count (frontOnly s)
+        → ws′ ≡ putControls (changeCovered (changeOf h) (coverAt c) (nodeIn ws at .row) count (controlsIn ws)) ws → Changed h key count bytes at ws bs Done ws′
+    changed-alone h ws′ there o =
+        record {
+          answers = ap answerTo (there ∙ asked-alone);
+          words =
+              o
+              ∙ ap (λ (l : List ℕ). putControls l ws)
+              (cover-alone (changeOf h) key bytes count ws bs at (ready-known ws bs known) live single c covers
+              ∙ ap (λ (k : ℕ). changeAll (changeOf h) key bytes count (decode ws bs .slots) (take (k - at) (drop at (nodesIn ws))) (controlsIn ws)) (sym run-alone));
+        }

@@ -8,8 +8,8 @@ use controls::asked_by;
 use controls::change_all;
 use controls::change_node;
 use controls::controls_asked;
-use controls::cover_for;
 use controls::is_bus;
+use controls::key_cover;
 use controls::node_definition;
 use controls::node_is_group;
 use layout::COUNT;
@@ -79,7 +79,7 @@ fn change_synth(
     ensures { λ r. ⌜ Changed change key count (now (bytes .entry)) at (now (words .entry)) (now (arena .entry)) (answerTo r) (now (words .exit)) ⌝ }
 {
     let definition = node_definition(words, arena, at);
-    let cover = cover_for(definition, key, bytes, count);
+    let cover = key_cover(definition, key, bytes);
     match asked_by(definition, cover, count) {
         Asked::There => {
             change_node(words, at, cover, count, change);

@@ -9,6 +9,8 @@ use lib.ListN.{length, take, drop, getD, length-append, length-take, length-drop
 use Rattle.words.specs.Choice.{pick}
 use Rattle.words.specs.Parts.{region, put, region-length, region-put, put-put}
 use Rattle.format.specs.Names.{Covered}
+use Rattle.readable.specs.declared.cover.Cover.{Cover}
+use Rattle.readable.specs.Lookup.{coverAt}
 use Rattle.readable.specs.Readable.{Readable, whole-readable}
 use Rattle.nodes.specs.declared.Node.{Node}
 use Rattle.nodes.specs.Table.{width, rows, nodeFrom, row-from}
@@ -28,6 +30,8 @@ use Rattle.controls.specs.Encoded.{frontIn, frontOnly, cover-front}
 use Rattle.slots.specs.Slots.{slotBytes}
 use Rattle.controls.specs.Ready.{Ready, nodeIn, synth-ready}
 use Rattle.controls.specs.Synth.{changeSynth, changeNode, Bounds, same-controls}
+use Rattle.controls.specs.Cover.{coverOn}
+use Rattle.controls.specs.Asked.{synth-cover}
 
 -- what a change does to the controls of one node
 abbrev pub changeOne : (ControlValue → ControlValue) → Key → List ℕ → ℕ → List Slot → Node → List ℕ → List ℕ
@@ -95,7 +99,7 @@ module _ (f : ControlValue → ControlValue) (key : Key) (name : List ℕ) (coun
   all-none n l xs e = ap (λ (k : ℕ). changeAll f key name count slots (take k l) xs) e
 
   -- one synth alone
-  pub all-one : (i : ℕ) (xs : List ℕ) → i < countIn ws → isGroup (nodeIn ws i) ≡ false
+  all-one : (i : ℕ) (xs : List ℕ) → i < countIn ws → isGroup (nodeIn ws i) ≡ false
       → changeAll f key name count slots (take (i + 1 - i) (drop i (nodesIn ws))) xs ≡ changeCovered f (coverOf key name (definitionOf slots (nodeIn ws i))) (nodeIn ws i .row) count xs
   all-one i xs h single =
       all-turn (i + 1) i xs (omega arith) (omega arith)
@@ -181,8 +185,21 @@ synth-lent ws₀ arena ws i ready size rest few single =
       kept = ap (λ (us : List ℕ). slotBytes us arena (nodeIn ws i .slot)) rest ∙ bytes-kept (controlsIn ws) ws₀ (ready .size) many arena (nodeIn ws i .slot) (b .slot single);
     }
 
--- no change of a group
+-- its change, by what a key covers, also as that of a run of one; and no change of a group
 module _ (f : ControlValue → ControlValue) (key : Key) (name : List ℕ) (count : ℕ) (ws arena : List ℕ) (i : ℕ) where
+  pub cover-change : isGroup (nodeIn ws i) ≡ false → (c : Cover) → coverAt c ≡ coverOn key name ws arena (nodeIn ws i .slot)
+      → changeCovered f (coverAt c) (nodeIn ws i .row) count (controlsIn ws) ≡ changeNode f key name count ws arena i (controlsIn ws)
+  cover-change single c e =
+      ap (λ (o : Option Covered). changeCovered f o (nodeIn ws i .row) count (controlsIn ws)) e
+      ∙ sym (ap (λ (b : Bool). pick b (controlsIn ws) (changeSynth f key name count (nodeIn ws i .row) (slotBytes ws arena (nodeIn ws i .slot)) (controlsIn ws))) single)
+
+  pub cover-alone : Ready ws arena → i < countIn ws → isGroup (nodeIn ws i) ≡ false → (c : Cover) → coverAt c ≡ coverOn key name ws arena (nodeIn ws i .slot)
+      → changeCovered f (coverAt c) (nodeIn ws i .row) count (controlsIn ws)
+      ≡ changeAll f key name count (decode ws arena .slots) (take (i + 1 - i) (drop i (nodesIn ws))) (controlsIn ws)
+  cover-alone ready few single c e =
+      ap (λ (o : Option Covered). changeCovered f o (nodeIn ws i .row) count (controlsIn ws)) (e ∙ sym (synth-cover ws arena ready i few single key name))
+      ∙ sym (all-one f key name count (decode ws arena .slots) ws i (controlsIn ws) few single)
+
   pub no-change : isGroup (nodeIn ws i) ≡ true → ws ≡ putControls (changeNode f key name count ws arena i (controlsIn ws)) ws
   no-change group =
       sym (ap (λ (b : Bool). putControls (pick b (controlsIn ws) (changeSynth f key name count (nodeIn ws i .row) (slotBytes ws arena (nodeIn ws i .slot)) (controlsIn ws))) ws) group ∙ same-controls ws)

@@ -141,8 +141,11 @@ module _ (ws arena : List ℕ) (ready : Ready ws arena) (i : ℕ) (few : i < cou
       ∙ ap (λ (o : Option Covered). askedIn o count d) (synth-cover key name)
       ∙ ap (λ (b : Bool). askedBy (not b) (pastWidth (coverOf key name e) count)) (has-front (coverOf key name e) count d e front))
 
-  -- what reading a control gives, by the lookup's answer
+  -- by the lookup's answer: what is asked, and what reading a control gives
   module _ (key : Key) (name : List ℕ) (c : Cover) (said : coverAt c ≡ coverOf key name (frontOnly (slotBytes ws arena (nodeIn ws i .slot)))) where
+    pub cover-asked : (count : ℕ) → askedIn (coverAt c) count (frontOnly (slotBytes ws arena (nodeIn ws i .slot))) ≡ controlsAsked key count name (decode ws arena .slots) (nodeIn ws i)
+    cover-asked count = ap (λ (o : Option Covered). askedIn o count (frontOnly (slotBytes ws arena (nodeIn ws i .slot)))) said ∙ sym (synth-asked key name count)
+
     abbrev reading : ℕ
     reading = readAt (busesIn ws) (controlsOf (decode ws arena .slots) (controlsIn ws) (nodeIn ws i)) (coverOf key name (definitionOf (decode ws arena .slots) (nodeIn ws i)))
 

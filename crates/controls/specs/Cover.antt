@@ -145,9 +145,21 @@ module _ (c : Cover) (count : ℕ) where
         go true l = refl
         go false l = absurd (omega arith)
 
+-- what a key covers in the definition in a slot
+abbrev pub coverOn : Key → List ℕ → List ℕ → List ℕ → ℕ → Option Covered
+coverOn key name ws arena k = coverOf key name (frontOnly (slotBytes ws arena k))
+
 -- no width and no number of controls
 abbrev pub unknown : ℕ
 unknown = 33
+
+-- what is noted for a slot that was not looked up
+abbrev pub noCover : Cover
+noCover = record { found = false; index = 0; width = unknown }
+
+-- what is covered in the slots that were looked up
+abbrev pub CoversNoted : Key → List ℕ → List ℕ → List ℕ → List Cover → Type 0
+CoversNoted key name ws arena covers = Noted (λ (c : Cover). c .width ≡ unknown) (λ (k : ℕ) (c : Cover). coverAt c ≡ coverOn key name ws arena k) covers
 
 -- how many controls the definition in a slot has
 abbrev pub controlsOn : List ℕ → List ℕ → ℕ → ℕ

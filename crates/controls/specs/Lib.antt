@@ -9,5 +9,3 @@ pub mod Cover
 pub mod All
 pub mod Formed
 pub mod Asked
-pub mod Serves
-pub mod Reaches

@@ -21,7 +21,6 @@ ghost use Rattle.readable.specs.Lookup.{coverAt};
 ghost use Rattle.controls.specs.Encoded.{frontIn, frontOnly};
 ghost use Rattle.controls.specs.Cover.{askedIn, Within};
 ghost use Rattle.controls.specs.Initial.{floatsFrom};
-ghost use Rattle.controls.specs.Serves.{Serves};
 
 // Controls that are asked for: they are there, or some are not, or they are more than the key covers.
 pub enum Asked {
@@ -39,7 +38,7 @@ pub fn parameter_count(definition: &[u8]) -> u32
 }
 
 // The controls from an index on.
-pub(crate) fn index_cover(definition: &[u8], index: u32) -> Cover
+fn index_cover(definition: &[u8], index: u32) -> Cover
     requires { ⌜ Readable (now definition) ⌝ }
     ensures { λ r. ⌜ coverAt r ≡ some (record { index = index; width = length (frontIn (now (definition .entry)) .values) - index }) ⌝ }
 {
@@ -66,20 +65,6 @@ pub fn key_cover(definition: &[u8], key: Key, name: &[u8]) -> Cover
     match key {
         Key::Index(i) => index_cover(definition, i),
         Key::Name => readable::name_cover(definition, name),
-    }
-}
-
-// What a key covers, for so many controls: of a name the first control is enough for one.
-pub fn cover_for(definition: &[u8], key: Key, name: &[u8], count: u32) -> Cover
-    requires { ⌜ Readable (now definition) ⌝ }
-    ensures { λ r. ⌜ Serves key (now (name .entry)) count (now (definition .entry)) r ⌝ }
-{
-    if 1 < count {
-        return key_cover(definition, key, name);
-    }
-    match key {
-        Key::Index(i) => index_cover(definition, i),
-        Key::Name => readable::name_first(definition, name),
     }
 }
 

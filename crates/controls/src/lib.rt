@@ -21,7 +21,6 @@ pub use control::change_row;
 pub use definition::Asked;
 pub use definition::asked_by;
 pub use definition::asked_of;
-pub use definition::cover_for;
 pub use definition::initial_row;
 pub use definition::key_cover;
 pub use definition::parameter_count;

@@ -1,9 +1,8 @@
 // The controls of the synths of the node table.
 use crate::control::Change;
-use crate::cover::Span;
 use crate::cover::UNKNOWN;
 use crate::cover::slot_controls;
-use crate::cover::slot_span;
+use crate::cover::slot_cover;
 use crate::node::node_is_group;
 use crate::node::node_row;
 use crate::node::node_slot;
@@ -40,7 +39,8 @@ pub fn change_all(
     requires { ⌜ (Ready (now words) (now arena)) × (to ≤ countIn (now words)) ⌝ }
     ensures { λ r. ⌜ now (words .exit) ≡ putControls (changeAll (changeOf change) key (now (name .entry)) count (decode (now (words .entry)) (now (arena .entry)) .slots) (take (to - from) (drop from (nodesIn (now (words .entry))))) (controlsIn (now (words .entry)))) (now (words .entry)) ⌝ }
 {
-    let mut spans = [Span {
+    let mut covers = [Cover {
+        found: false,
         index: 0,
         width: UNKNOWN,
     }; SLOTS];
@@ -48,13 +48,8 @@ pub fn change_all(
     while i < to {
         if !node_is_group(words, i) {
             let slot = node_slot(words, i);
-            let span = slot_span(words, arena, slot, key, name, count, spans[slot]);
-            spans[slot] = span;
-            let cover = Cover {
-                found: true,
-                index: span.index,
-                width: span.width,
-            };
+            let cover = slot_cover(words, arena, slot, key, name, covers[slot]);
+            covers[slot] = cover;
             change_node(words, i, cover, count, change);
         }
         i += 1;

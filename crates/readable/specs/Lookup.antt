@@ -1,5 +1,5 @@
 -- Lookups in one encoded definition, which starts at the first byte. They read its front, and answer none where that can't be read.
-use Prim.Native.Nat.{ℕ, min}
+use Prim.Native.Nat.{ℕ}
 use mathlib.Core.List.{List, []}
 use mathlib.Core.Option.{Option, none, some}
 use lib.ListN.{length}
@@ -47,11 +47,6 @@ coverAt c = pick (c .found) (some (record { index = c .index; width = c .width }
 -- what a name covers
 abbrev pub coverIn : List ℕ → List ℕ → Option Covered
 coverIn n s = onRead (readFront s 0) none (λ f next. coveredBy n (length (f .values)) (f .names))
-
--- the first control of what is covered
-abbrev pub firstOf : Option Covered → Option Covered
-firstOf none = none
-firstOf (some c) = some (record { index = c .index; width = min 1 (c .width) })
 
 -- the first name of an index
 abbrev pub nameOfIn : ℕ → List ℕ → Option (List ℕ)

@@ -1,6 +1,6 @@
 -- A definition whose front is known to be readable: where its parts stand.
-use Prim.Native.Nat.{ℕ, _+_, _-_, _*_, _≤_, _<_, min}
-use mathlib.Core.Path.{_≡_, refl, sym, ap, _∙_}
+use Prim.Native.Nat.{ℕ, _+_, _-_, _*_, _≤_, _<_}
+use mathlib.Core.Path.{_≡_, sym, ap, _∙_}
 use mathlib.Core.List.{List}
 use mathlib.Core.Option.{Option, none, some}
 use native.Mathlib.Omega.{arith}
@@ -21,7 +21,7 @@ use Rattle.format.specs.Names.{firstIndex, nextIndex, coverFrom, coveredBy}
 use Rattle.format.specs.Widths.{next-above}
 use Rattle.format.specs.Reader.{mostParameters, sizeLimit, parameterName, frontBy, readFront, definitionBy, readDefinition}
 use Rattle.front.specs.Front.{nameEnd, valuesAt, namesAt, countsOf}
-use Rattle.readable.specs.Lookup.{atNumber, nameIn, unitsIn, coverIn, firstOf}
+use Rattle.readable.specs.Lookup.{atNumber, nameIn, unitsIn, coverIn}
 use Rattle.front.specs.FrontLaws.{front-got}
 use Rattle.readable.specs.Entries.{entriesFrom, entriesEnd, Entries, entries-got, entries-below, named-below}
 
@@ -158,16 +158,6 @@ module _ (s name : List ℕ) (k : Readable s) (p n at : ℕ) (few : p ≡ length
     cover-some =
         ap (λ (m : ℕ). some (record { index = i; width = m - i })) e
         ∙ sym (by-entries ∙ ap (λ (o : Option ℕ). coverFrom o p (entriesFrom s n at)) (sym first))
-
-  -- the first control that a name covers, which is there
-  pub first-none : none ≡ firstIndex name (entriesFrom s n at) → none ≡ firstOf (coverIn name s)
-  first-none e = ap firstOf (cover-none e)
-
-  pub first-some : (i : ℕ) → some i ≡ firstIndex name (entriesFrom s n at) → some (record { index = i; width = 1 }) ≡ firstOf (coverIn name s)
-  first-some i first =
-      let next : ℕ = nextIndex i p (entriesFrom s n at) in
-      let one : 1 ≡ min 1 (next - i) = omega (arith, next-past i next first refl) in
-      ap (λ (w : ℕ). some (record { index = i; width = w })) one ∙ ap firstOf (cover-some i next first refl)
 
 -- where the count of units stands, and what the lookup tells of it
 pub record UnitsAt (s : List ℕ) : Type 0 where

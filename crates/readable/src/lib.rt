@@ -11,7 +11,6 @@ pub use found::ValuesFound;
 pub use labelled::labels;
 pub use lookups::name;
 pub use lookups::name_cover;
-pub use lookups::name_first;
 pub use lookups::parameters;
 pub use lookups::units;
 pub use lookups::values;

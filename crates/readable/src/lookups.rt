@@ -9,7 +9,7 @@ use crate::places::counts;
 use fields::name_at;
 use fields::word_at;
 ghost use mathlib.Core.Path.{_≡_};
-ghost use Rattle.readable.specs.Lookup.{atNumber, coverAt, nameIn, parametersIn, unitsIn, valuesIn, coverIn, firstOf};
+ghost use Rattle.readable.specs.Lookup.{atNumber, coverAt, nameIn, parametersIn, unitsIn, valuesIn, coverIn};
 ghost use Rattle.readable.specs.Readable.{Readable, ReadableWhole};
 
 // P, the number of parameters.
@@ -53,27 +53,6 @@ pub fn name_cover(s: &[u8], name: &[u8]) -> Cover
                 width: next - index,
             }
         }
-        Found::Nothing => Cover {
-            found: false,
-            index: 0,
-            width: 0,
-        },
-    }
-}
-
-// The first control that a name covers.
-pub fn name_first(s: &[u8], name: &[u8]) -> Cover
-    requires { ⌜ Readable (now s) ⌝ }
-    ensures { λ r. ⌜ coverAt r ≡ firstOf (coverIn (now (name .entry)) (now (s .entry))) ⌝ }
-{
-    let places = counts(s);
-    let entry = find_entry(s, places.first, places.names, name);
-    match entry {
-        Found::At(index) => Cover {
-            found: true,
-            index: index,
-            width: 1,
-        },
         Found::Nothing => Cover {
             found: false,
             index: 0,

@@ -1,4 +1,5 @@
 use mathlib.Core.Logic.{⊎-elim}
+use mathlib.Core.Bool.{false}
 use Prim.Native.Nat.{ℕ, _-_, _<_}
 use mathlib.Core.Path.{_≡_, refl, sym, ap, _∙_}
 use mathlib.Core.List.{List}
@@ -10,30 +11,32 @@ use Rattle.model.specs.Layout.{wordsLength, countIn, nodesIn, controlsIn, putCo
 use Rattle.model.specs.Engine.{decode}
 use Rattle.model.specs.Effects.{changeAll}
 use Rattle.controls.specs.Change.{changeOf}
+use Rattle.model.specs.Meaning.{coverOf}
+use Rattle.controls.specs.Encoded.{frontOnly}
 use Rattle.controls.specs.Synth.{same-controls}
-use Rattle.controls.specs.All.{synth-lent, no-change, turned, all-none}
-use Rattle.controls.specs.Reaches.{reaches-same, reaches-inside, reaches-node, noSpan, SpansNoted}
+use Rattle.controls.specs.All.{synth-lent, cover-change, no-change, turned, all-none}
 use Rattle.slots.specs.Slots.{slotBytes}
 use Rattle.controls.specs.Ready.{nodeIn}
 use Rattle.controls.specs.Noted.{noted-none, noted-more}
+use Rattle.controls.specs.Cover.{coverOn, cover-inside, CoversNoted, noCover}
 use Rattle.controls.proofs.table.change_all.Statement.{statement}
 use Rattle.controls.proofs.table.change_all.Tie as tie
 
 abbrev Inv-loop : tie.InvT-loop
-Inv-loop words₀ arena from to key name count change spans₀ i₀ words spans i =
+Inv-loop words₀ arena from to key name count change covers₀ i₀ words covers i =
     (length words ≡ wordsLength) × (words ≡ putControls (controlsIn words) words₀)
     × (changeAll (changeOf change) key name count (decode words₀ arena .slots) (take (to - i) (drop i (nodesIn words₀))) (controlsIn words)
     ≡ changeAll (changeOf change) key name count (decode words₀ arena .slots) (take (to - from) (drop from (nodesIn words₀))) (controlsIn words₀))
-    × SpansNoted key name count words₀ arena spans
+    × CoversNoted key name words₀ arena covers
 
 abbrev μ-loop : tie.MeasureT-loop
-μ-loop words₀ arena from to key name count change spans₀ i₀ words spans i = to - i
+μ-loop words₀ arena from to key name count change covers₀ i₀ words covers i = to - i
 
 loop-holds : tie.Need-loop-holds Inv-loop μ-loop
 loop-holds c =
     let s = c .before .before .before in
     let a = s .args in
-    (s .pre .0 .size, sym (same-controls (a .words .now)), refl, noted-none _ _ noSpan refl)
+    (s .pre .0 .size, sym (same-controls (a .words .now)), refl, noted-none _ _ noCover refl)
 
 node-is-group-requires : tie.Need-node-is-group-requires Inv-loop μ-loop
 node-is-group-requires c κs =
@@ -47,8 +50,8 @@ node-slot-requires c κs =
     let l = c .before .before .before .before .before .loop in
     (l .inv .0, omega (arith, s .pre .1, s .pre .0 .few))
 
-mul-slot-span : tie.Need-mul-slot-span Inv-loop μ-loop
-mul-slot-span c =
+mul-slot-cover : tie.Need-mul-slot-cover Inv-loop μ-loop
+mul-slot-cover c =
     let s = c .before .before .before .before .before .before .before .before .before .before .before in
     let a = s .args in
     let l = c .before .before .before .before .before .before .before .loop in
@@ -56,8 +59,8 @@ mul-slot-span c =
     let w = synth-lent (a .words .now) (a .arena .now) (l .words) (l .i) (s .pre .0) (l .inv .0) (l .inv .1) (omega (arith, s .pre .1)) single in
     omega (arith, w .slot, c .before .node-slot .ensures)
 
-array-copy-out-slot-span : tie.Need-array-copy-out-slot-span Inv-loop μ-loop
-array-copy-out-slot-span c =
+array-copy-out-slot-cover : tie.Need-array-copy-out-slot-cover Inv-loop μ-loop
+array-copy-out-slot-cover c =
     let s = c .before .before .before .before .before .before .before .before .before .before .before in
     let a = s .args in
     let l = c .before .before .before .before .before .before .before .loop in
@@ -65,8 +68,8 @@ array-copy-out-slot-span c =
     let w = synth-lent (a .words .now) (a .arena .now) (l .words) (l .i) (s .pre .0) (l .inv .0) (l .inv .1) (omega (arith, s .pre .1)) single in
     omega (arith, w .slot, c .before .node-slot .ensures)
 
-slot-span-requires : tie.Need-slot-span-requires Inv-loop μ-loop
-slot-span-requires c κs =
+slot-cover-requires : tie.Need-slot-cover-requires Inv-loop μ-loop
+slot-cover-requires c κs =
     let s = c .before .before .before .before .before .before .before .before .before .before .before .before in
     let a = s .args in
     let l = c .before .before .before .before .before .before .before .before .loop in
@@ -78,12 +81,12 @@ slot-span-requires c κs =
       rw here (w .slot),
       rw here (w .readable),
       λ other.
-          reaches-same (ap (slotBytes (a .words .now) (a .arena .now)) here ∙ sym (w .kept) ∙ ap (slotBytes (l .words) (a .arena .now)) (sym here))
-          (l .inv .3 .same (record { index = 0; width = 0 }) slot (rw here (w .slot)) other),
+          l .inv .3 .same (record { found = false; index = 0; width = 0 }) slot (rw here (w .slot)) other
+          ∙ ap (λ (d : List ℕ). coverOf (a .key) (a .name .now) (frontOnly d)) (ap (slotBytes (a .words .now) (a .arena .now)) here ∙ sym (w .kept) ∙ ap (slotBytes (l .words) (a .arena .now)) (sym here)),
     )
 
-mul-spans : tie.Need-mul-spans Inv-loop μ-loop
-mul-spans c =
+mul-covers : tie.Need-mul-covers Inv-loop μ-loop
+mul-covers c =
     let s = c .before .before .before .before .before .before .before .before .before .before .before .before .before in
     let a = s .args in
     let l = c .before .before .before .before .before .before .before .before .before .loop in
@@ -91,8 +94,8 @@ mul-spans c =
     let w = synth-lent (a .words .now) (a .arena .now) (l .words) (l .i) (s .pre .0) (l .inv .0) (l .inv .1) (omega (arith, s .pre .1)) single in
     omega (arith, w .slot, c .before .before .before .node-slot .ensures)
 
-array-set-from-spans : tie.Need-array-set-from-spans Inv-loop μ-loop
-array-set-from-spans c =
+array-set-from-covers : tie.Need-array-set-from-covers Inv-loop μ-loop
+array-set-from-covers c =
     let s = c .before .before .before .before .before .before .before .before .before .before .before .before .before in
     let a = s .args in
     let l = c .before .before .before .before .before .before .before .before .before .loop in
@@ -107,7 +110,7 @@ change-node-requires c κs =
     let l = c .before .before .before .before .before .before .before .before .before .before .loop in
     let single = sym (c .before .before .before .before .before .before .before .node-is-group .ensures) ∙ not-true (c .before .before .before .before .before .before .before .node-is-group .result) (c .before .before .before .before .before .before .if1 .taken) in
     let w = synth-lent (a .words .now) (a .arena .now) (l .words) (l .i) (s .pre .0) (l .inv .0) (l .inv .1) (omega (arith, s .pre .1)) single in
-    (l .inv .0, w .place, w .row, λ found h. reaches-inside (a .key) (a .name .now) (a .count) (slotBytes (l .words) (a .arena .now) (c .before .before .before .before .node-slot .result)) (c .before .slot-span .result) (c .before .slot-span .ensures) h)
+    (l .inv .0, w .place, w .row, cover-inside (a .key) (a .name .now) (slotBytes (l .words) (a .arena .now) (c .before .before .before .before .node-slot .result)) (c .before .slot-cover .result) (c .before .slot-cover .ensures))
 
 loop-again : tie.Need-loop-again Inv-loop μ-loop
 loop-again c =
@@ -123,13 +126,13 @@ loop-again c =
     let e = synth-lent (a .words .now) (a .arena .now) (l .words) (l .i) (s .pre .0) (l .inv .0) (l .inv .1) live single in
     let slot = w .2 .result in
     let here : slot ≡ nodeIn (l .words) (l .i) .slot = w .2 .ensures in
-    let cover = reaches-same (ap (slotBytes (l .words) (a .arena .now)) here) (w .5 .ensures) in
-    let fact = w .7 .ensures ∙ ap (λ (cs : List ℕ). putControls cs (l .words)) (reaches-node f (a .key) (a .name .now) (a .count) (l .words) (a .arena .now) (l .i) single (w .5 .result) cover) in
+    let cover = w .5 .ensures ∙ ap (coverOn (a .key) (a .name .now) (l .words) (a .arena .now)) here in
+    let fact = w .7 .ensures ∙ ap (λ (cs : List ℕ). putControls cs (l .words)) (cover-change f (a .key) (a .name .now) (a .count) (l .words) (a .arena .now) (l .i) single (w .5 .result) cover) in
     let t =
     turned f (a .key) (a .name .now) (a .count) (a .words .now) (a .arena .now) (a .to) (l .i) (l .words) (w .7 .last .0)
     (s .pre .0) (omega arith) (s .pre .1) (l .inv .0) (l .inv .1) (w .7 .kept .0) fact in
-    let noted = reaches-same (e .kept ∙ ap (slotBytes (a .words .now) (a .arena .now)) (sym here)) cover in
-    let more = noted-more _ _ (l .spans) (l .inv .3) slot (w .5 .result) (rw here (e .slot)) noted in
+    let noted = cover ∙ ap (λ (d : List ℕ). coverOf (a .key) (a .name .now) (frontOnly d)) (e .kept ∙ ap (slotBytes (a .words .now) (a .arena .now)) (sym here)) in
+    let more = noted-more _ _ (l .covers) (l .inv .3) slot (w .5 .result) (rw here (e .slot)) noted in
     (rw (w .10) (t .size), rw (w .10) (t .rest), rw (w .10) (t .left ∙ l .inv .2), rw (w .11) more))
     (λ w.
     let whole = sym (group .ensures) ∙ not-false (group .result) (w .0 .left) in
@@ -151,6 +154,6 @@ returns c =
 pub change-all-spec : {M : Type 1} → statement M
 change-all-spec =
     tie.close
-    (tie.spec Inv-loop μ-loop loop-holds node-is-group-requires node-slot-requires mul-slot-span
-    array-copy-out-slot-span slot-span-requires mul-spans array-set-from-spans change-node-requires
+    (tie.spec Inv-loop μ-loop loop-holds node-is-group-requires node-slot-requires mul-slot-cover
+    array-copy-out-slot-cover slot-cover-requires mul-covers array-set-from-covers change-node-requires
     (λ c. omega arith) (λ c. omega arith) loop-again (λ c. search needs) returns)
