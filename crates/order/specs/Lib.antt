@@ -7,5 +7,3 @@ pub mod Marks
 pub mod Kept
 pub mod Met
 pub mod Checks
-pub mod Walk
-pub mod Walks

@@ -1,6 +1,4 @@
 // The running order and the rules of the state on nodes, over the node region in lent words.
-mod walk;
-
 use layout::DEPTH;
 use layout::GROUP;
 use layout::MOST_NODES;
@@ -11,13 +9,11 @@ use layout::ROW;
 use layout::ROWS;
 use layout::RUN;
 use layout::SLOT;
-pub use walk::Walk;
-pub use walk::astray;
-pub use walk::walk_over;
 ghost use mathlib.Core.Bool.{false};
 ghost use mathlib.Core.Path.{_≡_};
 ghost use Prim.Native.Nat.{_+_, _*_, _≤_, _<_};
-ghost use lib.ListN.{length, drop};
+ghost use lib.ListN.{length, take, drop};
+ghost use Rattle.format.specs.Reader.{sameName};
 ghost use Rattle.nodes.specs.Table.{width, rows};
 ghost use Rattle.nodes.specs.Place.{lives};
 ghost use Rattle.nodes.specs.Sizes.{TableFits};
@@ -123,6 +119,21 @@ pub fn write_order(order: &mut [u32], from: Order)
     }
 }
 
+// Two runs have the same first so many numbers.
+fn same_numbers(kept: &[u32], fresh: &[u32], many: usize) -> bool
+    requires { ⌜ (many ≤ length (now kept)) × (many ≤ length (now fresh)) ⌝ }
+    ensures { λ r. ⌜ r ≡ sameName (take many (now (kept .entry))) (take many (now (fresh .entry))) ⌝ }
+{
+    let mut i = 0;
+    while i < many {
+        if kept[i] != fresh[i] {
+            return false;
+        }
+        i += 1;
+    }
+    true
+}
+
 // The order kept, of this length, is the one worked out afresh.
 pub fn same_order(kept: &[u32], many: usize, nodes: &[u32], count: usize) -> bool
     requires { ⌜ (length (now kept) ≡ mostOrder) × TableFits (now nodes) count ⌝ }
@@ -131,17 +142,11 @@ pub fn same_order(kept: &[u32], many: usize, nodes: &[u32], count: usize) -> boo
     if MOST_ORDER < many {
         return false;
     }
-    let start = Walk {
-        same: true,
-        limit: 0,
-        many: 0,
-        named: 0,
-    };
-    let whole = walk_over(&kept[..many], nodes, 0, count, start);
-    if !whole.same {
+    let fresh = running_order(nodes, count);
+    if many != fresh.length {
         return false;
     }
-    whole.many == many
+    same_numbers(kept, &fresh.numbers, many)
 }
 
 // Every record past the first is below the root, and none deeper than the one before it lets it be.
