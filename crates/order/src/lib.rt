@@ -15,9 +15,8 @@ ghost use Prim.Native.Nat.{_+_, _*_, _≤_, _<_};
 ghost use lib.ListN.{length, take, drop};
 ghost use Rattle.format.specs.Reader.{sameName};
 ghost use Rattle.nodes.specs.Table.{width, rows};
-ghost use Rattle.nodes.specs.Place.{lives};
 ghost use Rattle.nodes.specs.Sizes.{TableFits};
-ghost use Rattle.nodes.specs.Formed.{mostNodes, steps, rooted, apart, allFormed, synthLives, nodesFormed};
+ghost use Rattle.nodes.specs.Formed.{mostNodes, steps, rooted, allFormed, synthLives};
 ghost use Rattle.order.specs.Checks.{numberHolds, fieldsHold, nodesHold};
 ghost use Rattle.order.specs.Order.{mostOrder};
 ghost use Rattle.order.specs.Same.{sameOrder};
@@ -174,53 +173,6 @@ fn steps_hold(nodes: &[u32], count: usize) -> bool
     true
 }
 
-// The number stands in a record from the place `from` on.
-fn number_lives(nodes: &[u32], count: usize, from: usize, number: u32) -> bool
-    requires { ⌜ TableFits (now nodes) count × (from ≤ count) ⌝ }
-    ensures { λ r. ⌜ r ≡ lives number (drop from (rows count (now (nodes .entry)))) ⌝ }
-{
-    let mut i = from;
-    while i < count {
-        if nodes[RECORD * i] == number {
-            return true;
-        }
-        i += 1;
-    }
-    false
-}
-
-// The same, of a number that can stand there only if it is `met`.
-fn stands_again(nodes: &[u32], count: usize, from: usize, number: u32, met: bool) -> bool
-    requires { ⌜ TableFits (now nodes) count × ((from ≤ count) × (met ≡ false → lives number (drop from (rows count (now nodes))) ≡ false)) ⌝ }
-    ensures { λ r. ⌜ r ≡ lives number (drop from (rows count (now (nodes .entry)))) ⌝ }
-{
-    if !met {
-        return false;
-    }
-    number_lives(nodes, count, from, number)
-}
-
-// No number stands twice. From the last record on, a mark is set for each number met, by its remainder: a number whose mark
-// is not set stands in no later record, so that only two numbers of one remainder cost a search.
-fn numbers_apart(nodes: &[u32], count: usize) -> bool
-    requires { ⌜ TableFits (now nodes) count ⌝ }
-    ensures { λ r. ⌜ r ≡ apart (rows count (now (nodes .entry))) ⌝ }
-{
-    let mut met: [bool; 1024] = [false; 1024];
-    let mut i = count;
-    while 0 < i {
-        let next = i;
-        i -= 1;
-        let number = nodes[RECORD * i];
-        let mark = words::wide(number % 1024);
-        if stands_again(nodes, count, next, number, met[mark]) {
-            return false;
-        }
-        met[mark] = true;
-    }
-    true
-}
-
 // A synth has the number.
 fn synth_lives(nodes: &[u32], count: usize, number: u32) -> bool
     requires { ⌜ TableFits (now nodes) count ⌝ }
@@ -339,15 +291,4 @@ pub fn nodes_hold(nodes: &[u32], count: usize, next: u32, latest: u32) -> bool
         return true;
     }
     synth_lives(nodes, count, latest)
-}
-
-// All the rules on nodes, of a table without an index.
-pub fn nodes_formed(nodes: &[u32], count: usize, next: u32, latest: u32) -> bool
-    requires { ⌜ length (now nodes) ≡ width * mostNodes ⌝ }
-    ensures { λ r. ⌜ r ≡ nodesFormed next latest (rows count (now (nodes .entry))) ⌝ }
-{
-    if !nodes_hold(nodes, count, next, latest) {
-        return false;
-    }
-    numbers_apart(nodes, count)
 }
