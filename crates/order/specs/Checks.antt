@@ -6,11 +6,11 @@ use mathlib.Core.List.{List, [], _∷_}
 use native.Mathlib.Omega.{arith}
 use lib.ListN.{length, drop, getD}
 use lib.Dec.{ltb, leb, eqb}
-use borrow.Author.Tests.{leb-true, le-leb, lt-leb}
+use borrow.Author.Tests.{le-leb, lt-leb}
 use Rattle.words.specs.Choice.{pick, both, either, both-true}
 use Rattle.nodes.specs.declared.Node.{Node}
 use Rattle.nodes.specs.Table.{width, nodeFrom, rows, rows-end, row-from}
-use Rattle.nodes.specs.Place.{groupSlot, lives}
+use Rattle.nodes.specs.Place.{groupSlot}
 use Rattle.nodes.specs.Formed.{firstGiven, lastGiven, mostRows, mostNodes, countFormed, reach, steps, rooted, apart, numberFormed, fieldsFormed, rowFormed, allFormed, rowsApart, nextFormed, synthLives, latestFormed, nodesFormed}
 use Rattle.order.specs.Marks.{rowsFormed, rowsHold}
 
@@ -33,14 +33,6 @@ module _ (n : ℕ) (us : List ℕ) where
   pub rooted-turn : 0 < n → rooted (rows n us) ≡ both (eqb (getD us 0 0) 0) (both (eqb (getD us 1 0) 0) (both (eqb (getD us 3 0) 32) (steps 1 (drop 1 (rows n us)))))
   unfolding rooted
   rooted-turn h = ap rooted (row-from n us 0 h)
-
-  pub apart-turn : (i : ℕ) → i < n → apart (drop i (rows n us)) ≡ pick (lives (getD us (width * i) 0) (drop (i + 1) (rows n us))) false (apart (drop (i + 1) (rows n us)))
-  unfolding apart
-  apart-turn i h = ap apart (row-from n us i h)
-
-  pub apart-end : (i : ℕ) → n ≤ i → apart (drop i (rows n us)) ≡ true
-  unfolding apart
-  apart-end i h = ap apart (rows-end n us i h)
 
   pub fields-turn : (next i : ℕ) → i < n → allFormed next (drop i (rows n us)) ≡ both (fieldsFormed next (nodeFrom us (width * i))) (allFormed next (drop (i + 1) (rows n us)))
   unfolding allFormed
@@ -99,10 +91,6 @@ module _ (next latest : ℕ) (t : List Node) where
   pub hold-many : mostNodes < length t → nodesHold next latest t ≡ false
   unfolding nodesHold
   hold-many h = rw (le-leb 1 (length t) (omega arith), lt-leb (length t) mostNodes h)
-
-  pub hold-few : nodesHold next latest t ≡ true → length t ≤ mostNodes
-  unfolding nodesHold
-  hold-few h = leb-true (length t) mostNodes (both-true (leb 1 (length t)) _ (both-true (countFormed t) _ h .0) .1)
 
   pub hold-some : 1 ≤ length t → length t ≤ mostNodes
       → nodesHold next latest t ≡ both (rooted t) (both (allFormed next t) (both (rowsHold t) (both (nextFormed next) (latestFormed latest t))))

@@ -5,7 +5,4 @@ pub mod Few
 pub mod Same
 pub mod Marks
 pub mod Kept
-pub mod Met
 pub mod Checks
-pub mod Walk
-pub mod Walks

@@ -1,6 +1,4 @@
 // The running order and the rules of the state on nodes, over the node region in lent words.
-mod walk;
-
 use layout::DEPTH;
 use layout::GROUP;
 use layout::MOST_NODES;
@@ -11,17 +9,14 @@ use layout::ROW;
 use layout::ROWS;
 use layout::RUN;
 use layout::SLOT;
-pub use walk::Walk;
-pub use walk::astray;
-pub use walk::walk_over;
 ghost use mathlib.Core.Bool.{false};
 ghost use mathlib.Core.Path.{_≡_};
 ghost use Prim.Native.Nat.{_+_, _*_, _≤_, _<_};
-ghost use lib.ListN.{length, drop};
+ghost use lib.ListN.{length, take, drop};
+ghost use Rattle.format.specs.Reader.{sameName};
 ghost use Rattle.nodes.specs.Table.{width, rows};
-ghost use Rattle.nodes.specs.Place.{lives};
 ghost use Rattle.nodes.specs.Sizes.{TableFits};
-ghost use Rattle.nodes.specs.Formed.{mostNodes, steps, rooted, apart, allFormed, synthLives, nodesFormed};
+ghost use Rattle.nodes.specs.Formed.{mostNodes, steps, rooted, allFormed, synthLives};
 ghost use Rattle.order.specs.Checks.{numberHolds, fieldsHold, nodesHold};
 ghost use Rattle.order.specs.Order.{mostOrder};
 ghost use Rattle.order.specs.Same.{sameOrder};
@@ -123,6 +118,21 @@ pub fn write_order(order: &mut [u32], from: Order)
     }
 }
 
+// Two runs have the same first so many numbers.
+fn same_numbers(kept: &[u32], fresh: &[u32], many: usize) -> bool
+    requires { ⌜ (many ≤ length (now kept)) × (many ≤ length (now fresh)) ⌝ }
+    ensures { λ r. ⌜ r ≡ sameName (take many (now (kept .entry))) (take many (now (fresh .entry))) ⌝ }
+{
+    let mut i = 0;
+    while i < many {
+        if kept[i] != fresh[i] {
+            return false;
+        }
+        i += 1;
+    }
+    true
+}
+
 // The order kept, of this length, is the one worked out afresh.
 pub fn same_order(kept: &[u32], many: usize, nodes: &[u32], count: usize) -> bool
     requires { ⌜ (length (now kept) ≡ mostOrder) × TableFits (now nodes) count ⌝ }
@@ -131,17 +141,11 @@ pub fn same_order(kept: &[u32], many: usize, nodes: &[u32], count: usize) -> boo
     if MOST_ORDER < many {
         return false;
     }
-    let start = Walk {
-        same: true,
-        limit: 0,
-        many: 0,
-        named: 0,
-    };
-    let whole = walk_over(&kept[..many], nodes, 0, count, start);
-    if !whole.same {
+    let fresh = running_order(nodes, count);
+    if many != fresh.length {
         return false;
     }
-    whole.many == many
+    same_numbers(kept, &fresh.numbers, many)
 }
 
 // Every record past the first is below the root, and none deeper than the one before it lets it be.
@@ -165,53 +169,6 @@ fn steps_hold(nodes: &[u32], count: usize) -> bool
             most = depth + 1;
         }
         i += 1;
-    }
-    true
-}
-
-// The number stands in a record from the place `from` on.
-fn number_lives(nodes: &[u32], count: usize, from: usize, number: u32) -> bool
-    requires { ⌜ TableFits (now nodes) count × (from ≤ count) ⌝ }
-    ensures { λ r. ⌜ r ≡ lives number (drop from (rows count (now (nodes .entry)))) ⌝ }
-{
-    let mut i = from;
-    while i < count {
-        if nodes[RECORD * i] == number {
-            return true;
-        }
-        i += 1;
-    }
-    false
-}
-
-// The same, of a number that can stand there only if it is `met`.
-fn stands_again(nodes: &[u32], count: usize, from: usize, number: u32, met: bool) -> bool
-    requires { ⌜ TableFits (now nodes) count × ((from ≤ count) × (met ≡ false → lives number (drop from (rows count (now nodes))) ≡ false)) ⌝ }
-    ensures { λ r. ⌜ r ≡ lives number (drop from (rows count (now (nodes .entry)))) ⌝ }
-{
-    if !met {
-        return false;
-    }
-    number_lives(nodes, count, from, number)
-}
-
-// No number stands twice. From the last record on, a mark is set for each number met, by its remainder: a number whose mark
-// is not set stands in no later record, so that only two numbers of one remainder cost a search.
-fn numbers_apart(nodes: &[u32], count: usize) -> bool
-    requires { ⌜ TableFits (now nodes) count ⌝ }
-    ensures { λ r. ⌜ r ≡ apart (rows count (now (nodes .entry))) ⌝ }
-{
-    let mut met: [bool; 1024] = [false; 1024];
-    let mut i = count;
-    while 0 < i {
-        let next = i;
-        i -= 1;
-        let number = nodes[RECORD * i];
-        let mark = words::wide(number % 1024);
-        if stands_again(nodes, count, next, number, met[mark]) {
-            return false;
-        }
-        met[mark] = true;
     }
     true
 }
@@ -334,15 +291,4 @@ pub fn nodes_hold(nodes: &[u32], count: usize, next: u32, latest: u32) -> bool
         return true;
     }
     synth_lives(nodes, count, latest)
-}
-
-// All the rules on nodes, of a table without an index.
-pub fn nodes_formed(nodes: &[u32], count: usize, next: u32, latest: u32) -> bool
-    requires { ⌜ length (now nodes) ≡ width * mostNodes ⌝ }
-    ensures { λ r. ⌜ r ≡ nodesFormed next latest (rows count (now (nodes .entry))) ⌝ }
-{
-    if !nodes_hold(nodes, count, next, latest) {
-        return false;
-    }
-    numbers_apart(nodes, count)
 }

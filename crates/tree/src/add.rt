@@ -9,13 +9,12 @@ use layout::DEPTH;
 use layout::RECORD;
 use nodes::Node;
 ghost use mathlib.Core.Path.{_≡_};
-ghost use mathlib.Core.List.{_∷_, [], _++_};
+ghost use mathlib.Core.List.{_∷_, _++_};
 ghost use Prim.Native.Nat.{_*_, _≤_, _<_};
 ghost use lib.ListN.{length, take, drop};
 ghost use Rattle.nodes.specs.Table.{width, rows};
-ghost use Rattle.nodes.specs.Edit.{level, editAt};
+ghost use Rattle.nodes.specs.Edit.{level};
 ghost use Rattle.tree.specs.Sizes.{Leaves};
-ghost use Rattle.tree.specs.Action.{addHere};
 ghost use Rattle.tree.specs.Add.{Target, Room, placeBy};
 ghost use Rattle.tree.specs.Gaps.{gapBy, inGap, Gapped};
 
@@ -115,13 +114,4 @@ pub fn fill_gap(nodes: &mut [u32], count: usize, gap: Gap, node: Node) -> usize
         return replace(nodes, count, at, end, new);
     }
     insert(nodes, count, at, new)
-}
-
-// A node put in by an add action on the node at a place.
-pub fn add_node(nodes: &mut [u32], count: usize, action: Action, at: usize, node: Node) -> usize
-    requires { ⌜ Room (now nodes) count action at ⌝ }
-    ensures { λ r. ⌜ Leaves (now (nodes .entry)) (editAt at (addHere action (level 0 node ∷ [])) (rows count (now (nodes .entry)))) (now (nodes .exit)) r ⌝ }
-{
-    let gap = gap_by(nodes, count, action, at);
-    fill_gap(nodes, count, gap, node)
 }

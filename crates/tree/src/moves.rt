@@ -1,11 +1,8 @@
 // A run of records moved to another place, with its new depths.
-use crate::action::Position;
 use crate::add::Place;
-use crate::add::place_by;
 use crate::runs::close_gap;
 use crate::runs::copy_words;
 use crate::runs::open_gap;
-use crate::search::subtree_end;
 use layout::DEPTH;
 use layout::NODES_WORDS;
 use layout::RECORD;
@@ -15,11 +12,10 @@ ghost use lib.ListN.{length, take, drop};
 ghost use Rattle.nodes.specs.Table.{width, fill};
 ghost use Rattle.nodes.specs.Sizes.{endAt};
 ghost use Rattle.nodes.specs.Formed.{mostNodes};
-ghost use Rattle.tree.specs.Add.{placeBy};
 ghost use Rattle.tree.specs.Moves.{without, putIn, Opened};
 ghost use Rattle.tree.specs.Depths.{Levels, releveled};
 ghost use Rattle.tree.specs.MoveRun.{Movable, movedWords, movedTo, placeWithout};
-ghost use Rattle.tree.specs.Ends.{MoveTo, Moving};
+ghost use Rattle.tree.specs.Ends.{MoveTo};
 
 // Room made at a place for the words from `from` up to `to`: those between come over them.
 fn make_room(words: &mut [u32], from: usize, to: usize, at: usize)
@@ -102,14 +98,4 @@ pub fn move_to(nodes: &mut [u32], count: usize, at: usize, end: usize, place: Pl
     let old = nodes[RECORD * at + DEPTH];
     let to = place_without(place.at, at, end);
     move_run(nodes, at, end, to, old, place.depth);
-}
-
-// The node at the place a moved, with all below it, to a position by the node at the place b.
-pub fn move_node(nodes: &mut [u32], count: usize, a: usize, position: Position, b: usize)
-    requires { ⌜ Moving (now nodes) count a b ⌝ }
-    ensures { λ r. ⌜ now (nodes .exit) ≡ fill (now (nodes .entry)) (movedTo count (now (nodes .entry)) a (placeBy position count (now (nodes .entry)) b)) ⌝ }
-{
-    let end = subtree_end(nodes, count, a);
-    let to = place_by(nodes, count, position, b);
-    move_to(nodes, count, a, end, to);
 }

@@ -1,27 +1,10 @@
-// Looking along the table: a node by its number, and the end of a node's run.
+// The end of a node's run, along the table.
 use layout::DEPTH;
 use layout::RECORD;
 ghost use mathlib.Core.Path.{_≡_};
 ghost use lib.Dec.{ltb};
-ghost use Rattle.nodes.specs.Table.{rows};
-ghost use Rattle.nodes.specs.Place.{place};
-ghost use Rattle.nodes.specs.Sizes.{TableFits, endAt};
+ghost use Rattle.nodes.specs.Sizes.{endAt};
 ghost use Rattle.tree.specs.Sizes.{Placed};
-
-// The place of the node with this number, or the count.
-pub fn find(nodes: &[u32], count: usize, number: u32) -> usize
-    requires { ⌜ TableFits (now nodes) count ⌝ }
-    ensures { λ r. ⌜ r ≡ place number (rows count (now (nodes .entry))) ⌝ }
-{
-    let mut i = 0;
-    while i < count {
-        if nodes[RECORD * i] == number {
-            return i;
-        }
-        i += 1;
-    }
-    i
-}
 
 // Whether a record at the depth `other` lies below one at the depth `depth` that it follows.
 fn is_deeper(depth: u32, other: u32) -> bool

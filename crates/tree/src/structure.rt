@@ -104,27 +104,6 @@ pub fn tail_of(nodes: &[u32], count: usize, at: usize) -> u32
     last
 }
 
-// How many children it has.
-pub fn child_count(nodes: &[u32], count: usize, at: usize) -> u32
-    requires { ⌜ Placed (now nodes) count at ⌝ }
-    ensures { λ r. ⌜ r ≡ length (childrenAt count (now (nodes .entry)) at) ⌝ }
-{
-    let depth = nodes[RECORD * at + DEPTH];
-    let mut children: u32 = 0;
-    let mut i = at + 1;
-    while i < count {
-        let other = nodes[RECORD * i + DEPTH];
-        if other <= depth {
-            return children;
-        }
-        if other - depth == 1 {
-            children += 1;
-        }
-        i += 1;
-    }
-    children
-}
-
 // Whether the node at the place a is the one at the place b or lies below it.
 pub fn lies_below(nodes: &[u32], count: usize, a: usize, b: usize) -> bool
     requires { ⌜ TwoPlaces (now nodes) count a b ⌝ }

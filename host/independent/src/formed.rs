@@ -44,7 +44,7 @@ pub fn well_formed(words: &[u32], arena: &[u8]) -> bool {
 }
 
 /// Rules 2 to 7, of the records, the next number and the latest synth.
-pub fn nodes_formed(records: &[Record], next: u32, latest: u32) -> bool {
+fn nodes_formed(records: &[Record], next: u32, latest: u32) -> bool {
     let synths = records.iter().filter(|record| !record.is_group());
     (1..=MOST_NODES).contains(&records.len())
         && depths(records)
@@ -60,7 +60,7 @@ fn all_differ<T: Eq + std::hash::Hash>(mut things: impl Iterator<Item = T>) -> b
 }
 
 /// Rule 3. There is a record.
-pub fn depths(records: &[Record]) -> bool {
+fn depths(records: &[Record]) -> bool {
     let root = &records[0];
     root.number == 0
         && root.depth == 0
