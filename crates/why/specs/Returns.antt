@@ -1,19 +1,20 @@
--- Each return of the reason's function, by the words that it read.
+-- Each return of the reason's function, by the words that it read; and what the walk to its row asks.
 use Prim.Native.Nat.{ℕ, _+_, _*_, _≤_, _<_}
 use mathlib.Core.Bool.{Bool, true, false}
 use mathlib.Core.Path.{_≡_, sym, ap, _∙_}
 use mathlib.Core.List.{List}
 use native.Mathlib.Omega.{arith}
-use lib.ListN.{drop, getD}
+use lib.ListN.{length, drop, getD}
 use lib.Seq.{getD-take, getD-drop}
 use lib.Dec.{leb, eqb}
 use borrow.Author.Tests.{eq-eqb, ne-eqb, le-leb, lt-leb}
 use Rattle.words.specs.Choice.{pick}
-use Rattle.words.specs.Parts.{region}
+use Rattle.words.specs.Parts.{region, region-length}
 use Rattle.nodes.specs.Table.{width, nodeFrom, rows-length}
+use Rattle.nodes.specs.Sizes.{TableFits}
 use Rattle.nodes.specs.Place.{groupSlot, isGroup, place, place-most}
 use Rattle.nodes.specs.Order.{isOn}
-use Rattle.model.specs.Layout.{nodesPlace, nodesWords, countIn, latestIn, nodesIn}
+use Rattle.model.specs.Layout.{wordsLength, nodesPlace, nodesWords, countIn, latestIn, nodesIn}
 use Rattle.model.specs.Plain.{minusOne}
 use Rattle.why.specs.declared.Reason.the-variants.{NoNode, Group, Off, AncestorOff, Running}
 use Rattle.why.specs.declared.sight.Sight.{Sight}
@@ -79,3 +80,9 @@ asked-most number ws = go (eqb number minusOne) (eqb (latestIn ws) 0)
     go true true = omega arith
     go true false = most (latestIn ws)
     go false q = most number
+
+-- the rows before it are records of the node region
+pub row-fits : (ws : List ℕ) → length ws ≡ wordsLength → countIn ws ≤ 256 → (at : ℕ) → at ≤ countIn ws → TableFits (region nodesPlace nodesWords ws) at
+row-fits ws size few at most =
+    let room : length (region nodesPlace nodesWords ws) ≡ nodesWords = region-length nodesPlace nodesWords ws (omega arith) in
+    record { room = omega arith; few = omega arith }
