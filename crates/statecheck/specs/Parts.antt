@@ -5,8 +5,8 @@ use mathlib.Core.Path.{_≡_, refl, sym, ap, ap₂, subst, _∙_}
 use mathlib.Core.List.{List}
 use native.Mathlib.Omega.{arith}
 use lib.ListN.{length, take}
-use lib.Dec.{leb, eqb}
-use borrow.Author.Tests.{eqb-true, leb-true, eq-eqb, ne-eqb, le-leb, lt-leb}
+use lib.Dec.{leb}
+use borrow.Author.Tests.{leb-true, eq-eqb, ne-eqb, le-leb, lt-leb}
 use Rattle.words.specs.Choice.{both, both-true}
 use Rattle.words.specs.Parts.{region, region-length}
 use Rattle.nodes.specs.declared.Node.{Node}
@@ -16,7 +16,7 @@ use Rattle.nodes.specs.Formed as nodes
 use Rattle.index.specs.Index.{indexed}
 use Rattle.index.specs.Words.{IndexFits}
 use Rattle.index.specs.Nodes.{indexed-apart}
-use Rattle.model.specs.Layout.{wordsLength, arenaLength, nodesPlace, nodesWords, orderPlace, orderWords, indexPlace, indexWords, countIn, nextIn, latestIn, orderLengthIn, lengthsIn, flagsIn, nodesIn, indexIn, controlsIn}
+use Rattle.model.specs.Layout.{wordsLength, arenaLength, nodesPlace, nodesWords, orderPlace, orderWords, indexPlace, indexWords, countIn, nextIn, latestIn, orderLengthIn, lengthsIn, flagsIn, nodesIn, controlsIn}
 use Rattle.model.specs.Engine.{decode}
 use Rattle.model.specs.Formed.{formed, orderFormed, flagsFormed, slotsFormed, namesApart, controlsFormed}
 use Rattle.state.specs.Known.{tree-known}
@@ -64,35 +64,6 @@ slotsPart ws bs = both (flagsFormed (flagsIn ws)) (both (slotsFormed 0 (lengthsI
 
 abbrev pub controlsPart : List ℕ → List ℕ → Bool
 controlsPart ws bs = controlsFormed (decode ws bs .slots) (controlsIn ws) (nodesIn ws)
-
--- the check in three: the sizes and the rules on nodes and index; the rule on the kept order; and the rules on slots and controls
-abbrev pub numbersPart : List ℕ → List ℕ → Bool
-numbersPart ws bs = both (eqb (length ws) wordsLength) (both (eqb (length bs) arenaLength) (both (leb (countIn ws) mostNodes) (both (holdPart (countIn ws) ws) (indexPart (countIn ws) ws))))
-
-abbrev pub heldPart : List ℕ → List ℕ → Bool
-heldPart ws bs = both (slotsPart ws bs) (controlsPart ws bs)
-
--- what the first says
-pub record Numbered (ws bs : List ℕ) : Type 0 where
-  pub size : length ws ≡ wordsLength
-  pub room : length bs ≡ arenaLength
-  pub few : countIn ws ≤ mostNodes
-  pub nodes : nodes.nodesFormed (nextIn ws) (latestIn ws) (nodesIn ws) ≡ true
-  pub index : indexed (indexIn ws) (nodesIn ws) ≡ true
-
-pub numbered : (ws bs : List ℕ) → numbersPart ws bs ≡ true → Numbered ws bs
-numbered ws bs h =
-    let s = both-true (eqb (length ws) wordsLength) _ h in
-    let r = both-true (eqb (length bs) arenaLength) _ (s .1) in
-    let c = both-true (leb (countIn ws) mostNodes) _ (r .1) in
-    let n = both-true (holdPart (countIn ws) ws) (indexPart (countIn ws) ws) (c .1) in
-    record {
-      size = eqb-true (length ws) wordsLength (s .0);
-      room = eqb-true (length bs) arenaLength (r .0);
-      few = leb-true (countIn ws) mostNodes (c .0);
-      nodes = formed-apart (nextIn ws) (latestIn ws) (nodesIn ws) ∙ ap₂ both (n .0) (indexed-apart (indexIn ws) (nodesIn ws) (n .1));
-      index = n .1;
-    }
 
 -- a test that a later one implies need not be made
 spared : (a b c d : Bool) → (c ≡ true → b ≡ true) → both (both a b) (both c d) ≡ both a (both c d)
@@ -145,30 +116,8 @@ regrouped true true false d e f g h = refl
 regrouped true false c d e f g h = refl
 regrouped false b c d e f g h = refl
 
--- and the last of the first group, which two more go before, with those behind it
-moved : (a b c d e f g : Bool) → both a (both b (both (both c (both d (both e f))) g)) ≡ both (both a (both b (both c (both d e)))) (both f g)
-moved true true true true true f g = refl
-moved true true true true false f g = refl
-moved true true true false e f g = refl
-moved true true false d e f g = refl
-moved true false c d e f g = refl
-moved false b c d e f g = refl
-
 -- the sizes, and then the parts, each tested where those before it passed
 module _ (ws bs : List ℕ) where
-  by-parts : formed ws bs ≡ both (eqb (length ws) wordsLength) (both (eqb (length bs) arenaLength) (both (treePart ws) (heldPart ws bs)))
-  unfolding formed
-  by-parts =
-      ap (λ (b : Bool). both (eqb (length ws) wordsLength) (both (eqb (length bs) arenaLength) b))
-      (regrouped (leb (countIn ws) mostNodes) (nodesPart (countIn ws) ws) (indexPart (countIn ws) ws) (orderFormed ws (nodesIn ws)) (flagsFormed (flagsIn ws))
-      (slotsFormed 0 (lengthsIn ws) (decode ws bs .slots) (nodesIn ws)) (namesApart (decode ws bs .slots)) (controlsPart ws bs))
-
-  pub numbers-size : (length ws ≡ wordsLength → ⊥) → numbersPart ws bs ≡ false
-  numbers-size h = rw (ne-eqb (length ws) wordsLength h)
-
-  pub numbers-room : length ws ≡ wordsLength → (length bs ≡ arenaLength → ⊥) → numbersPart ws bs ≡ false
-  numbers-room size h = rw (eq-eqb (length ws) wordsLength size, ne-eqb (length bs) arenaLength h)
-
   pub bad-size : (length ws ≡ wordsLength → ⊥) → formed ws bs ≡ false
   unfolding formed
   bad-size h = rw (ne-eqb (length ws) wordsLength h)
@@ -179,9 +128,11 @@ module _ (ws bs : List ℕ) where
 
 module _ (ws bs : List ℕ) (size : length ws ≡ wordsLength) (room : length bs ≡ arenaLength) where
   pub parts : formed ws bs ≡ both (treePart ws) (both (slotsPart ws bs) (controlsPart ws bs))
+  unfolding formed
   parts =
-      by-parts ws bs
-      ∙ ap₂ (λ (b d : Bool). both b (both d (both (treePart ws) (heldPart ws bs)))) (eq-eqb (length ws) wordsLength size) (eq-eqb (length bs) arenaLength room)
+      rw (eq-eqb (length ws) wordsLength size, eq-eqb (length bs) arenaLength room)
+      (regrouped (leb (countIn ws) mostNodes) (nodesPart (countIn ws) ws) (indexPart (countIn ws) ws) (orderFormed ws (nodesIn ws)) (flagsFormed (flagsIn ws))
+      (slotsFormed 0 (lengthsIn ws) (decode ws bs .slots) (nodesIn ws)) (namesApart (decode ws bs .slots)) (controlsPart ws bs))
 
   pub bad-tree : treePart ws ≡ false → formed ws bs ≡ false
   bad-tree h = parts ∙ ap (λ (b : Bool). both b (both (slotsPart ws bs) (controlsPart ws bs))) h
@@ -192,42 +143,16 @@ module _ (ws bs : List ℕ) (size : length ws ≡ wordsLength) (room : length bs
   pub few : treePart ws ≡ true → countIn ws ≤ mostNodes
   few h = leb-true (countIn ws) mostNodes (both-true (leb (countIn ws) mostNodes) _ h .0)
 
-  -- it says what the first of the three parts does
-  pub tree-numbered : treePart ws ≡ true → Numbered ws bs
-  tree-numbered h =
-      let n = both-true (nodesPart (countIn ws) ws) _ (both-true (leb (countIn ws) mostNodes) _ h .1) in
-      record { size = size; room = room; few = few h; nodes = n .0; index = both-true (indexPart (countIn ws) ws) _ (n .1) .0 }
-
-  -- the first of the three parts, one test at a time
-  module _ (count : ℕ) (counted : count ≡ countIn ws) where
-    numbers-sized : numbersPart ws bs ≡ both (leb count mostNodes) (both (holdPart count ws) (indexPart count ws))
-    numbers-sized =
-        ap₂ (λ (b d : Bool). both b (both d (both (leb (countIn ws) mostNodes) (both (holdPart (countIn ws) ws) (indexPart (countIn ws) ws)))))
-        (eq-eqb (length ws) wordsLength size) (eq-eqb (length bs) arenaLength room)
-        ∙ ap (λ (n : ℕ). both (leb n mostNodes) (both (holdPart n ws) (indexPart n ws))) (sym counted)
-
-    pub numbers-many : mostNodes < count → numbersPart ws bs ≡ false
-    numbers-many h = numbers-sized ∙ ap (λ (b : Bool). both b (both (holdPart count ws) (indexPart count ws))) (lt-leb count mostNodes h)
-
-    pub numbers-few : (a : Bool) → count ≤ mostNodes → holdPart count ws ≡ a → numbersPart ws bs ≡ both a (indexPart count ws)
-    numbers-few a h e = numbers-sized ∙ ap₂ (λ (b d : Bool). both b (both d (indexPart count ws))) (le-leb count mostNodes h) e
-
--- what is tested before the controls are
-pub ready : (ws bs : List ℕ) → Numbered ws bs → slotsPart ws bs ≡ true → Ready ws bs
-ready ws bs n slots =
-    let s = both-true (flagsFormed (flagsIn ws)) _ slots in
-    record {
-      size = n .size;
-      arenaSize = n .room;
-      few = n .few;
-      fields = tree-known (nextIn ws) (latestIn ws) (nodesIn ws) (n .nodes) .fields;
-      slots = both-true (slotsFormed 0 (lengthsIn ws) (decode ws bs .slots) (nodesIn ws)) (namesApart (decode ws bs .slots)) (s .1) .0;
-    }
-
--- the check by its three parts
-pub in-three : (ws bs : List ℕ) → formed ws bs ≡ both (numbersPart ws bs) (both (orderPart (orderLengthIn ws) (countIn ws) ws) (heldPart ws bs))
-in-three ws bs =
-    by-parts ws bs
-    ∙ ap (λ (b : Bool). both (eqb (length ws) wordsLength) (both (eqb (length bs) arenaLength) (both (both (leb (countIn ws) mostNodes) b) (heldPart ws bs)))) (lists-tested (countIn ws) ws)
-    ∙ moved (eqb (length ws) wordsLength) (eqb (length bs) arenaLength) (leb (countIn ws) mostNodes) (holdPart (countIn ws) ws) (indexPart (countIn ws) ws)
-    (orderPart (orderLengthIn ws) (countIn ws) ws) (heldPart ws bs)
+  -- what is tested before the controls are
+  pub ready : treePart ws ≡ true → slotsPart ws bs ≡ true → Ready ws bs
+  ready tree slots =
+      let t = both-true (leb (countIn ws) mostNodes) _ tree in
+      let n = both-true (nodesPart (countIn ws) ws) _ (t .1) in
+      let s = both-true (flagsFormed (flagsIn ws)) _ slots in
+      record {
+        size = size;
+        arenaSize = room;
+        few = few tree;
+        fields = tree-known (nextIn ws) (latestIn ws) (nodesIn ws) (n .0) .fields;
+        slots = both-true (slotsFormed 0 (lengthsIn ws) (decode ws bs .slots) (nodesIn ws)) (namesApart (decode ws bs .slots)) (s .1) .0;
+      }

@@ -22,13 +22,12 @@ use order::nodes_hold;
 use order::same_order;
 use words::wide;
 ghost use Prim.Native.Nat.{_≤_};
-ghost use mathlib.Core.Bool.{true};
 ghost use mathlib.Core.Path.{_≡_};
 ghost use lib.ListN.{length};
 ghost use Rattle.nodes.specs.Formed.{mostNodes};
 ghost use Rattle.model.specs.Layout.{wordsLength, arenaLength, countIn};
 ghost use Rattle.model.specs.Formed.{formed};
-ghost use Rattle.statecheck.specs.Parts.{treePart, slotsPart, numbersPart, heldPart};
+ghost use Rattle.statecheck.specs.Parts.{treePart, slotsPart};
 
 // The rules on nodes and on their index, and that the kept running order is the one worked out afresh.
 fn tree_formed(words: &[u32]) -> bool
@@ -65,41 +64,6 @@ fn slots_hold(words: &[u32], arena: &[u8]) -> bool
     let count = wide(words[COUNT]);
     let held = held_slots(&words[NODES..NODES_END], count);
     slots_formed(&words[LENGTHS..RESIDENT_END], arena, held)
-}
-
-// The sizes, and the rules on nodes and on their index: what the check begins with, and what a lookup of a number asks. `why` looks its number up behind it, and
-// holds the kept order against the tree with an eye on that node. The first tests of `tree_formed` once more: a function for both isn't compiled in place, and
-// `why` takes longer.
-pub fn numbers_formed(words: &[u32], arena: &[u8]) -> bool
-    ensures { λ r. ⌜ r ≡ numbersPart (now (words .entry)) (now (arena .entry)) ⌝ }
-{
-    if words.len() != WORDS {
-        return false;
-    }
-    if arena.len() != ARENA {
-        return false;
-    }
-    let count = wide(words[COUNT]);
-    if MOST_NODES < count {
-        return false;
-    }
-    let next = words[NEXT];
-    let latest = words[LATEST];
-    if !nodes_hold(&words[NODES..NODES_END], count, next, latest) {
-        return false;
-    }
-    index_formed(&words[NODES..NODES_END], &words[INDEX..INDEX_END], count)
-}
-
-// The rules on slots and controls, of a state that passed the test above: what the check ends with.
-pub fn held_formed(words: &[u32], arena: &[u8]) -> bool
-    requires { ⌜ numbersPart (now words) (now arena) ≡ true ⌝ }
-    ensures { λ r. ⌜ r ≡ heldPart (now (words .entry)) (now (arena .entry)) ⌝ }
-{
-    if !slots_hold(words, arena) {
-        return false;
-    }
-    controls_formed(words, arena)
 }
 
 // The words and the arena are a well-formed state.

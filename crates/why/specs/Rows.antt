@@ -1,14 +1,14 @@
 -- The same of the table: what is seen on the way along the rows before a node's own.
 use Prim.Native.Nat.{ℕ, _+_, _*_}
 use mathlib.Core.List.{List, [], _∷_}
-use lib.ListN.{length, getD}
+use lib.ListN.{length}
 use lib.Dec.{leb, eqb}
 use Rattle.words.specs.Choice.{pick}
 use Rattle.nodes.specs.declared.Node.{Node}
 use Rattle.nodes.specs.Table.{width, nodeFrom, rows}
-use Rattle.nodes.specs.Place.{groupSlot, isGroup, place}
+use Rattle.nodes.specs.Place.{isGroup, place}
 use Rattle.nodes.specs.Order.{isOn, orderFrom}
-use Rattle.model.specs.Layout.{nodesPlace, countIn, latestIn, nodesIn}
+use Rattle.model.specs.Layout.{countIn, latestIn, nodesIn}
 use Rattle.model.specs.Plain.{minusOne}
 use Rattle.why.specs.declared.Reason.{Reason}
 use Rattle.why.specs.declared.Reason.the-variants.{NoNode, Group, Off, AncestorOff, Running}
@@ -38,8 +38,3 @@ rowReason us count at =
 -- the place of the node that a number asks for, or the count
 abbrev pub askedPlace : ℕ → List ℕ → ℕ
 askedPlace number ws = pick (eqb number minusOne) (pick (eqb (latestIn ws) 0) (countIn ws) (place (latestIn ws) (nodesIn ws))) (place number (nodesIn ws))
-
--- where the walk stops for a row: at a synth that is on, else at the end
-abbrev pub stopAt : List ℕ → ℕ → ℕ
-stopAt ws at =
-    pick (eqb (getD ws (nodesPlace + width * at + 3) 0) groupSlot) (countIn ws) (pick (eqb (getD ws (nodesPlace + width * at + 2) 0) 1) at (countIn ws))

@@ -1,48 +1,68 @@
-// The kept order held against the tree, and what is seen on the way to a row.
-use layout::COUNT;
-use layout::MOST_ORDER;
-use layout::NODES;
-use layout::NODES_END;
-use layout::ORDER;
-use layout::ORDER_LENGTH;
-use order::Walk;
-use order::astray;
-use order::walk_over;
-use words::wide;
-ghost use Prim.Native.Nat.{_≤_};
-ghost use mathlib.Core.Path.{_≡_};
-ghost use lib.ListN.{length};
-ghost use Rattle.model.specs.Layout.{wordsLength, countIn};
-ghost use Rattle.why.specs.Seen.{SeenTo};
+// What is seen on the way along the rows to one of them.
+use layout::DEPTH;
+use layout::GROUP;
+use layout::RECORD;
+use layout::RUN;
+use layout::SLOT;
+ghost use Prim.Native.Nat.{_+_};
+ghost use Rattle.nodes.specs.Sizes.{TableFits};
+ghost use Rattle.why.specs.Seen.{SeenBefore};
 
-// The walk over all rows, with a stop at one: whether the kept order is the one worked out afresh, and what was seen up to that row.
-pub fn seen_to(words: &[u32], to: usize) -> Walk
-    requires { ⌜ (length (now words) ≡ wordsLength) × ((countIn (now words) ≤ 256) × (to ≤ countIn (now words))) ⌝ }
-    ensures { λ r. ⌜ SeenTo (now (words .entry)) to r ⌝ }
+// How deep a row may be with every node above it on, how many synths ran so far, and the number of the last row that had every node above it on.
+pub struct Sight {
+    pub limit: u32,
+    pub many: u32,
+    pub named: u32,
+}
+
+// One row further. A row deeper than the limit has a node above it that is off, and changes nothing.
+fn see_row(nodes: &[u32], i: usize, so: Sight) -> Sight
+    requires { ⌜ TableFits (now nodes) (i + 1) × SeenBefore (now nodes) i so ⌝ }
+    ensures { λ r. ⌜ SeenBefore (now (nodes .entry)) (i + 1) r ⌝ }
 {
-    let count = wide(words[COUNT]);
-    let many = wide(words[ORDER_LENGTH]);
-    if MOST_ORDER < many {
-        return astray();
+    let at = RECORD * i;
+    let number = nodes[at];
+    let depth = nodes[at + DEPTH];
+    let run = nodes[at + RUN];
+    let slot = nodes[at + SLOT];
+    if so.limit < depth {
+        return so;
     }
-    let kept = &words[ORDER..ORDER + many];
-    let nodes = &words[NODES..NODES_END];
-    let start = Walk {
-        same: true,
+    if run != 1 {
+        return Sight {
+            limit: depth,
+            many: so.many,
+            named: number,
+        };
+    }
+    if slot == GROUP {
+        return Sight {
+            limit: depth + 1,
+            many: so.many,
+            named: number,
+        };
+    }
+    Sight {
+        limit: depth + 1,
+        many: so.many + 1,
+        named: number,
+    }
+}
+
+// The rows before a place, from the root on.
+pub fn sight_to(nodes: &[u32], to: usize) -> Sight
+    requires { ⌜ TableFits (now nodes) to ⌝ }
+    ensures { λ r. ⌜ SeenBefore (now (nodes .entry)) to r ⌝ }
+{
+    let mut seen = Sight {
         limit: 0,
         many: 0,
         named: 0,
     };
-    let first = walk_over(kept, nodes, 0, to, start);
-    if !first.same {
-        return astray();
+    let mut i = 0;
+    while i < to {
+        seen = see_row(nodes, i, seen);
+        i += 1;
     }
-    let whole = walk_over(kept, nodes, to, count, first);
-    if !whole.same {
-        return astray();
-    }
-    if whole.many != many {
-        return astray();
-    }
-    first
+    seen
 }

@@ -4,7 +4,7 @@ use mathlib.Core.Path.{_≡_, sym, _∙_}
 use native.Mathlib.Omega.{arith}
 use borrow.Author.Needs.{needs}
 use borrow.Author.Tests.{not-true, not-false}
-use Rattle.statecheck.specs.Parts.{treePart, slotsPart, bad-size, bad-room, bad-tree, good-tree, few, tree-numbered, ready}
+use Rattle.statecheck.specs.Parts.{treePart, slotsPart, bad-size, bad-room, bad-tree, good-tree, few, ready}
 use Rattle.statecheck.proofs.well_formed.Statement.{statement}
 use Rattle.statecheck.proofs.well_formed.Tie as tie
 
@@ -40,7 +40,7 @@ controls-formed-requires c κs =
     let a = c .before .before .before .before .before .before .before .before .args in
     let tree : treePart (a .words .now) ≡ true = sym (c .before .before .before .tree-formed .ensures) ∙ not-false (c .before .before .before .tree-formed .result) (c .before .before .if3 .left) in
     let slots : slotsPart (a .words .now) (a .arena .now) ≡ true = sym (c .before .slots-hold .ensures) ∙ not-false (c .before .slots-hold .result) (c .if4 .left) in
-    ready (a .words .now) (a .arena .now) (tree-numbered (a .words .now) (a .arena .now) (omega arith) (omega arith) tree) slots
+    ready (a .words .now) (a .arena .now) (omega arith) (omega arith) tree slots
 
 returns-5 : tie.Need-returns-5
 returns-5 c =
