@@ -4,31 +4,28 @@ use mathlib.Core.Bool.{Bool, true, false}
 use mathlib.Core.Path.{_≡_, refl, sym, ap, _∙_}
 use mathlib.Core.List.{List}
 use native.Mathlib.Omega.{arith}
-use borrow.Author.Tests.{ltb-true, ltb-false, leb-true, leb-false, eqb-true, eqb-false, le-leb, lt-leb, eq-eqb, ne-eqb}
+use borrow.Author.Tests.{ltb-true, ltb-false, leb-true, leb-false, eqb-true, eqb-false, le-leb, lt-leb}
 use lib.ListN.{length, getD}
 use lib.Dec.{ltb, leb, eqb}
 use Rattle.words.specs.Choice.{pick}
 use Rattle.nodes.specs.declared.Node.{Node}
 use Rattle.nodes.specs.Place.{place}
+use Rattle.index.specs.declared.step.Known.{Known}
+use Rattle.index.specs.declared.step.Known.the-variants.{Between, Found}
 use Rattle.index.specs.Index.{numbers, numberAt, indexed}
 use Rattle.index.specs.Rising.{entry, higher}
 use Rattle.index.specs.Afresh.{Stands, all-stand, all-differ}
 use Rattle.index.specs.Nodes.{indexed-parts, lives-none, place-at}
 
--- what a lookup knows: the number can stand only at the entries from one on and below another; or it was found, at a place
-pub data Known : Type 0 where
-  between : ℕ → ℕ → Known
-  found : ℕ → Known
-
 -- settled: found, or no entry is left
 abbrev pub settled : Known → Bool
-settled (between low high) = leb high low
-settled (found p) = true
+settled (Between low high) = leb high low
+settled (Found p) = true
 
 -- what is answered then: the place, or the count
 abbrev pub answer : ℕ → Known → ℕ
-answer count (between low high) = count
-answer count (found p) = p
+answer count (Between low high) = count
+answer count (Found p) = p
 
 -- how many entries a step leaves out, of those from one on and below another: half of them; and the entry behind so many, the middle one
 abbrev pub half : ℕ → ℕ → ℕ
@@ -39,21 +36,21 @@ halfway low high = low + half low high
 
 -- the entry that a step looks at
 abbrev pub middle : Known → ℕ
-middle (between low high) = halfway low high
-middle (found p) = 0
+middle (Between low high) = halfway low high
+middle (Found p) = 0
 
 -- a step at the one entry that is left: found, or no entry is left, behind it or before it
 abbrev pub compared : ℕ → ℕ → ℕ → ℕ → ℕ → Known
-compared n p stored low high = pick (eqb stored n) (found p) (pick (ltb stored n) (between high high) (between low low))
+compared n p stored low high = pick (eqb stored n) (Found p) (pick (ltb stored n) (Between high high) (Between low low))
 
 -- a step at several: half of them are left out, the first ones or the last ones, so that how many are left does not depend on what is stored
 abbrev pub halved : ℕ → ℕ → ℕ → ℕ → Known
-halved n stored low high = pick (leb stored n) (between (halfway low high) high) (between low (high - half low high))
+halved n stored low high = pick (leb stored n) (Between (halfway low high) high) (Between low (high - half low high))
 
 -- one step: what is known after it, of the number asked for, the place at that entry and ONE stored node number, that of the node there
 unfoldable pub step : ℕ → ℕ → ℕ → Known → Known
-step n p stored (found q) = found q
-step n p stored (between low high) = pick (leb high low) (between low high) (pick (leb high (low + 1)) (compared n p stored low high) (halved n stored low high))
+step n p stored (Found q) = Found q
+step n p stored (Between low high) = pick (leb high low) (Between low high) (pick (leb high (low + 1)) (compared n p stored low high) (halved n stored low high))
 
 -- so many steps over the entries ix, where the stored node numbers are ks
 unfoldable pub afterSteps : ℕ → ℕ → List ℕ → List ℕ → Known → Known
@@ -62,10 +59,16 @@ afterSteps (suc m) n ix ks k = afterSteps m n ix ks (step n (getD ix (middle k) 
 
 -- a lookup: any of the entries can be it at first
 abbrev pub lookup : ℕ → ℕ → List ℕ → List Node → Known
-lookup m n ix t = afterSteps m n ix (numbers t) (between 0 (length t))
+lookup m n ix t = afterSteps m n ix (numbers t) (Between 0 (length t))
 
 abbrev pub mostSteps : ℕ
 mostSteps = 10
+
+-- so many steps settle the lookup of n in a table with this index: nothing is open then, and what they say is r, the node's place
+pub record SettledBy (m n : ℕ) (ix : List ℕ) (t : List Node) (r : ℕ) : Type 0 where
+  pub settles : settled (lookup m n ix t) ≡ true
+  pub answers : r ≡ answer (length t) (lookup m n ix t)
+  pub right : r ≡ place n t
 
 -- of how many entries so many steps leave one at most
 unfoldable pub twos : ℕ → ℕ
@@ -87,8 +90,8 @@ module _ (n : ℕ) (ix ks : List ℕ) where
   pub settled-stays : (m : ℕ) (k : Known) → settled k ≡ true → afterSteps m n ix ks k ≡ k
   unfolding afterSteps step
   settled-stays zero k e = refl
-  settled-stays (suc m) (found p) e = settled-stays m (found p) e
-  settled-stays (suc m) (between low high) e = rw e (settled-stays m (between low high) e)
+  settled-stays (suc m) (Found p) e = settled-stays m (Found p) e
+  settled-stays (suc m) (Between low high) e = rw e (settled-stays m (Between low high) e)
 
   -- and more steps say no more
   pub settled-later : (m j : ℕ) (k : Known) → m ≤ j → settled (afterSteps m n ix ks k) ≡ true → afterSteps j n ix ks k ≡ afterSteps m n ix ks k
@@ -98,16 +101,16 @@ module _ (n : ℕ) (ix ks : List ℕ) where
   settled-later (suc m) (suc j) k h e = settled-later m j (stepAt k) (omega arith) e
 
   -- what a step says of several entries
-  pub step-up : (low high : ℕ) → low + 1 < high → numberAt ks (getD ix (halfway low high) 0) ≤ n → stepAt (between low high) ≡ between (halfway low high) high
+  pub step-up : (low high : ℕ) → low + 1 < high → numberAt ks (getD ix (halfway low high) 0) ≤ n → stepAt (Between low high) ≡ Between (halfway low high) high
   unfolding step
   step-up low high more e = rw (lt-leb high low (omega arith), lt-leb high (low + 1) more, le-leb (numberAt ks (getD ix (halfway low high) 0)) n e)
 
-  pub step-down : (low high : ℕ) → low + 1 < high → n < numberAt ks (getD ix (halfway low high) 0) → stepAt (between low high) ≡ between low (high - half low high)
+  pub step-down : (low high : ℕ) → low + 1 < high → n < numberAt ks (getD ix (halfway low high) 0) → stepAt (Between low high) ≡ Between low (high - half low high)
   unfolding step
   step-down low high more e = rw (lt-leb high low (omega arith), lt-leb high (low + 1) more, lt-leb (numberAt ks (getD ix (halfway low high) 0)) n e)
 
   -- with one entry left at most, a step settles
-  pub one-left : (low high : ℕ) → high ≤ low + 1 → settled (stepAt (between low high)) ≡ true
+  pub one-left : (low high : ℕ) → high ≤ low + 1 → settled (stepAt (Between low high)) ≡ true
   unfolding step
   one-left low high h = rw (le-leb high (low + 1) h) (go (leb high low) refl (eqb s n) (ltb s n))
     where
@@ -117,31 +120,14 @@ module _ (n : ℕ) (ix ks : List ℕ) where
       s : ℕ
       s = numberAt ks p
 
-      go : (a : Bool) → leb high low ≡ a → (b d : Bool) → settled (pick a (between low high) (pick b (found p) (pick d (between high high) (between low low)))) ≡ true
+      go : (a : Bool) → leb high low ≡ a → (b d : Bool) → settled (pick a (Between low high) (pick b (Found p) (pick d (Between high high) (Between low low)))) ≡ true
       go true e b d = e
       go false e true d = refl
       go false e false true = le-leb high high (omega arith)
       go false e false false = le-leb low low (omega arith)
 
-  -- what it says of the one entry
-  pub step-found : (low : ℕ) → numberAt ks (getD ix low 0) ≡ n → stepAt (between low (low + 1)) ≡ found (getD ix low 0)
-  unfolding step
-  step-found low e =
-      let same : halfway low (low + 1) ≡ low = omega arith in
-      rw (same, lt-leb (low + 1) low (omega arith), le-leb (low + 1) (low + 1) (omega arith), eq-eqb (numberAt ks (getD ix low 0)) n e)
-
-  pub step-other : (count low : ℕ) → (numberAt ks (getD ix low 0) ≡ n → ⊥) → answer count (stepAt (between low (low + 1))) ≡ count
-  unfolding step
-  step-other count low e =
-      let same : halfway low (low + 1) ≡ low = omega arith in
-      rw (same, lt-leb (low + 1) low (omega arith), le-leb (low + 1) (low + 1) (omega arith), ne-eqb (numberAt ks (getD ix low 0)) n e) (go (ltb (numberAt ks (getD ix low 0)) n))
-    where
-      go : (a : Bool) → answer count (pick a (between (low + 1) (low + 1)) (between low low)) ≡ count
-      go true = refl
-      go false = refl
-
   -- each step leaves half of the entries, and the last one compares
-  settles : (m low high : ℕ) → high ≤ low + twos m → settled (afterSteps (suc m) n ix ks (between low high)) ≡ true
+  settles : (m low high : ℕ) → high ≤ low + twos m → settled (afterSteps (suc m) n ix ks (Between low high)) ≡ true
   unfolding afterSteps step twos
   settles zero low high h = one-left low high (omega arith)
   settles (suc m) low high h = go (leb high (low + 1)) refl (leb s n) refl (settles m)
@@ -149,11 +135,11 @@ module _ (n : ℕ) (ix ks : List ℕ) where
       s : ℕ
       s = numberAt ks (getD ix (halfway low high) 0)
 
-      go : (a : Bool) → leb high (low + 1) ≡ a → (b : Bool) → leb s n ≡ b → ((l u : ℕ) → u ≤ l + twos m → settled (afterSteps (suc m) n ix ks (between l u)) ≡ true)
-          → settled (afterSteps (suc m) n ix ks (stepAt (between low high))) ≡ true
+      go : (a : Bool) → leb high (low + 1) ≡ a → (b : Bool) → leb s n ≡ b → ((l u : ℕ) → u ≤ l + twos m → settled (afterSteps (suc m) n ix ks (Between l u)) ≡ true)
+          → settled (afterSteps (suc m) n ix ks (stepAt (Between low high))) ≡ true
       go true e b f ih =
           let done = one-left low high (leb-true high (low + 1) e) in
-          ap settled (settled-stays (suc m) (stepAt (between low high)) done) ∙ done
+          ap settled (settled-stays (suc m) (stepAt (Between low high)) done) ∙ done
       go false e true f ih =
           let more = leb-false high (low + 1) e in
           rw (step-up low high more (leb-true s n f)) (ih (halfway low high) high (omega arith))
@@ -167,16 +153,16 @@ module _ (n : ℕ) (ix ks : List ℕ) where
 
   -- what is known is true, of places below c
   abbrev pub Sound : ℕ → Known → Type 0
-  Sound c (between low high) =
+  Sound c (Between low high) =
       (high ≤ length ix)
       × ((i : ℕ) → i < low → i < length ix → numberAt ks (getD ix i 0) < n)
       × ((i : ℕ) → high ≤ i → i < length ix → n < numberAt ks (getD ix i 0))
-  Sound c (found p) = (p < c) × (numberAt ks p ≡ n)
+  Sound c (Found p) = (p < c) × (numberAt ks p ≡ n)
 
   step-sound : (c : ℕ) → Rises c → (k : Known) → Sound c k → Sound c (stepAt k)
   unfolding step
-  step-sound c r (found p) h = h
-  step-sound c r (between low high) h = go (leb high low) refl (leb high (low + 1)) refl (eqb s n) refl (ltb s n) refl (leb s n) refl
+  step-sound c r (Found p) h = h
+  step-sound c r (Between low high) h = go (leb high low) refl (leb high (low + 1)) refl (eqb s n) refl (ltb s n) refl (leb s n) refl
     where
       mid : ℕ
       mid = halfway low high
@@ -215,7 +201,7 @@ module _ (n : ℕ) (ix ks : List ℕ) where
               omega arith
 
       go : (a : Bool) → leb high low ≡ a → (b : Bool) → leb high (low + 1) ≡ b → (d : Bool) → eqb s n ≡ d → (e : Bool) → ltb s n ≡ e → (f : Bool) → leb s n ≡ f
-          → Sound c (pick a (between low high) (pick b (pick d (found p) (pick e (between high high) (between low low))) (pick f (between mid high) (between low (high - half low high)))))
+          → Sound c (pick a (Between low high) (pick b (pick d (Found p) (pick e (Between high high) (Between low low))) (pick f (Between mid high) (Between low (high - half low high)))))
       go true u b v d w e x f y = h
       go false u true v true w e x f y = let q = leb-false high low u in (r .0 mid (omega arith), eqb-true s n w)
       go false u true v false w true x f y =
@@ -242,20 +228,15 @@ module _ (n : ℕ) (ix ks : List ℕ) where
   steps-sound c r (suc m) k h = steps-sound c r m (stepAt k) (step-sound c r k h)
 
   -- what so many steps from the first entries on say is true
-  pub lookup-sound : (c : ℕ) → Rises c → (m : ℕ) → Sound c (afterSteps m n ix ks (between 0 (length ix)))
-  lookup-sound c r m = steps-sound c r m (between 0 (length ix)) (omega arith, (λ i h k. absurd (omega arith)), (λ i h k. absurd (omega arith)))
-
--- what a settled lookup says is right
-pub record Settles (n : ℕ) (t : List Node) (k : Known) : Type 0 where
-  pub settles : settled k ≡ true
-  pub right : answer (length t) k ≡ place n t
+  pub lookup-sound : (c : ℕ) → Rises c → (m : ℕ) → Sound c (afterSteps m n ix ks (Between 0 (length ix)))
+  lookup-sound c r m = steps-sound c r m (Between 0 (length ix)) (omega arith, (λ i h k. absurd (omega arith)), (λ i h k. absurd (omega arith)))
 
 module _ (n : ℕ) (ix : List ℕ) (t : List Node) (rule : indexed ix t ≡ true) where
   right-of : (k : Known) → Sound n ix (numbers t) (length t) k → settled k ≡ true → answer (length t) k ≡ place n t
-  right-of (found p) s e =
+  right-of (Found p) s e =
       let b = indexed-parts ix t rule in
       sym (place-at n t (all-differ (numbers t) (length t) (b .1) (b .0)) p (s .0) (s .1))
-  right-of (between low high) s e = sym (lives-none n t none .1)
+  right-of (Between low high) s e = sym (lives-none n t none .1)
     where
       none : (p : ℕ) → p < length t → numberAt (numbers t) p ≡ n → ⊥
       none p h k = go (all-stand (numbers t) (length t) (indexed-parts ix t rule .1) (indexed-parts ix t rule .0) p h)
@@ -273,19 +254,28 @@ module _ (n : ℕ) (ix : List ℕ) (t : List Node) (rule : indexed ix t ≡ true
                   let more = s .2 (q .at) (omega arith) (q .inside) in
                   omega arith
 
-  -- so many steps as these few entries need
-  enough : (m : ℕ) → length t ≤ twos m → Settles n t (lookup (suc m) n ix t)
-  enough m few =
+  -- what a settled lookup says is right
+  settled-by : (m : ℕ) → settled (lookup m n ix t) ≡ true → SettledBy m n ix t (answer (length t) (lookup m n ix t))
+  settled-by m e =
       let b = indexed-parts ix t rule in
-      let e = settles n ix (numbers t) m 0 (length t) (omega arith) in
-      let s = lookup-sound n ix (numbers t) (length t) ((λ i h. entry (b .1) i h .0), higher (b .1)) (suc m) in
-      record { settles = e; right = right-of (lookup (suc m) n ix t) (rw (b .0) at s) e }
+      let s = lookup-sound n ix (numbers t) (length t) ((λ i h. entry (b .1) i h .0), higher (b .1)) m in
+      record { settles = e; answers = refl; right = right-of (lookup m n ix t) (rw (b .0) at s) e }
 
-  -- of 256 nodes, ten steps settle every lookup; nine do
-  pub ten-settle : length t ≤ 256 → Settles n t (lookup mostSteps n ix t)
+  -- of 256 nodes nine steps settle every lookup
+  nine-settle : length t ≤ 256 → settled (lookup 9 n ix t) ≡ true
   unfolding twos
-  ten-settle few = enough 9 (omega arith)
+  nine-settle few = settles n ix (numbers t) 8 0 (length t) (omega arith)
 
-  pub nine-settle : length t ≤ 256 → Settles n t (lookup 9 n ix t)
-  unfolding twos
-  nine-settle few = enough 8 (omega arith)
+  -- and so do more of them, ten among them
+  pub steps-settle : (m : ℕ) → 9 ≤ m → length t ≤ 256 → settled (lookup m n ix t) ≡ true
+  steps-settle m h few =
+      let e = nine-settle few in
+      ap settled (settled-later n ix (numbers t) 9 m (Between 0 (length t)) h e) ∙ e
+
+  pub ten-settle : length t ≤ 256 → SettledBy mostSteps n ix t (answer (length t) (lookup mostSteps n ix t))
+  ten-settle few = settled-by mostSteps (steps-settle mostSteps (omega arith) few)
+
+  -- a lookup that is settled after fewer steps says what ten say
+  pub settled-early : (m : ℕ) → m ≤ mostSteps → settled (lookup m n ix t) ≡ true → length t ≤ 256 → SettledBy mostSteps n ix t (answer (length t) (lookup m n ix t))
+  settled-early m h e few =
+      rw (sym (settled-later n ix (numbers t) m mostSteps (Between 0 (length t)) h e)) (ten-settle few)

@@ -4,7 +4,8 @@ use mathlib.Core.Path.{_≡_, refl}
 use mathlib.Core.List.{List, [], _∷_}
 use Rattle.nodes.specs.declared.Node.{Node}
 use Rattle.index.specs.Index.{numbers, rises, indexed, putIn, byNumber, indexOf}
-use Rattle.index.specs.Lookup.{found, between, step, afterSteps, lookup}
+use Rattle.index.specs.declared.step.Known.the-variants.{Between, Found}
+use Rattle.index.specs.Lookup.{step, afterSteps, lookup}
 
 three : List Node
 three =
@@ -25,8 +26,8 @@ unfolding three numbers rises
 broken = (refl, (refl, refl))
 
 -- of three entries a step leaves two, then one, and the third compares: it finds 1000, and leaves no entry for 1
-looked : (lookup 1 1000 (0 ∷ (2 ∷ (1 ∷ []))) three ≡ between 1 3)
-    × ((lookup 2 1000 (0 ∷ (2 ∷ (1 ∷ []))) three ≡ between 1 2)
-    × ((lookup 3 1000 (0 ∷ (2 ∷ (1 ∷ []))) three ≡ found 2) × ((lookup 2 1 (0 ∷ (2 ∷ (1 ∷ []))) three ≡ between 0 1) × (lookup 3 1 (0 ∷ (2 ∷ (1 ∷ []))) three ≡ between 1 1))))
+looked : (lookup 1 1000 (0 ∷ (2 ∷ (1 ∷ []))) three ≡ Between 1 3)
+    × ((lookup 2 1000 (0 ∷ (2 ∷ (1 ∷ []))) three ≡ Between 1 2)
+    × ((lookup 3 1000 (0 ∷ (2 ∷ (1 ∷ []))) three ≡ Found 2) × ((lookup 2 1 (0 ∷ (2 ∷ (1 ∷ []))) three ≡ Between 0 1) × (lookup 3 1 (0 ∷ (2 ∷ (1 ∷ []))) three ≡ Between 1 1))))
 unfolding three numbers step afterSteps
 looked = (refl, (refl, (refl, (refl, refl))))

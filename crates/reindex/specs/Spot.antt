@@ -1,7 +1,7 @@
 -- Where a new entry goes, and the words with it put in.
 use Prim.Native.Nat.{ℕ, zero, suc, _+_, _*_, _-_, _≤_, _<_}
 use mathlib.Core.Bool.{Bool, true, false}
-use mathlib.Core.Path.{_≡_, refl, sym, ap, ap₂, subst, _∙_}
+use mathlib.Core.Path.{_≡_, refl, sym, ap, ap₂, _∙_}
 use mathlib.Core.List.{List, [], _∷_, _++_, append-assoc}
 use native.Mathlib.Omega.{arith}
 use native.Mathlib.Numerals.{add-one}
@@ -12,8 +12,7 @@ use lib.Dec.{ltb, eqb}
 use Rattle.words.specs.Choice.{pick}
 use Rattle.nodes.specs.Table.{width, rows, gap-over}
 use Rattle.index.specs.Index.{numbers, numberAt, putIn}
-use Rattle.index.specs.Lookup.{Known, between, afterSteps, Rises, Sound, lookup-sound}
-use Rattle.index.specs.Words.{number-word, Points, Narrows}
+use Rattle.index.specs.Words.{number-word}
 
 -- how many entries stand before the first whose number is higher than k
 unfoldable pub spot : List ℕ → ℕ → List ℕ → ℕ
@@ -56,58 +55,50 @@ spot-is ks k (q ∷ ix) (suc r) h low high =
     rw (le-ltb k (numberAt ks q) (low 0 (omega arith)))
     (ap suc (spot-is ks k ix r (omega arith) (λ i l. low (suc i) (omega arith)) (λ l. high (omega arith))))
 
--- the spot by the one entry that the steps of a lookup leave
+-- a search between two bounds: below the one no number is higher than k, and from the other on all are
+pub record Between (us ws : List ℕ) (count k low high : ℕ) : Type 0 where
+  pub near : high ≤ count
+  pub under : (i : ℕ) → i < low → getD us (width * getD ws i 0) 0 ≤ k
+  pub over : (i : ℕ) → high ≤ i → i < count → k < getD us (width * getD ws i 0) 0
+
 module _ (us ws : List ℕ) (count k : ℕ) (reads : Reads us ws count) where
+  pub between-all : Between us ws count k 0 count
+  between-all = record { near = omega arith; under = λ i h. absurd (omega arith); over = λ i h l. absurd (omega arith) }
+
+  module _ (low high middle p : ℕ) (some : low ≤ middle) (more : middle < high) (b : Between us ws count k low high) (is : p ≡ getD ws middle 0) where
+    same : getD us (width * p) 0 ≡ getD us (width * getD ws middle 0) 0
+    same = ap (λ (q : ℕ). getD us (width * q) 0) is
+
+    pub between-down : k < getD us (width * p) 0 → Between us ws count k low middle
+    between-down h = record { near = omega (arith, b .near); under = b .under; over = λ i l m. go i l m (eqb i middle) refl }
+      where
+        go : (i : ℕ) → middle ≤ i → i < count → (x : Bool) → eqb i middle ≡ x → k < getD us (width * getD ws i 0) 0
+        go i l m true e = rw (eqb-true i middle e) (omega (arith, same))
+        go i l m false e = let o = eqb-false i middle e in omega (arith, same, reads .rises middle i (omega arith) m)
+
+    pub between-up : getD us (width * p) 0 ≤ k → Between us ws count k (middle + 1) high
+    between-up h = record { near = b .near; under = λ i l. go i l (eqb i middle) refl; over = b .over }
+      where
+        go : (i : ℕ) → i < middle + 1 → (x : Bool) → eqb i middle ≡ x → getD us (width * getD ws i 0) 0 ≤ k
+        go i l true e = rw (eqb-true i middle e) (omega (arith, same))
+        go i l false e = let o = eqb-false i middle e in omega (arith, same, reads .rises i middle (omega arith) (omega (arith, b .near)))
+
   abbrev ks : List ℕ
   ks = numbers (rows (count + 1) us)
 
   size : length (take count ws) ≡ count
   size = length-take-le count ws (omega (arith, reads .entries))
 
-  stored : (i : ℕ) → i < count → numberAt ks (getD ws i 0) ≡ getD us (width * getD ws i 0) 0
-  stored i h = number-word (count + 1) us (getD ws i 0) (omega (arith, reads .below i h))
-
   word : (i : ℕ) → i < count → numberAt ks (getD (take count ws) i 0) ≡ getD us (width * getD ws i 0) 0
-  word i h = ap (λ (q : ℕ). numberAt ks q) (getD-take count ws i 0 h) ∙ stored i h
+  word i h =
+      ap (λ (q : ℕ). numberAt ks q) (getD-take count ws i 0 h)
+      ∙ number-word (count + 1) us (getD ws i 0) (omega (arith, reads .below i h))
 
-  pub points : 0 < count → Points us ws count
-  points some = record { some = some; few = omega (arith, reads .few); entries = omega (arith, reads .entries); below = λ i h. (omega (arith, reads .few, reads .below i h), omega (arith, reads .room, reads .below i h)) }
-
-  rising : Rises k (take count ws) ks (count + 1)
-  rising = (
-    (λ i h. omega (arith, getD-take count ws i 0 (omega (arith, size)), reads .below i (omega (arith, size)))),
-    (λ i j h l. omega (arith, word i (omega (arith, size)), word j (omega (arith, size)), reads .rises i j h (omega (arith, size)))),
-  )
-
-  pub spot-none : count < 1 → 0 ≡ spot ks k (take count ws)
-  spot-none h = spot-is ks k (take count ws) 0 (omega arith) (λ i l. absurd (omega arith)) (λ l. absurd (omega (arith, size)))
-
-  module _ (r p : ℕ) (narrows : Narrows us ws count k r) (is : p ≡ getD ws r 0) where
-    -- the numbers before that entry are lower, and those behind it higher
-    around : Sound k (take count ws) ks (count + 1) (between r (r + 1))
-    around =
-        subst (λ (q : Known). Sound k (take count ws) ks (count + 1) q)
-        (ap (λ (c : ℕ). afterSteps (narrows .made) k (take count ws) ks (between 0 c)) size ∙ narrows .leaves ks stored)
-        (lookup-sound k (take count ws) ks (count + 1) rising (narrows .made))
-
-    here : numberAt ks (getD (take count ws) r 0) ≡ getD us (width * p) 0
-    here = word r (narrows .inside) ∙ ap (λ (q : ℕ). getD us (width * q) 0) (sym is)
-
-    pub spot-before : k < getD us (width * p) 0 → r ≡ spot ks k (take count ws)
-    spot-before h =
-        spot-is ks k (take count ws) r (omega (arith, size, narrows .inside))
-        (λ i l. omega (arith, around .1 i l (omega (arith, size, narrows .inside))))
-        (λ l. omega (arith, here))
-
-    pub spot-behind : getD us (width * p) 0 ≤ k → r + 1 ≡ spot ks k (take count ws)
-    spot-behind h =
-        spot-is ks k (take count ws) (r + 1) (around .0)
-        (λ i l. go i l (eqb i r) refl)
-        (λ l. around .2 (r + 1) (omega arith) l)
-      where
-        go : (i : ℕ) → i < r + 1 → (x : Bool) → eqb i r ≡ x → numberAt ks (getD (take count ws) i 0) ≤ k
-        go i l true e = rw (eqb-true i r e) (omega (arith, here))
-        go i l false e = let o = eqb-false i r e in omega (arith, around .1 i (omega arith) (omega (arith, size, narrows .inside)))
+  pub between-met : (low high : ℕ) → low ≤ high → high ≤ low → Between us ws count k low high → low ≡ spot ks k (take count ws)
+  between-met low high h l b =
+      spot-is ks k (take count ws) low (omega (arith, size, b .near))
+      (λ i m. omega (arith, word i (omega (arith, b .near)), b .under i m))
+      (λ m. omega (arith, word low (omega (arith, size)), b .over low l (omega (arith, size))))
 
   pub spot-near : spot ks k (take count ws) ≤ count
   spot-near = omega (arith, size, spot-most ks k (take count ws))

@@ -1,6 +1,6 @@
 // A new node's entry put in.
-use index::last_at_most;
 use layout::RECORD;
+use words::wide;
 ghost use mathlib.Core.Path.{_≡_};
 ghost use mathlib.Core.List.{_∷_, _++_};
 ghost use Prim.Native.Nat.{_+_, _*_, _-_, _≤_, _<_};
@@ -15,17 +15,19 @@ pub fn spot_of(nodes: &[u32], index: &[u32], count: usize, at: usize) -> usize
     requires { ⌜ Reads (now nodes) (now index) count × (at ≤ count) ⌝ }
     ensures { λ r. ⌜ r ≡ spot (numbers (rows (count + 1) (now (nodes .entry)))) (getD (now (nodes .entry)) (width * at) 0) (take count (now (index .entry))) ⌝ }
 {
-    if count < 1 {
-        return 0;
-    }
     let number = nodes[RECORD * at];
-    let last = last_at_most(nodes, index, count, number);
-    let low = last / 256;
-    let place = last % 256;
-    if number < nodes[RECORD * place] {
-        return low;
+    let mut low = 0;
+    let mut high = count;
+    while low < high {
+        let middle = low + (high - low) / 2;
+        let place = wide(index[middle]);
+        if number < nodes[RECORD * place] {
+            high = middle;
+        } else {
+            low = middle + 1;
+        }
     }
-    low + 1
+    low
 }
 
 // The entries from `at` up to `end` moved up by one.

@@ -19,7 +19,7 @@ find-indexed-requires c κs =
 returns : tie.Need-returns
 returns c =
     let a = c .before .before .before .before .before .before .args in
-    c .find-indexed .ensures ∙ ap (λ (k : ℕ). place (a .number) (rows k (region nodesPlace nodesWords (a .words .now)))) (c .before .before .before .wide .ensures)
+    c .find-indexed .ensures .right ∙ ap (λ (k : ℕ). place (a .number) (rows k (region nodesPlace nodesWords (a .words .now)))) (c .before .before .before .wide .ensures)
 
 pub place-of-spec : {M : Type 1} → statement M
 place-of-spec =

@@ -18,14 +18,14 @@ returns : tie.Need-returns
 returns c =
     let a = c .before .before .before .before .before .before .before .before .before .before .before .before .args in
     let ws = a .words .now in
-    let seen = c .before .before .before .before .before .find-indexed in
+    let seen = c .before .before .before .before .before .find-indexed .ensures .right in
     c .before .before .write-header .ensures ∙ rw (found (a .count) (nodeWords ws) (latestIn ws) (omega arith))
 
 returns-2 : tie.Need-returns-2
 returns-2 c =
     let a = c .before .before .before .before .before .before .before .before .before .before .before .before .args in
     let ws = a .words .now in
-    let seen = c .before .before .before .before .before .find-indexed in
+    let seen = c .before .before .before .before .before .find-indexed .ensures .right in
     c .before .before .write-header2 .ensures ∙ rw (not-found (a .count) (nodeWords ws) (latestIn ws) (omega arith))
 
 pub renew-header-spec : {M : Type 1} → statement M
