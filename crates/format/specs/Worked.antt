@@ -68,7 +68,8 @@ none-narrow : readFile (bytes32 fileType ++ (bytes32 firstVersion ++ bytes16 0))
 unfolding readDefinitions readFile
 none-narrow = refl
 
--- paper 02, 6/14: "A name covers the controls from its index up to the next larger index that has a name, else up to P": what the names a, b and c cover among P controls
+-- paper 02, 6/14: "Looking up a control name should answer its index and its width: up to the next larger index that has a name, else up to P":
+-- what the names a, b and c cover among P controls
 abbrev a : ℕ → ParameterName
 a i = record { name = 97 ∷ []; index = i }
 
