@@ -23,7 +23,7 @@ use Rattle.state.specs.Known.{Known}
 -- what finding a node asks: the sizes, and the index's rule
 pub record Findable (ws : List ℕ) : Type 0 where
   pub size : length ws ≡ wordsLength
-  pub few : countIn ws ≤ 256
+  pub few : countIn ws ≤ mostNodes
   pub index : indexed (indexIn ws) (nodesIn ws) ≡ true
 
 pub findable : (ws bs : List ℕ) → Known ws bs → Findable ws

@@ -12,7 +12,7 @@ use borrow.Author.Tests.{le-leb, lt-leb, eq-eqb, ne-eqb}
 use Rattle.words.specs.Choice.{pick}
 use Rattle.words.specs.Parts.{region, put, region-length, past-put}
 use Rattle.nodes.specs.declared.Node.{Node}
-use Rattle.nodes.specs.Table.{width, nodeFrom, rows, row-from}
+use Rattle.nodes.specs.Table.{width, nodeFrom, rows, row-from, depthField, runField, slotField, rowField}
 use Rattle.nodes.specs.Order.{isOn, orderFrom, order}
 use Rattle.nodes.specs.Formed.{mostNodes}
 use Rattle.model.specs.Layout.{wordsLength, nodesPlace, nodesWords, orderPlace, orderWords, putOrder}
@@ -183,10 +183,10 @@ module _ (count : ℕ) (ws : List ℕ) (size : length ws ≡ wordsLength) (few :
       let at = width * i in
       rw (
         word (nodesPlace + width * i) at (omega arith) (omega arith),
-        word (nodesPlace + width * i + 1) (at + 1) (omega arith) (omega arith),
-        word (nodesPlace + width * i + 2) (at + 2) (omega arith) (omega arith),
-        word (nodesPlace + width * i + 3) (at + 3) (omega arith) (omega arith),
-        word (nodesPlace + width * i + 4) (at + 4) (omega arith) (omega arith),
+        word (nodesPlace + width * i + depthField) (at + 1) (omega arith) (omega arith),
+        word (nodesPlace + width * i + runField) (at + 2) (omega arith) (omega arith),
+        word (nodesPlace + width * i + slotField) (at + 3) (omega arith) (omega arith),
+        word (nodesPlace + width * i + rowField) (at + 4) (omega arith) (omega arith),
       )
 
   given : s .done ++ orderFrom limit (this ∷ rest) ≡ order t

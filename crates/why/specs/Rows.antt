@@ -5,7 +5,7 @@ use lib.ListN.{length, getD}
 use lib.Dec.{leb, eqb}
 use Rattle.words.specs.Choice.{pick}
 use Rattle.nodes.specs.declared.Node.{Node}
-use Rattle.nodes.specs.Table.{width, nodeFrom, rows}
+use Rattle.nodes.specs.Table.{width, nodeFrom, rows, runField, slotField}
 use Rattle.nodes.specs.Place.{groupSlot, isGroup, place}
 use Rattle.nodes.specs.Order.{isOn, orderFrom}
 use Rattle.model.specs.Layout.{nodesPlace, countIn, latestIn, nodesIn}
@@ -42,4 +42,4 @@ askedPlace number ws = pick (eqb number minusOne) (pick (eqb (latestIn ws) 0) (c
 -- where the walk stops for a row: at a synth that is on, else at the end
 abbrev pub stopAt : List ℕ → ℕ → ℕ
 stopAt ws at =
-    pick (eqb (getD ws (nodesPlace + width * at + 3) 0) groupSlot) (countIn ws) (pick (eqb (getD ws (nodesPlace + width * at + 2) 0) 1) at (countIn ws))
+    pick (eqb (getD ws (nodesPlace + width * at + slotField) 0) groupSlot) (countIn ws) (pick (eqb (getD ws (nodesPlace + width * at + runField) 0) 1) at (countIn ws))

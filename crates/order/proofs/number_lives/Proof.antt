@@ -4,7 +4,7 @@ use mathlib.Core.Path.{_≡_, refl, sym, _∙_}
 use native.Mathlib.Omega.{arith}
 use borrow.Author.Tests.{eq-eqb, ne-eqb}
 use lib.ListN.{drop, getD}
-use Rattle.nodes.specs.Table.{rows}
+use Rattle.nodes.specs.Table.{width, rows}
 use Rattle.nodes.specs.Place.{lives, lives-turn, lives-end}
 use Rattle.order.proofs.number_lives.Statement.{statement}
 use Rattle.order.proofs.number_lives.Tie as tie
@@ -22,13 +22,13 @@ returns : tie.Need-returns Inv-loop μ-loop
 returns c =
     let b = c .before .before .before in
     let a = b .before .args in
-    sym (rw (eq-eqb (getD (a .nodes .now) (5 * b .loop .i) 0) (a .number) (c .if1 .taken)) at (lives-turn (a .count) (a .nodes .now) (a .number) (b .loop .i) (omega arith))) ∙ b .loop .inv .1
+    sym (rw (eq-eqb (getD (a .nodes .now) (width * b .loop .i) 0) (a .number) (c .if1 .taken)) at (lives-turn (a .count) (a .nodes .now) (a .number) (b .loop .i) (omega arith))) ∙ b .loop .inv .1
 
 loop-again : tie.Need-loop-again Inv-loop μ-loop
 loop-again c =
     let b = c .before .before .before in
     let a = b .before .args in
-    (omega arith, sym (rw (ne-eqb (getD (a .nodes .now) (5 * b .loop .i) 0) (a .number) (c .if1 .left)) at (lives-turn (a .count) (a .nodes .now) (a .number) (b .loop .i) (omega arith))) ∙ b .loop .inv .1)
+    (omega arith, sym (rw (ne-eqb (getD (a .nodes .now) (width * b .loop .i) 0) (a .number) (c .if1 .left)) at (lives-turn (a .count) (a .nodes .now) (a .number) (b .loop .i) (omega arith))) ∙ b .loop .inv .1)
 
 returns-2 : tie.Need-returns-2 Inv-loop μ-loop
 returns-2 c =

@@ -4,7 +4,7 @@ use mathlib.Core.Bool.{true, false}
 use mathlib.Core.Path.{_≡_, sym, ap, _∙_, subst}
 use native.Mathlib.Omega.{arith}
 use lib.ListN.{drop, getD, set, length-replicate}
-use Rattle.nodes.specs.Table.{rows}
+use Rattle.nodes.specs.Table.{width, rows}
 use Rattle.nodes.specs.Place.{lives}
 use Rattle.nodes.specs.Formed.{apart}
 use Rattle.order.specs.Checks.{apart-turn, apart-end}
@@ -30,7 +30,7 @@ stands-again-requires : tie.Need-stands-again-requires Inv-loop μ-loop
 stands-again-requires c κs =
     let l = c .before .before .before .loop in
     let us = c .before .before .before .before .before .args .nodes .now in
-    let mark : c .wide .result ≡ getD us (5 * (l .i - 1)) 0 % remainders = c .wide .ensures in
+    let mark : c .wide .result ≡ getD us (width * (l .i - 1)) 0 % remainders = c .wide .ensures in
     (c .before .before .before .before .before .pre, (omega arith, λ e. l .inv .1 .1 .unmet _ (ap (λ (k : ℕ). getD (l .met) k false) (sym mark) ∙ e)))
 
 returns : tie.Need-returns Inv-loop μ-loop
@@ -40,7 +40,7 @@ returns c =
     let us = a .nodes .now in
     let i = b .loop .i - 1 in
     let next : i + 1 ≡ b .loop .i = omega arith in
-    let again : lives (getD us (5 * i) 0) (drop (i + 1) (rows (a .count) us)) ≡ true = ap (λ (k : ℕ). lives (getD us (5 * i) 0) (drop k (rows (a .count) us))) next ∙ sym (c .before .stands-again .ensures) ∙ c .if1 .taken in
+    let again : lives (getD us (width * i) 0) (drop (i + 1) (rows (a .count) us)) ≡ true = ap (λ (k : ℕ). lives (getD us (width * i) 0) (drop k (rows (a .count) us))) next ∙ sym (c .before .stands-again .ensures) ∙ c .if1 .taken in
     let twice : apart (drop i (rows (a .count) us)) ≡ false = apart-turn (a .count) us i (omega arith) ∙ rw again in
     not-apart i (rows (a .count) us) twice
 
@@ -52,10 +52,10 @@ loop-again c =
     let i = b .loop .i - 1 in
     let next : b .loop .i ≡ i + 1 = omega arith in
     let t = rows (a .count) us in
-    let new : lives (getD us (5 * i) 0) (drop (i + 1) t) ≡ false = ap (λ (k : ℕ). lives (getD us (5 * i) 0) (drop k t)) (sym next) ∙ sym (c .before .stands-again .ensures) ∙ c .if1 .left in
+    let new : lives (getD us (width * i) 0) (drop (i + 1) t) ≡ false = ap (λ (k : ℕ). lives (getD us (width * i) 0) (drop k t)) (sym next) ∙ sym (c .before .stands-again .ensures) ∙ c .if1 .left in
     let rest : apart (drop (i + 1) t) ≡ true = ap (λ (k : ℕ). apart (drop k t)) (sym next) ∙ b .loop .inv .1 .0 in
     let met : Met (b .loop .met) (drop (i + 1) t) = subst (λ (k : ℕ). Met (b .loop .met) (drop k t)) next (b .loop .inv .1 .1) in
-    let mark : getD us (5 * i) 0 % remainders ≡ c .before .before .wide .result = sym (c .before .before .wide .ensures) in (
+    let mark : getD us (width * i) 0 % remainders ≡ c .before .before .wide .result = sym (c .before .before .wide .ensures) in (
       omega arith,
       (
         apart-turn (a .count) us i (omega arith) ∙ rw (new, rest),

@@ -4,7 +4,7 @@ use Prim.Native.Nat.{_+_, _*_, _-_, _≤_}
 use mathlib.Core.Path.{_≡_, ap}
 use native.Mathlib.Omega.{arith}
 use lib.ListN.{length, drop, getD}
-use Rattle.nodes.specs.Table.{rows}
+use Rattle.nodes.specs.Table.{width, rows, depthField}
 use Rattle.tree.specs.Around.{childNumbers, childNumbers-stop, childNumbers-child, childNumbers-skip, childNumbers-end}
 use Rattle.tree.proofs.structure.child_count.Statement.{statement}
 use Rattle.tree.proofs.structure.child_count.Tie as tie
@@ -23,7 +23,7 @@ returns c =
     let l = c .before .before .before in
     let a = l .before .before .args in
     let us = a .nodes .now in
-    let d = getD us (5 * a .at + 1) 0 in
+    let d = getD us (width * a .at + depthField) 0 in
     let none = ap length (childNumbers-stop (a .count) us d (l .loop .i) (omega arith) (c .if1 .taken)) in
     omega arith
 
@@ -32,7 +32,7 @@ loop-again c =
     let l = c .before .before .before .before in
     let a = l .before .before .args in
     let us = a .nodes .now in
-    let d = getD us (5 * a .at + 1) 0 in
+    let d = getD us (width * a .at + depthField) 0 in
     ⊎-elim
     (λ w. let on = ap length (childNumbers-child (a .count) us d (l .loop .i) (omega arith) (omega arith) (w .0 .taken)) in (omega arith, omega arith, omega arith))
     (λ w. let on = ap length (childNumbers-skip (a .count) us d (l .loop .i) (omega arith) (omega arith) (w .0 .left)) in (omega arith, omega arith, omega arith))
@@ -43,7 +43,7 @@ returns-2 c =
     let l = c .before in
     let a = l .before .before .args in
     let us = a .nodes .now in
-    let d = getD us (5 * a .at + 1) 0 in
+    let d = getD us (width * a .at + depthField) 0 in
     let none = ap length (childNumbers-end (a .count) us d (l .loop .i) (omega arith)) in
     omega arith
 
