@@ -10,6 +10,7 @@ use lib.Dec.{ltb}
 use Rattle.words.specs.Parts.{region, region-length}
 use Rattle.nodes.specs.Table.{rows-length}
 use Rattle.nodes.specs.Place.{place, lives, lives-place, place-most}
+use Rattle.nodes.specs.Formed.{mostNodes}
 use Rattle.index.specs.Index.{indexed}
 use Rattle.index.specs.Words.{Keeps}
 use Rattle.values.specs.declared.NodeArgument.{NodeArgument}
