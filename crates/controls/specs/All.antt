@@ -13,7 +13,7 @@ use Rattle.readable.specs.declared.cover.Cover.{Cover}
 use Rattle.readable.specs.Lookup.{coverAt}
 use Rattle.readable.specs.Readable.{Readable, whole-readable}
 use Rattle.nodes.specs.declared.Node.{Node}
-use Rattle.nodes.specs.Table.{width, rows, nodeFrom, row-from}
+use Rattle.nodes.specs.Table.{width, rows, nodeFrom, row-from, depthField}
 use Rattle.nodes.specs.Place.{isGroup, place, deeper}
 use Rattle.nodes.specs.Edit.{sink, runOf}
 use Rattle.nodes.specs.Split.{runOf-at}
@@ -149,7 +149,7 @@ module _ (f : ControlValue → ControlValue) (key : Key) (name : List ℕ) (coun
   all-sink k (r ∷ l) xs = all-sink k l (changeOne f key name count slots r xs)
 
   -- the node n and all below it are the records from its place to the end of its run
-  pub all-run : (c : ℕ) (us : List ℕ) (n at : ℕ) → at ≡ place n (rows c us) → at < c → (d e : ℕ) → d ≡ getD us (width * at + 1) 0 → e ≡ at + 1 + deeper d (drop (at + 1) (rows c us))
+  pub all-run : (c : ℕ) (us : List ℕ) (n at : ℕ) → at ≡ place n (rows c us) → at < c → (d e : ℕ) → d ≡ getD us (width * at + depthField) 0 → e ≡ at + 1 + deeper d (drop (at + 1) (rows c us))
       → (xs : List ℕ) → changeAll f key name count slots (runOf n (rows c us)) xs ≡ changeAll f key name count slots (take (e - at) (drop at (rows c us))) xs
   all-run c us n at here live d e deep end xs =
       let t = rows c us in

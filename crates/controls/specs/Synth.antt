@@ -18,6 +18,7 @@ use Rattle.model.specs.Layout.{slotCount, busCount, nodesPlace, nodesWords, con
 use Rattle.model.specs.Meaning.{coverOf}
 use Rattle.model.specs.Formed.{mappingsFormed}
 use Rattle.model.specs.Effects.{changeCovered}
+use Rattle.nodes.specs.Table.{width, slotField, rowField}
 use Rattle.controls.specs.Encoded.{frontOnly}
 use Rattle.slots.specs.Slots.{slotBytes, part-word}
 use Rattle.controls.specs.Ready.{nodeIn}
@@ -54,25 +55,25 @@ mappings-none us n e = rw e
 
 -- a synth's slot and row, by the words
 module _ (ws : List ℕ) (i : ℕ) (few : i < mostNodes) where
-  pub slot-word : nodeIn ws i .slot ≡ getD ws (nodesPlace + 5 * i + 3) 0
+  pub slot-word : nodeIn ws i .slot ≡ getD ws (nodesPlace + width * i + slotField) 0
   slot-word =
-      let place : nodesPlace + (5 * i + 3) ≡ nodesPlace + 5 * i + 3 = omega arith in
-      part-word nodesPlace nodesWords (5 * i + 3) ws (omega arith) ∙ ap (λ (k : ℕ). getD ws k 0) place
+      let place : nodesPlace + (width * i + slotField) ≡ nodesPlace + width * i + 3 = omega arith in
+      part-word nodesPlace nodesWords (width * i + slotField) ws (omega arith) ∙ ap (λ (k : ℕ). getD ws k 0) place
 
-  pub row-word : nodeIn ws i .row ≡ getD ws (nodesPlace + 5 * i + 4) 0
+  pub row-word : nodeIn ws i .row ≡ getD ws (nodesPlace + width * i + rowField) 0
   row-word =
-      let place : nodesPlace + (5 * i + 4) ≡ nodesPlace + 5 * i + 4 = omega arith in
-      part-word nodesPlace nodesWords (5 * i + 4) ws (omega arith) ∙ ap (λ (k : ℕ). getD ws k 0) place
+      let place : nodesPlace + (width * i + rowField) ≡ nodesPlace + width * i + 4 = omega arith in
+      part-word nodesPlace nodesWords (width * i + rowField) ws (omega arith) ∙ ap (λ (k : ℕ). getD ws k 0) place
 
-  pub is-group : getD ws (nodesPlace + 5 * i + 3) 0 ≡ groupSlot → isGroup (nodeIn ws i) ≡ true
+  pub is-group : getD ws (nodesPlace + width * i + slotField) 0 ≡ groupSlot → isGroup (nodeIn ws i) ≡ true
   is-group e = eq-eqb (nodeIn ws i .slot) groupSlot (slot-word ∙ e)
 
-  pub is-synth : (getD ws (nodesPlace + 5 * i + 3) 0 ≡ groupSlot → ⊥) → isGroup (nodeIn ws i) ≡ false
+  pub is-synth : (getD ws (nodesPlace + width * i + slotField) 0 ≡ groupSlot → ⊥) → isGroup (nodeIn ws i) ≡ false
   is-synth other = ne-eqb (nodeIn ws i .slot) groupSlot (λ e. other (sym slot-word ∙ e))
 
 -- the bounds of a synth, by the words
-module _ {ws arena : List ℕ} {i : ℕ} (b : Bounds ws arena i) (other : getD ws (nodesPlace + 5 * i + 3) 0 ≡ groupSlot → ⊥) where
-  pub slot-bound : getD ws (nodesPlace + 5 * i + 3) 0 < slotCount
+module _ {ws arena : List ℕ} {i : ℕ} (b : Bounds ws arena i) (other : getD ws (nodesPlace + width * i + slotField) 0 ≡ groupSlot → ⊥) where
+  pub slot-bound : getD ws (nodesPlace + width * i + slotField) 0 < slotCount
   slot-bound = rw (sym (slot-word ws i (b .place))) (b .slot (is-synth ws i (b .place) other))
 
 -- the controls put back as they were

@@ -11,7 +11,7 @@ use lib.Dec.{eqb}
 use borrow.Author.Tests.{eq-eqb, ne-eqb, eqb-true, eqb-false}
 use Rattle.words.specs.Choice.{pick, either}
 use Rattle.nodes.specs.declared.Node.{Node}
-use Rattle.nodes.specs.Table.{width, rows, rows-end, row-from}
+use Rattle.nodes.specs.Table.{width, rows, rows-end, row-from, slotField}
 use Rattle.model.specs.Layout.{slotCount}
 use Rattle.model.specs.Engine.{Slot, held}
 use Rattle.model.specs.Formed.{slotsFormed}
@@ -83,7 +83,7 @@ module _ (t u : List Node) (same : SameHeld t u) where
 
 -- the tests found along the first n records of the words us: one step, and the end
 module _ (n : ℕ) (us : List ℕ) where
-  pub held-turn : (k i : ℕ) → i < n → held k (drop i (rows n us)) ≡ either (eqb (getD us (width * i + 3) 0) k) (held k (drop (i + 1) (rows n us)))
+  pub held-turn : (k i : ℕ) → i < n → held k (drop i (rows n us)) ≡ either (eqb (getD us (width * i + slotField) 0) k) (held k (drop (i + 1) (rows n us)))
   unfolding held
   held-turn k i h = ap (λ (l : List Node). held k l) (row-from n us i h)
 

@@ -12,20 +12,20 @@ pub const LATEST: usize = 3;
 // The slots of definitions: their lengths, their resident flags.
 pub const SLOTS: usize = 32;
 
-pub const LENGTHS: usize = 4;
+pub const LENGTHS: usize = LATEST + 1;
 
-pub const LENGTHS_END: usize = 36;
+pub const LENGTHS_END: usize = LENGTHS + SLOTS;
 
-pub const RESIDENT: usize = 36;
+pub const RESIDENT: usize = LENGTHS_END;
 
-pub const RESIDENT_END: usize = 68;
+pub const RESIDENT_END: usize = RESIDENT + SLOTS;
 
 // The nodes: records in depth-first order, and the fields of a record.
-pub const NODES: usize = 68;
+pub const NODES: usize = RESIDENT_END;
 
-pub const NODES_END: usize = 1348;
+pub const NODES_END: usize = NODES + NODES_WORDS;
 
-pub const NODES_WORDS: usize = 1280;
+pub const NODES_WORDS: usize = RECORD * MOST_NODES;
 
 pub const MOST_NODES: usize = 256;
 
@@ -45,38 +45,38 @@ pub const ROW: usize = 4;
 pub const GROUP: u32 = 32;
 
 // The kept running order.
-pub const ORDER: usize = 1348;
+pub const ORDER: usize = NODES_END;
 
-pub const ORDER_END: usize = 1603;
+pub const ORDER_END: usize = ORDER + MOST_ORDER;
 
-pub const MOST_ORDER: usize = 255;
+pub const MOST_ORDER: usize = MOST_NODES - 1;
 
 // The controls: rows of 32, two words each.
-pub const CONTROLS: usize = 1603;
+pub const CONTROLS: usize = ORDER_END;
 
-pub const CONTROLS_END: usize = 17987;
+pub const CONTROLS_END: usize = CONTROLS + ROWS * ROW_WORDS;
 
 pub const ROWS: usize = 256;
 
 pub const ROW_CONTROLS: usize = 32;
 
-pub const ROW_WORDS: usize = 64;
+pub const ROW_WORDS: usize = 2 * ROW_CONTROLS;
 
 // The buses.
-pub const BUSES: usize = 17987;
+pub const BUSES: usize = CONTROLS_END;
 
-pub const BUSES_END: usize = 22083;
+pub const BUSES_END: usize = BUSES + MOST_BUSES;
 
 pub const MOST_BUSES: usize = 4096;
 
 // The index of the nodes: their places by rising number.
-pub const INDEX: usize = 22083;
+pub const INDEX: usize = BUSES_END;
 
-pub const INDEX_END: usize = 22339;
+pub const INDEX_END: usize = INDEX + MOST_NODES;
 
 // The lengths of the words and of the arena, and a slot's room in the arena.
-pub const WORDS: usize = 22339;
+pub const WORDS: usize = INDEX_END;
 
-pub const ARENA: usize = 65536;
+pub const ARENA: usize = SLOTS * SLOT_ROOM;
 
 pub const SLOT_ROOM: usize = 2048;

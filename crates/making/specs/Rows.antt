@@ -7,6 +7,8 @@ use Rattle.nodes.specs.declared.Node.{Node}
 use Rattle.nodes.specs.Place.{place}
 use Rattle.nodes.specs.Edit.{editAt, freeHere}
 use Rattle.nodes.specs.Split.{edit-first}
+use Rattle.nodes.specs.Formed.{mostNodes}
+use Rattle.model.specs.Layout.{nodesWords}
 use Rattle.model.specs.Effects.{stayingNodes}
 use Rattle.tree.specs.declared.action.Action.{Action}
 use Rattle.tree.specs.declared.action.Action.the-variants.{Put, Replace}
@@ -15,8 +17,8 @@ use Rattle.tree.specs.Action.{numberOf}
 
 -- a node region, with a place in its table
 pub record Standing (us : List ℕ) (count at : ℕ) : Type 0 where
-  pub size : length us ≡ 1280
-  pub few : count ≤ 256
+  pub size : length us ≡ nodesWords
+  pub few : count ≤ mostNodes
   pub live : at < count
 
 -- the nodes that stay when one is put in at a place by an add action: one that replaces frees the subtree there first

@@ -1,16 +1,16 @@
 -- The words and the arena after each accepted command: a few parts put in, each the part of the engine after it. What no part covers stays as it was.
-use Prim.Native.Nat.{ℕ}
+use Prim.Native.Nat.{ℕ, _+_, _-_}
 use mathlib.Core.List.{List, [], _∷_, _++_}
 use lib.ListN.{length, take, drop, getD, replicate}
 use Rattle.words.specs.Choice.{pick}
 use Rattle.nodes.specs.declared.Node.{Node}
-use Rattle.nodes.specs.Table.{encode}
+use Rattle.nodes.specs.Table.{width, encode}
 use Rattle.nodes.specs.Formed.{firstGiven}
 use Rattle.nodes.specs.Place.{groupSlot}
 use Rattle.index.specs.Index.{indexOf}
 use Rattle.model.specs.declared.Command.{Command}
 use Rattle.model.specs.declared.Command.the-variants as command
-use Rattle.model.specs.Layout.{slotRoom, arenaLength, lengthsIn, putNodes, putOrder, putIndex, putControls, putBuses, putLengths, putResident, putHeader}
+use Rattle.model.specs.Layout.{slotCount, slotRoom, nodesPlace, wordsLength, arenaLength, lengthsIn, putNodes, putOrder, putIndex, putControls, putBuses, putLengths, putResident, putHeader}
 use Rattle.model.specs.Engine.{Slot, Engine, decode}
 use Rattle.model.specs.Effects.{effect}
 
@@ -56,10 +56,17 @@ arenaAfter (command.Query q) bytes ws arena = arena
 abbrev pub root : Node
 root = record { number = 0; depth = 0; run = 1; slot = groupSlot; row = 0 }
 
+-- the end of the root's record, and how many words lie behind it
+abbrev pub rootEnd : ℕ
+rootEnd = nodesPlace + width
+
+abbrev pub behindRoot : ℕ
+behindRoot = wordsLength - rootEnd
+
 -- a fresh engine's words: the root alone, -8 next, no latest, and zeros, so that the one entry of the index is place 0: `fresh` writes every word and byte
 abbrev pub freshState : List ℕ
 freshState =
-    1 ∷ (0 ∷ (firstGiven ∷ (0 ∷ (replicate 64 0 ++ (encode (root ∷ []) ++ replicate 22266 0)))))
+    1 ∷ (0 ∷ (firstGiven ∷ (0 ∷ (replicate (slotCount + slotCount) 0 ++ (encode (root ∷ []) ++ replicate behindRoot 0)))))
 
 abbrev pub freshArena : List ℕ
 freshArena = replicate arenaLength 0

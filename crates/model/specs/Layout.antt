@@ -1,10 +1,11 @@
 -- Where each part of the engine lies in the lent words and in the lent arena. docs/LAYOUT.md says the same in words.
-use Prim.Native.Nat.{ℕ, _*_}
+use Prim.Native.Nat.{ℕ, _+_, _*_}
 use mathlib.Core.List.{List, _∷_, _++_}
 use lib.ListN.{length, take, drop, getD, replicate}
 use Rattle.words.specs.Parts.{region, put}
 use Rattle.nodes.specs.declared.Node.{Node}
-use Rattle.nodes.specs.Table.{rows, fill}
+use Rattle.nodes.specs.Table.{width, rows, fill}
+use Rattle.nodes.specs.Formed.{mostNodes}
 
 -- "256 nodes with the root; 32 definition slots; 32 parameters and 2,048 encoded bytes to a definition"; "4,096 control buses"
 abbrev pub slotCount : ℕ
@@ -17,49 +18,61 @@ busCount = 4096
 abbrev pub slotRoom : ℕ
 slotRoom = 2048
 
--- the words of a row of controls: two for each of 32
-abbrev pub rowWords : ℕ
-rowWords = 64
+-- the words of a control, its own float and its mapping, and of a row of controls
+abbrev pub controlWords : ℕ
+controlWords = 2
 
--- the places of the parts, and the length of the words
+abbrev pub rowControls : ℕ
+rowControls = 32
+
+abbrev pub rowWords : ℕ
+rowWords = controlWords * rowControls
+
+-- the first words: node count, order length, next number, latest synth
+abbrev pub headerWords : ℕ
+headerWords = 4
+
+-- the parts behind them, each from the end of the one before on
 abbrev pub lengthsPlace : ℕ
-lengthsPlace = 4
+lengthsPlace = headerWords
 
 abbrev pub residentPlace : ℕ
-residentPlace = 36
+residentPlace = lengthsPlace + slotCount
 
 abbrev pub nodesPlace : ℕ
-nodesPlace = 68
+nodesPlace = residentPlace + slotCount
 
 abbrev pub nodesWords : ℕ
-nodesWords = 1280
+nodesWords = width * mostNodes
 
 abbrev pub orderPlace : ℕ
-orderPlace = 1348
+orderPlace = nodesPlace + nodesWords
 
+-- "never exceeds 255 numbers"
 abbrev pub orderWords : ℕ
 orderWords = 255
 
 abbrev pub controlsPlace : ℕ
-controlsPlace = 1603
+controlsPlace = orderPlace + orderWords
 
 abbrev pub controlsWords : ℕ
-controlsWords = 16384
+controlsWords = rowWords * mostNodes
 
 abbrev pub busesPlace : ℕ
-busesPlace = 17987
+busesPlace = controlsPlace + controlsWords
 
 abbrev pub indexPlace : ℕ
-indexPlace = 22083
+indexPlace = busesPlace + busCount
 
 abbrev pub indexWords : ℕ
-indexWords = 256
+indexWords = mostNodes
 
+-- the lengths of the words and of the arena
 abbrev pub wordsLength : ℕ
-wordsLength = 22339
+wordsLength = indexPlace + indexWords
 
 abbrev pub arenaLength : ℕ
-arenaLength = 65536
+arenaLength = slotRoom * slotCount
 
 -- the parts in the words
 abbrev pub countIn : List ℕ → ℕ
@@ -127,6 +140,6 @@ putLengths ls ws = put lengthsPlace slotCount ls ws
 abbrev pub putResident : List ℕ → List ℕ → List ℕ
 putResident fs ws = put residentPlace slotCount fs ws
 
--- the first words: node count, order length, next number, latest synth
+-- the first words
 abbrev pub putHeader : ℕ → ℕ → ℕ → ℕ → List ℕ → List ℕ
-putHeader count orderLength next latest ws = count ∷ (orderLength ∷ (next ∷ (latest ∷ drop 4 ws)))
+putHeader count orderLength next latest ws = count ∷ (orderLength ∷ (next ∷ (latest ∷ drop headerWords ws)))

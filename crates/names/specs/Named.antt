@@ -10,6 +10,7 @@ use lib.Dec.{ltb}
 use Rattle.words.specs.Parts.{region, region-length}
 use Rattle.nodes.specs.Table.{rows-length}
 use Rattle.nodes.specs.Place.{place, lives, lives-place, place-most}
+use Rattle.nodes.specs.Formed.{mostNodes}
 use Rattle.index.specs.Index.{indexed}
 use Rattle.index.specs.Words.{Keeps}
 use Rattle.values.specs.declared.NodeArgument.{NodeArgument}
@@ -23,7 +24,7 @@ use Rattle.state.specs.Known.{Known}
 -- what finding a node asks: the sizes, and the index's rule
 pub record Findable (ws : List ℕ) : Type 0 where
   pub size : length ws ≡ wordsLength
-  pub few : countIn ws ≤ 256
+  pub few : countIn ws ≤ mostNodes
   pub index : indexed (indexIn ws) (nodesIn ws) ≡ true
 
 pub findable : (ws bs : List ℕ) → Known ws bs → Findable ws

@@ -8,17 +8,35 @@ use lib.ListN.{length, take, drop, getD, length-append, length-take, length-drop
 use lib.Seq.{drop-drop, getD-drop, drop-at, length-take-le, take-take, take-append-le, paste}
 use Rattle.nodes.specs.declared.Node.{Node}
 
--- the words of a record
+-- the words of a record; its number is the first, and the other fields stand so far behind it
 abbrev pub width : ℕ
 width = 5
 
+abbrev pub depthField : ℕ
+depthField = 1
+
+abbrev pub runField : ℕ
+runField = 2
+
+abbrev pub slotField : ℕ
+slotField = 3
+
+abbrev pub rowField : ℕ
+rowField = 4
+
 -- the record in the words of us from k on
 abbrev pub nodeFrom : List ℕ → ℕ → Node
-nodeFrom us k = record { number = getD us k 0; depth = getD us (k + 1) 0; run = getD us (k + 2) 0; slot = getD us (k + 3) 0; row = getD us (k + 4) 0 }
+nodeFrom us k = record {
+  number = getD us k 0;
+  depth = getD us (k + depthField) 0;
+  run = getD us (k + runField) 0;
+  slot = getD us (k + slotField) 0;
+  row = getD us (k + rowField) 0;
+}
 
 -- the record in the first words of us
 abbrev pub nodeAt : List ℕ → Node
-nodeAt us = record { number = getD us 0 0; depth = getD us 1 0; run = getD us 2 0; slot = getD us 3 0; row = getD us 4 0 }
+nodeAt us = record { number = getD us 0 0; depth = getD us depthField 0; run = getD us runField 0; slot = getD us slotField 0; row = getD us rowField 0 }
 
 -- the first n records of us
 unfoldable pub rows : ℕ → List ℕ → List Node

@@ -9,7 +9,7 @@ use lib.Dec.{ltb, leb, eqb}
 use borrow.Author.Tests.{le-leb, lt-leb}
 use Rattle.words.specs.Choice.{pick, both, either, both-true}
 use Rattle.nodes.specs.declared.Node.{Node}
-use Rattle.nodes.specs.Table.{width, nodeFrom, rows, rows-end, row-from}
+use Rattle.nodes.specs.Table.{width, nodeFrom, rows, rows-end, row-from, depthField, slotField}
 use Rattle.nodes.specs.Place.{groupSlot}
 use Rattle.nodes.specs.Formed.{firstGiven, lastGiven, mostRows, mostNodes, countFormed, reach, steps, rooted, apart, numberFormed, fieldsFormed, rowFormed, allFormed, rowsApart, nextFormed, synthLives, latestFormed, nodesFormed}
 use Rattle.order.specs.Marks.{rowsFormed, rowsHold}
@@ -22,7 +22,7 @@ abbrev pub fieldsHold : ℕ → ℕ → ℕ → Bool
 fieldsHold run slot row = both (leb run 1) (both (leb slot groupSlot) (pick (eqb slot groupSlot) true (ltb row mostRows)))
 
 module _ (n : ℕ) (us : List ℕ) where
-  pub steps-turn : (most i : ℕ) → i < n → steps most (drop i (rows n us)) ≡ both (ltb 0 (getD us (width * i + 1) 0)) (both (leb (getD us (width * i + 1) 0) most) (steps (reach (nodeFrom us (width * i))) (drop (i + 1) (rows n us))))
+  pub steps-turn : (most i : ℕ) → i < n → steps most (drop i (rows n us)) ≡ both (ltb 0 (getD us (width * i + depthField) 0)) (both (leb (getD us (width * i + depthField) 0) most) (steps (reach (nodeFrom us (width * i))) (drop (i + 1) (rows n us))))
   unfolding steps
   steps-turn most i h = ap (λ (l : List Node). steps most l) (row-from n us i h)
 
@@ -42,7 +42,7 @@ module _ (n : ℕ) (us : List ℕ) where
   unfolding allFormed
   fields-end next i h = ap (λ (l : List Node). allFormed next l) (rows-end n us i h)
 
-  pub latest-turn : (k i : ℕ) → i < n → synthLives k (drop i (rows n us)) ≡ either (pick (eqb (getD us (width * i + 3) 0) 32) false (eqb (getD us (width * i) 0) k)) (synthLives k (drop (i + 1) (rows n us)))
+  pub latest-turn : (k i : ℕ) → i < n → synthLives k (drop i (rows n us)) ≡ either (pick (eqb (getD us (width * i + slotField) 0) 32) false (eqb (getD us (width * i) 0) k)) (synthLives k (drop (i + 1) (rows n us)))
   unfolding synthLives
   latest-turn k i h = ap (λ (l : List Node). synthLives k l) (row-from n us i h)
 

@@ -17,7 +17,7 @@ use Rattle.format.specs.Names.{firstName}
 use Rattle.readable.specs.Lookup.{unitsIn, nameIn, nameOfIn}
 use Rattle.readable.specs.LookupOf.{units-of, name-of, first-name-of}
 use Rattle.readable.specs.Readable.{ReadableWhole}
-use Rattle.nodes.specs.Table.{row-from}
+use Rattle.nodes.specs.Table.{width, row-from, slotField}
 use Rattle.nodes.specs.Place.{groupSlot, isGroup}
 use Rattle.model.specs.Layout.{slotCount, nodesPlace, nodesWords, countIn, lengthsIn, nodesIn}
 use Rattle.model.specs.Engine.{Slot, decode, noDefinition, valueOr, definitionIn, slotAt, definitionOf, slotTaken}
@@ -87,5 +87,5 @@ module _ (ws bs : List ℕ) (i : ℕ) (a : At ws bs i) (single : isGroup (nodeIn
   held-front = synth-ready ws bs (ready ws bs (a .state)) i (a .live) single .front
 
 -- a synth's slot, by the words
-pub slot-low : (ws bs : List ℕ) (i : ℕ) → At ws bs i → (getD ws (nodesPlace + 5 * i + 3) 0 ≡ groupSlot → ⊥) → getD ws (nodesPlace + 5 * i + 3) 0 < slotCount
+pub slot-low : (ws bs : List ℕ) (i : ℕ) → At ws bs i → (getD ws (nodesPlace + width * i + slotField) 0 ≡ groupSlot → ⊥) → getD ws (nodesPlace + width * i + slotField) 0 < slotCount
 slot-low ws bs i a other = slot-bound (bounds ws bs i a) other

@@ -7,12 +7,12 @@ use lib.ListN.{length, replicate, length-replicate}
 use Rattle.nodes.specs.Table.{rows, encode}
 use Rattle.model.specs.Layout.{wordsLength, arenaLength}
 use Rattle.model.specs.Engine.{decode}
-use Rattle.model.specs.After.{root, freshState, freshArena}
+use Rattle.model.specs.After.{root, behindRoot, freshState, freshArena}
 
 pub fresh-length : length freshState ≡ wordsLength
 unfolding encode
 fresh-length =
-    let a : length (replicate {A = ℕ} 22266 0) ≡ 22266 = length-replicate {A = ℕ} 22266 0 in
+    let a : length (replicate {A = ℕ} behindRoot 0) ≡ behindRoot = length-replicate {A = ℕ} behindRoot 0 in
     omega (arith, a)
 
 pub arena-length : length freshArena ≡ arenaLength

@@ -6,7 +6,7 @@ use native.Mathlib.Omega.{arith}
 use lib.ListN.{length, take, drop, getD, set, take-append-drop, length-append, length-drop}
 use lib.Seq.{getD-append-add, getD-drop, drop-drop, set-at, length-take-le}
 use Rattle.nodes.specs.declared.Node.{Node}
-use Rattle.nodes.specs.Table.{width, rows, nodeAt, nodeFrom, wordsOf, encode, rows-length, rows-take, rows-end, row-from, node-from, encode-length, encode-append, encode-one}
+use Rattle.nodes.specs.Table.{width, rows, nodeAt, nodeFrom, wordsOf, encode, rows-length, rows-take, rows-end, row-from, node-from, encode-length, encode-append, encode-one, depthField}
 use Rattle.nodes.specs.Edit.{level, lift, sink}
 use Rattle.tree.specs.Words.{whole}
 
@@ -18,8 +18,8 @@ relevel old new l = lift new (sink old l)
 pub record Levels (us : List ℕ) (from to old new : ℕ) : Type 0 where
   pub order : from ≤ to
   pub room : width * to ≤ length us
-  pub least : (i : ℕ) → from ≤ i → i < to → old ≤ getD us (width * i + 1) 0
-  pub most : (i : ℕ) → from ≤ i → i < to → getD us (width * i + 1) 0 + new < 4294967296
+  pub least : (i : ℕ) → from ≤ i → i < to → old ≤ getD us (width * i + depthField) 0
+  pub most : (i : ℕ) → from ≤ i → i < to → getD us (width * i + depthField) 0 + new < 4294967296
 
 pub relevel-length : (old new : ℕ) (l : List Node) → length (relevel old new l) ≡ length l
 unfolding lift sink
@@ -87,22 +87,22 @@ module _ (old new : ℕ) (us : List ℕ) (from i : ℕ) (order : from ≤ i) (in
       ∙ ap (λ (m : List Node). relevel old new m) (ap (λ (x : Node). run ++ (x ∷ [])) (sym same-node) ∙ sym (rows-snoc (i - from) u) ∙ ap (λ (k : ℕ). rows k u) next)))
 
   -- the word that is read
-  pub depth-read : getD (releveled old new us from i) (width * i + 1) 0 ≡ getD us (width * i + 1) 0
+  pub depth-read : getD (releveled old new us from i) (width * i + depthField) 0 ≡ getD us (width * i + depthField) 0
   unfolding done
   depth-read =
       ap (λ (k : ℕ). getD (done ++ drop (width * i) us) (k + 1) 0) (sym done-length) ∙ getD-append-add done (drop (width * i) us) 1 0 ∙ getD-drop (width * i) us 1 0
 
   -- the word that is written
-  pub releveled-turn : set (releveled old new us from i) (width * i + 1) (getD us (width * i + 1) 0 - old + new) ≡ releveled old new us from (i + 1)
+  pub releveled-turn : set (releveled old new us from i) (width * i + depthField) (getD us (width * i + depthField) 0 - old + new) ≡ releveled old new us from (i + 1)
   unfolding done here
   releveled-turn =
       let v = here .depth - old + new in
       let p = done ++ (here .number ∷ []) in
       let w = here .run ∷ (here .slot ∷ (here .row ∷ drop (width * (i + 1)) us)) in
       let long : length p ≡ width * i + 1 = length-append done (here .number ∷ []) ∙ ap (λ (k : ℕ). k + 1) done-length in
-      ap (λ (l : List ℕ). set (done ++ l) (width * i + 1) v) five
-      ∙ ap (λ (l : List ℕ). set l (width * i + 1) v) (sym (append-assoc done (here .number ∷ []) (here .depth ∷ w)))
-      ∙ set-at p (here .depth) w v (width * i + 1) long
+      ap (λ (l : List ℕ). set (done ++ l) (width * i + depthField) v) five
+      ∙ ap (λ (l : List ℕ). set l (width * i + depthField) v) (sym (append-assoc done (here .number ∷ []) (here .depth ∷ w)))
+      ∙ set-at p (here .depth) w v (width * i + depthField) long
       ∙ append-assoc done (here .number ∷ []) (v ∷ w)
       ∙ sym (append-assoc done (wordsOf (level v here)) (drop (width * (i + 1)) us))
       ∙ ap (λ (l : List ℕ). l ++ drop (width * (i + 1)) us) more

@@ -8,7 +8,7 @@ use lib.Seq.{take-at, drop-at, length-take-le}
 use lib.Dec.{leb}
 use Rattle.words.specs.Choice.{pick}
 use Rattle.nodes.specs.declared.Node.{Node}
-use Rattle.nodes.specs.Table.{width, rows, encode, fill, rows-length, rows-take, rows-drop, encode-length, encode-append}
+use Rattle.nodes.specs.Table.{width, rows, encode, fill, rows-length, rows-take, rows-drop, encode-length, encode-append, depthField}
 use Rattle.nodes.specs.Sizes.{depthAt, endAt}
 use Rattle.tree.specs.declared.add.Place.{Place}
 use Rattle.tree.specs.Words.{whole, take-words, drop-words}
@@ -21,8 +21,8 @@ pub record Movable (us : List ℕ) (from to at old new : ℕ) : Type 0 where
   pub few : to ≤ from + 256
   pub room : width * to ≤ length us
   pub inside : width * (at + (to - from)) ≤ length us
-  pub least : (i : ℕ) → from ≤ i → i < to → old ≤ getD us (width * i + 1) 0
-  pub most : (i : ℕ) → from ≤ i → i < to → getD us (width * i + 1) 0 + new < 4294967296
+  pub least : (i : ℕ) → from ≤ i → i < to → old ≤ getD us (width * i + depthField) 0
+  pub most : (i : ℕ) → from ≤ i → i < to → getD us (width * i + depthField) 0 + new < 4294967296
 
 -- the words after: the run with its depths changed taken out, and put in at a place of what is left
 abbrev pub movedWords : ℕ → ℕ → ℕ → ℕ → ℕ → List ℕ → List ℕ

@@ -10,7 +10,7 @@ use lib.Dec.{ltb}
 use borrow.Author.Tests.{lt-ltb, le-ltb, ltb-true, eq-eqb, ne-eqb}
 use Rattle.words.specs.Choice.{pick}
 use Rattle.nodes.specs.declared.Node.{Node}
-use Rattle.nodes.specs.Table.{width, nodeFrom, wordsOf, rows, row-from, rows-end, encode, encode-length, encode-append, over}
+use Rattle.nodes.specs.Table.{width, nodeFrom, wordsOf, rows, row-from, rows-end, encode, encode-length, encode-append, over, depthField, slotField}
 use Rattle.nodes.specs.Place.{isGroup, deeper, deeper-turn, deeper-end, nested, end-most}
 use Rattle.nodes.specs.Edit.{takeDeeper, dropDeeper, onlyGroups}
 use Rattle.nodes.specs.Split.{dropDeeper-at}
@@ -80,27 +80,27 @@ module _ (us : List ℕ) (count from to d : ℕ) where
   unfolding takeDeeper
   swept-end h = nothing (ap (λ (l : List Node). takeDeeper d l) (rows-end count us from h)) (deeper-end count us d from h)
 
-  pub swept-stop : from < count → getD us (width * from + 1) 0 ≤ d → Swept us count from to d us from to
+  pub swept-stop : from < count → getD us (width * from + depthField) 0 ≤ d → Swept us count from to d us from to
   unfolding takeDeeper
   swept-stop h shallow =
-      let no : ltb d (getD us (width * from + 1) 0) ≡ false = le-ltb d (getD us (width * from + 1) 0) shallow in
+      let no : ltb d (getD us (width * from + depthField) 0) ≡ false = le-ltb d (getD us (width * from + depthField) 0) shallow in
       nothing (ap (λ (l : List Node). takeDeeper d l) (row-from count us from h) ∙ rw no) (deeper-turn count us d from h ∙ rw no)
 
   -- a deeper record, and what follows it
-  module _ (h : from < count) (deep : d < getD us (width * from + 1) 0) where
+  module _ (h : from < count) (deep : d < getD us (width * from + depthField) 0) where
     deeper-next : deeper d (drop from (rows count us)) ≡ suc (deeper d (drop (from + 1) (rows count us)))
-    deeper-next = rw (lt-ltb d (getD us (width * from + 1) 0) deep) at (deeper-turn count us d from h)
+    deeper-next = rw (lt-ltb d (getD us (width * from + depthField) 0) deep) at (deeper-turn count us d from h)
 
     groups-next : groupsBelow d (drop from (rows count us)) ≡ onlyGroups (nodeFrom us (width * from) ∷ takeDeeper d (drop (from + 1) (rows count us)))
     unfolding takeDeeper
-    groups-next = ap (λ (l : List Node). groupsBelow d l) (row-from count us from h) ∙ rw (lt-ltb d (getD us (width * from + 1) 0) deep)
+    groups-next = ap (λ (l : List Node). groupsBelow d l) (row-from count us from h) ∙ rw (lt-ltb d (getD us (width * from + depthField) 0) deep)
 
     -- a synth is passed over
-    pub swept-synth : (getD us (width * from + 3) 0 ≡ 32 → ⊥) → (ws : List ℕ) (read write : ℕ) → Swept us count (from + 1) to d ws read write → Swept us count from to d ws read write
+    pub swept-synth : (getD us (width * from + slotField) 0 ≡ 32 → ⊥) → (ws : List ℕ) (read write : ℕ) → Swept us count (from + 1) to d ws read write → Swept us count from to d ws read write
     unfolding onlyGroups
     swept-synth synth ws read write s =
         let same : groupsBelow d (drop from (rows count us)) ≡ groupsBelow d (drop (from + 1) (rows count us)) =
-        groups-next ∙ rw (ne-eqb (getD us (width * from + 3) 0) 32 synth) in
+        groups-next ∙ rw (ne-eqb (getD us (width * from + slotField) 0) 32 synth) in
         let size = ap (λ (l : List Node). length l) same in
         let a = s .past in
         let b = s .many in
@@ -112,7 +112,7 @@ module _ (us : List ℕ) (count from to d : ℕ) where
         }
 
     -- a group is moved down, then what is below it, then the rest
-    module _ (group : getD us (width * from + 3) 0 ≡ 32) (down : to ≤ from) (room : width * count ≤ length us) where
+    module _ (group : getD us (width * from + slotField) 0 ≡ 32) (down : to ≤ from) (room : width * count ≤ length us) where
       abbrev kept : Node
       kept = nodeFrom us (width * from)
 
@@ -126,7 +126,7 @@ module _ (us : List ℕ) (count from to d : ℕ) where
       unfolding onlyGroups
       groups-split =
           groups-next
-          ∙ (rw (eq-eqb (getD us (width * from + 3) 0) 32 group))
+          ∙ (rw (eq-eqb (getD us (width * from + slotField) 0) 32 group))
           ∙ ap (λ (l : List Node). kept ∷ l) (ap onlyGroups (take-nested d level after (omega arith)) ∙ groups-append (takeDeeper level after) (takeDeeper d (dropDeeper level after)))
 
       -- the words with the group moved down, then with the groups below it behind it

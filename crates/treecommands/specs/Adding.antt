@@ -15,7 +15,7 @@ use Rattle.values.specs.declared.NodeArgument.{NodeArgument}
 use Rattle.model.specs.declared.TreeCommand.{TreeCommand}
 use Rattle.model.specs.declared.Command.the-variants as command
 use Rattle.model.specs.declared.Answer.the-variants.{Done}
-use Rattle.model.specs.Layout.{countIn, nodesIn}
+use Rattle.model.specs.Layout.{nodesWords, countIn, nodesIn}
 use Rattle.model.specs.Engine.{decode}
 use Rattle.model.specs.Meaning.{meant}
 use Rattle.model.specs.Checks.{isRoot, notGroup, badTarget, full}
@@ -78,7 +78,7 @@ module _ (ws : List ℕ) (count : ℕ) (same : count ≡ countIn ws) (bs : List 
 pub room : (action : Action) (ws : List ℕ) → Ready ws → (at : ℕ) → at < countIn ws → fullAt action (countIn ws) ≡ false → Room (nodeWords ws) (countIn ws) action at
 room action ws k at live h = addable (countIn ws) (nodeWords ws) (k .tree .root) action at (rw (words-long ws (k .size)) (enough action h)) (k .few) live
   where
-    enough : (a : Action) → fullAt a (countIn ws) ≡ false → width * countIn ws + grows a ≤ 1280
+    enough : (a : Action) → fullAt a (countIn ws) ≡ false → width * countIn ws + grows a ≤ nodesWords
     enough (Put p) e = omega (arith, leb-false mostNodes (countIn ws) e)
     enough Replace e = omega (arith, k .few)
 

@@ -9,7 +9,7 @@ use lib.Seq.{getD-take, getD-drop}
 use lib.Dec.{eqb}
 use Rattle.words.specs.Parts.{region, region-length}
 use Rattle.nodes.specs.declared.Node.{Node}
-use Rattle.nodes.specs.Table.{width, nodeFrom}
+use Rattle.nodes.specs.Table.{width, nodeFrom, slotField}
 use Rattle.nodes.specs.Place.{isGroup}
 use Rattle.nodes.specs.Formed.{mostNodes}
 use Rattle.index.specs.Index.{indexed}
@@ -43,11 +43,11 @@ pub node-word : (ws : List ℕ) (i : ℕ) → i < nodesWords → getD (nodeWords
 node-word ws i h = rw (getD-take, getD-drop)
 
 -- the number of the record at a place
-pub node-number : (ws : List ℕ) (at : ℕ) → at < mostNodes → getD ws (68 + 5 * at) 0 ≡ nodeIn ws at .number
+pub node-number : (ws : List ℕ) (at : ℕ) → at < mostNodes → getD ws (nodesPlace + width * at) 0 ≡ nodeIn ws at .number
 node-number ws at h = sym (node-word ws (width * at) (omega arith))
 
 -- whether the record at a place is a synth's, by its slot word
-pub node-slot : (ws : List ℕ) (at : ℕ) → at < mostNodes → not (eqb (getD ws (68 + 5 * at + 3) 0) 32) ≡ not (isGroup (nodeIn ws at))
+pub node-slot : (ws : List ℕ) (at : ℕ) → at < mostNodes → not (eqb (getD ws (nodesPlace + width * at + slotField) 0) 32) ≡ not (isGroup (nodeIn ws at))
 node-slot ws at h =
-    let same : nodesPlace + (width * at + 3) ≡ 68 + 5 * at + 3 = omega arith in
-    ap (λ (v : ℕ). not (eqb v 32)) (sym (node-word ws (width * at + 3) (omega arith) ∙ ap (λ (i : ℕ). getD ws i 0) same))
+    let same : nodesPlace + (width * at + slotField) ≡ nodesPlace + width * at + 3 = omega arith in
+    ap (λ (v : ℕ). not (eqb v 32)) (sym (node-word ws (width * at + slotField) (omega arith) ∙ ap (λ (i : ℕ). getD ws i 0) same))

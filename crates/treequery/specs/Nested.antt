@@ -18,6 +18,7 @@ use Rattle.state.specs.Known.{Known}
 use Rattle.slots.specs.Slots.{part-word}
 use Rattle.controls.specs.Ready.{nodeIn}
 use Rattle.queries.specs.Held.{node-there}
+use Rattle.nodes.specs.Table.{width, depthField}
 use Rattle.treequery.specs.RowArguments.{depthAt}
 
 -- a node's place, and those behind it up to an end: below the root, and none more than one deeper than the one before it
@@ -30,10 +31,10 @@ pub record Nested (ws : List ℕ) (at end : ℕ) : Type 0 where
   pub next : (i : ℕ) → i + 1 < end → depthAt ws (i + 1) ≤ depthAt ws i + 1
 
 -- by the words
-pub depth-word : (ws : List ℕ) (i : ℕ) → i < 256 → getD ws (nodesPlace + 5 * i + 1) 0 ≡ depthAt ws i
+pub depth-word : (ws : List ℕ) (i : ℕ) → i < 256 → getD ws (nodesPlace + width * i + depthField) 0 ≡ depthAt ws i
 depth-word ws i few =
-    let place : nodesPlace + (5 * i + 1) ≡ nodesPlace + 5 * i + 1 = omega arith in
-    sym (part-word nodesPlace nodesWords (5 * i + 1) ws (omega arith) ∙ ap (λ (k : ℕ). getD ws k 0) place)
+    let place : nodesPlace + (width * i + depthField) ≡ nodesPlace + width * i + 1 = omega arith in
+    sym (part-word nodesPlace nodesWords (width * i + depthField) ws (omega arith) ∙ ap (λ (k : ℕ). getD ws k 0) place)
 
 -- a record s behind a record r
 abbrev After : Node → Node → Type 0

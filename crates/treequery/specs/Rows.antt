@@ -15,6 +15,7 @@ use Rattle.state.specs.Known.{Known}
 use Rattle.slots.specs.Slots.{slotBytes, part-word}
 use Rattle.controls.specs.Ready.{nodeIn}
 use Rattle.queries.specs.Held.{At, bounds}
+use Rattle.nodes.specs.Table.{width}
 use Rattle.treequery.specs.RowArguments.{rowArguments, childrenAt, viewTo, row-group, rows-turn, rows-none}
 use Rattle.treequery.specs.Places.{mostTags}
 use Rattle.treequery.specs.SynthRow.{synth-row, synth-length}
@@ -40,8 +41,8 @@ pub group-turn : (shown : Bool) (ws bs : List ℕ) (end i n children : ℕ) → 
 group-turn shown ws bs end i n children e a b = row-group shown ws bs end i e ∙ ap₂ (λ (x y : ℕ). int x ∷ (int y ∷ [])) (sym a) (sym b)
 
 -- a node's number, by the words
-pub number-fact : (ws bs : List ℕ) (i : ℕ) → At ws bs i → getD ws (nodesPlace + 5 * i) 0 ≡ nodeIn ws i .number
-number-fact ws bs i a = sym (part-word nodesPlace nodesWords (5 * i) ws (omega (arith, bounds ws bs i a .place)))
+pub number-fact : (ws bs : List ℕ) (i : ℕ) → At ws bs i → getD ws (nodesPlace + width * i) 0 ≡ nodeIn ws i .number
+number-fact ws bs i a = sym (part-word nodesPlace nodesWords (width * i) ws (omega (arith, bounds ws bs i a .place)))
 
 -- all rows from a place on
 abbrev pub leftRows : Bool → List ℕ → List ℕ → ℕ → ℕ → List Argument

@@ -12,7 +12,7 @@ use Rattle.words.specs.Choice.{pick}
 use Rattle.words.specs.Parts.{region}
 use Rattle.refusals.specs.declared.Refusal.the-variants.{NoNode, WrongKind}
 use Rattle.nodes.specs.declared.Node.{Node}
-use Rattle.nodes.specs.Table.{width, rows, rows-length, rows-take}
+use Rattle.nodes.specs.Table.{width, rows, rows-length, rows-take, depthField}
 use Rattle.nodes.specs.Place.{deeper, deeper-most, isGroup}
 use Rattle.nodes.specs.Structure.{childCount}
 use Rattle.nodes.specs.Sizes.{endAt}
@@ -89,7 +89,7 @@ run-part n at k us h =
 
 pub end-most : (n at : ℕ) (us : List ℕ) → at < n → endAt n us at ≤ n
 end-most n at us h =
-    let most = deeper-most (getD us (width * at + 1) 0) (drop (at + 1) (rows n us)) in
+    let most = deeper-most (getD us (width * at + depthField) 0) (drop (at + 1) (rows n us)) in
     let size : length (drop (at + 1) (rows n us)) ≡ n - (at + 1) = length-drop (at + 1) (rows n us) ∙ ap (λ (k : ℕ). k - (at + 1)) (rows-length n us) in
     omega arith
 

@@ -10,7 +10,7 @@ use lib.Dec.{leb, eqb}
 use borrow.Author.Tests.{eq-eqb, ne-eqb, le-leb, lt-leb}
 use Rattle.words.specs.Choice.{pick}
 use Rattle.words.specs.Parts.{region, region-length}
-use Rattle.nodes.specs.Table.{width, nodeFrom, rows-length}
+use Rattle.nodes.specs.Table.{width, nodeFrom, rows-length, depthField, runField, slotField}
 use Rattle.nodes.specs.Sizes.{TableFits}
 use Rattle.nodes.specs.Place.{groupSlot, isGroup, place, place-most}
 use Rattle.nodes.specs.Order.{isOn}
@@ -42,32 +42,32 @@ module _ (ws : List ℕ) (few : countIn ws ≤ 256) (at : ℕ) (count : ℕ) (co
     word : (k : ℕ) → k < width → getD ws (nodesPlace + width * at + k) 0 ≡ getD (region nodesPlace nodesWords ws) (width * at + k) 0
     word k small = row-word ws at k (omega arith) small
 
-    pub return-group : getD ws (nodesPlace + width * at + 3) 0 ≡ groupSlot → Group ≡ rowReason (region nodesPlace nodesWords ws) (countIn ws) at
-    return-group g = sym (rw (live, eq-eqb (getD us (width * at + 3) 0) groupSlot (sym (word 3 (omega arith)) ∙ g)))
+    pub return-group : getD ws (nodesPlace + width * at + slotField) 0 ≡ groupSlot → Group ≡ rowReason (region nodesPlace nodesWords ws) (countIn ws) at
+    return-group g = sym (rw (live, eq-eqb (getD us (width * at + slotField) 0) groupSlot (sym (word 3 (omega arith)) ∙ g)))
 
-    module _ (g : getD ws (nodesPlace + width * at + 3) 0 ≡ groupSlot → ⊥) where
+    module _ (g : getD ws (nodesPlace + width * at + slotField) 0 ≡ groupSlot → ⊥) where
       synth : isGroup (nodeFrom (region nodesPlace nodesWords ws) (width * at)) ≡ false
-      synth = ne-eqb (getD us (width * at + 3) 0) groupSlot (λ e. g (word 3 (omega arith) ∙ e))
+      synth = ne-eqb (getD us (width * at + slotField) 0) groupSlot (λ e. g (word 3 (omega arith) ∙ e))
 
-      pub return-off : (getD ws (nodesPlace + width * at + 2) 0 ≡ 1 → ⊥) → Off ≡ rowReason (region nodesPlace nodesWords ws) (countIn ws) at
-      return-off o = sym (rw (live, synth, ne-eqb (getD us (width * at + 2) 0) 1 (λ e. o (word 2 (omega arith) ∙ e))))
+      pub return-off : (getD ws (nodesPlace + width * at + runField) 0 ≡ 1 → ⊥) → Off ≡ rowReason (region nodesPlace nodesWords ws) (countIn ws) at
+      return-off o = sym (rw (live, synth, ne-eqb (getD us (width * at + runField) 0) 1 (λ e. o (word 2 (omega arith) ∙ e))))
 
-      module _ (o : getD ws (nodesPlace + width * at + 2) 0 ≡ 1) where
+      module _ (o : getD ws (nodesPlace + width * at + runField) 0 ≡ 1) where
         sounding : isOn (nodeFrom (region nodesPlace nodesWords ws) (width * at)) ≡ true
-        sounding = eq-eqb (getD us (width * at + 2) 0) 1 (sym (word 2 (omega arith)) ∙ o)
+        sounding = eq-eqb (getD us (width * at + runField) 0) 1 (sym (word 2 (omega arith)) ∙ o)
 
         module _ (seen : Sight) (s : SeenBefore (region nodesPlace nodesWords ws) at seen) where
-          pub return-above : seen .limit < getD ws (nodesPlace + width * at + 1) 0 → AncestorOff (seen .named) ≡ rowReason (region nodesPlace nodesWords ws) (countIn ws) at
+          pub return-above : seen .limit < getD ws (nodesPlace + width * at + depthField) 0 → AncestorOff (seen .named) ≡ rowReason (region nodesPlace nodesWords ws) (countIn ws) at
           return-above deep =
               let d = word 1 (omega arith) in
               let e = s .limit in
-              ap AncestorOff (s .named) ∙ sym (rw (live, synth, sounding, lt-leb (getD us (width * at + 1) 0) (sightTo us at .0) (omega arith)))
+              ap AncestorOff (s .named) ∙ sym (rw (live, synth, sounding, lt-leb (getD us (width * at + depthField) 0) (sightTo us at .0) (omega arith)))
 
-          pub return-running : getD ws (nodesPlace + width * at + 1) 0 ≤ seen .limit → Running (seen .many + 1) ≡ rowReason (region nodesPlace nodesWords ws) (countIn ws) at
+          pub return-running : getD ws (nodesPlace + width * at + depthField) 0 ≤ seen .limit → Running (seen .many + 1) ≡ rowReason (region nodesPlace nodesWords ws) (countIn ws) at
           return-running near =
               let d = word 1 (omega arith) in
               let e = s .limit in
-              ap (λ (n : ℕ). Running (n + 1)) (s .many) ∙ sym (rw (live, synth, sounding, le-leb (getD us (width * at + 1) 0) (sightTo us at .0) (omega arith)))
+              ap (λ (n : ℕ). Running (n + 1)) (s .many) ∙ sym (rw (live, synth, sounding, le-leb (getD us (width * at + depthField) 0) (sightTo us at .0) (omega arith)))
 
 -- the place that is asked for is at most the count
 pub asked-most : (number : ℕ) (ws : List ℕ) → askedPlace number ws ≤ countIn ws

@@ -4,7 +4,7 @@ use lib.ListN.{getD-replicate}
 use Rattle.definitions.specs.Holders.{held-turn, held-end, held-set, held-skip}
 use Rattle.model.specs.Engine as engine
 use Rattle.words.specs.Choice.{either}
-use Rattle.nodes.specs.Table.{rows}
+use Rattle.nodes.specs.Table.{width, rows, slotField}
 use Prim.Native.Nat.{ℕ, _+_, _*_, _-_, _≤_, _<_}
 use mathlib.Core.Bool.{Bool, true, false}
 use mathlib.Core.Path.{_≡_, refl, sym, ap, _∙_}
@@ -32,7 +32,7 @@ loop-again c = let i = c .before .before .before .before .loop .i in
     let held = c .before .before .before .before .loop .held in
     let a = c .before .before .before .before .before .before .args in
     let slot = c .before .wide .result in
-    let same : slot ≡ getD (a .nodes .now) (5 * i + 3) 0 = c .before .wide .ensures in
+    let same : slot ≡ getD (a .nodes .now) (width * i + slotField) 0 = c .before .wide .ensures in
     let rest : ℕ → Bool = λ k. engine.held k (drop (i + 1) (rows (a .count) (a .nodes .now))) in
     let turn : (k : ℕ) → engine.held k (drop i (rows (a .count) (a .nodes .now))) ≡ either (eqb slot k) (rest k) =
     λ k. held-turn (a .count) (a .nodes .now) k i (omega arith) ∙ ap (λ (s : ℕ). either (eqb s k) (rest k)) (sym same) in

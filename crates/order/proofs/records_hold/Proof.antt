@@ -5,7 +5,7 @@ use mathlib.Core.Path.{_≡_, refl, sym, _∙_}
 use native.Mathlib.Omega.{arith}
 use borrow.Author.Tests.{not-true, not-false}
 use lib.ListN.{drop, getD}
-use Rattle.nodes.specs.Table.{rows}
+use Rattle.nodes.specs.Table.{width, rows, runField, slotField, rowField}
 use Rattle.nodes.specs.Formed.{allFormed}
 use Rattle.order.specs.Checks.{numberHolds, fieldsHold, fields-turn, fields-end}
 use Rattle.order.proofs.records_hold.Statement.{statement}
@@ -30,7 +30,7 @@ returns c =
     let us = a .nodes .now in
     let i = b .loop .i in
     let e = c .before .number-holds .ensures in
-    let bad : numberHolds (a .next) (getD us (5 * i) 0) (getD us (5 * i + 3) 0) ≡ false = sym e ∙ not-true (c .before .number-holds .result) (c .if1 .taken) in
+    let bad : numberHolds (a .next) (getD us (width * i) 0) (getD us (width * i + slotField) 0) ≡ false = sym e ∙ not-true (c .before .number-holds .result) (c .if1 .taken) in
     sym (rw bad at (fields-turn (a .count) us (a .next) i (omega arith))) ∙ b .loop .inv .1
 
 fields-hold-requires : tie.Need-fields-hold-requires Inv-loop μ-loop
@@ -43,9 +43,9 @@ returns-2 c =
     let a = b .before .before .args in
     let us = a .nodes .now in
     let i = b .loop .i in
-    let good : numberHolds (a .next) (getD us (5 * i) 0) (getD us (5 * i + 3) 0) ≡ true =
+    let good : numberHolds (a .next) (getD us (width * i) 0) (getD us (width * i + slotField) 0) ≡ true =
     sym (d .before .number-holds .ensures) ∙ not-false (d .before .number-holds .result) (d .if1 .left) in
-    let bad : fieldsHold (getD us (5 * i + 2) 0) (getD us (5 * i + 3) 0) (getD us (5 * i + 4) 0) ≡ false =
+    let bad : fieldsHold (getD us (width * i + runField) 0) (getD us (width * i + slotField) 0) (getD us (width * i + rowField) 0) ≡ false =
     sym (c .before .fields-hold .ensures) ∙ not-true (c .before .fields-hold .result) (c .if2 .taken) in
     sym (rw (good, bad) at (fields-turn (a .count) us (a .next) i (omega arith))) ∙ b .loop .inv .1
 
@@ -56,9 +56,9 @@ loop-again c =
     let a = b .before .before .args in
     let us = a .nodes .now in
     let i = b .loop .i in
-    let good : numberHolds (a .next) (getD us (5 * i) 0) (getD us (5 * i + 3) 0) ≡ true =
+    let good : numberHolds (a .next) (getD us (width * i) 0) (getD us (width * i + slotField) 0) ≡ true =
     sym (d .before .number-holds .ensures) ∙ not-false (d .before .number-holds .result) (d .if1 .left) in
-    let whole : fieldsHold (getD us (5 * i + 2) 0) (getD us (5 * i + 3) 0) (getD us (5 * i + 4) 0) ≡ true =
+    let whole : fieldsHold (getD us (width * i + runField) 0) (getD us (width * i + slotField) 0) (getD us (width * i + rowField) 0) ≡ true =
     sym (c .before .fields-hold .ensures) ∙ not-false (c .before .fields-hold .result) (c .if2 .left) in
     (omega arith, sym (rw (good, whole) at (fields-turn (a .count) us (a .next) i (omega arith))) ∙ b .loop .inv .1)
 

@@ -6,7 +6,7 @@ use mathlib.Core.List.{List}
 use mathlib.Core.Logic.{⊎-elim}
 use native.Mathlib.Omega.{arith}
 use borrow.Author.Needs.{needs}
-use Rattle.nodes.specs.Table.{rows}
+use Rattle.nodes.specs.Table.{width, rows, rowField}
 use Rattle.order.specs.Marks.{rowsHold, pass, pass-none, pass-group, pass-past, pass-taken, pass-mark, pass-end}
 use lib.ListN.{drop, getD, set}
 use Rattle.order.proofs.rows_apart.Statement.{statement}
@@ -35,7 +35,7 @@ returns-2 c =
     let l = c .before .before .before .before .before .before .before .loop in
     let us = a .nodes .now in
     let whole = rowsHold (rows (a .count) us) in
-    let same : c .before .before .wide .result ≡ getD us (5 * l .i + 4) 0 = c .before .before .wide .ensures in
+    let same : c .before .before .wide .result ≡ getD us (width * l .i + rowField) 0 = c .before .before .wide .ensures in
     pass-taken (a .count) us (l .i) (l .seen) whole (omega arith) (l .inv .1) (c .before .before .before .before .if1 .taken) (omega arith) (ap (λ (k : ℕ). getD (l .seen) k false) (sym same) ∙ c .if3 .taken)
 
 loop-again : tie.Need-loop-again Inv-loop μ-loop
@@ -48,7 +48,7 @@ loop-again c =
       omega arith,
       ⊎-elim
           (λ w.
-          let same : w .2 .result ≡ getD us (5 * l .i + 4) 0 = w .2 .ensures in
+          let same : w .2 .result ≡ getD us (width * l .i + rowField) 0 = w .2 .ensures in
           ap (λ (m : List Bool). pass m (drop (l .i + 1) t)) (w .5)
           ∙ ap (λ (k : ℕ). pass (set (l .seen) k true) (drop (l .i + 1) t)) same
           ∙ pass-mark (a .count) us (l .i) (l .seen) whole (omega arith) (l .inv .1) (w .0 .taken) (omega arith) (ap (λ (k : ℕ). getD (l .seen) k false) (sym same) ∙ w .4 .left))

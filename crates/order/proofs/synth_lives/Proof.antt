@@ -5,7 +5,7 @@ use native.Mathlib.Omega.{arith}
 use borrow.Author.Tests.{eq-eqb, ne-eqb}
 use lib.ListN.{drop, getD}
 use mathlib.Core.Logic.{⊎-elim}
-use Rattle.nodes.specs.Table.{rows}
+use Rattle.nodes.specs.Table.{width, rows, slotField}
 use Rattle.nodes.specs.Formed.{synthLives}
 use Rattle.order.specs.Checks.{latest-turn, latest-end}
 use Rattle.order.proofs.synth_lives.Statement.{statement}
@@ -26,7 +26,7 @@ returns c =
     let a = b .before .args in
     let us = a .nodes .now in
     let i = b .loop .i in
-    sym (rw (ne-eqb (getD us (5 * i + 3) 0) 32 (c .before .before .if1 .taken), eq-eqb (getD us (5 * i) 0) (a .number) (c .if2 .taken)) at (latest-turn (a .count) us (a .number) i (omega arith)))
+    sym (rw (ne-eqb (getD us (width * i + slotField) 0) 32 (c .before .before .if1 .taken), eq-eqb (getD us (width * i) 0) (a .number) (c .if2 .taken)) at (latest-turn (a .count) us (a .number) i (omega arith)))
     ∙ b .loop .inv .1
 
 loop-again : tie.Need-loop-again Inv-loop μ-loop
@@ -39,8 +39,8 @@ loop-again c =
     let turn = latest-turn (a .count) us (a .number) i (omega arith) in
     let on : synthLives (a .number) (drop i t) ≡ synthLives (a .number) (drop (i + 1) t) =
     ⊎-elim
-    (λ w. rw (ne-eqb (getD us (5 * i + 3) 0) 32 (w .0 .taken), ne-eqb (getD us (5 * i) 0) (a .number) (w .2 .left)) at turn)
-    (λ w. rw (eq-eqb (getD us (5 * i + 3) 0) 32 (omega arith)) at turn)
+    (λ w. rw (ne-eqb (getD us (width * i + slotField) 0) 32 (w .0 .taken), ne-eqb (getD us (width * i) 0) (a .number) (w .2 .left)) at turn)
+    (λ w. rw (eq-eqb (getD us (width * i + slotField) 0) 32 (omega arith)) at turn)
     (c .if1 .came) in
     (omega arith, sym on ∙ b .loop .inv .1)
 

@@ -4,7 +4,7 @@ use mathlib.Core.List.{List}
 use native.Mathlib.Omega.{arith}
 use lib.ListN.{length}
 use Rattle.words.specs.Parts.{region, region-length}
-use Rattle.model.specs.Layout.{controlsIn, putControls}
+use Rattle.model.specs.Layout.{controlsPlace, controlsWords, controlsIn, putControls}
 use Rattle.model.specs.Effects.{changeRow}
 use Rattle.controls.specs.Change.{changeOf}
 use Rattle.controls.specs.Ready.{nodeIn}
@@ -30,7 +30,7 @@ change-row-requires c κs =
     let said = c .before .before .before .before .reached .ensures in
     let some-reached : 0 < reachedBy (a .args .cover) (a .args .count) = omega (arith, said, c .before .before .before .if1 .left) in
     let inside = reached-inside (a .args .cover) (a .args .count) (a .pre .3) some-reached in
-    let long : length (region 1603 16384 ws) ≡ 16384 = region-length 1603 16384 ws (omega (arith, a .pre .0)) in
+    let long : length (controlsIn ws) ≡ controlsWords = region-length controlsPlace controlsWords ws (omega (arith, a .pre .0)) in
     omega arith
 
 returns-2 : tie.Need-returns-2

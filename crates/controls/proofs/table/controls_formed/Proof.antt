@@ -9,7 +9,7 @@ use mathlib.Core.Path.{_≡_, refl, sym, _∙_}
 use native.Mathlib.Omega.{arith}
 use borrow.Author.Tests.{not-true, not-false}
 use lib.ListN.{drop}
-use Rattle.model.specs.Layout.{nodesIn, controlsIn}
+use Rattle.model.specs.Layout.{controlsPlace, controlsWords, nodesIn, controlsIn}
 use Rattle.model.specs.Engine.{decode}
 use Rattle.model.specs.Formed.{mappingsFormed, controlsFormed}
 use Rattle.controls.specs.Formed.{nodeFormed, formed-turn, formed-end, synth-here}
@@ -111,7 +111,7 @@ row-formed-requires c κs =
     let row = c .node-row .ensures in
     let few = h .few in
     let many : c .before .before .slot-controls .result ≡ controlsOn ws arena (nodeIn ws (l .i) .slot) = c .before .before .slot-controls .ensures ∙ ap (controlsOn ws arena) (c .before .before .before .node-slot .ensures) in
-    let long : length (region 1603 16384 ws) ≡ 16384 = region-length 1603 16384 ws (omega (arith, s .pre .size)) in
+    let long : length (controlsIn ws) ≡ controlsWords = region-length controlsPlace controlsWords ws (omega (arith, s .pre .size)) in
     omega arith
 
 returns : tie.Need-returns Inv-loop μ-loop

@@ -3,7 +3,7 @@ use Prim.Native.Nat.{_*_, _-_, _≤_, _<_}
 use mathlib.Core.Path.{_≡_}
 use native.Mathlib.Omega.{arith}
 use lib.ListN.{take, drop}
-use Rattle.nodes.specs.Table.{rows}
+use Rattle.nodes.specs.Table.{width, rows}
 use Rattle.index.specs.Index.{numbers, rises, indexed}
 use Rattle.index.specs.Words.{IndexFits}
 use Rattle.index.specs.Checks.{rises-first, rises-past, rises-low, rises-on, rises-end}
@@ -44,7 +44,7 @@ returns-2 c =
 
 add-least : tie.Need-add-least Inv-loop μ-loop
 add-least c =
-    let number : c .before .wide2 .result < 4294967296 = omega (arith, c .before .before .shared-slice-known4 .given (5 * c .before .before .before .before .wide .result)) in
+    let number : c .before .wide2 .result < 4294967296 = omega (arith, c .before .before .shared-slice-known4 .given (width * c .before .before .before .before .wide .result)) in
     omega arith
 
 loop-again : tie.Need-loop-again Inv-loop μ-loop
@@ -52,7 +52,7 @@ loop-again c =
     let a = c .before .before .before .before .before .before .before .before .before .before .args in
     let l = c .before .before .before .before .before .before .before .loop in
     let fits = l .inv .2 in
-    let number : c .before .wide2 .result < 4294967296 = omega (arith, c .before .before .shared-slice-known4 .given (5 * c .before .before .before .before .wide .result)) in
+    let number : c .before .wide2 .result < 4294967296 = omega (arith, c .before .before .shared-slice-known4 .given (width * c .before .before .before .before .wide .result)) in
     (omega arith, omega arith, fits, rises-on (a .nodes .now) (a .index .now) (a .count) fits (l .least) (l .i) (c .before .before .before .before .wide .result) (omega arith) (c .before .before .before .before .wide .ensures) (l .inv .3) (omega arith) (c .before .wide2 .result) (c .before .wide2 .ensures) (omega arith))
 
 returns-3 : tie.Need-returns-3 Inv-loop μ-loop

@@ -11,6 +11,7 @@ use Rattle.model.specs.Layout.{nodesPlace, nodesWords}
 use Rattle.model.specs.Replies.{setAddress, keyArgument}
 use Rattle.slots.specs.Slots.{part-word}
 use Rattle.controls.specs.Ready.{nodeIn}
+use Rattle.nodes.specs.Table.{width}
 use Rattle.queries.specs.Answers.{reply-refused, reply-sent}
 use Rattle.queries.specs.Held.{At, ready}
 use Rattle.queries.specs.Control.{control-unknown, control-group, control-lacks, control-passes, control-reply}
@@ -58,9 +59,9 @@ returns-4 c =
     let sent = c .before .before .send-control in
     let a : At ws bs at = record { state = s .pre; live = omega (arith, c .before .before .before .before .before .before .before .before .before .before .before .wide .ensures) } in
     let single = sym (c .before .before .before .before .before .before .before .before .before .node-is-group .ensures) ∙ c .before .before .before .before .before .before .before .before .if2 .left in
-    let number : getD ws (nodesPlace + 5 * at) 0 ≡ nodeIn ws at .number = sym (part-word nodesPlace nodesWords (5 * at) ws (omega (arith, s .pre .few, c .before .before .before .before .before .before .before .before .before .before .before .wide .ensures))) in
+    let number : getD ws (nodesPlace + width * at) 0 ≡ nodeIn ws at .number = sym (part-word nodesPlace nodesWords (width * at) ws (omega (arith, s .pre .few, c .before .before .before .before .before .before .before .before .before .before .before .wide .ensures))) in
     reply-sent (query.Control (s .args .node) (s .args .key)) (s .args .bytes .now) ws bs (s .args .out .now)
-    (message setAddress (int (getD ws (nodesPlace + 5 * at) 0) ∷ (keyArgument (s .args .key) (s .args .bytes .now) ∷ (float (value .result) ∷ []))))
+    (message setAddress (int (getD ws (nodesPlace + width * at) 0) ∷ (keyArgument (s .args .key) (s .args .bytes .now) ∷ (float (value .result) ∷ []))))
     (sent .result) (sent .last .0)
     (control-passes (s .args .node) (s .args .key) (s .args .bytes .now) ws bs (n .result) (n .ensures) a single (sym (c .before .before .before .before .before .before .before .controls-missing .ensures) ∙ c .before .before .before .before .before .before .if3 .left))
     (ap (λ (k : ℕ). message setAddress (int k ∷ (keyArgument (s .args .key) (s .args .bytes .now) ∷ (float (value .result) ∷ [])))) number

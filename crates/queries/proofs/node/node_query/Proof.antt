@@ -15,6 +15,7 @@ use Rattle.model.specs.Layout.{countIn, nodesIn, nodesPlace, nodesWords}
 use Rattle.model.specs.Replies.{infoAddress}
 use Rattle.replies.specs.Sent.{wordMessage}
 use Rattle.controls.specs.Ready.{nodeIn}
+use Rattle.nodes.specs.Table.{width, slotField}
 use Rattle.queries.specs.Answers.{reply-refused, reply-sent}
 use Rattle.queries.specs.Held.{At}
 use Rattle.queries.specs.Info.{Around, groupTags, synthTags, here-number, group-info, synth-info, node-fires, node-passes}
@@ -50,7 +51,7 @@ returns-2 c =
     (wordMessage infoAddress groupTags (m ∷ (c .before .before .before .before .before .before .before .before .before .before .before .before .before .parent-of .result ∷ (c .before .before .before .before .before .before .before .before .before .before .before .before .previous-of .result ∷ (c .before .before .before .before .before .before .before .before .before .before .before .next-of .result ∷ (1 ∷ (c .before .before .before .before .before .before .before .before .head-of .result ∷ (c .before .before .before .before .before .before .before .tail-of .result ∷ []))))))))
     (c .before .before .send-words .result) (c .before .before .send-words .last .0)
     (node-passes (s .args .node) (s .args .bytes .now) ws bs at (n .ensures) (a .live))
-    (group-info (s .args .node) (s .args .bytes .now) ws bs at (n .ensures) a (eq-eqb (getD us (5 * at + 3) 0) groupSlot (c .before .before .before .before .before .before .before .before .before .if2 .taken)) (c .before .before .before .before .before .before .before .before .before .before .before .before .before .parent-of .result) (c .before .before .before .before .before .before .before .before .before .before .before .before .previous-of .result) (c .before .before .before .before .before .before .before .before .before .before .before .next-of .result) (c .before .before .before .before .before .before .before .before .head-of .result) (c .before .before .before .before .before .before .before .tail-of .result) around head tail)
+    (group-info (s .args .node) (s .args .bytes .now) ws bs at (n .ensures) a (eq-eqb (getD us (width * at + slotField) 0) groupSlot (c .before .before .before .before .before .before .before .before .before .if2 .taken)) (c .before .before .before .before .before .before .before .before .before .before .before .before .before .parent-of .result) (c .before .before .before .before .before .before .before .before .before .before .before .before .previous-of .result) (c .before .before .before .before .before .before .before .before .before .before .before .next-of .result) (c .before .before .before .before .before .before .before .before .head-of .result) (c .before .before .before .before .before .before .before .tail-of .result) around head tail)
     (c .before .before .send-words .ensures)
 
 returns-3 : tie.Need-returns-3
@@ -72,7 +73,7 @@ returns-3 c =
     (wordMessage infoAddress synthTags (m ∷ (c .before .before .before .before .before .before .before .before .before .before .before .parent-of .result ∷ (c .before .before .before .before .before .before .before .before .before .before .previous-of .result ∷ (c .before .before .before .before .before .before .before .before .before .next-of .result ∷ (0 ∷ []))))))
     (c .before .before .send-words2 .result) (c .before .before .send-words2 .last .0)
     (node-passes (s .args .node) (s .args .bytes .now) ws bs at (n .ensures) (a .live))
-    (synth-info (s .args .node) (s .args .bytes .now) ws bs at (n .ensures) a (ne-eqb (getD us (5 * at + 3) 0) groupSlot (c .before .before .before .before .before .before .before .if2 .left)) (c .before .before .before .before .before .before .before .before .before .before .before .parent-of .result) (c .before .before .before .before .before .before .before .before .before .before .previous-of .result) (c .before .before .before .before .before .before .before .before .before .next-of .result) around)
+    (synth-info (s .args .node) (s .args .bytes .now) ws bs at (n .ensures) a (ne-eqb (getD us (width * at + slotField) 0) groupSlot (c .before .before .before .before .before .before .before .if2 .left)) (c .before .before .before .before .before .before .before .before .before .before .before .parent-of .result) (c .before .before .before .before .before .before .before .before .before .before .previous-of .result) (c .before .before .before .before .before .before .before .before .before .next-of .result) around)
     (c .before .before .send-words2 .ensures)
 
 pub node-query-spec : {M : Type 1} → statement M

@@ -13,7 +13,7 @@ returns : tie.Need-returns
 returns c =
     let a = c .before .before .before .before .before .before .before .before .before .args in
     let us = a .nodes .now in
-    let m = 5 * a .count - 5 * a .at in record {
+    let m = width * a .count - width * a .at in record {
       words =
           c .before .before .put-node .ensures
           ∙ ap (λ (l : List ℕ). over (width * a .at) (wordsOf (a .node)) l) (c .before .before .before .before .before .before .open-gap .ensures)

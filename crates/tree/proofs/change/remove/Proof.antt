@@ -4,14 +4,14 @@ use Prim.Native.Nat.{_*_, _-_}
 use mathlib.Core.Path.{_∙_}
 use native.Mathlib.Omega.{arith}
 use borrow.Author.Needs.{needs}
-use Rattle.nodes.specs.Table.{rows-length, remove-words}
+use Rattle.nodes.specs.Table.{width, rows-length, remove-words}
 use Rattle.tree.proofs.change.remove.Statement.{statement}
 use Rattle.tree.proofs.change.remove.Tie as tie
 
 returns : tie.Need-returns
 returns c =
     let a = c .before .before .before .before .before .args in
-    let m = 5 * a .count - 5 * a .to in record {
+    let m = width * a .count - width * a .to in record {
       words = c .before .before .close-gap .ensures ∙ remove-words (a .nodes .now) (a .count) (a .from) (a .to) m (omega arith) (omega arith) (omega arith) (omega arith);
       size = simp (length-append, length-take, length-drop, rows-length) (omega arith);
     }

@@ -8,7 +8,7 @@ use lib.ListN.{length, getD}
 use borrow.Fn.Kinds.{In}
 use borrow.Fn.PlainCycle.{Measures, is, falls, and}
 use Rattle.tree.specs.Sweep.{Swept, swept-end, swept-stop, swept-synth, swept-group, Ends, swept-ends, copied-length}
-use Rattle.nodes.specs.Table.{nodeFrom}
+use Rattle.nodes.specs.Table.{width, nodeFrom, depthField}
 use Rattle.tree.proofs.deep.sweep.Reads as sweep
 use Rattle.tree.proofs.deep.sweep.Kinds as sweep-kinds
 use Rattle.tree.proofs.deep.+sweep.Lts-sweep as sweep-lts
@@ -71,7 +71,7 @@ sweep-sweep-requires t c κs =
     let d = c .before .before .before in
     let now = b .loop .nodes in
     let vs = d .copy-record .last .0 in
-    let same : length vs ≡ length now = copied-length now vs (b .loop .write) (nodeFrom now (5 * b .loop .read)) (d .copy-record .ensures) (omega arith) in
+    let same : length vs ≡ length now = copied-length now vs (b .loop .write) (nodeFrom now (width * b .loop .read)) (d .copy-record .ensures) (omega arith) in
     (omega arith, record { room = omega arith; few = omega arith; down = omega arith; inside = omega arith; allowed = omega arith })
 
 sweep-loop-less : (t : ℕ) → sweep-lts.Need-loop-less (
@@ -89,7 +89,7 @@ sweep-loop-less t c =
     let read = b .loop .read in
     let write = b .loop .write in
     let vs = d .copy-record .last .0 in
-    let same : length vs ≡ length now = copied-length now vs write (nodeFrom now (5 * read)) (d .copy-record .ensures) (omega arith) in
+    let same : length vs ≡ length now = copied-length now vs write (nodeFrom now (width * read)) (d .copy-record .ensures) (omega arith) in
     let ends : Ends vs (a .count) (read + 1) (e .sweep .last .0) (e .sweep .result .read) (e .sweep .result .write) = swept-ends (omega arith) (omega arith) (omega arith) (e .sweep .ensures) in
     omega arith
 
@@ -108,9 +108,9 @@ sweep-loop-again t c =
     let read = b .loop .read in
     let write = b .loop .write in
     let vs = d .copy-record .last .0 in
-    let same : length vs ≡ length now = copied-length now vs write (nodeFrom now (5 * read)) (d .copy-record .ensures) (omega arith) in
+    let same : length vs ≡ length now = copied-length now vs write (nodeFrom now (width * read)) (d .copy-record .ensures) (omega arith) in
     let ends : Ends vs (a .count) (read + 1) (e .sweep .last .0) (e .sweep .result .read) (e .sweep .result .write) = swept-ends (omega arith) (omega arith) (omega arith) (e .sweep .ensures) in
-    let deep : a .depth < getD now (5 * read + 1) 0 = omega arith in (
+    let deep : a .depth < getD now (width * read + depthField) 0 = omega arith in (
       omega arith,
       omega arith,
       omega arith,
@@ -129,7 +129,7 @@ sweep-loop-again-2 t c =
     let b = c .before .before .before .before .before in
     let a = b .before .before .args in
     let now = b .loop .nodes in
-    let deep : a .depth < getD now (5 * b .loop .read + 1) 0 = omega arith in (
+    let deep : a .depth < getD now (width * b .loop .read + depthField) 0 = omega arith in (
       omega arith,
       omega arith,
       omega arith,

@@ -3,7 +3,7 @@ use Prim.Native.Nat.{_+_, _*_}
 use native.Mathlib.Omega.{arith}
 use borrow.Author.Needs.{needs}
 use lib.ListN.{getD}
-use Rattle.nodes.specs.Table.{rows}
+use Rattle.nodes.specs.Table.{width, rows, depthField}
 use Rattle.nodes.specs.Edit.{editAt, deepFreeHere}
 use Rattle.tree.specs.Sweep.{Ends, swept-ends}
 use Rattle.tree.specs.Deep.{left-leaves, deep-at}
@@ -25,7 +25,7 @@ returns c =
     let a = b .before .before .before .before .args in
     let us = a .nodes .now in
     let n = a .count in
-    let depth = getD us (5 * a .at + 1) 0 in
+    let depth = getD us (width * a .at + depthField) 0 in
     let read = b .sweep .result .read in
     let write = b .sweep .result .write in
     let s = b .sweep .ensures in

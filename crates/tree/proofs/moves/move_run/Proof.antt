@@ -4,6 +4,7 @@ use mathlib.Core.Path.{ap, _∙_}
 use mathlib.Core.List.{List}
 use borrow.Author.Needs.{needs}
 use lib.ListN.{take, drop}
+use Rattle.nodes.specs.Table.{width}
 use Rattle.tree.specs.Moves.{without, putIn}
 use Rattle.tree.proofs.moves.move_run.Statement.{statement}
 use Rattle.tree.proofs.moves.move_run.Tie as tie
@@ -12,7 +13,7 @@ returns : tie.Need-returns
 returns c =
     let a = c .before .before .before .before .before .before .before .before .before .args in
     c .before .before .move-words .ensures
-    ∙ ap (λ (l : List ℕ). putIn (5 * a .at) (take (5 * a .to - 5 * a .from) (drop (5 * a .from) l)) (without (5 * a .from) (5 * a .to) l)) (c .before .before .before .before .before .before .set-depths .ensures)
+    ∙ ap (λ (l : List ℕ). putIn (width * a .at) (take (width * a .to - width * a .from) (drop (width * a .from) l)) (without (width * a .from) (width * a .to) l)) (c .before .before .before .before .before .before .set-depths .ensures)
 
 pub move-run-spec : {M : Type 1} → statement M
 move-run-spec =

@@ -6,13 +6,14 @@ use mathlib.Core.List.{List}
 use native.Mathlib.Omega.{arith}
 use borrow.Author.Needs.{needs}
 use lib.ListN.{length, getD, set, length-set}
+use Rattle.nodes.specs.Table.{width, depthField}
 use Rattle.tree.specs.Depths.{releveled, releveled-start, releveled-turn, depth-read}
 use Rattle.tree.proofs.moves.set_depths.Statement.{statement}
 use Rattle.tree.proofs.moves.set_depths.Tie as tie
 
 -- a depth that is read is the one that was there
-read : (old new from i : ℕ) (us now : List ℕ) → now ≡ releveled old new us from i → from ≤ i → 5 * i + 5 ≤ length us → getD now (5 * i + 1) 0 ≡ getD us (5 * i + 1) 0
-read old new from i us now e h inside = ap (λ (l : List ℕ). getD l (5 * i + 1) 0) e ∙ depth-read old new us from i h inside
+read : (old new from i : ℕ) (us now : List ℕ) → now ≡ releveled old new us from i → from ≤ i → width * i + 5 ≤ length us → getD now (width * i + depthField) 0 ≡ getD us (width * i + depthField) 0
+read old new from i us now e h inside = ap (λ (l : List ℕ). getD l (width * i + depthField) 0) e ∙ depth-read old new us from i h inside
 
 abbrev Inv-loop : tie.InvT-loop
 Inv-loop nodes₀ from to old new i₀ nodes i = (from ≤ i) × (i ≤ to) × (nodes ≡ releveled old new nodes₀ from i) × (length nodes ≡ length nodes₀)
@@ -48,8 +49,8 @@ loop-again c =
     let inv = b .loop .inv in (
       omega arith,
       omega arith,
-      ap (λ (v : ℕ). set (b .loop .nodes) (5 * i + 1) (v - a .old + a .new)) (read (a .old) (a .new) (a .from) i us (b .loop .nodes) (inv .2) (omega arith) (omega arith))
-          ∙ ap (λ (l : List ℕ). set l (5 * i + 1) (getD us (5 * i + 1) 0 - a .old + a .new)) (inv .2)
+      ap (λ (v : ℕ). set (b .loop .nodes) (width * i + depthField) (v - a .old + a .new)) (read (a .old) (a .new) (a .from) i us (b .loop .nodes) (inv .2) (omega arith) (omega arith))
+          ∙ ap (λ (l : List ℕ). set l (width * i + depthField) (getD us (width * i + depthField) 0 - a .old + a .new)) (inv .2)
           ∙ releveled-turn (a .old) (a .new) us (a .from) i (omega arith) (omega arith),
       simp length-set (inv .3),
     )

@@ -3,16 +3,17 @@ use Prim.Native.Nat.{_+_, _*_}
 use borrow.Author.Needs.{needs}
 use borrow.Author.Tests.{eq-eqb, ne-eqb}
 use lib.ListN.{getD}
+use Rattle.nodes.specs.Table.{width, slotField}
 use Rattle.tree.proofs.rows.row_at.Statement.{statement}
 use Rattle.tree.proofs.rows.row_at.Tie as tie
 
 returns : tie.Need-returns
-returns c = rw (eq-eqb (getD (c .before .before .before .args .nodes .now) (5 * c .before .before .before .args .at + 3) 0) 32 (c .if1 .taken))
+returns c = rw (eq-eqb (getD (c .before .before .before .args .nodes .now) (width * c .before .before .before .args .at + slotField) 0) 32 (c .if1 .taken))
 
 returns-2 : tie.Need-returns-2
 returns-2 c =
     let a = c .before .before .before .before .before .args in
-    rw (ne-eqb (getD (a .nodes .now) (5 * a .at + 3) 0) 32 (c .before .before .if1 .left)) (c .wide .ensures)
+    rw (ne-eqb (getD (a .nodes .now) (width * a .at + slotField) 0) 32 (c .before .before .if1 .left)) (c .wide .ensures)
 
 pub row-at-spec : {M : Type 1} → statement M
 row-at-spec =

@@ -5,7 +5,7 @@ use native.Mathlib.Numerals.{add-one, add-two, add-three, add-four}
 use borrow.Author.Needs.{needs}
 use lib.ListN.{length-set}
 use lib.Seq.{sets-eq}
-use Rattle.nodes.specs.Table.{wordsOf}
+use Rattle.nodes.specs.Table.{width, wordsOf}
 use Rattle.tree.proofs.runs.put_node.Statement.{statement}
 use Rattle.tree.proofs.runs.put_node.Tie as tie
 
@@ -23,7 +23,7 @@ slice-write-nodes-5 c = simp length-set (omega arith)
 
 returns : tie.Need-returns
 returns c =
-    let at = 5 * c .args .at in
+    let at = width * c .args .at in
     rw (add-one at, add-two at, add-three at, add-four at) (sets-eq (wordsOf (c .args .node)) (c .args .nodes .now) at (omega arith))
 
 pub put-node-spec : {M : Type 1} → statement M

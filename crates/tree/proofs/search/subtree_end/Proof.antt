@@ -5,7 +5,7 @@ use native.Mathlib.Omega.{arith}
 use borrow.Author.Needs.{needs}
 use borrow.Author.Tests.{not-true, not-false}
 use lib.ListN.{drop, getD}
-use Rattle.nodes.specs.Table.{width, rows}
+use Rattle.nodes.specs.Table.{width, rows, depthField}
 use Rattle.nodes.specs.Place.{deeper, deeper-turn, deeper-end}
 use Rattle.tree.proofs.search.subtree_end.Statement.{statement}
 use Rattle.tree.proofs.search.subtree_end.Tie as tie
@@ -22,7 +22,7 @@ loop-holds c = (omega arith, refl)
 returns : tie.Need-returns Inv-loop μ-loop
 returns c =
     let a = c .before .before .before .before .before .before .before .args in
-    let d = getD (a .nodes .now) (width * a .at + 1) 0 in
+    let d = getD (a .nodes .now) (width * a .at + depthField) 0 in
     let i = c .before .before .before .before .loop .i in
     let here : deeper d (drop i (rows (a .count) (a .nodes .now))) ≡ 0 =
     rw (sym (c .before .is-deeper .ensures) ∙ not-true (c .before .is-deeper .result) (c .if1 .taken)) at (deeper-turn (a .count) (a .nodes .now) d i (omega arith)) in
@@ -31,7 +31,7 @@ returns c =
 loop-again : tie.Need-loop-again Inv-loop μ-loop
 loop-again c =
     let a = c .before .before .before .before .before .before .before .args in
-    let d = getD (a .nodes .now) (width * a .at + 1) 0 in
+    let d = getD (a .nodes .now) (width * a .at + depthField) 0 in
     let i = c .before .before .before .before .loop .i in
     let on : deeper d (drop i (rows (a .count) (a .nodes .now))) ≡ suc (deeper d (drop (i + 1) (rows (a .count) (a .nodes .now)))) =
     rw (sym (c .before .is-deeper .ensures) ∙ not-false (c .before .is-deeper .result) (c .if1 .left)) at (deeper-turn (a .count) (a .nodes .now) d i (omega arith)) in (omega arith, omega arith)
@@ -39,7 +39,7 @@ loop-again c =
 returns-2 : tie.Need-returns-2 Inv-loop μ-loop
 returns-2 c =
     let a = c .before .before .before .before .args in
-    let d = getD (a .nodes .now) (width * a .at + 1) 0 in
+    let d = getD (a .nodes .now) (width * a .at + depthField) 0 in
     let i = c .before .loop .i in
     let none : deeper d (drop i (rows (a .count) (a .nodes .now))) ≡ 0 = deeper-end (a .count) (a .nodes .now) d i (omega arith) in
     omega arith

@@ -4,7 +4,7 @@ use mathlib.Core.Path.{_≡_, refl, sym, ap, _∙_}
 use mathlib.Core.List.{List}
 use native.Mathlib.Omega.{arith}
 use lib.ListN.{drop, getD}
-use Rattle.nodes.specs.Table.{rows}
+use Rattle.nodes.specs.Table.{width, rows, depthField}
 use Rattle.nodes.specs.Structure.{noNode, firstOr}
 use Rattle.tree.specs.Around.{childNumbers, childNumbers-stop, childNumbers-child, childNumbers-skip, childNumbers-end}
 use Rattle.tree.proofs.structure.head_of.Statement.{statement}
@@ -25,7 +25,7 @@ returns c =
     let l = c .before .before .before in
     let a = l .before .before .args in
     let us = a .nodes .now in
-    let d = getD us (5 * a .at + 1) 0 in
+    let d = getD us (width * a .at + depthField) 0 in
     ap (λ (k : List ℕ). firstOr noNode k) (sym (childNumbers-stop (a .count) us d (l .loop .i) (omega arith) (c .if1 .taken)))
     ∙ l .loop .inv .1
 
@@ -35,7 +35,7 @@ returns-2 c =
     let l = c .before .before .before .before .before in
     let a = l .before .before .args in
     let us = a .nodes .now in
-    let d = getD us (5 * a .at + 1) 0 in
+    let d = getD us (width * a .at + depthField) 0 in
     ap (λ (k : List ℕ). firstOr noNode k) (sym (childNumbers-child (a .count) us d (l .loop .i) (omega arith) (omega arith) (c .before .if2 .taken)))
     ∙ l .loop .inv .1
 
@@ -44,7 +44,7 @@ loop-again c =
     let l = c .before .before .before .before in
     let a = l .before .before .args in
     let us = a .nodes .now in
-    let d = getD us (5 * a .at + 1) 0 in
+    let d = getD us (width * a .at + depthField) 0 in
     (omega arith, ap (λ (k : List ℕ). firstOr noNode k) (sym (childNumbers-skip (a .count) us d (l .loop .i) (omega arith) (omega arith) (c .if2 .left))) ∙ l .loop .inv .1)
 
 returns-3 : tie.Need-returns-3 Inv-loop μ-loop
@@ -53,7 +53,7 @@ returns-3 c =
     let l = c .before in
     let a = l .before .before .args in
     let us = a .nodes .now in
-    let d = getD us (5 * a .at + 1) 0 in
+    let d = getD us (width * a .at + depthField) 0 in
     ap (λ (k : List ℕ). firstOr noNode k) (sym (childNumbers-end (a .count) us d (l .loop .i) (omega arith)))
     ∙ l .loop .inv .1
 

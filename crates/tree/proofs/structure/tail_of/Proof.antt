@@ -5,7 +5,7 @@ use mathlib.Core.Path.{_≡_, refl, sym, ap, _∙_}
 use mathlib.Core.List.{List}
 use native.Mathlib.Omega.{arith}
 use lib.ListN.{drop, getD}
-use Rattle.nodes.specs.Table.{rows}
+use Rattle.nodes.specs.Table.{width, rows, depthField}
 use Rattle.nodes.specs.Structure.{noNode, lastOr}
 use Rattle.tree.specs.Around.{childNumbers, childNumbers-stop, childNumbers-child, childNumbers-skip, childNumbers-end}
 use Rattle.tree.proofs.structure.tail_of.Statement.{statement}
@@ -26,7 +26,7 @@ returns c =
     let l = c .before .before .before in
     let a = l .before .before .args in
     let us = a .nodes .now in
-    let d = getD us (5 * a .at + 1) 0 in
+    let d = getD us (width * a .at + depthField) 0 in
     ap (λ (k : List ℕ). lastOr (l .loop .last) k) (sym (childNumbers-stop (a .count) us d (l .loop .i) (omega arith) (c .if1 .taken)))
     ∙ l .loop .inv .1
 
@@ -36,7 +36,7 @@ loop-again c =
     let l = c .before .before .before .before in
     let a = l .before .before .args in
     let us = a .nodes .now in
-    let d = getD us (5 * a .at + 1) 0 in
+    let d = getD us (width * a .at + depthField) 0 in
     let rest = childNumbers d (drop (l .loop .i + 1) (rows (a .count) us)) in (
       omega arith,
       ⊎-elim
@@ -52,7 +52,7 @@ returns-2 c =
     let l = c .before in
     let a = l .before .before .args in
     let us = a .nodes .now in
-    let d = getD us (5 * a .at + 1) 0 in
+    let d = getD us (width * a .at + depthField) 0 in
     ap (λ (k : List ℕ). lastOr (l .loop .last) k) (sym (childNumbers-end (a .count) us d (l .loop .i) (omega arith)))
     ∙ l .loop .inv .1
 

@@ -3,6 +3,8 @@ use Prim.Native.Nat.{_+_, _*_}
 use native.Mathlib.Omega.{arith}
 use borrow.Author.Needs.{needs}
 use lib.ListN.{getD}
+use Rattle.nodes.specs.Table.{width}
+use Rattle.model.specs.Layout.{nodesPlace}
 use Rattle.treecommands.specs.Ready.{nodeWords, node-number}
 use Rattle.treecommands.specs.Edits.{cut-fewer}
 use Rattle.treecommands.specs.Freeing.{free-unknown, free-root, free-ready, free-one, free-done}
@@ -41,7 +43,7 @@ renew-without-requires c κs =
     let at = found .node-place in
     let cut = c .before .before .before .before .cut in
     free-one (a .node) (a .words .now) (s .pre) (count .result) (count .ensures) (at .result) (at .ensures) (tested .before .if1 .left) (cut .last .0) (cut .result) (cut .ensures)
-    (getD (a .words .now) (68 + 5 * at .result) 0) (node-number (a .words .now) (at .result) (omega arith)) (c .before .if3 .taken)
+    (getD (a .words .now) (nodesPlace + width * at .result) 0) (node-number (a .words .now) (at .result) (omega arith)) (c .before .if3 .taken)
 
 returns-3 : tie.Need-returns-3
 returns-3 c =

@@ -8,6 +8,7 @@ use lib.ListN.{getD}
 use Rattle.words.specs.Parts.{put}
 use Rattle.reindex.specs.Spot.{spot-near, put-in-words}
 use Rattle.model.specs.Layout.{indexPlace, indexWords}
+use Rattle.nodes.specs.Table.{width}
 use Rattle.treecommands.specs.Ready.{nodeWords}
 use Rattle.treecommands.specs.Settle.{indexRegion}
 use Rattle.treecommands.proofs.indexing.put_new.Statement.{statement}
@@ -19,7 +20,7 @@ put-entry-requires c κs =
     let a = s .args in
     let ws = a .words .now in
     let reads = s .pre .1 .0 in
-    let near = spot-near (nodeWords ws) (indexRegion ws) (a .count) (getD (nodeWords ws) (5 * a .at) 0) reads in
+    let near = spot-near (nodeWords ws) (indexRegion ws) (a .count) (getD (nodeWords ws) (width * a .at) 0) reads in
     let spot = c .before .spot-of in
     (omega (arith, spot .ensures, near), (reads .entries, omega (arith, s .pre .1 .1, reads .few)))
 

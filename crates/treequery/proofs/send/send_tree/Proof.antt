@@ -15,6 +15,7 @@ use Rattle.model.specs.Layout.{nodesPlace}
 use Rattle.model.specs.Replies.{flagNumber}
 use Rattle.replies.specs.Sent.{Sends, sends-none, sends-all}
 use Rattle.controls.specs.Ready.{nodeIn}
+use Rattle.nodes.specs.Table.{width}
 use Rattle.treequery.specs.RowArguments.{childrenAt}
 use Rattle.treequery.specs.Nested.{nested}
 use Rattle.treequery.specs.Shapes.{Shapes}
@@ -134,7 +135,7 @@ returns-2 c =
     let put = c .before .before .put-tree in
     let live : a .at < a .end = omega (arith, s .pre .order) in
     let fitted = c .before .before .before .before .before .before .before .before .before .before .before .before .if2 .left in
-    let numbers : treeFront many front flag (getD ws (nodesPlace + 5 * a .at) 0) (getD (c .before .before .before .before .before .before .before .before .before .before .before .tree-children .result) (a .at) 0) (a .out .now) ≡ treeFront many front flag (nodeIn ws (a .at) .number) (childrenAt ws bs (a .end) (a .at)) (a .out .now) =
+    let numbers : treeFront many front flag (getD ws (nodesPlace + width * a .at) 0) (getD (c .before .before .before .before .before .before .before .before .before .before .before .tree-children .result) (a .at) 0) (a .out .now) ≡ treeFront many front flag (nodeIn ws (a .at) .number) (childrenAt ws bs (a .end) (a .at)) (a .out .now) =
     ap₂ (λ (x y : ℕ). treeFront many front flag x y (a .out .now)) (number-fact ws bs (a .at) (run-at ws bs (a .at + 1) (a .end) (a .at) (s .pre) live)) (c .before .before .before .before .before .before .before .before .before .before .before .tree-children .ensures bs (a .at) (omega arith) live) in
     let written : put .last .0 ≡ over 0 message (a .out .now) =
     put .ensures .buffer

@@ -11,6 +11,7 @@ use Rattle.model.specs.Layout.{nodesPlace}
 use Rattle.slots.specs.Slots.{slotBytes}
 use Rattle.controls.specs.Ready.{nodeIn}
 use Rattle.queries.specs.Held.{bounds}
+use Rattle.nodes.specs.Table.{width}
 use Rattle.treequery.specs.Pieces.{pieceArgument}
 use Rattle.treequery.specs.Writing.{left-all, left-some, left-less, left-none}
 use Rattle.treequery.specs.SynthRow.{controlsShown, synth-short, title-within, synth-pair, synth-turn, synth-hidden}
@@ -24,7 +25,7 @@ put-pair-requires c κs =
     let ws = s .args .words .now in
     let bs = s .args .arena .now in
     let i = s .args .place in
-    rw (sym (group-turn (s .args .shown) ws bs (s .args .end) i (getD ws (nodesPlace + 5 * i) 0) (s .args .children) (sym (c .before .before .node-is-group .ensures) ∙ c .before .if1 .taken) (number-fact ws bs i (s .pre .0 .at)) (s .pre .1))) (s .pre .2)
+    rw (sym (group-turn (s .args .shown) ws bs (s .args .end) i (getD ws (nodesPlace + width * i) 0) (s .args .children) (sym (c .before .before .node-is-group .ensures) ∙ c .before .if1 .taken) (number-fact ws bs i (s .pre .0 .at)) (s .pre .1))) (s .pre .2)
 
 returns : tie.Need-returns
 returns c =
@@ -32,7 +33,7 @@ returns c =
     let ws = s .args .words .now in
     let bs = s .args .arena .now in
     let i = s .args .place in
-    rw (group-turn (s .args .shown) ws bs (s .args .end) i (getD ws (nodesPlace + 5 * i) 0) (s .args .children) (sym (c .before .before .before .before .before .node-is-group .ensures) ∙ c .before .before .before .before .if1 .taken) (number-fact ws bs i (s .pre .0 .at)) (s .pre .1)) (c .before .before .put-pair .ensures)
+    rw (group-turn (s .args .shown) ws bs (s .args .end) i (getD ws (nodesPlace + width * i) 0) (s .args .children) (sym (c .before .before .before .before .before .node-is-group .ensures) ∙ c .before .before .before .before .if1 .taken) (number-fact ws bs i (s .pre .0 .at)) (s .pre .1)) (c .before .before .put-pair .ensures)
 
 put-pair-requires-2 : tie.Need-put-pair-requires-2
 put-pair-requires-2 c κs =
@@ -42,7 +43,7 @@ put-pair-requires-2 c κs =
     let i = s .args .place in
     let at = s .pre .0 .at in
     let one = sym (c .before .before .node-is-group .ensures) ∙ c .before .if1 .left in
-    let n = getD ws (nodesPlace + 5 * i) 0 in
+    let n = getD ws (nodesPlace + width * i) 0 in
     left-some (int n ∷ (int noNode ∷ [])) (text (stringAt (slotBytes ws bs (nodeIn ws i .slot)) 0) ∷ controlsShown ws bs i (s .args .shown)) (left-all (s .pre .2)) (synth-pair ws bs i at one (s .args .shown) (s .args .end) n (number-fact ws bs i at))
 
 node-definition-requires : tie.Need-node-definition-requires
@@ -76,7 +77,7 @@ put-argument-requires c κs =
     let one = sym (c .before .before .before .before .before .before .before .before .node-is-group .ensures) ∙ c .before .before .before .before .before .before .before .if1 .left in
     let d = c .before .before .node-definition .result .now in
     let p = c .string-at .result in
-    let n = getD ws (nodesPlace + 5 * i) 0 in
+    let n = getD ws (nodesPlace + width * i) 0 in
     let shown = controlsShown ws bs i (s .args .shown) in
     let turn = synth-turn ws bs i at one (s .args .shown) (s .args .end) n d p (number-fact ws bs i at) (c .before .before .node-definition .ensures) (c .string-at .ensures .0) in
     let h1 = left-less (int n ∷ (int noNode ∷ [])) (pieceArgument d p ∷ shown) (left-all (s .pre .2)) turn (c .before .before .before .before .before .put-pair2 .ensures) in
@@ -92,7 +93,7 @@ put-controls-requires c κs =
     let one = sym (c .before .before .before .before .before .before .before .before .before .before .before .before .before .node-is-group .ensures) ∙ c .before .before .before .before .before .before .before .before .before .before .before .before .if1 .left in
     let d = c .before .before .before .before .before .before .before .node-definition .result .now in
     let p = c .before .before .before .before .before .string-at .result in
-    let n = getD ws (nodesPlace + 5 * i) 0 in
+    let n = getD ws (nodesPlace + width * i) 0 in
     let shown = controlsShown ws bs i (s .args .shown) in
     let turn = synth-turn ws bs i at one (s .args .shown) (s .args .end) n d p (number-fact ws bs i at) (c .before .before .before .before .before .before .before .node-definition .ensures) (c .before .before .before .before .before .string-at .ensures .0) in
     let h1 = left-less (int n ∷ (int noNode ∷ [])) (pieceArgument d p ∷ shown) (left-all (s .pre .2)) turn (c .before .before .before .before .before .before .before .before .before .before .put-pair2 .ensures) in
@@ -109,7 +110,7 @@ returns-2 c =
     let one = sym (c .before .before .before .before .before .before .before .before .before .before .before .before .before .before .before .before .node-is-group .ensures) ∙ c .before .before .before .before .before .before .before .before .before .before .before .before .before .before .before .if1 .left in
     let d = c .before .before .before .before .before .before .before .before .before .before .node-definition .result .now in
     let p = c .before .before .before .before .before .before .before .before .string-at .result in
-    let n = getD ws (nodesPlace + 5 * i) 0 in
+    let n = getD ws (nodesPlace + width * i) 0 in
     let shown = controlsShown ws bs i (s .args .shown) in
     let turn = synth-turn ws bs i at one (s .args .shown) (s .args .end) n d p (number-fact ws bs i at) (c .before .before .before .before .before .before .before .before .before .before .node-definition .ensures) (c .before .before .before .before .before .before .before .before .string-at .ensures .0) in
     let h1 = left-less (int n ∷ (int noNode ∷ [])) (pieceArgument d p ∷ shown) (left-all (s .pre .2)) turn (c .before .before .before .before .before .before .before .before .before .before .before .before .before .put-pair2 .ensures) in
@@ -127,7 +128,7 @@ returns-3 c =
     let one = sym (c .before .before .before .before .before .before .before .before .before .before .before .before .node-is-group .ensures) ∙ c .before .before .before .before .before .before .before .before .before .before .before .if1 .left in
     let d = c .before .before .before .before .before .before .node-definition .result .now in
     let p = c .before .before .before .before .string-at .result in
-    let n = getD ws (nodesPlace + 5 * i) 0 in
+    let n = getD ws (nodesPlace + width * i) 0 in
     let shown = controlsShown ws bs i (s .args .shown) in
     let turn = synth-turn ws bs i at one (s .args .shown) (s .args .end) n d p (number-fact ws bs i at) (c .before .before .before .before .before .before .node-definition .ensures) (c .before .before .before .before .string-at .ensures .0) in
     let h1 = left-less (int n ∷ (int noNode ∷ [])) (pieceArgument d p ∷ shown) (left-all (s .pre .2)) turn (c .before .before .before .before .before .before .before .before .before .put-pair2 .ensures) in
