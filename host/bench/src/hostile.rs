@@ -1,7 +1,6 @@
 //! Files that are made to take long: how the time grows with the size, beside plain Rust. Each is
 //! refused, by both readers for the same reason at the same place.
 
-use limudvek::synthdef;
 use std::hint::black_box;
 use std::time::{Duration, Instant};
 

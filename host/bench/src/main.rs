@@ -4,7 +4,6 @@
 mod hostile;
 
 use independent::{write_as, Definition, Random, Shape, Version, MOST_BYTES, MOST_DEFINITIONS};
-use limudvek::synthdef;
 use std::hint::black_box;
 use std::time::{Duration, Instant};
 

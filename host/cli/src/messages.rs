@@ -3,12 +3,12 @@
 
 use crate::play::line::{self, Call, Line};
 use crate::play::{load, next_line, status, written, Applies, Stopped};
-use limudvek::refusal;
 use std::ffi::OsStr;
 use std::fs::File;
 use std::io::{self, BufRead, BufReader, BufWriter, Write};
 use std::path::Path;
 use std::process::ExitCode;
+use synthdef::refusal;
 
 /// Writes the messages of a script, or of standard input where it is named `-`, to standard output, and
 /// names the lines that are none on standard error.

@@ -11,13 +11,13 @@ use crate::play::{Applies, Player, NO_END};
 use ask::{Answers, Shape};
 use data::Data;
 use html::{List, Verdict};
-use limudvek::show;
 use std::ffi::OsStr;
 use std::fs;
 use std::io::{self, Read, Write};
 use std::os::unix::ffi::OsStrExt;
 use std::path::Path;
 use std::process::ExitCode;
+use synthdef::show;
 
 /// The exit status where a line can't be read, and where the script can't be.
 const LINES_UNREADABLE: u8 = 1;

@@ -9,7 +9,6 @@ pub(crate) mod tree;
 mod why;
 
 use engine::{List, ListRefused, Reason, Refused};
-use limudvek::{refusal, show};
 use line::{Call, Line};
 use list::Open;
 use message::Message;
@@ -19,6 +18,7 @@ use std::io::{self, BufRead, BufReader, BufWriter, IsTerminal, Write};
 use std::os::unix::ffi::OsStrExt;
 use std::path::Path;
 use std::process::ExitCode;
+use synthdef::{refusal, show};
 
 /// What `limudvek help` prints: the usage, an empty line, and what a script can hold.
 const HELP: &str = include_str!("../../help.txt");

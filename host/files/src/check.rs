@@ -1,11 +1,11 @@
 //! `limudvek check FILE...`: a line for each file says whether it is a SynthDef file.
 
 use crate::{REFUSED, UNREADABLE};
-use limudvek::{show, synthdef};
 use std::ffi::{OsStr, OsString};
 use std::fs;
 use std::io::{self, Write};
 use std::os::unix::ffi::OsStrExt;
+use synthdef::show;
 
 /// Prints the lines. The exit status is that of the worst file.
 pub fn files(files: &[OsString]) -> u8 {

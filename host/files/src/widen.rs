@@ -1,13 +1,13 @@
 //! `limudvek widen IN OUT`: writes the version 2 file of the same definitions.
 
 use crate::{check, UNREADABLE};
-use limudvek::{show, synthdef};
 use std::ffi::OsStr;
 use std::fs::{self, File, OpenOptions};
 use std::io::{self, ErrorKind, Write};
 use std::os::unix::ffi::OsStrExt;
 use std::path::{Path, PathBuf};
 use std::process;
+use synthdef::show;
 
 /// Answers the exit status. The file that is written may be the one that was read.
 pub fn file(from: &OsStr, to: &OsStr) -> u8 {

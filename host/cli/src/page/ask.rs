@@ -7,8 +7,7 @@ use crate::play::tree::{
     self, Kind, BUS, CONTROL, NODE, ORDER, ORDER_LENGTH, RECORD, RESIDENT, ROW,
 };
 use crate::play::{Applies, Player};
-use limudvek::show::quoted;
-use limudvek::synthdef;
+use synthdef::show::quoted;
 
 /// Kinds of commands, by their numbers.
 const N_QUERY: u32 = 24;

@@ -20,8 +20,8 @@
 use super::ask::{Answers, Definition, Node, Shape};
 use super::compare::{compare, fate, gone, Change, Changed, Put};
 use super::json::{float, list, or_null, runs, string, Object};
-use limudvek::show::quoted;
 use std::collections::HashMap;
+use synthdef::show::quoted;
 
 /// The shape of a group.
 const GROUP: i64 = -1;

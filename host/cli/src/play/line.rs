@@ -1,6 +1,6 @@
 //! A line of a script: a command in the reference's notation, a comment, or nothing.
 
-use limudvek::show::{self, in_quotes, looks_integer};
+use synthdef::show::{self, in_quotes, looks_integer};
 
 /// The kinds of commands that the player looks at, by their numbers.
 pub const D_RECV: u32 = 1;

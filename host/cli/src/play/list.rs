@@ -3,8 +3,8 @@
 use super::line::Call;
 use super::Applies;
 use engine::{List, ListRefused};
-use limudvek::{refusal, show};
 use std::io::{self, Write};
+use synthdef::{refusal, show};
 
 /// The refusals of a list whole: of the state, and of the list. What else is refused is a command.
 const STATE: u32 = 1;

@@ -1,8 +1,8 @@
 //! OSC messages as text. What is shown need not be of the right form to the last byte: that the engine
 //! says.
 
-use limudvek::show::{counted, quoted};
 use std::fmt;
+use synthdef::show::{counted, quoted};
 
 #[derive(Clone, Debug, PartialEq)]
 pub enum Argument {

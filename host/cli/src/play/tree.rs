@@ -1,9 +1,9 @@
 //! The tree of nodes, indented: as `/g_queryTree` replies, and with what the state knows besides.
 
 use super::message::{Argument, Message};
-use limudvek::show::quoted;
 use std::io::{self, Write};
 use std::slice::Iter;
+use synthdef::show::quoted;
 
 /// Where the parts lie in the words, by docs/LAYOUT.md.
 pub(crate) const ORDER_LENGTH: usize = 1;

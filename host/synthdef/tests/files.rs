@@ -7,7 +7,6 @@
 
 use independent::files::{Kind, Known};
 use independent::{read, twin, version, Definition, Fault, Random, Twin, Version, MOST_BYTES};
-use limudvek::synthdef;
 use std::io::Write;
 use std::sync::atomic::{AtomicUsize, Ordering};
 use std::sync::Mutex;

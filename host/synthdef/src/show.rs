@@ -1,7 +1,5 @@
 //! Bytes as text that can't steer a terminal.
 
-use crate::synthdef;
-
 /// A number of things, as `1 definition` and `2 definitions`.
 pub fn counted(count: usize, thing: &str) -> String {
     let more = if count == 1 { "" } else { "s" };
@@ -10,7 +8,7 @@ pub fn counted(count: usize, thing: &str) -> String {
 
 /// How many definitions an accepted file has, and their names.
 pub fn definitions(file: &[u8]) -> String {
-    let names: Vec<String> = synthdef::names(file).map(quoted).collect();
+    let names: Vec<String> = crate::names(file).map(quoted).collect();
     let count = counted(names.len(), "definition");
     match names.as_slice() {
         [] => count,

@@ -1,4 +1,8 @@
-//! SynthDef files of version 1 and 2: accepted, or refused with a number and a place.
+//! Safe functions over the proved library of SynthDef files: a file of version 1 or 2 is accepted, or refused
+//! with a number and a place. Beside them the refusals in plain words, and bytes as text.
+
+pub mod refusal;
+pub mod show;
 
 use crate::refusal::reason;
 use std::fmt;

@@ -4,7 +4,6 @@ mod common;
 
 use common::{accepted, refused};
 use independent::Definition;
-use limudvek::synthdef;
 
 /// A header for so many definitions.
 fn header(count: u8) -> Vec<u8> {

@@ -1,7 +1,6 @@
 //! What both readers must answer to a file.
 
 use independent::Fault;
-use limudvek::synthdef;
 
 fn answers(file: &[u8], expected: Result<(), (u32, u64)>) {
     let expected = expected.map_err(|(number, place)| Fault { number, place });

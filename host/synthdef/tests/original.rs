@@ -4,7 +4,6 @@
 mod common;
 
 use common::{accepted, refused};
-use limudvek::synthdef;
 
 const ZERO: &[u8] = &[0, 0];
 const ONE: &[u8] = &[0, 1];
