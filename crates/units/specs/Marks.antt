@@ -70,7 +70,7 @@ walked-few Long s start (suc n) = omega (arith, walked-few Long s start n)
 
 -- the most marks of a definition
 abbrev pub mostMarks : ℕ
-mostMarks = 262144
+mostMarks = 16384
 
 -- where every so many units start, counted from the first one
 pub record Marked (w : Width) (s : List ℕ) (start stride : ℕ) (marks : List ℕ) : Type 0 where

@@ -12,11 +12,12 @@ ghost use Rattle.units.specs.Marks.{unitOutputs, unitEnd, unitPlace, mos
 // besides, so a definition within the size limit has fewer units than this.
 pub const REMEMBERED: usize = 256;
 
-// A definition of more units has marks besides, where every so many units start: so many marks, or in a long one more. The
-// outputs of a unit further back are found by a walk from its mark.
-pub const MANY_MARKS: usize = 65536;
+// A definition of more units has marks besides, where every so many units start: so many marks at most, which are 64 KB of stack.
+// The outputs of a unit further back are found by a walk from its mark.
+pub const MARKS: usize = 16384;
 
-pub const MOST_MARKS: usize = 262144;
+// Marks stand at least so many units apart, so that units are read in runs of as many.
+pub const NEAREST: usize = 2;
 
 // How many outputs the unit so many units behind the one at a place has.
 fn outputs_behind(s: &[u8], start: usize, width: Width, unit: u32) -> u32

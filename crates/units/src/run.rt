@@ -1,6 +1,6 @@
 // The units of a definition, one after the other.
-use crate::outputs::MANY_MARKS;
-use crate::outputs::MOST_MARKS;
+use crate::outputs::MARKS;
+use crate::outputs::NEAREST;
 use crate::outputs::REMEMBERED;
 use crate::outputs::mark_unit;
 use crate::shape::field_size;
@@ -157,29 +157,40 @@ fn read_marked(
     Run::Next(fields, Cursor { at: at })
 }
 
-// So many units, the first of a definition, with as many marks as there are at most.
-fn read_most(s: &[u8], cursor: Cursor, width: Width, constants: u32, count: u32, stride: u32) -> Run
-    requires { ⌜ 0 < stride ⌝ }
-    ensures { λ r. ⌜ runOf r ≡ countUnits width constants (now (s .entry)) count (cursor .at) ⌝ }
+// How many of so many units the file has room for, from a place on. Each takes at least its two counts and four bytes.
+fn units_within(s: &[u8], at: usize, width: Width, count: u32) -> usize
+    ensures { λ r. ⌜ r ≤ count ⌝ }
 {
-    let mut marks = [0u32; MOST_MARKS];
-    read_marked(s, cursor, width, constants, count, stride, &mut marks)
+    if s.len() <= at {
+        return 0;
+    }
+    let most = (s.len() - at) / (2 * field_size(width) + 4);
+    if most < wide(count) {
+        return most;
+    }
+    wide(count)
 }
 
-// So many units can't all be remembered, and at most so many of them are there. Since it calls itself, the compiler keeps it and
-// what it calls apart: the marks' room is not part of what every definition takes.
+// So many units can't all be remembered, and at most so many of them are there. Since it calls itself, the compiler keeps it apart:
+// the marks' room is not part of what every definition takes. No caller names more units than the count, so it never comes to that,
+// and the room stands on the stack once.
 fn read_many(s: &[u8], cursor: Cursor, width: Width, constants: u32, count: u32, most: usize) -> Run
     ensures { λ r. ⌜ runOf r ≡ countUnits width constants (now (s .entry)) count (cursor .at) ⌝ }
 {
     if wide(count) < most {
         return read_many(s, cursor, width, constants, count, wide(count));
     }
-    if 2 * MANY_MARKS < most {
-        let stride = most / MOST_MARKS + 1;
-        return read_most(s, cursor, width, constants, count, stride as u32);
-    }
-    let mut marks = [0u32; MANY_MARKS];
-    read_marked(s, cursor, width, constants, count, 2, &mut marks)
+    let stride = most / MARKS + NEAREST;
+    let mut marks = [0u32; MARKS];
+    read_marked(
+        s,
+        cursor,
+        width,
+        constants,
+        count,
+        stride as u32,
+        &mut marks,
+    )
 }
 
 // So many units, the first of a definition. What the lent ring holds before and after it says nothing.
@@ -194,13 +205,10 @@ pub fn read_units(
     requires { ⌜ length (now outs) ≡ remembered ⌝ }
     ensures { λ r. ⌜ (runOf r ≡ countUnits width constants (now (s .entry)) count (cursor .at)) × (length (now (outs .exit)) ≡ remembered) ⌝ }
 {
-    let at = cursor.at;
     if REMEMBERED < wide(count) {
-        if at < s.len() {
-            let most = (s.len() - at) / (2 * field_size(width) + 4);
-            if REMEMBERED < most {
-                return read_many(s, cursor, width, constants, count, most);
-            }
+        let most = units_within(s, cursor.at, width, count);
+        if REMEMBERED < most {
+            return read_many(s, cursor, width, constants, count, most);
         }
     }
     read_few(s, cursor, width, constants, count, outs)

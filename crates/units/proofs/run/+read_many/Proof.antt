@@ -8,7 +8,6 @@ use Rattle.units.proofs.run.read_many.Reads as read-many
 use Rattle.units.proofs.run.read_many.Kinds as read-many-kinds
 use Rattle.units.proofs.run.+read_many.Lts-read_many as read-many-lts
 use Rattle.units.proofs.run.read_marked.Reads as read-marked-reads
-use Rattle.units.proofs.run.read_most.Reads as read-most-reads
 use Rattle.words.proofs.wide.Reads as wide-reads
 use Rattle.units.proofs.run.+read_many.{statement}
 use Rattle.units.proofs.run.+read_many.Tie.{close}
@@ -28,8 +27,6 @@ read-many-wide-requires : (t : ℕ) → read-many-lts.Need-wide-requires (
   wide-reads.Learnt,
   read-many-below t,
   read-many.Post,
-  read-most-reads.Asked,
-  read-most-reads.Learnt,
   read-marked-reads.Asked,
   read-marked-reads.Learnt,
 ) (read-many-at t) read-many.Post
@@ -40,8 +37,6 @@ read-many-wide-requires-2 : (t : ℕ) → read-many-lts.Need-wide-requires-2 (
   wide-reads.Learnt,
   read-many-below t,
   read-many.Post,
-  read-most-reads.Asked,
-  read-most-reads.Learnt,
   read-marked-reads.Asked,
   read-marked-reads.Learnt,
 ) (read-many-at t) read-many.Post
@@ -52,8 +47,6 @@ read-many-read-many-requires : (t : ℕ) → read-many-lts.Need-read-many-requir
   wide-reads.Learnt,
   read-many-below t,
   read-many.Post,
-  read-most-reads.Asked,
-  read-most-reads.Learnt,
   read-marked-reads.Asked,
   read-marked-reads.Learnt,
 ) (read-many-at t) read-many.Post
@@ -67,32 +60,16 @@ read-many-returns : (t : ℕ) → read-many-lts.Need-returns (
   wide-reads.Learnt,
   read-many-below t,
   read-many.Post,
-  read-most-reads.Asked,
-  read-most-reads.Learnt,
   read-marked-reads.Asked,
   read-marked-reads.Learnt,
 ) (read-many-at t) read-many.Post
 read-many-returns t c = c .read-many .ensures
-
-read-many-returns-2 : (t : ℕ) → read-many-lts.Need-returns-2 (
-  wide-reads.Asked,
-  wide-reads.Learnt,
-  read-many-below t,
-  read-many.Post,
-  read-most-reads.Asked,
-  read-most-reads.Learnt,
-  read-marked-reads.Asked,
-  read-marked-reads.Learnt,
-) (read-many-at t) read-many.Post
-read-many-returns-2 t c = c .read-most .ensures
 
 read-many-slice-aggregate-read-marked : (t : ℕ) → read-many-lts.Need-slice-aggregate-read-marked (
   wide-reads.Asked,
   wide-reads.Learnt,
   read-many-below t,
   read-many.Post,
-  read-most-reads.Asked,
-  read-most-reads.Learnt,
   read-marked-reads.Asked,
   read-marked-reads.Learnt,
 ) (read-many-at t) read-many.Post
@@ -103,24 +80,20 @@ read-many-read-marked-requires : (t : ℕ) → read-many-lts.Need-read-marked-re
   wide-reads.Learnt,
   read-many-below t,
   read-many.Post,
-  read-most-reads.Asked,
-  read-most-reads.Learnt,
   read-marked-reads.Asked,
   read-marked-reads.Learnt,
 ) (read-many-at t) read-many.Post
 read-many-read-marked-requires t c κs = (omega arith, omega arith)
 
-read-many-returns-3 : (t : ℕ) → read-many-lts.Need-returns-3 (
+read-many-returns-2 : (t : ℕ) → read-many-lts.Need-returns-2 (
   wide-reads.Asked,
   wide-reads.Learnt,
   read-many-below t,
   read-many.Post,
-  read-most-reads.Asked,
-  read-most-reads.Learnt,
   read-marked-reads.Asked,
   read-marked-reads.Learnt,
 ) (read-many-at t) read-many.Post
-read-many-returns-3 t c = c .before .read-marked .ensures
+read-many-returns-2 t c = c .before .read-marked .ensures
 
 pub +read-many-spec : {M : Type 1} → statement M
 +read-many-spec = close μ-read-many λ t. read-many-lts.spec (
@@ -128,8 +101,6 @@ pub +read-many-spec : {M : Type 1} → statement M
   wide-reads.Learnt,
   read-many-below t,
   read-many.Post,
-  read-most-reads.Asked,
-  read-most-reads.Learnt,
   read-marked-reads.Asked,
   read-marked-reads.Learnt,
 )
@@ -141,9 +112,6 @@ pub +read-many-spec : {M : Type 1} → statement M
     (read-many-returns t)
     (λ c. omega arith)
     (λ c. omega arith)
-    (λ c. omega arith)
-    (λ c κs. omega arith)
-    (read-many-returns-2 t)
     (read-many-slice-aggregate-read-marked t)
     (read-many-read-marked-requires t)
-    (read-many-returns-3 t)
+    (read-many-returns-2 t)

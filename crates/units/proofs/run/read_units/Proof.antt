@@ -1,17 +1,9 @@
-use native.Mathlib.Omega.{arith}
 use borrow.Author.Needs.{needs}
-use Rattle.units.specs.Marks.{size-most}
 use Rattle.units.proofs.run.read_units.Statement.{statement}
 use Rattle.units.proofs.run.read_units.Tie as tie
-
-mul-most : tie.Need-mul-most
-mul-most c = omega (arith, size-most (c .before .before .before .before .before .args .width))
-
-add-most : tie.Need-add-most
-add-most c = omega (arith, size-most (c .before .before .before .before .before .args .width))
 
 pub read-units-spec : {M : Type 1} → statement M
 read-units-spec =
     tie.close
-    (tie.spec (λ c κs. search needs) (λ c. search needs) (λ c κs. search needs) mul-most add-most (λ c. search needs)
-    (λ c κs. search needs) (λ c. search needs) (λ c κs. search needs) (λ c. search needs))
+    (tie.spec (λ c κs. search needs) (λ c κs. search needs) (λ c κs. search needs) (λ c. search needs)
+    (λ c κs. search needs) (λ c. search needs))
