@@ -85,24 +85,8 @@ nested d e (r ∷ l) h = go (nested d e l h) (ltb e (r .depth)) refl
         rw q (omega arith)
     go ih false t = omega arith
 
--- searches along the first n records of the words us: one step, and the end
+-- along the first n records of the words us: one step of a run, and its end
 module _ (n : ℕ) (us : List ℕ) where
-  pub place-turn : (k i : ℕ) → i < n → place k (drop i (rows n us)) ≡ pick (eqb (getD us (width * i) 0) k) 0 (suc (place k (drop (i + 1) (rows n us))))
-  unfolding place
-  place-turn k i h = ap (λ (l : List Node). place k l) (row-from n us i h)
-
-  pub place-end : (k i : ℕ) → n ≤ i → place k (drop i (rows n us)) ≡ 0
-  unfolding place
-  place-end k i h = ap (λ (l : List Node). place k l) (rows-end n us i h)
-
-  pub lives-turn : (k i : ℕ) → i < n → lives k (drop i (rows n us)) ≡ pick (eqb (getD us (width * i) 0) k) true (lives k (drop (i + 1) (rows n us)))
-  unfolding lives
-  lives-turn k i h = ap (λ (l : List Node). lives k l) (row-from n us i h)
-
-  pub lives-end : (k i : ℕ) → n ≤ i → lives k (drop i (rows n us)) ≡ false
-  unfolding lives
-  lives-end k i h = ap (λ (l : List Node). lives k l) (rows-end n us i h)
-
   pub deeper-turn : (d i : ℕ) → i < n → deeper d (drop i (rows n us)) ≡ pick (ltb d (getD us (width * i + 1) 0)) (suc (deeper d (drop (i + 1) (rows n us)))) 0
   unfolding deeper
   deeper-turn d i h = ap (λ (l : List Node). deeper d l) (row-from n us i h)
