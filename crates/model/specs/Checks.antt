@@ -106,18 +106,41 @@ abbrev pub definitionChecks : DefinitionCommand → List ℕ → Engine → List
 definitionChecks definitions.Receive bytes e = faultOf (readFile bytes) ∷ (check NoSlot (noSlot (definitionsOf (readFile bytes)) e) ∷ [])
 definitionChecks definitions.Free bytes e = check NoDefinition (noResident bytes e) ∷ []
 
+-- "no such node": what a node argument is judged by, in every command that has one
+abbrev pub nodeCheck : NodeArgument → Engine → Check
+nodeCheck a e = check NoNode (not (known a e))
+
 -- "place named for a move is the moved node or below it"
 abbrev pub inside : NodeArgument → NodeArgument → Engine → Bool
 inside place moved e = isBelow (meant place e) (meant moved e) (e .nodes)
 
--- "`/s_new`: 13, 14, 15, 16, 17, 18, 25, 20. `/g_new`: 13, 14, 15, 17, 18, 20. Moves: 17 and then 18, each by argument order, then 19. `/n_run`: 13, 17."
+-- "Moves: 17 and then 18, each by argument order, then 19.": to a place beside a node, and into a group
+abbrev pub besideChecks : NodeArgument → NodeArgument → Engine → List Check
+besideChecks a b e =
+    nodeCheck a e
+    ∷ (nodeCheck b e
+    ∷ (check WrongKind (isRoot (meant a e))
+    ∷ (check WrongKind (isRoot (meant b e))
+    ∷ (check InsideItself (inside b a e)
+    ∷ []))))
+
+abbrev pub intoChecks : NodeArgument → NodeArgument → Engine → List Check
+intoChecks g a e =
+    nodeCheck g e
+    ∷ (nodeCheck a e
+    ∷ (check WrongKind (notGroup g e)
+    ∷ (check WrongKind (isRoot (meant a e))
+    ∷ (check InsideItself (inside g a e)
+    ∷ []))))
+
+-- "`/s_new`: 13, 14, 15, 16, 17, 18, 25, 20. `/g_new`: 13, 14, 15, 17, 18, 20."; "`/n_run`: 13, 17."
 abbrev pub treeChecks : TreeCommand → List ℕ → Engine → List Check
 treeChecks (tree.NewSynth number action target) bytes e =
     check BadFlag (badAction action)
     ∷ (check BadNumber (both (isNegative number) (not (eqb number minusOne)))
     ∷ (check NumberLive (both (not (eqb number minusOne)) (lives number (e .nodes)))
     ∷ (check NoDefinition (noResident bytes e)
-    ∷ (check NoNode (not (known target e))
+    ∷ (nodeCheck target e
     ∷ (check WrongKind (badTarget action target e)
     ∷ (check NoNumber (both (eqb number minusOne) (eqb (e .next) noneLeft))
     ∷ (check NodesFull (full action e)
@@ -126,58 +149,34 @@ treeChecks (tree.NewGroup number action target) bytes e =
     check BadFlag (badAction action)
     ∷ (check BadNumber (isNegative number)
     ∷ (check NumberLive (lives number (e .nodes))
-    ∷ (check NoNode (not (known target e))
+    ∷ (nodeCheck target e
     ∷ (check WrongKind (badTarget action target e)
     ∷ (check NodesFull (full action e)
     ∷ [])))))
-treeChecks (tree.Free n) bytes e = check NoNode (not (known n e)) ∷ (check WrongKind (isRoot (meant n e)) ∷ [])
-treeChecks (tree.FreeAll g) bytes e = check NoNode (not (known g e)) ∷ (check WrongKind (notGroup g e) ∷ [])
-treeChecks (tree.DeepFree g) bytes e = check NoNode (not (known g e)) ∷ (check WrongKind (notGroup g e) ∷ [])
-treeChecks (tree.Before a b) bytes e =
-    check NoNode (not (known a e))
-    ∷ (check NoNode (not (known b e))
-    ∷ (check WrongKind (isRoot (meant a e))
-    ∷ (check WrongKind (isRoot (meant b e))
-    ∷ (check InsideItself (inside b a e)
-    ∷ []))))
-treeChecks (tree.After a b) bytes e =
-    check NoNode (not (known a e))
-    ∷ (check NoNode (not (known b e))
-    ∷ (check WrongKind (isRoot (meant a e))
-    ∷ (check WrongKind (isRoot (meant b e))
-    ∷ (check InsideItself (inside b a e)
-    ∷ []))))
-treeChecks (tree.Head g a) bytes e =
-    check NoNode (not (known g e))
-    ∷ (check NoNode (not (known a e))
-    ∷ (check WrongKind (notGroup g e)
-    ∷ (check WrongKind (isRoot (meant a e))
-    ∷ (check InsideItself (inside g a e)
-    ∷ []))))
-treeChecks (tree.Tail g a) bytes e =
-    check NoNode (not (known g e))
-    ∷ (check NoNode (not (known a e))
-    ∷ (check WrongKind (notGroup g e)
-    ∷ (check WrongKind (isRoot (meant a e))
-    ∷ (check InsideItself (inside g a e)
-    ∷ []))))
-treeChecks (tree.Run n flag) bytes e = check BadFlag (ltb 1 flag) ∷ (check NoNode (not (known n e)) ∷ [])
+treeChecks (tree.Free n) bytes e = nodeCheck n e ∷ (check WrongKind (isRoot (meant n e)) ∷ [])
+treeChecks (tree.FreeAll g) bytes e = nodeCheck g e ∷ (check WrongKind (notGroup g e) ∷ [])
+treeChecks (tree.DeepFree g) bytes e = nodeCheck g e ∷ (check WrongKind (notGroup g e) ∷ [])
+treeChecks (tree.Before a b) bytes e = besideChecks a b e
+treeChecks (tree.After a b) bytes e = besideChecks a b e
+treeChecks (tree.Head g a) bytes e = intoChecks g a e
+treeChecks (tree.Tail g a) bytes e = intoChecks g a e
+treeChecks (tree.Run n flag) bytes e = check BadFlag (ltb 1 flag) ∷ (nodeCheck n e ∷ [])
 
 -- "`/n_set`, `/n_fill`: 17, 23, 21. `/n_map`: 17, 22, 21." With paper 02, 6/14, `/n_fill`: 17, 23, 21, 28.
 abbrev pub controlChecks : ControlCommand → List ℕ → Engine → List Check
 controlChecks (controls.Set n key value) bytes e =
-    check NoNode (not (known n e))
+    nodeCheck n e
     ∷ (check BadValue (not (inBounds value))
     ∷ (check NoControl (noControls key 1 bytes n e)
     ∷ []))
 controlChecks (controls.Fill n key count value) bytes e =
-    check NoNode (not (known n e))
+    nodeCheck n e
     ∷ (check BadValue (not (inBounds value))
     ∷ (check NoControl (noControls key count bytes n e)
     ∷ (check PastWidth (pastName key count bytes n e)
     ∷ [])))
 controlChecks (controls.Map n key bus) bytes e =
-    check NoNode (not (known n e))
+    nodeCheck n e
     ∷ (check NoBus (not (either (eqb bus minusOne) (isBus bus)))
     ∷ (check NoControl (noControls key 1 bytes n e)
     ∷ []))
@@ -189,14 +188,14 @@ busChecks (buses.Fill start count value) e = check NoBus (not (isBusRange start 
 
 -- "`/s_get`: 17, 18, 21, 24." "The rest: ascending." The last check, that the reply has room, is common to all.
 abbrev pub queryChecks : Query → List ℕ → Engine → List Check
-queryChecks (query.Node n) bytes e = check NoNode (not (known n e)) ∷ []
+queryChecks (query.Node n) bytes e = nodeCheck n e ∷ []
 queryChecks (query.Control n key) bytes e =
-    check NoNode (not (known n e))
+    nodeCheck n e
     ∷ (check WrongKind (isGroup (node n e))
     ∷ (check NoControl (noControls key 1 bytes n e)
     ∷ []))
 queryChecks (query.Bus bus) bytes e = check NoBus (not (isBus bus)) ∷ []
-queryChecks (query.Tree g flag) bytes e = check NoNode (not (known g e)) ∷ (check WrongKind (notGroup g e) ∷ [])
+queryChecks (query.Tree g flag) bytes e = nodeCheck g e ∷ (check WrongKind (notGroup g e) ∷ [])
 queryChecks query.Status bytes e = []
 queryChecks query.Export bytes e = []
 
