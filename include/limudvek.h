@@ -4,9 +4,13 @@
  * A run passes as a pointer to its first element and its length in elements. The pointer is not
  * null, also where the length is 0, and runs that are written lie apart from all others. Nothing is
  * kept from one call to the next but in the runs that the caller lends. Integers pass as their
- * 32-bit patterns, floats as theirs. A call uses the caller's stack and no heap: a file with a
- * definition of more than 131,072 units, which is refused at that definition's end, takes some 1.1 MB
- * of it, one of more than 256 units some 300 KB. */
+ * 32-bit patterns, floats as theirs.
+ *
+ * A call uses the caller's stack and no heap. A thread of 128 KB is enough for every call, whatever it
+ * is given: a file with a definition of more than 256 units, which is refused, takes some 75 KB of it,
+ * and all else 31 KB or less. The time that a file takes grows with its size, but where the units of a
+ * definition of more than some 1 MB name others far before them: there it grows with the square of
+ * their number, to some 10 ms at 4 MB and some seconds at 64 MB. */
 
 #ifndef LIMUDVEK_H
 #define LIMUDVEK_H
