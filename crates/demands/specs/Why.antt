@@ -3,7 +3,7 @@ use Prim.Native.Nat.{ℕ, _≤_}
 use mathlib.Core.Bool.{true, not}
 use mathlib.Core.Path.{_≡_, refl, sym, ap, ap₂, _∙_, subst}
 use mathlib.Core.List.{List}
-use mathlib.Core.Option.{Option}
+use mathlib.Core.Option.{Option, some}
 use Rattle.words.specs.Choice.{both}
 use Rattle.nodes.specs.declared.Node.{Node}
 use Rattle.nodes.specs.Forest.{Forest, mapForest}
@@ -13,7 +13,7 @@ use Rattle.treerefinement.specs.Family.{stands}
 use Rattle.treerefinement.specs.Shape.{build}
 use Rattle.model.specs.Engine.{Engine}
 use Rattle.model.specs.View.{PlainNode, viewOf}
-use Rattle.model.specs.Plain.{Plain, atFirst, numberIn, isGroupNode, isOnNode, plainOrder}
+use Rattle.model.specs.Plain.{Plain, ifSome, atFirst, numberIn, isGroupNode, isOnNode, plainOrder}
 use Rattle.model.specs.Chain.{State, engineIn, Call, Chain, leftBy, Fresh}
 use Rattle.model.specs.Demands.{replay}
 use Rattle.refinement.specs.Kept.{Kept}
@@ -59,17 +59,18 @@ pub record Answers (s : State) (p : Plain) : Type 0 where
   -- off exactly if it is of a live synth that is not in the kept order
   pub silent : (n : ℕ) → isOff (plainReason n (p .tree)) ≡ both (isSynth numberIn isGroupNode isOnNode (nodeOf numberIn n (p .tree))) (not (stands n (engineIn s .order)))
 
--- of commands in a row
-pub why-of-commands : (s : State) → Fresh s → (cs : List Call) → Chain cs s → Answers (leftBy cs s) (replay cs atFirst)
-why-of-commands s f cs a =
-    let g = going-on s f cs a in
+-- of commands in a row, and the plain tree that is fed them
+pub why-of-commands : (s : State) → Fresh s → (cs : List Call) → Chain cs s → (p : Plain) → replay cs atFirst ≡ some p → Answers (leftBy cs s) p
+why-of-commands s f cs a p h =
+    let end = going-on s f cs a in
     let e = engineIn (leftBy cs s) in
-    let p = replay cs atFirst in
-    let order : e .order ≡ plainOrder p = kept-same e p (g .same) .order in
+    let is : end .plain ≡ p = ap (λ (o : Option Plain). ifSome o (λ q. q) p) (sym (end .replayed) ∙ h) in
+    let same : Kept e p = subst (λ (q : Plain). Kept e q) is (end .going .same) in
+    let order : e .order ≡ plainOrder p = kept-same e p same .order in
     let all : (n : ℕ) → Facts numberIn isGroupNode isOnNode n (p .tree) =
-    facts numberIn isGroupNode isOnNode (p .tree) (once e p (g .same) (demand3 s f cs a .tree .distinct)) in
+    facts numberIn isGroupNode isOnNode (p .tree) (once e p same (demand3 s f cs a .tree .distinct)) in
     record {
-      told = λ number. rw (g .whole) (ap Because (held-why e p (g .same) number));
+      told = λ number. rw (end .going .whole) (ap Because (held-why e p same number));
       facts = all;
       running = λ n k h. subst (λ (l : List ℕ). StandsAt k n l) (sym order) (all n .running k h);
       standing = λ n k h. all n .standing k (subst (λ (l : List ℕ). StandsAt k n l) order h);
@@ -77,6 +78,5 @@ why-of-commands s f cs a =
     }
 
 -- of commands, messages and lists in any mixture: the plain tree is fed the commands that they stand for
-pub why-of-calls : (s : State) → Fresh s → (ms : List Made) → Session ms s → Answers (leftAfter ms s) (replay (commandsOf ms s) atFirst)
-why-of-calls s f ms p =
-    subst (λ (x : State). Answers x (replay (commandsOf ms s) atFirst)) (same-left ms s p) (why-of-commands s f (commandsOf ms s) (chained ms s p))
+pub why-of-calls : (s : State) → Fresh s → (ms : List Made) → Session ms s → (p : Plain) → replay (commandsOf ms s) atFirst ≡ some p → Answers (leftAfter ms s) p
+why-of-calls s f ms c p h = subst (λ (x : State). Answers x p) (same-left ms s c) (why-of-commands s f (commandsOf ms s) (chained ms s c) p h)

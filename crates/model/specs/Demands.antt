@@ -39,7 +39,7 @@ use Rattle.model.specs.Effects.{numberFor, effect}
 use Rattle.model.specs.Replies.{reply}
 use Rattle.model.specs.Apply.{queryAnswer, answerIn, answer, isAccepted, written, replyOf}
 use Rattle.model.specs.Chain.{State, engineIn, Call, Applied, Chain, leftBy, Fresh}
-use Rattle.model.specs.Plain.{Plain, ifSome, atFirst, meaning, numberIn, fed, plainRows, plainOrder}
+use Rattle.model.specs.Plain.{Plain, ifSome, andThen, atFirst, meaning, numberIn, after, plainRows, plainOrder}
 use Rattle.model.specs.PlainReplies.{plainReply, isExport}
 use Rattle.model.specs.Frame.{displaced, touched, numbersLeft, entriesLeft}
 
@@ -116,13 +116,14 @@ pub record Demand2 : Type 0 where
       → (ds : List Definition) (end : ℕ) → Written (load .bytes) ds end → other .bytes ≡ twin (load .bytes) ds end → SameLoads load other
   pub loaded : (s : State) → formed (s .words) (s .arena) ≡ true → (c : Call) → c .command ≡ export → Applied c s → Reloads c s
 
--- the plain tree, fed each call's command and whether it was accepted
-abbrev pub fedBy : Call → Plain → Plain
-fedBy c p = fed (c .command) (c .bytes) (isAccepted (c .answer)) p
+-- the plain tree after a call, fed its command and whether it was accepted; none where it is at a loss
+abbrev pub afterCall : Call → Plain → Option Plain
+afterCall c p = after (c .command) (c .bytes) (isAccepted (c .answer)) p
 
-unfoldable pub replay : List Call → Plain → Plain
-replay [] p = p
-replay (c ∷ cs) p = replay cs (fedBy c p)
+-- .. and after calls in a row: none where it was at a loss at one of them
+unfoldable pub replay : List Call → Plain → Option Plain
+replay [] p = some p
+replay (c ∷ cs) p = andThen (afterCall c p) (λ q. replay cs q)
 
 -- the definition that the name of an accepted `/s_new` meant, if it made the synth n; else what was known before
 abbrev pub madeBy : TreeCommand → List ℕ → Engine → ℕ → Option Definition → Option Definition
@@ -210,14 +211,22 @@ pub record StepHolds (c : Call) (s : State) (p : Plain) : Type 0 where
   pub untouched : entriesLeft (touched (isAccepted (c .answer)) (c .command) (engineIn s)) (engineIn s .nodes) (view (engineIn s))
       ≡ entriesLeft (touched (isAccepted (c .answer)) (c .command) (engineIn s)) (engineIn (c .left) .nodes) (view (engineIn (c .left)))
 
+-- .. and of calls in a row: the plain tree is at a loss at none of them
+abbrev pub NotAtLoss : Option Plain → (Plain → Type 0) → Type 0
+NotAtLoss none Holds = ⊥
+NotAtLoss (some p) Holds = Holds p
+
 unfoldable pub EachHolds : List Call → State → Plain → Type 0
 EachHolds [] s p = Unit {0}
-EachHolds (c ∷ cs) s p = StepHolds c s p × EachHolds cs (c .left) (fedBy c p)
+EachHolds (c ∷ cs) s p = StepHolds c s p × NotAtLoss (afterCall c p) (λ q. EachHolds cs (c .left) q)
 
 -- Demand 3, of calls in a row in a fresh state; it is claimed of all: `(s : State) → Fresh s → (cs : List Call) → Chain cs s → Demand3 cs s`
 pub record Demand3 (cs : List Call) (s : State) : Type 0 where
   pub each : EachHolds cs s atFirst
-  pub same : Same (engineIn (leftBy cs s)) (replay cs atFirst)
+  -- the plain tree, which was never at a loss, and what the engine holds
+  pub plain : Plain
+  pub replayed : replay cs atFirst ≡ some plain
+  pub same : Same (engineIn (leftBy cs s)) plain
   pub tree : TreeHolds (engineIn (leftBy cs s) .nodes)
   -- each synth has the definition its name meant when it was made
   pub synths : (n : ℕ) (d : Definition) → definitionOfSynth n (view (engineIn (leftBy cs s))) ≡ some d → made cs s n none ≡ some d

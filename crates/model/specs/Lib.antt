@@ -18,3 +18,4 @@ pub mod Fresh
 pub mod Script
 pub mod Examples
 pub mod Traps
+pub mod AtLoss

@@ -7,7 +7,7 @@ use mathlib.Core.Bool.{Bool, true, false}
 use mathlib.Core.List.{List, [], _∷_, _++_}
 use mathlib.Core.Option.{Option, none, some}
 use lib.ListN.{length, getD}
-use lib.Dec.{eqb}
+use lib.Dec.{ltb, eqb}
 use Rattle.words.specs.Choice.{pick}
 use Rattle.format.specs.Definition.{ParameterName}
 use Rattle.nodes.specs.Forest.{Forest, node, below}
@@ -16,28 +16,18 @@ use Rattle.nodes.specs.Structure.{tops, children, parent, previous, next, head,
 use Rattle.osc.specs.Message.{Argument, int, float, text, message, decimal}
 use Rattle.values.specs.declared.Key.{Key}
 use Rattle.values.specs.declared.Key.the-variants.{Index, Name}
-use Rattle.values.specs.declared.NodeArgument.{NodeArgument}
 use Rattle.values.specs.declared.Mapping.{Mapping}
 use Rattle.values.specs.declared.Mapping.the-variants.{Unmapped, Bus}
 use Rattle.values.specs.Controls.{ControlValue}
 use Rattle.model.specs.declared.Query.{Query}
 use Rattle.model.specs.declared.Query.the-variants as query
 use Rattle.model.specs.View.{Kind, group, synth, PlainNode}
-use Rattle.model.specs.Plain.{Plain, ifSome, minusOne, meantIn, numberIn, askedFor}
+use Rattle.model.specs.Plain.{Plain, busesInAll, ifSome, andThen, onlyIf, minusOne, numberIn, namedIn, askedFor}
 
 -- the bytes of an address
 unfoldable pub bytesOf : String → List ℕ
 bytesOf end = []
 bytesOf (c then s) = code c ∷ bytesOf s
-
--- the node of a number
-unfoldable pub nodeIn : ℕ → Forest PlainNode → Option PlainNode
-nodeIn n forest.none = none
-nodeIn n (node x b a) = pick (eqb (x .number) n) (some x) (ifSome (nodeIn n b) (λ y. some y) (nodeIn n a))
-
--- the reply about the node that an argument means; "A node asked for by -1 is shown by its real number."
-abbrev pub aboutNode : NodeArgument → Plain → (PlainNode → Option (List ℕ)) → Option (List ℕ)
-aboutNode a p show = ifSome (meantIn a p) (λ n. ifSome (nodeIn n (p .tree)) (λ x. show x) none) none
 
 -- "`/n_query` gives `/n_info`: number, parent (-1 for the root), previous, next, 1 for a group or 0, and for a group its head and tail; -1 where none."
 abbrev pub groupInfo : Forest PlainNode → ℕ → Kind → List Argument
@@ -130,12 +120,12 @@ abbrev pub oneGroup : Kind → ℕ
 oneGroup group = 1
 oneGroup (synth d cs) = 0
 
--- the reply to a query, where the plain tree has one
+-- the reply to a query, where the plain tree has one; "A node asked for by -1 is shown by its real number."
 abbrev pub plainReply : Query → List ℕ → Plain → Option (List ℕ)
-plainReply (query.Node a) bytes p = aboutNode a p (λ x. some (message (bytesOf "/n_info") (nodeInfo (p .tree) (x .number) (x .kind))))
-plainReply (query.Control a key) bytes p = aboutNode a p (λ x. controlShown key bytes (p .buses) (x .number) (x .kind))
-plainReply (query.Bus bus) bytes p = some (message (bytesOf "/c_set") (int bus ∷ (float (getD (p .buses) bus 0) ∷ [])))
-plainReply (query.Tree a flag) bytes p = aboutNode a p (λ x. treeShown flag (p .tree) (x .number) (x .kind))
+plainReply (query.Node a) bytes p = andThen (namedIn a p) (λ x. some (message (bytesOf "/n_info") (nodeInfo (p .tree) (x .number) (x .kind))))
+plainReply (query.Control a key) bytes p = andThen (namedIn a p) (λ x. controlShown key bytes (p .buses) (x .number) (x .kind))
+plainReply (query.Bus bus) bytes p = onlyIf (ltb bus busesInAll) (message (bytesOf "/c_set") (int bus ∷ (float (getD (p .buses) bus 0) ∷ [])))
+plainReply (query.Tree a flag) bytes p = andThen (namedIn a p) (λ x. treeShown flag (p .tree) (x .number) (x .kind))
 plainReply query.Status bytes p =
     some (message (bytesOf "/status.reply") (int (sumOver unitsIn (p .tree)) ∷ (int (sumOver oneSynth (p .tree)) ∷ (int (sumOver oneGroup (p .tree)) ∷ (int (length (p .names)) ∷ [])))))
 plainReply query.Export bytes p = none

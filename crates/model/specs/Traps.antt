@@ -2,7 +2,7 @@
 use Prim.Native.Nat.{ℕ, zero, suc, _+_, _-_, _*_}
 use mathlib.Core.Bool.{Bool, true, false}
 use mathlib.Core.Path.{_≡_, refl, ap, _∙_}
-use mathlib.Core.List.{List, [], _∷_, _++_}
+use mathlib.Core.List.{List, [], _∷_, _++_, map}
 use lib.ListN.{length, take, drop, replicate}
 use Rattle.format.specs.Read.{repeat}
 use Rattle.format.specs.Fields.{nameBytes}
@@ -17,14 +17,17 @@ use Rattle.words.specs.Choice.{pick}
 use Rattle.osc.specs.Message.{tags, arguments}
 use Rattle.values.specs.declared.Key.the-variants.{Index, Name}
 use Rattle.values.specs.declared.Value.the-variants.{Float, Integer}
+use Rattle.values.specs.declared.NodeArgument.{NodeArgument}
 use Rattle.values.specs.Targets.{argument, targetOf}
 use Rattle.values.specs.Values.{inBounds, pattern}
 use Rattle.model.specs.declared.DefinitionCommand.the-variants as definitions
-use Rattle.model.specs.declared.TreeCommand.the-variants.{NewSynth, NewGroup, Free, FreeAll, DeepFree, Before, Tail, Run}
+use Rattle.model.specs.declared.TreeCommand.{TreeCommand}
+use Rattle.model.specs.declared.TreeCommand.the-variants.{NewSynth, NewGroup, Free, FreeAll, DeepFree, Before, After, Head, Tail, Run}
 use Rattle.model.specs.declared.ControlCommand.the-variants.{Set, Fill, Map}
 use Rattle.model.specs.declared.BusCommand.the-variants as buses
+use Rattle.model.specs.declared.Query.{Query}
 use Rattle.model.specs.declared.Query.the-variants as query
-use Rattle.model.specs.declared.Command.the-variants.{Definitions, Tree, Controls, Buses, Query}
+use Rattle.model.specs.declared.Command.the-variants.{Definitions, Tree, Controls, Buses, Query as Asked}
 use Rattle.nodes.specs.Structure.{firstOr, lastOr, atDepth, depthOf, lastAbove, lastBeside, firstBeside, nextOf}
 use Rattle.format.specs.Names.{firstIndex, nextIndex, firstName}
 use Rattle.model.specs.Engine.{Engine, held, residents, residentFrom, controlsFrom}
@@ -108,7 +111,7 @@ minusEight = 4294967288
 abbrev lowest : ℕ
 lowest = 2147483648
 
-abbrev synth : ℕ → ℕ → ℕ → Line
+abbrev pub synth : ℕ → ℕ → ℕ → Line
 synth number action target = line (Tree (NewSynth number action (argument target))) pingName
 
 abbrev group : ℕ → ℕ → ℕ → Line
@@ -133,11 +136,11 @@ last e ls = drop (length ls - 1) (answersOf e ls)
 
 -- the value bytes of a reply to `/s_get` by index
 abbrev value : Engine → List Line → ℕ → ℕ → List ℕ
-value e ls n i = drop 24 (replied e ls (line (Query (query.Control (argument n) (Index i))) []))
+value e ls n i = drop 24 (replied e ls (line (Asked (query.Control (argument n) (Index i))) []))
 
 -- the four numbers of `/status`
 abbrev status : Engine → List Line → List ℕ
-status e ls = drop 24 (replied e ls (line (Query query.Status) []))
+status e ls = drop 24 (replied e ls (line (Asked query.Status) []))
 
 -- so many groups, numbered from n on
 unfoldable pub groups : ℕ → ℕ → List Line
@@ -158,7 +161,7 @@ retiredPing = load ping ∷ synth 1000 1 0 ∷ load rain ∷ line (Definitions d
 
 -- the answer to `/g_queryTree` 0 0 behind `one`, with so much room for the reply
 abbrev roomFor : ℕ → Engine → ℕ
-roomFor room e = answerNumber (answerIn (Query (query.Tree (argument 0) 0)) [] (played one e) room)
+roomFor room e = answerNumber (answerIn (Asked (query.Tree (argument 0) 0)) [] (played one e) room)
 
 -- the engine with one number left to give
 abbrev withLastNumber : Engine → Engine
@@ -198,7 +201,7 @@ filesAndReplies e =
     ∷ example (verdict (readFile (narrowNames 1 81 337))) (0 ∷ 1 ∷ [])
     ∷ example (verdict (readFile (narrowNames 1 82 338))) (9 ∷ 10 ∷ [])
     -- "export always writes version 2 .. a version 1 file must load as its widened twin does"
-    ∷ example (replied e (load narrowPing ∷ []) (line (Query query.Export) [])) ping
+    ∷ example (replied e (load narrowPing ∷ []) (line (Asked query.Export) [])) ping
     -- "not "SCgf""
     ∷ example (verdict (readFile (84 ∷ drop 1 ping))) (3 ∷ 0 ∷ [])
     -- an empty definition name
@@ -206,15 +209,15 @@ filesAndReplies e =
     -- a byte of 128 in a name
     ∷ example (verdict (readFile (take 10 ping ++ (1 ∷ 128 ∷ []) ++ replicate 18 0))) (6 ∷ 10 ∷ [])
     -- "Root holding group 1 holding only "ping" 1000, flag 0, whole reply of 68 bytes"
-    ∷ example (length (replied e one (line (Query (query.Tree (argument 0) 0)) [])) ∷ []) (68 ∷ [])
+    ∷ example (length (replied e one (line (Asked (query.Tree (argument 0) 0)) [])) ∷ []) (68 ∷ [])
     -- its bytes
-    ∷ example (replied e one (line (Query (query.Tree (argument 0) 0)) [])) (47 ∷ 103 ∷ 95 ∷ 113 ∷ 117 ∷ 101 ∷ 114 ∷ 121 ∷ 84 ∷ 114 ∷ 101 ∷ 101 ∷ 46 ∷ 114 ∷ 101 ∷ 112 ∷ 108 ∷ 121 ∷ 0 ∷ 0 ∷ 44 ∷ 105 ∷ 105 ∷ 105 ∷ 105 ∷ 105 ∷ 105 ∷ 105 ∷ 115 ∷ 0 ∷ 0 ∷ 0 ∷ 0 ∷ 0 ∷ 0 ∷ 0 ∷ 0 ∷ 0 ∷ 0 ∷ 0 ∷ 0 ∷ 0 ∷ 0 ∷ 1 ∷ 0 ∷ 0 ∷ 0 ∷ 1 ∷ 0 ∷ 0 ∷ 0 ∷ 1 ∷ 0 ∷ 0 ∷ 3 ∷ 232 ∷ 255 ∷ 255 ∷ 255 ∷ 255 ∷ 112 ∷ 105 ∷ 110 ∷ 103 ∷ 0 ∷ 0 ∷ 0 ∷ 0 ∷ [])
+    ∷ example (replied e one (line (Asked (query.Tree (argument 0) 0)) [])) (47 ∷ 103 ∷ 95 ∷ 113 ∷ 117 ∷ 101 ∷ 114 ∷ 121 ∷ 84 ∷ 114 ∷ 101 ∷ 101 ∷ 46 ∷ 114 ∷ 101 ∷ 112 ∷ 108 ∷ 121 ∷ 0 ∷ 0 ∷ 44 ∷ 105 ∷ 105 ∷ 105 ∷ 105 ∷ 105 ∷ 105 ∷ 105 ∷ 115 ∷ 0 ∷ 0 ∷ 0 ∷ 0 ∷ 0 ∷ 0 ∷ 0 ∷ 0 ∷ 0 ∷ 0 ∷ 0 ∷ 0 ∷ 0 ∷ 0 ∷ 1 ∷ 0 ∷ 0 ∷ 0 ∷ 1 ∷ 0 ∷ 0 ∷ 0 ∷ 1 ∷ 0 ∷ 0 ∷ 3 ∷ 232 ∷ 255 ∷ 255 ∷ 255 ∷ 255 ∷ 112 ∷ 105 ∷ 110 ∷ 103 ∷ 0 ∷ 0 ∷ 0 ∷ 0 ∷ [])
     -- "With flag 1: 88 bytes."
-    ∷ example (length (replied e one (line (Query (query.Tree (argument 0) 1)) [])) ∷ []) (88 ∷ [])
+    ∷ example (length (replied e one (line (Asked (query.Tree (argument 0) 1)) [])) ∷ []) (88 ∷ [])
     -- its bytes
-    ∷ example (replied e one (line (Query (query.Tree (argument 0) 1)) [])) (47 ∷ 103 ∷ 95 ∷ 113 ∷ 117 ∷ 101 ∷ 114 ∷ 121 ∷ 84 ∷ 114 ∷ 101 ∷ 101 ∷ 46 ∷ 114 ∷ 101 ∷ 112 ∷ 108 ∷ 121 ∷ 0 ∷ 0 ∷ 44 ∷ 105 ∷ 105 ∷ 105 ∷ 105 ∷ 105 ∷ 105 ∷ 105 ∷ 115 ∷ 105 ∷ 115 ∷ 102 ∷ 0 ∷ 0 ∷ 0 ∷ 0 ∷ 0 ∷ 0 ∷ 0 ∷ 1 ∷ 0 ∷ 0 ∷ 0 ∷ 0 ∷ 0 ∷ 0 ∷ 0 ∷ 1 ∷ 0 ∷ 0 ∷ 0 ∷ 1 ∷ 0 ∷ 0 ∷ 0 ∷ 1 ∷ 0 ∷ 0 ∷ 3 ∷ 232 ∷ 255 ∷ 255 ∷ 255 ∷ 255 ∷ 112 ∷ 105 ∷ 110 ∷ 103 ∷ 0 ∷ 0 ∷ 0 ∷ 0 ∷ 0 ∷ 0 ∷ 0 ∷ 1 ∷ 102 ∷ 114 ∷ 101 ∷ 113 ∷ 0 ∷ 0 ∷ 0 ∷ 0 ∷ 67 ∷ 220 ∷ 0 ∷ 0 ∷ [])
+    ∷ example (replied e one (line (Asked (query.Tree (argument 0) 1)) [])) (47 ∷ 103 ∷ 95 ∷ 113 ∷ 117 ∷ 101 ∷ 114 ∷ 121 ∷ 84 ∷ 114 ∷ 101 ∷ 101 ∷ 46 ∷ 114 ∷ 101 ∷ 112 ∷ 108 ∷ 121 ∷ 0 ∷ 0 ∷ 44 ∷ 105 ∷ 105 ∷ 105 ∷ 105 ∷ 105 ∷ 105 ∷ 105 ∷ 115 ∷ 105 ∷ 115 ∷ 102 ∷ 0 ∷ 0 ∷ 0 ∷ 0 ∷ 0 ∷ 0 ∷ 0 ∷ 1 ∷ 0 ∷ 0 ∷ 0 ∷ 0 ∷ 0 ∷ 0 ∷ 0 ∷ 1 ∷ 0 ∷ 0 ∷ 0 ∷ 1 ∷ 0 ∷ 0 ∷ 0 ∷ 1 ∷ 0 ∷ 0 ∷ 3 ∷ 232 ∷ 255 ∷ 255 ∷ 255 ∷ 255 ∷ 112 ∷ 105 ∷ 110 ∷ 103 ∷ 0 ∷ 0 ∷ 0 ∷ 0 ∷ 0 ∷ 0 ∷ 0 ∷ 1 ∷ 102 ∷ 114 ∷ 101 ∷ 113 ∷ 0 ∷ 0 ∷ 0 ∷ 0 ∷ 67 ∷ 220 ∷ 0 ∷ 0 ∷ [])
     -- "Any nonzero flag is 1."
-    ∷ example (replied e one (line (Query (query.Tree (argument 0) 7)) [])) (replied e one (line (Query (query.Tree (argument 0) 1)) []))
+    ∷ example (replied e one (line (Asked (query.Tree (argument 0) 7)) [])) (replied e one (line (Asked (query.Tree (argument 0) 1)) []))
     ∷ []
 
 abbrev making : Engine → List Example
@@ -228,7 +231,7 @@ making e =
     -- "add action not 0 to 4" comes first
     ∷ example (last e (one ++ (synth 0 5 99 ∷ []))) (13 ∷ [])
     -- "For -1 the engine gives -8, then -9": answersFrom by `/n_query`
-    ∷ example (drop 16 (take 20 (replied e (one ++ (synth minusOne 1 0 ∷ synth minusOne 1 0 ∷ [])) (line (Query (query.Node (argument minusOne))) [])))) (255 ∷ 255 ∷ 255 ∷ 247 ∷ [])
+    ∷ example (drop 16 (take 20 (replied e (one ++ (synth minusOne 1 0 ∷ synth minusOne 1 0 ∷ [])) (line (Asked (query.Node (argument minusOne))) [])))) (255 ∷ 255 ∷ 255 ∷ 247 ∷ [])
     -- "Below -1 no command can name a node (17)", even a live one
     ∷ example (last e (one ++ (synth minusOne 1 0 ∷ line (Tree (Free (argument minusEight))) [] ∷ []))) (17 ∷ [])
     -- -1 is the latest while it lives
@@ -377,12 +380,106 @@ oldShapes e =
     -- `/d_free` of it, and again
     ∷ example (answersOf e (rains ++ (line (Definitions definitions.Free) rainName ∷ line (Definitions definitions.Free) rainName ∷ []))) (0 ∷ 0 ∷ 0 ∷ 0 ∷ 0 ∷ 16 ∷ [])
     -- export is the file that a fresh engine loaded
-    ∷ example (replied e (load ping ∷ []) (line (Query query.Export) [])) (ping)
+    ∷ example (replied e (load ping ∷ []) (line (Asked query.Export) [])) (ping)
     -- `/s_get` of a group
-    ∷ example (last e (one ++ (line (Query (query.Control (argument 1) (Index 0))) [] ∷ []))) (18 ∷ [])
+    ∷ example (last e (one ++ (line (Asked (query.Control (argument 1) (Index 0))) [] ∷ []))) (18 ∷ [])
     -- "255 new nodes fit; one more is 20, but by action 4 it goes in."
     ∷ example (drop 255 (answersOf e (groups 255 1 ++ (group 256 1 0 ∷ group 256 4 255 ∷ [])))) (20 ∷ 0 ∷ [])
     ∷ []
+
+-- commands in a row and their answers
+pub record Sides : Type 0 where
+  pub lines : List Line
+  pub answers : List ℕ
+
+abbrev sides : List Line → List ℕ → Sides
+sides ls answers = record { lines = ls; answers = answers }
+
+-- group 2 in `one`'s group 1: of the rows below, 99 is no node, 0 the root, 1 and 2 groups, 1000 a synth; 2 and 1000 lie in 1
+abbrev pub two : List Line
+two = one ++ (group 2 1 1 ∷ [])
+
+abbrev edit : TreeCommand → Line
+edit c = line (Tree c) []
+
+-- `/n_before` and `/n_after`: each argument absent, each the root; the place is the moved node, and below it
+abbrev besideOf : (NodeArgument → NodeArgument → TreeCommand) → List Line
+besideOf move =
+    edit (move (argument 99) (argument 2))
+    ∷ edit (move (argument 2) (argument 99))
+    ∷ edit (move (argument 0) (argument 2))
+    ∷ edit (move (argument 2) (argument 0))
+    ∷ edit (move (argument 2) (argument 2))
+    ∷ edit (move (argument 1) (argument 2))
+    ∷ edit (move (argument 1000) (argument 2))
+    ∷ []
+
+-- `/g_head` and `/g_tail`: each argument absent; a synth as the group, the root moved; the group is the moved node, and below it
+abbrev intoOf : (NodeArgument → NodeArgument → TreeCommand) → List Line
+intoOf move =
+    edit (move (argument 99) (argument 1000))
+    ∷ edit (move (argument 2) (argument 99))
+    ∷ edit (move (argument 1000) (argument 2))
+    ∷ edit (move (argument 2) (argument 0))
+    ∷ edit (move (argument 2) (argument 2))
+    ∷ edit (move (argument 2) (argument 1))
+    ∷ edit (move (argument 2) (argument 1000))
+    ∷ []
+
+-- 17, 18 and 19, given here and not given there
+abbrev pub places : List Sides
+places =
+    -- `/s_new` and `/g_new`: no target; a synth as the group; the root with a sibling or replaced; then each action
+    sides (synth 5 0 99 ∷ synth 5 0 1000 ∷ synth 5 1 1000 ∷ synth 5 2 0 ∷ synth 5 3 0 ∷ synth 5 4 0 ∷ synth 5 0 0 ∷ synth 6 1 2 ∷ synth 7 2 5 ∷ synth 8 3 5 ∷ synth 9 4 2 ∷ [])
+    (17 ∷ 18 ∷ 18 ∷ 18 ∷ 18 ∷ 18 ∷ 0 ∷ 0 ∷ 0 ∷ 0 ∷ 0 ∷ [])
+    ∷ sides (group 5 0 99 ∷ group 5 0 1000 ∷ group 5 1 1000 ∷ group 5 2 0 ∷ group 5 3 0 ∷ group 5 4 0 ∷ group 5 0 0 ∷ group 6 1 2 ∷ group 7 2 5 ∷ group 8 3 5 ∷ group 9 4 2 ∷ [])
+    (17 ∷ 18 ∷ 18 ∷ 18 ∷ 18 ∷ 18 ∷ 0 ∷ 0 ∷ 0 ∷ 0 ∷ 0 ∷ [])
+    ∷ sides (edit (Free (argument 99)) ∷ edit (Free (argument 0)) ∷ edit (Free (argument 1000)) ∷ []) (17 ∷ 18 ∷ 0 ∷ [])
+    ∷ sides (edit (FreeAll (argument 99)) ∷ edit (FreeAll (argument 1000)) ∷ edit (FreeAll (argument 1)) ∷ []) (17 ∷ 18 ∷ 0 ∷ [])
+    ∷ sides (edit (DeepFree (argument 99)) ∷ edit (DeepFree (argument 1000)) ∷ edit (DeepFree (argument 1)) ∷ []) (17 ∷ 18 ∷ 0 ∷ [])
+    ∷ sides (besideOf Before) (17 ∷ 17 ∷ 18 ∷ 18 ∷ 19 ∷ 19 ∷ 0 ∷ [])
+    ∷ sides (besideOf After) (17 ∷ 17 ∷ 18 ∷ 18 ∷ 19 ∷ 19 ∷ 0 ∷ [])
+    ∷ sides (intoOf Head) (17 ∷ 17 ∷ 18 ∷ 18 ∷ 19 ∷ 19 ∷ 0 ∷ [])
+    ∷ sides (intoOf Tail) (17 ∷ 17 ∷ 18 ∷ 18 ∷ 19 ∷ 19 ∷ 0 ∷ [])
+    ∷ sides (edit (Run (argument 99) 0) ∷ edit (Run (argument 1000) 0) ∷ []) (17 ∷ 0 ∷ [])
+    ∷ sides (line (Controls (Set (argument 99) (Index 0) (Float 0))) [] ∷ line (Controls (Set (argument 1000) (Index 0) (Float 0))) [] ∷ []) (17 ∷ 0 ∷ [])
+    ∷ sides (line (Controls (Fill (argument 99) (Index 0) 1 (Float 0))) [] ∷ line (Controls (Fill (argument 1000) (Index 0) 1 (Float 0))) [] ∷ []) (17 ∷ 0 ∷ [])
+    ∷ sides (line (Controls (Map (argument 99) (Index 0) 7)) [] ∷ line (Controls (Map (argument 1000) (Index 0) 7)) [] ∷ []) (17 ∷ 0 ∷ [])
+    ∷ []
+
+-- the other refusals that the plain tree has reasons for
+abbrev pub others : List Sides
+others =
+    -- an action and a run flag that there aren't; numbers that no new node can have; numbers that live
+    sides (synth 5 5 0 ∷ group 5 5 0 ∷ edit (Run (argument 1) 2) ∷ edit (Run (argument 1) 1) ∷ []) (13 ∷ 13 ∷ 13 ∷ 0 ∷ [])
+    ∷ sides (synth minusTwo 1 0 ∷ group minusOne 1 0 ∷ synth minusOne 1 0 ∷ []) (14 ∷ 14 ∷ 0 ∷ [])
+    ∷ sides (synth 1000 1 0 ∷ group 0 1 0 ∷ group 1000 4 1 ∷ []) (15 ∷ 15 ∷ 15 ∷ [])
+    -- names that mean nothing, and a file that can't be read
+    ∷ sides (line (Tree (NewSynth 5 1 (argument 0))) noName ∷ line (Definitions definitions.Free) noName ∷ line (Definitions definitions.Free) pingName ∷ synth 5 1 0 ∷ []) (16 ∷ 16 ∷ 0 ∷ 16 ∷ [])
+    ∷ sides (load (take 45 ping) ∷ load ping ∷ []) ((2 + 256 * 44) ∷ 0 ∷ [])
+    -- controls that a synth lacks; negative ones on a group; past a name's width
+    ∷ sides (line (Controls (Set (argument 1000) (Index 1) (Float 0))) [] ∷ line (Controls (Map (argument 1000) Name 7)) noName ∷ line (Controls (Fill (argument 1000) (Index 0) 2 (Float 0))) [] ∷ []) (21 ∷ 21 ∷ 21 ∷ [])
+    ∷ sides (line (Controls (Set (argument 1) (Index minusOne) (Float 0))) [] ∷ line (Controls (Fill (argument 1) (Index 0) minusOne (Float 0))) [] ∷ line (Controls (Fill (argument 1) (Index 0) 9 (Float 0))) [] ∷ []) (21 ∷ 21 ∷ 0 ∷ [])
+    ∷ sides (load choir ∷ line (Tree (NewSynth 5 1 (argument 0))) aName ∷ fill 5 ampsName 5 ∷ fill 5 ampsName 4 ∷ []) (0 ∷ 0 ∷ 28 ∷ 0 ∷ [])
+    -- buses that there aren't, and values out of bounds
+    ∷ sides (line (Controls (Map (argument 1) (Index 0) 4096)) [] ∷ line (Controls (Map (argument 1) (Index 0) minusOne)) [] ∷ []) (22 ∷ 0 ∷ [])
+    ∷ sides (line (Buses (buses.Set 4096 (Float 0))) [] ∷ line (Buses (buses.Fill 4096 1 (Float 0))) [] ∷ line (Buses (buses.Fill 4096 0 (Float 0))) [] ∷ []) (22 ∷ 22 ∷ 0 ∷ [])
+    ∷ sides (line (Controls (Set (argument 1) (Index 0) (Integer 16777217))) [] ∷ line (Buses (buses.Set 0 (Integer 16777217))) [] ∷ []) (23 ∷ 23 ∷ [])
+    ∷ []
+
+abbrev ask : Query → Line
+ask q = line (Asked q) []
+
+-- `/n_query`, `/s_get`, `/g_queryTree`: an accepted one answers 256 times its reply's length
+abbrev asked : List Sides
+asked =
+    sides (ask (query.Node (argument 99)) ∷ ask (query.Node (argument 1)) ∷ []) (17 ∷ (256 * 48) ∷ [])
+    ∷ sides (ask (query.Control (argument 99) (Index 0)) ∷ ask (query.Control (argument 1) (Index 0)) ∷ ask (query.Control (argument 1000) (Index 0)) ∷ []) (17 ∷ 18 ∷ (256 * 28) ∷ [])
+    ∷ sides (ask (query.Tree (argument 99) 0) ∷ ask (query.Tree (argument 1000) 0) ∷ ask (query.Tree (argument 2) 0) ∷ []) (17 ∷ 18 ∷ (256 * 40) ∷ [])
+    ∷ []
+
+abbrev kindsAndPlaces : Engine → List Example
+kindsAndPlaces e = map (λ (r : Sides). example (drop (length two) (answersOf e (two ++ r .lines))) (r .answers)) (places ++ (others ++ asked))
 
 abbrev namesAndShapes : Engine → List Example
 namesAndShapes e = widths e ++ oldShapes e
@@ -390,11 +487,11 @@ namesAndShapes e = widths e ++ oldShapes e
 abbrev shownAndRefused : Engine → List Example
 shownAndRefused e =
     -- "a mapped control shows 'c' and the decimal bus"
-    example (replied e (one ++ (line (Controls (Map (argument 1000) (Index 0) 7)) [] ∷ [])) (line (Query (query.Tree (argument 0) 1)) [])) (47 ∷ 103 ∷ 95 ∷ 113 ∷ 117 ∷ 101 ∷ 114 ∷ 121 ∷ 84 ∷ 114 ∷ 101 ∷ 101 ∷ 46 ∷ 114 ∷ 101 ∷ 112 ∷ 108 ∷ 121 ∷ 0 ∷ 0 ∷ 44 ∷ 105 ∷ 105 ∷ 105 ∷ 105 ∷ 105 ∷ 105 ∷ 105 ∷ 115 ∷ 105 ∷ 115 ∷ 115 ∷ 0 ∷ 0 ∷ 0 ∷ 0 ∷ 0 ∷ 0 ∷ 0 ∷ 1 ∷ 0 ∷ 0 ∷ 0 ∷ 0 ∷ 0 ∷ 0 ∷ 0 ∷ 1 ∷ 0 ∷ 0 ∷ 0 ∷ 1 ∷ 0 ∷ 0 ∷ 0 ∷ 1 ∷ 0 ∷ 0 ∷ 3 ∷ 232 ∷ 255 ∷ 255 ∷ 255 ∷ 255 ∷ 112 ∷ 105 ∷ 110 ∷ 103 ∷ 0 ∷ 0 ∷ 0 ∷ 0 ∷ 0 ∷ 0 ∷ 0 ∷ 1 ∷ 102 ∷ 114 ∷ 101 ∷ 113 ∷ 0 ∷ 0 ∷ 0 ∷ 0 ∷ 99 ∷ 55 ∷ 0 ∷ 0 ∷ [])
+    example (replied e (one ++ (line (Controls (Map (argument 1000) (Index 0) 7)) [] ∷ [])) (line (Asked (query.Tree (argument 0) 1)) [])) (47 ∷ 103 ∷ 95 ∷ 113 ∷ 117 ∷ 101 ∷ 114 ∷ 121 ∷ 84 ∷ 114 ∷ 101 ∷ 101 ∷ 46 ∷ 114 ∷ 101 ∷ 112 ∷ 108 ∷ 121 ∷ 0 ∷ 0 ∷ 44 ∷ 105 ∷ 105 ∷ 105 ∷ 105 ∷ 105 ∷ 105 ∷ 105 ∷ 115 ∷ 105 ∷ 115 ∷ 115 ∷ 0 ∷ 0 ∷ 0 ∷ 0 ∷ 0 ∷ 0 ∷ 0 ∷ 1 ∷ 0 ∷ 0 ∷ 0 ∷ 0 ∷ 0 ∷ 0 ∷ 0 ∷ 1 ∷ 0 ∷ 0 ∷ 0 ∷ 1 ∷ 0 ∷ 0 ∷ 0 ∷ 1 ∷ 0 ∷ 0 ∷ 3 ∷ 232 ∷ 255 ∷ 255 ∷ 255 ∷ 255 ∷ 112 ∷ 105 ∷ 110 ∷ 103 ∷ 0 ∷ 0 ∷ 0 ∷ 0 ∷ 0 ∷ 0 ∷ 0 ∷ 1 ∷ 102 ∷ 114 ∷ 101 ∷ 113 ∷ 0 ∷ 0 ∷ 0 ∷ 0 ∷ 99 ∷ 55 ∷ 0 ∷ 0 ∷ [])
     -- "a control shows its first name or else its index": the control 0 of "a" has no name, 1 is `x`
-    ∷ example (replied e (load (fileOf 2 (oneName 1) (int 0)) ∷ line (Tree (NewSynth 1000 1 (argument 0))) aName ∷ []) (line (Query (query.Tree (argument 0) 1)) [])) (47 ∷ 103 ∷ 95 ∷ 113 ∷ 117 ∷ 101 ∷ 114 ∷ 121 ∷ 84 ∷ 114 ∷ 101 ∷ 101 ∷ 46 ∷ 114 ∷ 101 ∷ 112 ∷ 108 ∷ 121 ∷ 0 ∷ 0 ∷ 44 ∷ 105 ∷ 105 ∷ 105 ∷ 105 ∷ 105 ∷ 115 ∷ 105 ∷ 105 ∷ 102 ∷ 115 ∷ 102 ∷ 0 ∷ 0 ∷ 0 ∷ 0 ∷ 0 ∷ 0 ∷ 0 ∷ 1 ∷ 0 ∷ 0 ∷ 0 ∷ 0 ∷ 0 ∷ 0 ∷ 0 ∷ 1 ∷ 0 ∷ 0 ∷ 3 ∷ 232 ∷ 255 ∷ 255 ∷ 255 ∷ 255 ∷ 97 ∷ 0 ∷ 0 ∷ 0 ∷ 0 ∷ 0 ∷ 0 ∷ 2 ∷ 0 ∷ 0 ∷ 0 ∷ 0 ∷ 0 ∷ 0 ∷ 0 ∷ 0 ∷ 120 ∷ 0 ∷ 0 ∷ 0 ∷ 0 ∷ 0 ∷ 0 ∷ 0 ∷ [])
+    ∷ example (replied e (load (fileOf 2 (oneName 1) (int 0)) ∷ line (Tree (NewSynth 1000 1 (argument 0))) aName ∷ []) (line (Asked (query.Tree (argument 0) 1)) [])) (47 ∷ 103 ∷ 95 ∷ 113 ∷ 117 ∷ 101 ∷ 114 ∷ 121 ∷ 84 ∷ 114 ∷ 101 ∷ 101 ∷ 46 ∷ 114 ∷ 101 ∷ 112 ∷ 108 ∷ 121 ∷ 0 ∷ 0 ∷ 44 ∷ 105 ∷ 105 ∷ 105 ∷ 105 ∷ 105 ∷ 115 ∷ 105 ∷ 105 ∷ 102 ∷ 115 ∷ 102 ∷ 0 ∷ 0 ∷ 0 ∷ 0 ∷ 0 ∷ 0 ∷ 0 ∷ 1 ∷ 0 ∷ 0 ∷ 0 ∷ 0 ∷ 0 ∷ 0 ∷ 0 ∷ 1 ∷ 0 ∷ 0 ∷ 3 ∷ 232 ∷ 255 ∷ 255 ∷ 255 ∷ 255 ∷ 97 ∷ 0 ∷ 0 ∷ 0 ∷ 0 ∷ 0 ∷ 0 ∷ 2 ∷ 0 ∷ 0 ∷ 0 ∷ 0 ∷ 0 ∷ 0 ∷ 0 ∷ 0 ∷ 120 ∷ 0 ∷ 0 ∷ 0 ∷ 0 ∷ 0 ∷ 0 ∷ 0 ∷ [])
     -- the whole `/n_info` of a group between two others: its parent, previous, next, head and tail
-    ∷ example (replied e (groups 3 1 ++ (group 4 1 2 ∷ group 5 1 2 ∷ [])) (line (Query (query.Node (argument 2))) [])) (47 ∷ 110 ∷ 95 ∷ 105 ∷ 110 ∷ 102 ∷ 111 ∷ 0 ∷ 44 ∷ 105 ∷ 105 ∷ 105 ∷ 105 ∷ 105 ∷ 105 ∷ 105 ∷ 0 ∷ 0 ∷ 0 ∷ 0 ∷ 0 ∷ 0 ∷ 0 ∷ 2 ∷ 0 ∷ 0 ∷ 0 ∷ 0 ∷ 0 ∷ 0 ∷ 0 ∷ 1 ∷ 0 ∷ 0 ∷ 0 ∷ 3 ∷ 0 ∷ 0 ∷ 0 ∷ 1 ∷ 0 ∷ 0 ∷ 0 ∷ 4 ∷ 0 ∷ 0 ∷ 0 ∷ 5 ∷ [])
+    ∷ example (replied e (groups 3 1 ++ (group 4 1 2 ∷ group 5 1 2 ∷ [])) (line (Asked (query.Node (argument 2))) [])) (47 ∷ 110 ∷ 95 ∷ 105 ∷ 110 ∷ 102 ∷ 111 ∷ 0 ∷ 44 ∷ 105 ∷ 105 ∷ 105 ∷ 105 ∷ 105 ∷ 105 ∷ 105 ∷ 0 ∷ 0 ∷ 0 ∷ 0 ∷ 0 ∷ 0 ∷ 0 ∷ 2 ∷ 0 ∷ 0 ∷ 0 ∷ 0 ∷ 0 ∷ 0 ∷ 0 ∷ 1 ∷ 0 ∷ 0 ∷ 0 ∷ 3 ∷ 0 ∷ 0 ∷ 0 ∷ 1 ∷ 0 ∷ 0 ∷ 0 ∷ 4 ∷ 0 ∷ 0 ∷ 0 ∷ 5 ∷ [])
     -- "reply or export longer than its buffer": with room for 67 and for 68 bytes
     ∷ example (roomFor 67 e ∷ roomFor 68 e ∷ []) (24 ∷ (256 * 68) ∷ [])
     -- "Refusal 12 is given exactly if D is more than 32 minus the slots that stay taken": all are taken
@@ -403,9 +500,9 @@ shownAndRefused e =
     ∷ example (answersOf e (load (thirtyTwo 65) ∷ line (Tree (NewSynth 1000 1 (argument 0))) (65 ∷ []) ∷ load (thirtyTwo 65) ∷ line (Tree (Free (argument 1000))) [] ∷ load (thirtyTwo 65) ∷ []))
     (0 ∷ 0 ∷ 12 ∷ 0 ∷ 0 ∷ [])
     -- a retired definition's slot is taken while a synth holds it, so that "a" stands last
-    ∷ example (replied e (retiredPing ++ (load (fileOf 0 (int 0) (int 0)) ∷ [])) (line (Query query.Export) [])) (header 2 ++ drop 10 rain ++ drop 10 (fileOf 0 (int 0) (int 0)))
+    ∷ example (replied e (retiredPing ++ (load (fileOf 0 (int 0) (int 0)) ∷ [])) (line (Asked query.Export) [])) (header 2 ++ drop 10 rain ++ drop 10 (fileOf 0 (int 0) (int 0)))
     -- .. and free again when that synth is gone, so that it stands first
-    ∷ example (replied e (retiredPing ++ (line (Tree (Free (argument 1000))) [] ∷ load (fileOf 0 (int 0) (int 0)) ∷ [])) (line (Query query.Export) []))
+    ∷ example (replied e (retiredPing ++ (line (Tree (Free (argument 1000))) [] ∷ load (fileOf 0 (int 0) (int 0)) ∷ [])) (line (Asked query.Export) []))
     (header 2 ++ drop 10 (fileOf 0 (int 0) (int 0)) ++ drop 10 rain)
     -- "the last being -2,147,483,648", then "no number left for a new -1"; a number that the command gives is taken
     ∷ example (answersOf (withLastNumber e) (load ping ∷ synth minusOne 1 0 ∷ synth minusOne 1 0 ∷ synth 7 1 0 ∷ [])) (0 ∷ 0 ∷ 25 ∷ 0 ∷ [])
@@ -422,6 +519,10 @@ making-agrees = refl
 numbersAndMoves-agrees : agrees (numbersAndMoves freshParts) ≡ true
 unfolding toBits ofInt groups residents definitionsIn firstName firstOr lastOr atDepth depthOf lastAbove lastBeside firstBeside nextOf shape subtreeRows rowsBelow rowsAt treeArguments controlArguments unitCount groupCount synthCount repeat nameBytes frontBy unitBy unitsBy definitionBy readDefinitions readFile sameName among writeAll writeDefinitionBy writeFile lives lift sink takeDeeper dropDeeper onlyGroups runOf editRows orderFrom rowTaken tags arguments targetOf inBounds pattern held residentFrom controlsFrom firstIndex nextIndex viewRows nodeNamed firstOf namesOf staying retired freeFrom loaded freeRowFrom initialWords changeWords changeAll effect plainNamed replyTo queryAnswer answerIn played answersOf agrees
 numbersAndMoves-agrees = refl
+
+kindsAndPlaces-agrees : agrees (kindsAndPlaces freshParts) ≡ true
+unfolding toBits ofInt groups residents definitionsIn firstName firstOr lastOr atDepth depthOf lastAbove lastBeside firstBeside nextOf shape subtreeRows rowsBelow rowsAt treeArguments controlArguments unitCount groupCount synthCount repeat nameBytes frontBy unitBy unitsBy definitionBy readDefinitions readFile sameName among writeAll writeDefinitionBy writeFile lives lift sink takeDeeper dropDeeper onlyGroups runOf editRows orderFrom rowTaken tags arguments targetOf inBounds pattern held residentFrom controlsFrom firstIndex nextIndex viewRows nodeNamed firstOf namesOf staying retired freeFrom loaded freeRowFrom initialWords changeWords changeAll effect plainNamed replyTo queryAnswer answerIn played answersOf agrees
+kindsAndPlaces-agrees = refl
 
 controlsAndBuses-agrees : agrees (controlsAndBuses freshParts) ≡ true
 unfolding toBits ofInt groups residents definitionsIn firstName firstOr lastOr atDepth depthOf lastAbove lastBeside firstBeside nextOf shape subtreeRows rowsBelow rowsAt treeArguments controlArguments unitCount groupCount synthCount repeat nameBytes frontBy unitBy unitsBy definitionBy readDefinitions readFile sameName among writeAll writeDefinitionBy writeFile lives lift sink takeDeeper dropDeeper onlyGroups runOf editRows orderFrom rowTaken tags arguments targetOf inBounds pattern held residentFrom controlsFrom firstIndex nextIndex viewRows nodeNamed firstOf namesOf staying retired freeFrom loaded freeRowFrom initialWords changeWords changeAll effect plainNamed replyTo queryAnswer answerIn played answersOf agrees
@@ -446,15 +547,16 @@ agrees-append (x ∷ a) b p q = go (sameName (x .found) (x .wanted)) p (λ k. ag
 
 -- the rows, played from an engine
 abbrev rowsFrom : Engine → List Example
-rowsFrom e = filesAndReplies e ++ (making e ++ (numbersAndMoves e ++ (controlsAndBuses e ++ (namesAndShapes e ++ shownAndRefused e))))
+rowsFrom e = filesAndReplies e ++ (making e ++ (numbersAndMoves e ++ (kindsAndPlaces e ++ (controlsAndBuses e ++ (namesAndShapes e ++ shownAndRefused e)))))
 
 computed : agrees (rowsFrom freshParts) ≡ true
 computed =
     agrees-append (filesAndReplies freshParts) _ filesAndReplies-agrees
     (agrees-append (making freshParts) _ making-agrees
     (agrees-append (numbersAndMoves freshParts) _ numbersAndMoves-agrees
+    (agrees-append (kindsAndPlaces freshParts) _ kindsAndPlaces-agrees
     (agrees-append (controlsAndBuses freshParts) _ controlsAndBuses-agrees
-    (agrees-append (namesAndShapes freshParts) (shownAndRefused freshParts) namesAndShapes-agrees shownAndRefused-agrees))))
+    (agrees-append (namesAndShapes freshParts) (shownAndRefused freshParts) namesAndShapes-agrees shownAndRefused-agrees)))))
 
 -- one table, played from a fresh engine, one statement
 abbrev pub table : List Example

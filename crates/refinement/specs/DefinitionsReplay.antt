@@ -25,10 +25,10 @@ use Rattle.model.specs.View.{group, synth, PlainNode, viewOf}
 use Rattle.model.specs.Formed.{namesApart}
 use Rattle.model.specs.Checks.{namesOf, staying, noSlot, noResident}
 use Rattle.model.specs.Effects.{retired, loaded, retire, withSlots}
-use Rattle.model.specs.Plain.{Plain, Named, meaning, forget, learn, withNames}
+use Rattle.model.specs.Plain.{Plain, Named, meaning, undefine, define, withNames}
 use Rattle.preservation.specs.Slots.{resident-found}
 use Rattle.model.specs.Searches.{resident-least}
-use Rattle.refinement.specs.Names.{same-equal, same-self, there, means, meaning-means, meaning-forget, once-forget, forget-count}
+use Rattle.refinement.specs.Names.{same-equal, same-self, there, means, meaning-means, meaning-undefine, once-undefine, undefine-count}
 use Rattle.refinement.specs.SlotNames.{means-retired, means-retire, residents-retire, meant, Differ, residents-retired}
 use Rattle.refinement.specs.Load.{known, free-staying, AllDefinitions, Loading, loaded-all, held-loaded}
 use Rattle.refinement.specs.Kept.{Kept, seenTree}
@@ -195,7 +195,7 @@ module _ (e : Engine) (p : Plain) (k : Kept e p) (apart : namesApart (e .slots) 
 
   -- "`/d_recv` gives each name in the file its definition there .. Synths keep theirs."
   pub load-replayed : (ds : List Definition) → areDefinitions [] ds ≡ true → noSlot ds e ≡ false → length (e .slots) ≡ slotCount
-      → Kept (withSlots (loaded ds (retired (namesOf ds) (e .slots)) (e .nodes)) e) (withNames (learn ds (p .names)) p)
+      → Kept (withSlots (loaded ds (retired (namesOf ds) (e .slots)) (e .nodes)) e) (withNames (define ds (p .names)) p)
   unfolding namesOf known among
   load-replayed ds h slot many =
       let l = loading ds h slot many in
@@ -218,7 +218,7 @@ module _ (e : Engine) (p : Plain) (k : Kept e p) (apart : namesApart (e .slots) 
       }
 
   -- "`/d_free` takes the name away."
-  pub retire-replayed : (name : List ℕ) → noResident name e ≡ false → Kept (withSlots (retire (residentOf name (e .slots)) (e .slots)) e) (withNames (forget name (p .names)) p)
+  pub retire-replayed : (name : List ℕ) → noResident name e ≡ false → Kept (withSlots (retire (residentOf name (e .slots)) (e .slots)) e) (withNames (undefine name (p .names)) p)
   retire-replayed name h =
       let j = residentOf name (e .slots) in
       let low : j < length (e .slots) = leb-false (length (e .slots)) j h in
@@ -234,13 +234,13 @@ module _ (e : Engine) (p : Plain) (k : Kept e p) (apart : namesApart (e .slots) 
         laid = k .laid;
         leaves = k .leaves;
         tree = k .tree ∙ seen-alike (e .slots) slots (e .controls) (k .forest) (e .nodes) (k .laid) (λ i held-i. set-bytes (e .slots) j i);
-        names = λ m. meaning-means m slots ∙ says m ∙ ap (λ (o : Option Definition). pick (sameName name m) none o) (meanings m) ∙ sym (meaning-forget name m (p .names) (k .once));
+        names = λ m. meaning-means m slots ∙ says m ∙ ap (λ (o : Option Definition). pick (sameName name m) none o) (meanings m) ∙ sym (meaning-undefine name m (p .names) (k .once));
         nameCount =
             let r = residents-retire (e .slots) j gone low resident refl in
-            let f = forget-count name (p .names) in
+            let f = undefine-count name (p .names) in
             let c = k .nameCount in
             omega arith;
-        once = once-forget name (p .names) (k .once);
+        once = once-undefine name (p .names) (k .once);
         next = k .next;
         latest = k .latest;
         buses = k .buses;

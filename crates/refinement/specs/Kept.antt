@@ -3,7 +3,7 @@ use Prim.Native.Nat.{ℕ, _+_, _≤_}
 use mathlib.Core.Bool.{Bool, true, false, not}
 use mathlib.Core.Path.{_≡_, refl, sym, ap, ap₂, _∙_}
 use mathlib.Core.List.{List, [], _∷_, _++_}
-use mathlib.Core.Option.{none, some}
+use mathlib.Core.Option.{Option, none, some}
 use native.Mathlib.Omega.{arith}
 use borrow.Author.Tests.{ltb-true, ltb-false, not-true}
 use lib.ListN.{length}
@@ -41,6 +41,12 @@ pub record Kept (e : Engine) (p : Plain) : Type 0 where
   pub latest : latestSynth (e .latest) ≡ p .latest
   pub buses : e .buses ≡ p .buses
   pub ordered : e .order ≡ order (e .nodes)
+
+-- the plain tree after a step: it is not at a loss, and the engine after it is kept with it
+pub record Replayed (e : Engine) (o : Option Plain) : Type 0 where
+  pub plain : Plain
+  pub stepped : o ≡ some plain
+  pub kept : Kept e plain
 
 view-append : (slots : List Slot) (controls : List ℕ) (a b : List Node) → viewRows slots controls (a ++ b) ≡ viewRows slots controls a ++ viewRows slots controls b
 unfolding viewRows

@@ -3,6 +3,7 @@ pub mod RowReplies
 pub mod Same
 pub mod TreeReplay
 pub mod Names
+pub mod Places
 pub mod SlotNames
 pub mod Load
 pub mod DefinitionsReplay

@@ -23,8 +23,8 @@ use Rattle.model.specs.Engine.{Slot, Engine, noDefinition, valueOr, nameIn, def
 use Rattle.model.specs.Checks.{definitionsOf, namesOf, staying}
 use Rattle.model.specs.Effects.{retired, freeFrom, placed, loaded}
 use Rattle.model.specs.Searches.{free-slot}
-use Rattle.model.specs.Plain.{Named, meaning, forget, learn}
-use Rattle.refinement.specs.Names.{same-equal, same-self, same-sym, there, means, Once, meaning-forget, meaning-snoc, once-forget, once-snoc, forget-count}
+use Rattle.model.specs.Plain.{Named, meaning, undefine, define}
+use Rattle.refinement.specs.Names.{same-equal, same-self, same-sym, there, means, Once, meaning-undefine, meaning-snoc, once-undefine, once-snoc, undefine-count}
 use Rattle.refinement.specs.SlotNames.{means-set, residents-set, Differ}
 use Rattle.state.specs.Accepted.{FileAccepted}
 
@@ -139,18 +139,18 @@ pub record Loading (ds : List Definition) (slots : List Slot) (t : List Node) (m
   pub meanings : (m : List ℕ) → means m slots ≡ pick (among m (namesOf ds)) none (meaning m ms)
   pub counts : length (residents slots) + known ms (namesOf ds) ≡ length ms
 
--- names that are not the one forgotten mean as much as before
+-- names that are not the one undefined mean as much as before
 known-other : (a : List ℕ) (ms : List Named) (n : Named) (names : List (List ℕ)) → Once ms → among a names ≡ false → sameName (n .name) a ≡ true
-    → known (forget a ms ++ (n ∷ [])) names ≡ known ms names
+    → known (undefine a ms ++ (n ∷ [])) names ≡ known ms names
 unfolding known among
 known-other a ms n [] o h e = refl
 known-other a ms n (x ∷ names) o h e =
     let d = either-false (sameName x a) (among a names) h in
     let nx : sameName (n .name) x ≡ false = ap (λ (l : List ℕ). sameName l x) (same-equal (n .name) a e) ∙ same-sym a x ∙ d .0 in
     let ax : sameName a x ≡ false = same-sym a x ∙ d .0 in
-    let gone : meaning (n .name) (forget a ms) ≡ none = meaning-forget a (n .name) ms o ∙ ap (λ (b : Bool). pick b none (meaning (n .name) ms)) (same-sym a (n .name) ∙ e) in
+    let gone : meaning (n .name) (undefine a ms) ≡ none = meaning-undefine a (n .name) ms o ∙ ap (λ (b : Bool). pick b none (meaning (n .name) ms)) (same-sym a (n .name) ∙ e) in
     ap₂ (λ (u : Option Definition) (j : ℕ). there u + j)
-    (meaning-snoc x (forget a ms) n gone ∙ ap (λ (b : Bool). pick b (some (n .definition)) (meaning x (forget a ms))) nx ∙ meaning-forget a x ms o ∙ ap (λ (b : Bool). pick b none (meaning x ms)) ax)
+    (meaning-snoc x (undefine a ms) n gone ∙ ap (λ (b : Bool). pick b (some (n .definition)) (meaning x (undefine a ms))) nx ∙ meaning-undefine a x ms o ∙ ap (λ (b : Bool). pick b none (meaning x ms)) ax)
     (known-other a ms n names o (d .1) e)
 
 -- one definition goes in, on both sides
@@ -186,20 +186,20 @@ module _ (d : Definition) (ds : List Definition) (slots : List Slot) (t : List N
   unfolding namesOf among
   absent = ap (λ (m : List ℕ). means m slots) named ∙ l .meanings title ∙ ap (λ (b : Bool). pick (either b (among title (namesOf ds))) none (meaning title ms)) self
 
-  forgotten : meaning title (forget title ms) ≡ none
-  forgotten = meaning-forget title title ms (l .once) ∙ ap (λ (b : Bool). pick b none (meaning title ms)) self
+  undefined : meaning title (undefine title ms) ≡ none
+  undefined = meaning-undefine title title ms (l .once) ∙ ap (λ (b : Bool). pick b none (meaning title ms)) self
 
   meansPlaced : (m : List ℕ) → means m (placed d slots t) ≡ pick (sameName title m) (some d) (means m slots)
   meansPlaced m =
       means-set m slots (freeFrom 0 slots t) (newSlot d) (spot-slot slots t some-room) (spot-resident slots t some-room) refl absent
       ∙ ap₂ (λ (n : List ℕ) (x : Definition). pick (sameName n m) (some x) (means m slots)) named readBack
 
-  meaningLearnt : (m : List ℕ) → meaning m (forget title ms ++ (entry ∷ [])) ≡ pick (sameName title m) (some d) (pick (sameName title m) none (meaning m ms))
-  meaningLearnt m = meaning-snoc m (forget title ms) entry forgotten ∙ ap (λ (o : Option Definition). pick (sameName title m) (some d) o) (meaning-forget title m ms (l .once))
+  meaningDefined : (m : List ℕ) → meaning m (undefine title ms ++ (entry ∷ [])) ≡ pick (sameName title m) (some d) (pick (sameName title m) none (meaning m ms))
+  meaningDefined m = meaning-snoc m (undefine title ms) entry undefined ∙ ap (λ (o : Option Definition). pick (sameName title m) (some d) o) (meaning-undefine title m ms (l .once))
 
-  next-meanings : (m : List ℕ) → means m (placed d slots t) ≡ pick (among m (namesOf ds)) none (meaning m (forget title ms ++ (entry ∷ [])))
+  next-meanings : (m : List ℕ) → means m (placed d slots t) ≡ pick (among m (namesOf ds)) none (meaning m (undefine title ms ++ (entry ∷ [])))
   unfolding namesOf among
-  next-meanings m = meansPlaced m ∙ go (sameName title m) refl (among m (namesOf ds)) refl ∙ ap (λ (o : Option Definition). pick (among m (namesOf ds)) none o) (sym (meaningLearnt m))
+  next-meanings m = meansPlaced m ∙ go (sameName title m) refl (among m (namesOf ds)) refl ∙ ap (λ (o : Option Definition). pick (among m (namesOf ds)) none o) (sym (meaningDefined m))
     where
       go : (b : Bool) → sameName title m ≡ b → (c : Bool) → among m (namesOf ds) ≡ c
           → pick b (some d) (means m slots) ≡ pick (among m (namesOf ds)) none (pick (sameName title m) (some d) (pick (sameName title m) none (meaning m ms)))
@@ -210,28 +210,28 @@ module _ (d : Definition) (ds : List Definition) (slots : List Slot) (t : List N
           ∙ ap (λ (b : Bool). pick (either b (among m (namesOf ds))) none (meaning m ms)) (e)
           ∙ sym (ap (λ (b : Bool). pick (among m (namesOf ds)) none (pick b (some d) (pick b none (meaning m ms)))) e)
 
-  pub loading-next : Loading ds (placed d slots t) t (forget title ms ++ (entry ∷ []))
+  pub loading-next : Loading ds (placed d slots t) t (undefine title ms ++ (entry ∷ []))
   unfolding AllDefinitions Differ namesOf known
   loading-next = record {
     bounded = l .bounded .1;
     differ = l .differ .1;
     room = let r = l .room in let c = placed-count slots t some-room d in omega arith;
-    once = once-snoc (forget title ms) entry (once-forget title ms (l .once)) forgotten;
+    once = once-snoc (undefine title ms) entry (once-undefine title ms (l .once)) undefined;
     meanings = next-meanings;
     counts =
         let r = residents-set slots (freeFrom 0 slots t) (newSlot d) (spot-slot slots t some-room) (spot-resident slots t some-room) refl in
         let q = known-other title ms entry (namesOf ds) (l .once) alone self in
-        let f = forget-count title ms in
+        let f = undefine-count title ms in
         let c = l .counts in
-        let n : length (forget title ms ++ (entry ∷ [])) ≡ length (forget title ms) + 1 = length-append (forget title ms) (entry ∷ []) in
+        let n : length (undefine title ms ++ (entry ∷ [])) ≡ length (undefine title ms) + 1 = length-append (undefine title ms) (entry ∷ []) in
         omega arith;
   }
 
 -- a whole load
-pub loaded-all : (ds : List Definition) (slots : List Slot) (t : List Node) (ms : List Named) → Loading ds slots t ms → Loading [] (loaded ds slots t) t (learn ds ms)
-unfolding loaded learn
+pub loaded-all : (ds : List Definition) (slots : List Slot) (t : List Node) (ms : List Named) → Loading ds slots t ms → Loading [] (loaded ds slots t) t (define ds ms)
+unfolding loaded define
 loaded-all [] slots t ms l = l
-loaded-all (d ∷ ds) slots t ms l = loaded-all ds (placed d slots t) t (forget (d .front .name) ms ++ (record { name = d .front .name; definition = d } ∷ [])) (loading-next d ds slots t ms l)
+loaded-all (d ∷ ds) slots t ms l = loaded-all ds (placed d slots t) t (undefine (d .front .name) ms ++ (record { name = d .front .name; definition = d } ∷ [])) (loading-next d ds slots t ms l)
 
 -- the slots that synths hold are as they were
 pub held-loaded : (ds : List Definition) (slots : List Slot) (t : List Node) → length ds ≤ freeCount 0 slots t → (k : ℕ) → held k t ≡ true → slotAt (loaded ds slots t) k ≡ slotAt slots k

@@ -13,7 +13,7 @@ use Rattle.words.specs.Choice.{pick, both, both-true}
 use Rattle.format.specs.Definition.{Definition}
 use Rattle.format.specs.Reader.{sameName}
 use Rattle.model.specs.Engine.{Slot, nameIn, definitionIn, residentFrom, residentOf}
-use Rattle.model.specs.Plain.{Named, meaning, forget}
+use Rattle.model.specs.Plain.{Named, meaning, undefine}
 use Rattle.model.specs.Demands.{definitionAtSlot}
 
 -- names that are the same are equal
@@ -98,17 +98,17 @@ Once (n ∷ ms) = (meaning (n .name) ms ≡ none) × Once ms
 pub meaning-same : (a b : List ℕ) (ms : List Named) → sameName a b ≡ true → meaning a ms ≡ meaning b ms
 meaning-same a b ms h = ap (λ (l : List ℕ). meaning l ms) (same-equal a b h)
 
-pub meaning-forget : (a m : List ℕ) (ms : List Named) → Once ms → meaning m (forget a ms) ≡ pick (sameName a m) none (meaning m ms)
-unfolding meaning forget Once
-meaning-forget a m [] o = go (sameName a m)
+pub meaning-undefine : (a m : List ℕ) (ms : List Named) → Once ms → meaning m (undefine a ms) ≡ pick (sameName a m) none (meaning m ms)
+unfolding meaning undefine Once
+meaning-undefine a m [] o = go (sameName a m)
   where
     go : (b : Bool) → _≡_ {A = Option Definition} none (pick b none none)
     go true = refl
     go false = refl
-meaning-forget a m (n ∷ ms) o = go (sameName (n .name) a) refl (sameName (n .name) m) refl (meaning-forget a m ms (o .1))
+meaning-undefine a m (n ∷ ms) o = go (sameName (n .name) a) refl (sameName (n .name) m) refl (meaning-undefine a m ms (o .1))
   where
-    go : (b : Bool) → sameName (n .name) a ≡ b → (c : Bool) → sameName (n .name) m ≡ c → meaning m (forget a ms) ≡ pick (sameName a m) none (meaning m ms)
-        → meaning m (pick b ms (n ∷ forget a ms)) ≡ pick (sameName a m) none (pick c (some (n .definition)) (meaning m ms))
+    go : (b : Bool) → sameName (n .name) a ≡ b → (c : Bool) → sameName (n .name) m ≡ c → meaning m (undefine a ms) ≡ pick (sameName a m) none (meaning m ms)
+        → meaning m (pick b ms (n ∷ undefine a ms)) ≡ pick (sameName a m) none (pick c (some (n .definition)) (meaning m ms))
     go true h true g ih =
         let am : sameName a m ≡ true = sym (same-name (n .name) a m h) ∙ g in
         rw am (sym (meaning-same (n .name) m ms g) ∙ o .0)
@@ -140,14 +140,14 @@ none-pick : (b : Bool) (o : Option Definition) → o ≡ none → pick b none o 
 none-pick true o h = refl
 none-pick false o h = h
 
-pub once-forget : (a : List ℕ) (ms : List Named) → Once ms → Once (forget a ms)
-unfolding Once forget
-once-forget a [] o = tt
-once-forget a (n ∷ ms) o = go (sameName (n .name) a) (once-forget a ms (o .1))
+pub once-undefine : (a : List ℕ) (ms : List Named) → Once ms → Once (undefine a ms)
+unfolding Once undefine
+once-undefine a [] o = tt
+once-undefine a (n ∷ ms) o = go (sameName (n .name) a) (once-undefine a ms (o .1))
   where
-    go : (b : Bool) → Once (forget a ms) → Once (pick b ms (n ∷ forget a ms))
+    go : (b : Bool) → Once (undefine a ms) → Once (pick b ms (n ∷ undefine a ms))
     go true ih = o .1
-    go false ih = (meaning-forget a (n .name) ms (o .1) ∙ none-pick (sameName a (n .name)) (meaning (n .name) ms) (o .0), ih)
+    go false ih = (meaning-undefine a (n .name) ms (o .1) ∙ none-pick (sameName a (n .name)) (meaning (n .name) ms) (o .0), ih)
 
 pub once-snoc : (ms : List Named) (n : Named) → Once ms → meaning (n .name) ms ≡ none → Once (ms ++ (n ∷ []))
 unfolding Once meaning
@@ -161,11 +161,11 @@ once-snoc (x ∷ ms) n o h = go (sameName (x .name) (n .name)) refl h (λ k. onc
         (meaning-snoc (x .name) ms n k ∙ ap (λ (b : Bool). pick b (some (n .definition)) (meaning (x .name) ms)) (same-sym (n .name) (x .name) ∙ e) ∙ o .0, ih k)
 
 -- how many names are left
-pub forget-count : (a : List ℕ) (ms : List Named) → length (forget a ms) + there (meaning a ms) ≡ length ms
-unfolding forget meaning
-forget-count a [] = refl
-forget-count a (n ∷ ms) = go (sameName (n .name) a) (forget-count a ms)
+pub undefine-count : (a : List ℕ) (ms : List Named) → length (undefine a ms) + there (meaning a ms) ≡ length ms
+unfolding undefine meaning
+undefine-count a [] = refl
+undefine-count a (n ∷ ms) = go (sameName (n .name) a) (undefine-count a ms)
   where
-    go : (b : Bool) → length (forget a ms) + there (meaning a ms) ≡ length ms → length (pick b ms (n ∷ forget a ms)) + there (pick b (some (n .definition)) (meaning a ms)) ≡ suc (length ms)
+    go : (b : Bool) → length (undefine a ms) + there (meaning a ms) ≡ length ms → length (pick b ms (n ∷ undefine a ms)) + there (pick b (some (n .definition)) (meaning a ms)) ≡ suc (length ms)
     go true ih = omega arith
     go false ih = omega arith

@@ -30,8 +30,8 @@ use Rattle.values.specs.declared.Mapping.the-variants.{Unmapped, Bus}
 use Rattle.values.specs.Controls.{ControlValue, shown}
 use Rattle.model.specs.View.{Kind, group, synth, PlainNode, Row, isGroupKind, slotOfKind, shapeOf, shape}
 use Rattle.model.specs.Replies.{infoAddress, setAddress, busAddress, treeAddress, statusAddress, plainNamed, infoKind, infoReply, keyArgument, noControl, mappingArgument, labelArgument, controlArguments, flagged, kindArguments, rowsBelow, rowsAt, treeArguments, subtreeRows, flagNumber, treeReply, unitsOf, unitCount, groupCount, synthCount}
-use Rattle.model.specs.Plain.{ifSome, numberIn, plainRows}
-use Rattle.model.specs.PlainReplies.{bytesOf, nodeIn, groupInfo, nodeInfo, floatRead, controlIn, keyShown, namesAt, labelShown, mappingShown, controlsShown, included, kindShown, nodesShown, sumOver, unitsIn, oneSynth, oneGroup}
+use Rattle.model.specs.Plain.{ifSome, numberIn, nodeIn, plainRows}
+use Rattle.model.specs.PlainReplies.{bytesOf, groupInfo, nodeInfo, floatRead, controlIn, keyShown, namesAt, labelShown, mappingShown, controlsShown, included, kindShown, nodesShown, sumOver, unitsIn, oneSynth, oneGroup}
 
 -- the addresses
 pub info-address : bytesOf "/n_info" ≡ infoAddress

@@ -36,8 +36,8 @@ use Rattle.model.specs.Meaning.{meant, known, nodeNamed, node as nodeOf, coverO
 use Rattle.model.specs.Checks.{notGroup, noControls}
 use Rattle.model.specs.Replies.{infoAddress, setAddress, statusAddress, plainNamed, infoReply, keyArgument, noControl, readAt, readControl, controlReply, treeReply, flagNumber, unitCount, synthCount, statusReply, replyTo, reply}
 use Rattle.model.specs.Apply.{queryAnswer, answerIn, isAccepted}
-use Rattle.model.specs.Plain.{Plain, ifSome, numberIn, isGroupNode, isOnNode, plainRows}
-use Rattle.model.specs.PlainReplies.{bytesOf, nodeIn, aboutNode, nodeInfo, floatRead, controlIn, keyShown, controlShown, flagShown, included, nodesShown, treeShown, sumOver, unitsIn, oneSynth, oneGroup, plainReply, isExport}
+use Rattle.model.specs.Plain.{Plain, ifSome, andThen, onlyIf, numberIn, isGroupNode, isOnNode, nodeIn, namedIn, plainRows}
+use Rattle.model.specs.PlainReplies.{bytesOf, nodeInfo, floatRead, controlIn, keyShown, controlShown, flagShown, included, nodesShown, treeShown, sumOver, unitsIn, oneSynth, oneGroup, plainReply, isExport}
 use Rattle.model.specs.Demands.{Same}
 use Rattle.refinement.specs.Kept.{Kept, view-tree, group-kind, same-meant}
 use Rattle.refinement.specs.RowReplies.{info-address, set-address, bus-address, tree-address, status-address, info-rows, node-rows, same-read, same-key, control-in, tree-rows, units-rows, groups-rows, synths-rows}
@@ -99,7 +99,7 @@ module _ (e : Engine) (p : Plain) (k : Kept e p) where
         ∙ ap (λ (l : List Node). lives n l) (sym (k .laid))
         ∙ known-lives a e h
 
-    number : x .number ≡ n
+    pub number : x .number ≡ n
     number = named-number n (e .nodes) (known-lives a e h)
 
     seen : plainNamed n (view e) ≡ x
@@ -108,10 +108,13 @@ module _ (e : Engine) (p : Plain) (k : Kept e p) where
     named : plainNamed n (plainRows 0 (p .tree)) ≡ x
     named = ap (λ (l : List Row). plainNamed n l) (sym rows) ∙ seen
 
-    about : (show : PlainNode → Option (List ℕ)) → aboutNode a p show ≡ show x
-    about show =
-        ap (λ (o : Option ℕ). ifSome o (λ m. ifSome (nodeIn m (p .tree)) (λ y. show y) none) none) (same-meant a e p k h)
-        ∙ ap (λ (o : Option PlainNode). ifSome o (λ y. show y) none) (node-rows n (p .tree) there ∙ ap (λ (y : PlainNode). some y) named)
+    -- the plain tree finds it
+    pub found : namedIn a p ≡ some x
+    found =
+        ap (λ (o : Option ℕ). andThen o (λ m. nodeIn m (p .tree))) (same-meant a e p k h) ∙ node-rows n (p .tree) there ∙ ap (λ (y : PlainNode). some y) named
+
+    about : (show : PlainNode → Option (List ℕ)) → andThen (namedIn a p) (λ y. show y) ≡ show x
+    about show = ap (λ (o : Option PlainNode). andThen o (λ y. show y)) found
 
     info : plainReply (query.Node a) [] p ≡ some (infoReply n (view e))
     info =
@@ -184,7 +187,9 @@ module _ (e : Engine) (p : Plain) (k : Kept e p) where
   unfolding replyTo
   accepted-reply (query.Node a) bytes x h = info a h
   accepted-reply (query.Control a key) bytes x h = control a (h .nodeKnown) key bytes (h .nodeKind) (h .controls)
-  accepted-reply (query.Bus bus) bytes x h = ap₂ (λ (address bs : List ℕ). some (message address (int bus ∷ (float (getD bs bus 0) ∷ [])))) bus-address (sym (k .buses))
+  accepted-reply (query.Bus bus) bytes x h =
+      ap (λ (b : Bool). onlyIf b (message (bytesOf "/c_set") (int bus ∷ (float (getD (p .buses) bus 0) ∷ [])))) h
+      ∙ ap₂ (λ (address bs : List ℕ). some (message address (int bus ∷ (float (getD bs bus 0) ∷ [])))) bus-address (sym (k .buses))
   accepted-reply (query.Tree a flag) bytes x h = tree a (h .nodeKnown) flag (h .nodeKind)
   accepted-reply query.Status bytes x h = status
   accepted-reply query.Export bytes x h = let z : _≡_ {A = Bool} true false = x in cc

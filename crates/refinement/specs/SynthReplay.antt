@@ -14,11 +14,10 @@ use Rattle.words.specs.Choice.{pick, both, either, both-true, either-false}
 use Rattle.format.specs.Definition.{Definition}
 use Rattle.nodes.specs.declared.Node.{Node}
 use Rattle.nodes.specs.Place.{groupSlot, isGroup, lives}
-use Rattle.nodes.specs.Forest.{Forest, node, flatten, mapForest}
+use Rattle.nodes.specs.Forest.{Forest, node, flatten, mapForest, has}
 use Rattle.nodes.specs.Forest as forest
 use Rattle.nodes.specs.Formed.{mostRows, numberFormed, rowFormed, fieldsFormed, allFormed, rowTaken, freeRow}
-use Rattle.treerefinement.specs.Flatten.{key}
-use Rattle.treerefinement.specs.Leaves.{NoSynth}
+use Rattle.treerefinement.specs.Flatten.{key, lives-has}
 use Rattle.treerefinement.specs.MapForest.{Each, map-each}
 use Rattle.nodes.specs.Table.{over}
 use Rattle.nodes.specs.Edit.{level, addBy}
@@ -32,9 +31,10 @@ use Rattle.model.specs.View.{Kind, group, synth, PlainNode, viewOf}
 use Rattle.model.specs.Effects.{stayingNodes, newSynth, numberFor, nextAfter, initialWords, synthMade}
 use Rattle.model.specs.Checks.{badAction}
 use Rattle.model.specs.Meaning.{minusOne}
-use Rattle.model.specs.Plain.{Plain, ifSome, numberIn, initialControls, synthOf, putBy, putSynth, growSynth}
-use Rattle.refinement.specs.Kept.{Kept}
-use Rattle.refinement.specs.TreeReplay.{Added, added}
+use Rattle.model.specs.Plain.{Plain, lowest, andThen, numberIn, initialControls, synthOf, putBy, putNew, putSynth, stepSynth}
+use Rattle.refinement.specs.Kept.{Kept, Replayed}
+use Rattle.refinement.specs.Places.{seen-has}
+use Rattle.refinement.specs.TreeReplay.{Place, Added, added}
 use Rattle.refinement.specs.DefinitionsReplay.{each-more}
 
 -- a test that no record of a table passes, passes no item of its tree
@@ -137,9 +137,8 @@ module _ (e : Engine) (p : Plain) (k : Kept e p) (number action n slot next : �
       go false h = refl
 
   -- what is known where the command is accepted
-  module _ (five : badAction action ≡ false) (nonzero : eqb fresh 0 ≡ false) (size : length (e .controls) ≡ controlsWords) (low : row < mostRows) (free : rowTaken row staying ≡ false) (new : lives fresh (e .nodes) ≡ false) (newHere : lives fresh staying ≡ false)
-      (fields : allFormed next staying ≡ true) (single : eqb slot groupSlot ≡ false) (grown : Grown (made ∷ []) (addBy action made n (e .nodes)) staying)
-      (s0 : eqb action 0 ≡ true → NoSynth n (k .forest)) (s1 : eqb action 1 ≡ true → NoSynth n (k .forest)) where
+  module _ (five : badAction action ≡ false) (place : Place action n (k .forest) (p .tree)) (given : eqb number minusOne ≡ false → ltb number lowest ≡ true) (left : eqb number minusOne ≡ true → ltb (p .next) lowest ≡ false) (nonzero : eqb fresh 0 ≡ false) (size : length (e .controls) ≡ controlsWords) (low : row < mostRows) (free : rowTaken row staying ≡ false) (new : lives fresh (e .nodes) ≡ false) (newHere : lives fresh staying ≡ false)
+      (fields : allFormed next staying ≡ true) (single : eqb slot groupSlot ≡ false) (grown : Grown (made ∷ []) (addBy action made n (e .nodes)) staying) where
     abbrev f : Forest Node
     f = k .forest
 
@@ -151,7 +150,7 @@ module _ (e : Engine) (p : Plain) (k : Kept e p) (number action n slot next : �
         (each-more (λ y h. sym (ap (λ (b : Bool). pick b newNode (viewOf (e .slots) (e .controls) y)) h)) f (no-number fresh 0 f (ap (λ (l : List Node). lives fresh l) (sym (k .laid)) ∙ new)))
 
     put-in : Added between (addBy action made n (flatten 0 f)) (putBy action (between made) n (mapForest between f))
-    put-in = added between between-number f (k .leaves) made refl n action five s0 s1
+    put-in = added between between-number f (k .leaves) made refl n action five (subst (λ (g : Forest PlainNode). Place action n f g) tree-between place)
 
     made-between : between made ≡ newNode
     made-between = ap (λ (b : Bool). pick b newNode (viewOf (e .slots) (e .controls) made)) (eq-eqb fresh fresh refl)
@@ -218,37 +217,49 @@ module _ (e : Engine) (p : Plain) (k : Kept e p) (number action n slot next : �
     laid-out = ap (λ (l : List Node). addBy action made n l) (k .laid) ∙ put-in .laid
 
     -- the plain tree gives the same number
-    grown-number : growSynth number action n d p ≡ putSynth fresh (nextAfter number (e .next)) action n d p
-    grown-number = go (eqb number minusOne) ∙ ap (λ (m : ℕ). putSynth (numberFor number m) (nextAfter number m) action n d p) (sym (k .next))
+    same-number : stepSynth number action n d p ≡ putSynth fresh (nextAfter number (e .next)) action n d p
+    same-number = go (eqb number minusOne) refl ∙ ap (λ (m : ℕ). putSynth (numberFor number m) (nextAfter number m) action n d p) (sym (k .next))
       where
-        go : (b : Bool) → pick b (putSynth (p .next) (p .next - 1) action n d p) (putSynth number (p .next) action n d p)
+        go : (b : Bool) → eqb number minusOne ≡ b
+            → pick b (pick (ltb (p .next) lowest) none (putSynth (p .next) (p .next - 1) action n d p)) (pick (ltb number lowest) (putSynth number (p .next) action n d p) none)
             ≡ putSynth (pick b (p .next) number) (pick b (p .next - 1) (p .next)) action n d p
-        go true = refl
-        go false = refl
+        go true q = ap (λ (c : Bool). pick c none (putSynth (p .next) (p .next - 1) action n d p)) (left q)
+        go false q = ap (λ (c : Bool). pick c (putSynth number (p .next) action n d p) none) (given q)
 
-    put-tree : putBy action newNode n (p .tree) ≡ some (mapForest (viewOf (e .slots) controls′) (put-in .forest))
+    -- which no node has
+    absent : has numberIn fresh (p .tree) ≡ false
+    absent =
+        ap (λ (g : Forest PlainNode). has numberIn fresh g) (k .tree)
+        ∙ seen-has (viewOf (e .slots) (e .controls)) (λ x. refl) fresh f
+        ∙ sym (lives-has fresh 0 f)
+        ∙ ap (λ (l : List Node). lives fresh l) (sym (k .laid))
+        ∙ new
+
+    put-tree : putNew action newNode n (p .tree) ≡ some (mapForest (viewOf (e .slots) controls′) (put-in .forest))
     put-tree =
-        ap₂ (λ (x : PlainNode) (g : Forest PlainNode). putBy action x n g) (sym made-between) tree-between
+        ap (λ (b : Bool). pick b none (putBy action newNode n (p .tree))) absent
+        ∙ ap₂ (λ (x : PlainNode) (g : Forest PlainNode). putBy action x n g) (sym made-between) tree-between
         ∙ put-in .seen
         ∙ ap (λ (g : Forest PlainNode). some g)
         (map-each between (viewOf (e .slots) controls′) (put-in .forest)
         (each-more (λ y h. alike y h) (put-in .forest) (each-tally (strange fresh slot row) (λ d r. refl) 0 (put-in .forest) (ap (λ (l : List Node). tally (strange fresh slot row) l) (sym laid-out) ∙ none-odd))))
 
-    pub synth-replayed : Kept (synthMade number action n slot e) (growSynth number action n d p)
-    synth-replayed =
-        subst (λ (q : Plain). Kept (synthMade number action n slot e) q)
-        (sym (grown-number
-        ∙ ap (λ (o : Option (Forest PlainNode)). ifSome o (λ g. record { tree = g; names = p .names; next = nextAfter number (e .next); latest = some fresh; buses = p .buses }) p) put-tree))
-        (record {
-          forest = put-in .forest;
-          laid = laid-out;
-          leaves = put-in .leaves;
-          tree = refl;
-          names = k .names;
-          nameCount = k .nameCount;
-          once = k .once;
-          next = refl;
-          latest = ap (λ (b : Bool). pick b none (some fresh)) nonzero;
-          buses = k .buses;
-          ordered = refl;
-        })
+    pub synth-replayed : Replayed (synthMade number action n slot e) (stepSynth number action n d p)
+    synth-replayed = record {
+      plain = record { tree = mapForest (viewOf (e .slots) controls′) (put-in .forest); names = p .names; next = nextAfter number (e .next); latest = some fresh; buses = p .buses };
+      stepped = same-number
+          ∙ ap (λ (o : Option (Forest PlainNode)). andThen o (λ g. some (record { tree = g; names = p .names; next = nextAfter number (e .next); latest = some fresh; buses = p .buses }))) put-tree;
+      kept = record {
+        forest = put-in .forest;
+        laid = laid-out;
+        leaves = put-in .leaves;
+        tree = refl;
+        names = k .names;
+        nameCount = k .nameCount;
+        once = k .once;
+        next = refl;
+        latest = ap (λ (b : Bool). pick b none (some fresh)) nonzero;
+        buses = k .buses;
+        ordered = refl;
+      };
+    }

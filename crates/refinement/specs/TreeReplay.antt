@@ -1,7 +1,7 @@
 -- Commands of the tree: the engine's nodes and the plain tree after them are the same again.
 use Prim.Native.Nat.{ℕ, zero, suc, _≤_}
 use mathlib.Core.Bool.{Bool, true, false}
-use mathlib.Core.Path.{_≡_, refl, sym, ap, _∙_, subst}
+use mathlib.Core.Path.{_≡_, refl, sym, ap, ap₂, _∙_, subst}
 use mathlib.Core.List.{List, [], _∷_}
 use mathlib.Core.Option.{Option, none, some}
 use native.Mathlib.Omega.{arith}
@@ -20,9 +20,13 @@ use Rattle.model.specs.Engine.{Engine}
 use Rattle.model.specs.View.{group, PlainNode, viewOf}
 use Rattle.model.specs.Checks.{badAction}
 use Rattle.model.specs.Effects.{latestAmong, withNodes, newGroup}
-use Rattle.model.specs.Plain.{Plain, ifSome, numberIn, isGroupNode, latestAfter, withTree, putBy, growGroup, turned}
+use Rattle.model.specs.Plain.{Plain, lowest, andThen, onlyIf, numberIn, isGroupNode, isGroupIn, hasParent, latestAfter, withTree, putBy, putGroup, turned}
 use Rattle.model.specs.Demands.{latestSynth}
-use Rattle.refinement.specs.Kept.{Kept, seenTree, group-kind}
+use Rattle.refinement.specs.Kept.{Kept, Replayed, seenTree, group-kind}
+
+-- what can be done is done
+pub can : {A : Type 0} {b : Bool} {x y : A} → b ≡ true → x ≡ y → onlyIf b x ≡ some y
+can {A} {b} {x} {y} h q = ap₂ (λ (c : Bool) (z : A). onlyIf c z) h q
 
 -- other nodes, laid out from a tree that is seen as the other plain tree
 module _ (e : Engine) (p : Plain) (k : Kept e p) where
@@ -85,16 +89,10 @@ module _ (e : Engine) (p : Plain) (k : Kept e p) where
       (leaves-freeDeep n f0 (k .leaves))
       (ap (λ (g : Forest PlainNode). freeDeep numberIn isGroupNode n g) (k .tree) ∙ map-freeDeep look key numberIn (λ x. refl) n f0 isGroup isGroupNode (λ x. group-kind (e .slots) (e .controls) x))
 
-  -- the run flag is 0 or 1
-  turned-seen : (flag : ℕ) → ltb 1 flag ≡ false → (x : Node) → turned flag (look x) ≡ look (withRun flag x)
-  turned-seen zero h x = refl
-  turned-seen (suc zero) h x = refl
-  turned-seen (suc (suc flag)) h x = let low : suc (suc flag) ≤ 1 = ltb-false 1 (suc (suc flag)) h in absurd (omega arith)
-
-  pub run-replayed : (n flag : ℕ) → ltb 1 flag ≡ false → Kept (withNodes (setRun n flag (e .nodes)) e) (withTree (change numberIn n (turned flag) (p .tree)) p)
-  run-replayed n flag h =
+  pub run-replayed : (n flag : ℕ) → Kept (withNodes (setRun n flag (e .nodes)) e) (withTree (change numberIn n (turned flag) (p .tree)) p)
+  run-replayed n flag =
       nodes-replayed (setRun n flag (e .nodes)) (change numberIn n (turned flag) (p .tree)) (change key n (withRun flag) f0) (ap (λ (l : List Node). setRun n flag l) (k .laid) ∙ setRun-tree n flag f0)
-      (leaves-run n f0 (k .leaves) flag) (ap (λ (g : Forest PlainNode). change numberIn n (turned flag) g) (k .tree) ∙ map-change look key numberIn (λ x. refl) n f0 (withRun flag) (turned flag) (turned-seen flag h))
+      (leaves-run n f0 (k .leaves) flag) (ap (λ (g : Forest PlainNode). change numberIn n (turned flag) g) (k .tree) ∙ map-change look key numberIn (λ x. refl) n f0 (withRun flag) (turned flag) (λ x. refl))
 
   -- moves; the group that a node moves into is no synth
   module _ (m n : ℕ) where
@@ -125,6 +123,12 @@ module _ (e : Engine) (p : Plain) (k : Kept e p) where
         (leaves-putTail n (free key m f0) (leaves-free m f0 (k .leaves)) (subtree key m f0) moved (nosynth-free n m f0 s))
         (ap (λ (g : Forest PlainNode). placeTail numberIn m n g) (k .tree) ∙ map-placeTail look key numberIn (λ x. refl) m n f0)
 
+-- the place of an add action, on both sides: a group for 0 and 1, and a node below another for the rest
+pub record Place (action n : ℕ) (f : Forest Node) (g : Forest PlainNode) : Type 0 where
+  pub noSynth : ltb action 2 ≡ true → NoSynth n f
+  pub groupThere : ltb action 2 ≡ true → isGroupIn n g ≡ true
+  pub nodeThere : ltb action 2 ≡ false → hasParent n g ≡ true
+
 -- one node put in by an add action, on both sides: where both sides see the tree alike and see the new node alike
 pub record Added (look : Node → PlainNode) (t : List Node) (g : Option (Forest PlainNode)) : Type 0 where
   pub forest : Forest Node
@@ -140,47 +144,51 @@ module _ (look : Node → PlainNode) (same : (x : Node) → numberIn (look x) �
   leafy : Leaves (single x)
   leafy = leaves-single x
 
-  pub added : (action : ℕ) → badAction action ≡ false → (eqb action 0 ≡ true → NoSynth n f) → (eqb action 1 ≡ true → NoSynth n f) → Added look (addBy action x n (flatten 0 f)) (putBy action (look x) n (mapForest look f))
+  pub added : (action : ℕ) → badAction action ≡ false → Place action n f (mapForest look f) → Added look (addBy action x n (flatten 0 f)) (putBy action (look x) n (mapForest look f))
   unfolding mapForest
-  added zero h s0 s1 = record {
+  added zero h place = record {
     forest = putHead key (single x) n f;
     laid = ap (λ (l : List Node). addHead l n (flatten 0 f)) one ∙ addHead-tree (single x) n f;
-    leaves = leaves-putHead n f leaves (single x) leafy (s0 refl);
-    seen = ap (λ (g : Forest PlainNode). some g) (map-putHead look key numberIn same n f (single x));
+    leaves = leaves-putHead n f leaves (single x) leafy (place .noSynth refl);
+    seen = can (place .groupThere refl) (map-putHead look key numberIn same n f (single x));
   }
-  added (suc zero) h s0 s1 = record {
+  added (suc zero) h place = record {
     forest = putTail key (single x) n f;
     laid = ap (λ (l : List Node). addTail l n (flatten 0 f)) one ∙ addTail-tree (single x) n f;
-    leaves = leaves-putTail n f leaves (single x) leafy (s1 refl);
-    seen = ap (λ (g : Forest PlainNode). some g) (map-putTail look key numberIn same n f (single x));
+    leaves = leaves-putTail n f leaves (single x) leafy (place .noSynth refl);
+    seen = can (place .groupThere refl) (map-putTail look key numberIn same n f (single x));
   }
-  added (suc (suc zero)) h s0 s1 = record {
+  added (suc (suc zero)) h place = record {
     forest = putBefore key (single x) n f;
     laid = ap (λ (l : List Node). addBefore l n (flatten 0 f)) one ∙ addBefore-tree (single x) n f;
     leaves = leaves-putBefore n f leaves (single x) leafy;
-    seen = ap (λ (g : Forest PlainNode). some g) (map-putBefore look key numberIn same n f (single x));
+    seen = can (place .nodeThere refl) (map-putBefore look key numberIn same n f (single x));
   }
-  added (suc (suc (suc zero))) h s0 s1 = record {
+  added (suc (suc (suc zero))) h place = record {
     forest = putAfter key (single x) n f;
     laid = ap (λ (l : List Node). addAfter l n (flatten 0 f)) one ∙ addAfter-tree (single x) n f;
     leaves = leaves-putAfter n f leaves (single x) leafy;
-    seen = ap (λ (g : Forest PlainNode). some g) (map-putAfter look key numberIn same n f (single x));
+    seen = can (place .nodeThere refl) (map-putAfter look key numberIn same n f (single x));
   }
-  added (suc (suc (suc (suc zero)))) h s0 s1 = record {
+  added (suc (suc (suc (suc zero)))) h place = record {
     forest = putOver key (single x) n f;
     laid = ap (λ (l : List Node). addOver l n (flatten 0 f)) one ∙ addOver-tree (single x) n f;
     leaves = leaves-putOver n f leaves (single x) leafy;
-    seen = ap (λ (g : Forest PlainNode). some g) (map-putOver look key numberIn same n f (single x));
+    seen = can (place .nodeThere refl) (map-putOver look key numberIn same n f (single x));
   }
-  added (suc (suc (suc (suc (suc k))))) h s0 s1 = let low : suc (suc (suc (suc (suc k)))) ≤ 4 = ltb-false 4 (suc (suc (suc (suc (suc k))))) h in absurd (omega arith)
+  added (suc (suc (suc (suc (suc k))))) h place = let low : suc (suc (suc (suc (suc k)))) ≤ 4 = ltb-false 4 (suc (suc (suc (suc (suc k))))) h in absurd (omega arith)
 
--- a new group
-pub group-replayed : (e : Engine) (p : Plain) (k : Kept e p) (number action n : ℕ) → badAction action ≡ false → (eqb action 0 ≡ true → NoSynth n (k .forest)) → (eqb action 1 ≡ true → NoSynth n (k .forest))
-    → Kept (withNodes (addBy action (newGroup number) n (e .nodes)) e) (growGroup number action n p)
-group-replayed e p k number action n h s0 s1 =
+-- a new group, whose number no node has
+pub group-replayed : (e : Engine) (p : Plain) (k : Kept e p) (number action n : ℕ) → badAction action ≡ false → ltb number lowest ≡ true → has numberIn number (p .tree) ≡ false
+    → Place action n (k .forest) (p .tree) → Replayed (withNodes (addBy action (newGroup number) n (e .nodes)) e) (andThen (putGroup number action n (p .tree)) (λ f. some (withTree f p)))
+group-replayed e p k number action n h low new place =
     let x : PlainNode = record { number = number; run = 1; kind = group } in
-    let a = added (viewOf (e .slots) (e .controls)) (λ x. refl) (k .forest) (k .leaves) (newGroup number) refl n action h s0 s1 in
-    let g = mapForest (viewOf (e .slots) (e .controls)) (a .forest) in
-    subst (λ (o : Option (Forest PlainNode)). Kept (withNodes (addBy action (newGroup number) n (e .nodes)) e) (ifSome o (λ f. withTree f p) p))
-    (sym (ap (λ (f : Forest PlainNode). putBy action x n f) (k .tree) ∙ a .seen))
-    (nodes-replayed e p k (addBy action (newGroup number) n (e .nodes)) g (a .forest) (ap (λ (l : List Node). addBy action (newGroup number) n l) (k .laid) ∙ a .laid) (a .leaves) refl)
+    let look : Node → PlainNode = viewOf (e .slots) (e .controls) in
+    let a = added look (λ x. refl) (k .forest) (k .leaves) (newGroup number) refl n action h (subst (λ (g : Forest PlainNode). Place action n (k .forest) g) (k .tree) place) in
+    let g = mapForest look (a .forest) in
+    record {
+      plain = withTree g p;
+      stepped = ap (λ (o : Option (Forest PlainNode)). andThen o (λ f. some (withTree f p)))
+          (ap₂ (λ (c d : Bool). pick c (pick d none (putBy action x n (p .tree))) none) low new ∙ ap (λ (f : Forest PlainNode). putBy action x n f) (k .tree) ∙ a .seen);
+      kept = nodes-replayed e p k (addBy action (newGroup number) n (e .nodes)) g (a .forest) (ap (λ (l : List Node). addBy action (newGroup number) n l) (k .laid) ∙ a .laid) (a .leaves) refl;
+    }

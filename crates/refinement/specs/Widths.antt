@@ -2,13 +2,13 @@
 use Prim.{Unit, tt}
 use Prim.Native.Nat.{ℕ, zero, suc, _+_, _-_, _≤_, _<_, min}
 use mathlib.Core.Bool.{Bool, true, false}
-use mathlib.Core.Path.{_≡_, refl, sym, ap, _∙_}
+use mathlib.Core.Path.{_≡_, refl, sym, ap, ap₂, _∙_}
 use mathlib.Core.List.{List, [], _∷_}
 use mathlib.Core.Option.{Option, none, some}
 use native.Mathlib.Omega.{arith}
-use borrow.Author.Tests.{ltb-true, ltb-false, eq-eqb, ne-eqb}
+use borrow.Author.Tests.{ltb-true, ltb-false, leb-true, le-leb, le-ltb, eq-eqb, ne-eqb}
 use lib.ListN.{length}
-use lib.Dec.{ltb, eqb}
+use lib.Dec.{ltb, leb, eqb}
 use Rattle.words.specs.Choice.{pick, both, either}
 use Rattle.format.specs.Definition.{ParameterName, Definition}
 use Rattle.format.specs.Reader.{sameName}
@@ -17,7 +17,7 @@ use Rattle.format.specs.Widths.{next-most, next-above}
 use Rattle.values.specs.declared.Key.{Key}
 use Rattle.values.specs.declared.Key.the-variants.{Index, Name}
 use Rattle.values.specs.Controls.{ControlValue}
-use Rattle.model.specs.Meaning.{coverOf}
+use Rattle.model.specs.Meaning.{coverOf, hasControls, pastWidth}
 use Rattle.model.specs.Plain.{ifSome, indicesOf, firstIn, askedFor, isNamed, unnamedFrom, widthAt, upToWidth, changeFrom}
 use Rattle.refinement.specs.RowChange.{change-clipped}
 
@@ -144,3 +144,43 @@ same-change f Name name count d cs many =
     go none = refl
     go (some i) =
         change-clipped f i (min count (widthAt i d)) p cs many ∙ ap (λ (n : ℕ). changeFrom f i n cs) (clipped i (ltb i p) refl)
+
+-- the controls that are asked for are there on both sides, no more than their name covers
+pub asked-there : (key : Key) (name : List ℕ) (count : ℕ) (d : Definition) (many : ℕ) → many ≡ length (d .front .values)
+    → hasControls (coverOf key name d) count d ≡ true → pastWidth (coverOf key name d) count ≡ false
+    → ifSome (askedFor key name d) (λ i. both (leb (i + count) many) (leb count (upToWidth key i count d))) false ≡ true
+asked-there (Index i) name count d many q h w = ap₂ (λ (a b : Bool). both a b) (ap (λ (m : ℕ). leb (i + count) m) q ∙ h) (le-leb count count (omega arith))
+asked-there Name name count d many q h w =
+    ap (λ (o : Option ℕ). ifSome o (λ i. both (leb (i + count) many) (leb count (min count (widthAt i d)))) false) (first-index name names) ∙ go (firstIndex name names) h w
+  where
+    names : List ParameterName
+    names = d .front .names
+
+    p : ℕ
+    p = length (d .front .values)
+
+    -- at P a name covers nothing, and nothing is asked for
+    wide : (i : ℕ) → i + count ≤ p → count ≤ nextIndex i p names - i → (b : Bool) → ltb i p ≡ b → count ≤ min count (widthAt i d)
+    wide i l m true e = let v = same-width i d (ltb-true i p e) in omega arith
+    wide i l m false e = let v = ltb-false i p e in omega arith
+
+    go : (o : Option ℕ) → hasControls (coverFrom o p names) count d ≡ true → pastWidth (coverFrom o p names) count ≡ false
+        → ifSome o (λ i. both (leb (i + count) many) (leb count (min count (widthAt i d)))) false ≡ true
+    go none h w = h
+    go (some i) h w =
+        ap₂ (λ (a b : Bool). both a b) (ap (λ (m : ℕ). leb (i + count) m) q ∙ h)
+        (le-leb count (min count (widthAt i d)) (wide i (leb-true (i + count) p h) (ltb-false (nextIndex i p names - i) count w) (ltb i p) refl))
+
+-- one control is no more than any key covers
+pub one-covered : (key : Key) (name : List ℕ) (d : Definition) → hasControls (coverOf key name d) 1 d ≡ true → pastWidth (coverOf key name d) 1 ≡ false
+one-covered (Index i) name d h = le-ltb (length (d .front .values) - i) 1 (omega (arith, leb-true (i + 1) (length (d .front .values)) h))
+one-covered Name name d h = go (firstIndex name (d .front .names)) h
+  where
+    p : ℕ
+    p = length (d .front .values)
+
+    go : (o : Option ℕ) → hasControls (coverFrom o p (d .front .names)) 1 d ≡ true → pastWidth (coverFrom o p (d .front .names)) 1 ≡ false
+    go none h = refl
+    go (some i) h =
+        let low : i + 1 ≤ p = leb-true (i + 1) p h in
+        le-ltb (nextIndex i p (d .front .names) - i) 1 (omega (arith, next-above i p (d .front .names) (omega arith)))

@@ -7,28 +7,30 @@ use mathlib.Core.List.{List, [], _∷_}
 use mathlib.Core.Option.{Option, none, some}
 use lib.ListN.{length}
 use Rattle.words.specs.Choice.{pick}
-use Rattle.words.specs.Bytes.{AreBytes}
 use Rattle.format.specs.Definition.{Definition}
+use Rattle.format.specs.Reader.{readFile}
+use Rattle.nodes.specs.Forest.{Forest}
 use Rattle.preservation.specs.TreeKept.{known-sound}
 use Rattle.state.specs.Known.{Known, known}
 use Rattle.state.specs.Accepted.{Accepted, accepted}
+use Rattle.model.specs.declared.DefinitionCommand.{DefinitionCommand}
 use Rattle.model.specs.declared.DefinitionCommand.the-variants as definitions
 use Rattle.model.specs.declared.Query.{Query}
 use Rattle.model.specs.declared.Command.{Command}
 use Rattle.model.specs.declared.Command.the-variants as command
 use Rattle.model.specs.declared.Answer.{Answer}
 use Rattle.model.specs.Engine.{Engine, decode}
-use Rattle.model.specs.View.{Row, view}
+use Rattle.model.specs.View.{PlainNode, Row, view}
 use Rattle.model.specs.Formed.{formed}
 use Rattle.model.specs.Effects.{effect}
 use Rattle.model.specs.Replies.{reply}
 use Rattle.model.specs.Apply.{queryAnswer, answerIn, answer, isAccepted, written, replyOf}
-use Rattle.model.specs.Plain.{Plain, ifSome, atFirst, grow, fed}
+use Rattle.model.specs.Plain.{Named, Plain, ifSome, andThen, atFirst, meaning, undefine, defineFile, withNames, stepDefinitions, step, plainRows}
 use Rattle.model.specs.PlainReplies.{plainReply, isExport}
 use Rattle.model.specs.Frame.{displaced, touched, numbersLeft, entriesLeft}
 use Rattle.model.specs.Chain.{State, engineIn, Call, Applied, Chain, leftBy, Fresh}
-use Rattle.model.specs.Demands.{refusalIn, Ends, fedBy, replay, madeIn, made, definitionOfSynth, replyIn, Same, StepHolds, EachHolds, Demand3}
-use Rattle.refinement.specs.Kept.{Kept}
+use Rattle.model.specs.Demands.{refusalIn, Ends, afterCall, replay, madeIn, made, definitionOfSynth, replyIn, Same, StepHolds, NotAtLoss, EachHolds, Demand3}
+use Rattle.refinement.specs.Kept.{Kept, Replayed}
 use Rattle.refinement.specs.Same.{kept-same}
 use Rattle.refinement.specs.Replay.{replayed}
 use Rattle.frame.specs.Ordered.{ordered-step}
@@ -67,17 +69,38 @@ plain-written (command.Controls c) bytes out e p k a h = refl
 plain-written (command.Buses c) bytes out e p k a h = refl
 plain-written (command.Query q) bytes out e p k a h = plain-reply q bytes out e p k a h (isExport q) refl
 
+-- a command of definitions leaves the plain tree's nodes alone
+same-tree : (c : DefinitionCommand) (bytes : List ℕ) (p q : Plain) → stepDefinitions c bytes p ≡ some q → p .tree ≡ q .tree
+same-tree definitions.Receive bytes p q h = sym (go (defineFile (readFile bytes) (p .names))) ∙ ap (λ (o : Option Plain). ifSome o (λ x. x .tree) (p .tree)) h
+  where
+    go : (o : Option (List Named)) → ifSome (andThen o (λ ms. some (withNames ms p))) (λ x. x .tree) (p .tree) ≡ p .tree
+    go none = refl
+    go (some ms) = refl
+same-tree definitions.Free bytes p q h = sym (go (meaning bytes (p .names))) ∙ ap (λ (o : Option Plain). ifSome o (λ x. x .tree) (p .tree)) h
+  where
+    go : (o : Option Definition) → ifSome (andThen o (λ d. some (withNames (undefine bytes (p .names)) p))) (λ x. x .tree) (p .tree) ≡ p .tree
+    go none = refl
+    go (some d) = refl
+
 -- the synths after an accepted command
-made-after : (c : Command) (bytes ws bs : List ℕ) (p : Plain) (room : ℕ) → AreBytes bytes → (h : formed ws bs ≡ true) → Kept (decode ws bs) p → Kept (effect c bytes (decode ws bs)) (grow c bytes p)
+made-after : (c : Command) (bytes ws bs : List ℕ) (p : Plain) → (h : formed ws bs ≡ true) → Kept (decode ws bs) p → Replayed (effect c bytes (decode ws bs)) (step c bytes p)
     → Accepted c bytes (decode ws bs) → (n : ℕ) (d : Definition) (before : Option Definition) → (definitionOfSynth n (view (decode ws bs)) ≡ some d → before ≡ some d)
     → definitionOfSynth n (view (effect c bytes (decode ws bs))) ≡ some d → madeIn c bytes (decode ws bs) n before ≡ some d
-unfolding effect grow answerIn
-made-after (command.Definitions definitions.Receive) bytes ws bs p room clean h k k′ a n d before old v = old (ap (λ (l : List Row). definitionOfSynth n l) (kept-same (decode ws bs) p k .nodes ∙ sym (kept-same _ _ k′ .nodes)) ∙ v)
-made-after (command.Definitions definitions.Free) bytes ws bs p room clean h k k′ a n d before old v = old (ap (λ (l : List Row). definitionOfSynth n l) (kept-same (decode ws bs) p k .nodes ∙ sym (kept-same _ _ k′ .nodes)) ∙ v)
-made-after (command.Tree c) bytes ws bs p room clean h k k′ a n d before old v = tree-made bytes _ (decode ws bs) (known-sound ws bs (known ws bs h)) n d c before a old v
-made-after (command.Controls c) bytes ws bs p room clean h k k′ a n d before old v = old (sym (controls-made c bytes (decode ws bs) n) ∙ v)
-made-after (command.Buses c) bytes ws bs p room clean h k k′ a n d before old v = old v
-made-after (command.Query q) bytes ws bs p room clean h k k′ a n d before old v = old v
+unfolding effect step
+made-after (command.Definitions c) bytes ws bs p h k r a n d before old v =
+    old (ap (λ (l : List Row). definitionOfSynth n l)
+    (kept-same (decode ws bs) p k .nodes ∙ ap (λ (f : Forest PlainNode). plainRows 0 f) (same-tree c bytes p (r .plain) (r .stepped)) ∙ sym (kept-same _ _ (r .kept) .nodes))
+    ∙ v)
+made-after (command.Tree c) bytes ws bs p h k r a n d before old v = tree-made bytes _ (decode ws bs) (known-sound ws bs (known ws bs h)) n d c before a old v
+made-after (command.Controls c) bytes ws bs p h k r a n d before old v = old (sym (controls-made c bytes (decode ws bs) n) ∙ v)
+made-after (command.Buses c) bytes ws bs p h k r a n d before old v = old v
+made-after (command.Query q) bytes ws bs p h k r a n d before old v = old v
+
+-- after a call: the plain tree is not at a loss, and both go on
+pub record GoesOn (c : Call) (p : Plain) (madeFrom : ℕ → Option Definition) : Type 0 where
+  pub plain : Plain
+  pub stepped : afterCall c p ≡ some plain
+  pub going : Going (c .left) plain madeFrom
 
 -- one call
 module _ (c : Call) (s : State) (a : Applied c s) (p : Plain) (madeFrom : ℕ → Option Definition) (g : Going s p madeFrom) where
@@ -101,30 +124,43 @@ module _ (c : Call) (s : State) (a : Applied c s) (p : Plain) (madeFrom : ℕ �
   yes : isAccepted (c .answer) ≡ true → isAccepted (answerIn (c .command) (c .bytes) (engineIn s) (length (c .out))) ≡ true
   yes h = ap (λ (x : Answer). isAccepted x) (sym fact) ∙ h
 
-  kept-after : isAccepted (c .answer) ≡ true → Kept (effect (c .command) (c .bytes) (engineIn s)) (grow (c .command) (c .bytes) p)
+  kept-after : isAccepted (c .answer) ≡ true → Replayed (effect (c .command) (c .bytes) (engineIn s)) (step (c .command) (c .bytes) p)
   kept-after h = replayed (c .command) (c .bytes) (s .words) (s .arena) p (a .lentBytes) fit (g .same) (known-sound (s .words) (s .arena) fit .many) (accepted (c .bytes) e (c .command) room (yes h))
 
   abbrev next-made : ℕ → Option Definition
   next-made n = pick (isAccepted (c .answer)) (madeIn (c .command) (c .bytes) (engineIn s) n (madeFrom n)) (madeFrom n)
 
-  pub goes-on : Going (c .left) (fedBy c p) next-made
+  stepped-by : (b : Bool) → isAccepted (c .answer) ≡ b → afterCall c p ≡ pick b (step (c .command) (c .bytes) p) (some p)
+  stepped-by b h = ap (λ (b : Bool). pick b (step (c .command) (c .bytes) p) (some p)) h
+
+  pub goes-on : GoesOn c p next-made
   goes-on = go (isAccepted (c .answer)) refl
     where
-      go : (b : Bool) → isAccepted (c .answer) ≡ b → Going (c .left) (fedBy c p) next-made
-      go true h = record {
-        whole = ends .kept h;
-        same = subst (λ (b : Bool). Kept (engineIn (c .left)) (fed (c .command) (c .bytes) b p)) (sym h) (subst (λ (x : Engine). Kept x (grow (c .command) (c .bytes) p)) (sym (ends .effected h)) (kept-after h));
-        synths = λ n d v.
-            ap (λ (b : Bool). pick b (madeIn (c .command) (c .bytes) e n (madeFrom n)) (madeFrom n)) h
-            ∙ made-after (c .command) (c .bytes) (s .words) (s .arena) p room (a .lentBytes) (g .whole) (g .same) (kept-after h) (accepted (c .bytes) e (c .command) room (yes h)) n d (madeFrom n) (g .synths n d)
-            (ap (λ (x : Engine). definitionOfSynth n (view x)) (sym (ends .effected h)) ∙ v);
-      }
+      go : (b : Bool) → isAccepted (c .answer) ≡ b → GoesOn c p next-made
+      go true h =
+          let r = kept-after h in
+          record {
+            plain = r .plain;
+            stepped = stepped-by true h ∙ r .stepped;
+            going = record {
+              whole = ends .kept h;
+              same = subst (λ (x : Engine). Kept x (r .plain)) (sym (ends .effected h)) (r .kept);
+              synths = λ n d v.
+                  ap (λ (b : Bool). pick b (madeIn (c .command) (c .bytes) e n (madeFrom n)) (madeFrom n)) h
+                  ∙ made-after (c .command) (c .bytes) (s .words) (s .arena) p (g .whole) (g .same) r (accepted (c .bytes) e (c .command) room (yes h)) n d (madeFrom n) (g .synths n d)
+                  (ap (λ (x : Engine). definitionOfSynth n (view x)) (sym (ends .effected h)) ∙ v);
+            };
+          }
       go false h = record {
-        whole = ap (λ (x : State). formed (x .words) (x .arena)) (ends .unchanged h .0) ∙ g .whole;
-        same = subst (λ (b : Bool). Kept (engineIn (c .left)) (fed (c .command) (c .bytes) b p)) (sym h) (subst (λ (x : State). Kept (engineIn x) p) (sym (ends .unchanged h .0)) (g .same));
-        synths = λ n d v.
-            ap (λ (b : Bool). pick b (madeIn (c .command) (c .bytes) e n (madeFrom n)) (madeFrom n)) h
-            ∙ g .synths n d (ap (λ (x : State). definitionOfSynth n (view (engineIn x))) (sym (ends .unchanged h .0)) ∙ v);
+        plain = p;
+        stepped = stepped-by false h;
+        going = record {
+          whole = ap (λ (x : State). formed (x .words) (x .arena)) (ends .unchanged h .0) ∙ g .whole;
+          same = subst (λ (x : State). Kept (engineIn x) p) (sym (ends .unchanged h .0)) (g .same);
+          synths = λ n d v.
+              ap (λ (b : Bool). pick b (madeIn (c .command) (c .bytes) e n (madeFrom n)) (madeFrom n)) h
+              ∙ g .synths n d (ap (λ (x : State). definitionOfSynth n (view (engineIn x))) (sym (ends .unchanged h .0)) ∙ v);
+        };
       }
 
   -- what demand 3 asks of one call
@@ -149,31 +185,40 @@ module _ (c : Call) (s : State) (a : Applied c s) (p : Plain) (madeFrom : ℕ �
 each-holds : (cs : List Call) (s : State) → Chain cs s → (p : Plain) (madeFrom : ℕ → Option Definition) → Going s p madeFrom → EachHolds cs s p
 unfolding Chain EachHolds
 each-holds [] s a p madeFrom g = tt
-each-holds (c ∷ cs) s a p madeFrom g = (step-holds c s (a .0) p madeFrom g, each-holds cs (c .left) (a .1) (fedBy c p) (next-made c s (a .0) p madeFrom g) (goes-on c s (a .0) p madeFrom g))
+each-holds (c ∷ cs) s a p madeFrom g =
+    let next = goes-on c s (a .0) p madeFrom g in
+    (step-holds c s (a .0) p madeFrom g, subst (λ (o : Option Plain). NotAtLoss o (λ q. EachHolds cs (c .left) q)) (sym (next .stepped)) (each-holds cs (c .left) (a .1) (next .plain) (next-made c s (a .0) p madeFrom g) (next .going)))
 
 pub record End (cs : List Call) (s : State) (p : Plain) (madeFrom : ℕ → Option Definition) : Type 0 where
-  pub going : Going (leftBy cs s) (replay cs p) (λ n. made cs s n (madeFrom n))
+  pub plain : Plain
+  pub replayed : replay cs p ≡ some plain
+  pub going : Going (leftBy cs s) plain (λ n. made cs s n (madeFrom n))
 
 at-end : (cs : List Call) (s : State) → Chain cs s → (p : Plain) (madeFrom : ℕ → Option Definition) → Going s p madeFrom → End cs s p madeFrom
 unfolding Chain leftBy replay made
-at-end [] s a p madeFrom g = record { going = g }
-at-end (c ∷ cs) s a p madeFrom g = record { going = at-end cs (c .left) (a .1) (fedBy c p) (next-made c s (a .0) p madeFrom g) (goes-on c s (a .0) p madeFrom g) .going }
+at-end [] s a p madeFrom g = record { plain = p; replayed = refl; going = g }
+at-end (c ∷ cs) s a p madeFrom g =
+    let next = goes-on c s (a .0) p madeFrom g in
+    let end = at-end cs (c .left) (a .1) (next .plain) (next-made c s (a .0) p madeFrom g) (next .going) in
+    record { plain = end .plain; replayed = ap (λ (o : Option Plain). andThen o (λ q. replay cs q)) (next .stepped) ∙ end .replayed; going = end .going }
 
 fresh-going : (s : State) → Fresh s → Going s atFirst (λ n. none)
 fresh-going s f =
     subst (λ (x : State). Going x atFirst (λ n. none)) (sym (fresh-state s f)) (record { whole = fresh-formed; same = fresh-kept; synths = fresh-synths })
 
 -- what is kept at the end of every chain from a fresh engine
-pub going-on : (s : State) → Fresh s → (cs : List Call) → Chain cs s → Going (leftBy cs s) (replay cs atFirst) (λ n. made cs s n none)
-going-on s f cs a = at-end cs s a atFirst (λ n. none) (fresh-going s f) .going
+pub going-on : (s : State) → Fresh s → (cs : List Call) → Chain cs s → End cs s atFirst (λ n. none)
+going-on s f cs a = at-end cs s a atFirst (λ n. none) (fresh-going s f)
 
 -- Demand 3: one claim about every chain of loads and commands from a fresh engine
 pub demand3 : (s : State) → Fresh s → (cs : List Call) → Chain cs s → Demand3 cs s
 demand3 s f cs a =
-    let g = going-on s f cs a in
+    let end = going-on s f cs a in
     record {
       each = each-holds cs s a atFirst (λ n. none) (fresh-going s f);
-      same = kept-same (engineIn (leftBy cs s)) (replay cs atFirst) (g .same);
-      tree = tree-holds (leftBy cs s .words) (leftBy cs s .arena) (g .whole);
-      synths = g .synths;
+      plain = end .plain;
+      replayed = end .replayed;
+      same = kept-same (engineIn (leftBy cs s)) (end .plain) (end .going .same);
+      tree = tree-holds (leftBy cs s .words) (leftBy cs s .arena) (end .going .whole);
+      synths = end .going .synths;
     }
