@@ -32,13 +32,17 @@ fn reason_at(words: &[u32], at: usize, seen: Sight) -> Reason
     if wide(words[COUNT]) <= at {
         return Reason::NoNode;
     }
-    if words[NODES + RECORD * at + SLOT] == GROUP {
+    let slot = words[NODES + RECORD * at + SLOT];
+    let run = words[NODES + RECORD * at + RUN];
+    let depth = words[NODES + RECORD * at + DEPTH];
+    let limit = seen.limit;
+    if slot == GROUP {
         return Reason::Group;
     }
-    if words[NODES + RECORD * at + RUN] != 1 {
+    if run != 1 {
         return Reason::Off;
     }
-    if seen.limit < words[NODES + RECORD * at + DEPTH] {
+    if limit < depth {
         return Reason::AncestorOff(seen.named);
     }
     Reason::Running(seen.many + 1)

@@ -1,6 +1,5 @@
 -- `why::sight::see_row` meets its contract: a law for each return.
 use native.Mathlib.Omega.{arith}
-use borrow.Author.Needs.{needs}
 use Rattle.why.specs.Seen.{seen-under, seen-off, seen-group, seen-synth}
 use Rattle.why.proofs.sight.see_row.Statement.{statement}
 use Rattle.why.proofs.sight.see_row.Tie as tie

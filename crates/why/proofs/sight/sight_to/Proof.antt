@@ -1,8 +1,7 @@
 -- `why::sight::sight_to` meets its contract. The invariant: what was seen is what the rows so far show.
-use Prim.Native.Nat.{ℕ, _+_, _-_, _≤_}
+use Prim.Native.Nat.{ℕ, _-_, _≤_}
 use mathlib.Core.Path.{_≡_, subst}
 use native.Mathlib.Omega.{arith}
-use borrow.Author.Needs.{needs}
 use Rattle.why.specs.Seen.{SeenBefore, seen-start}
 use Rattle.why.proofs.sight.sight_to.Statement.{statement}
 use Rattle.why.proofs.sight.sight_to.Tie as tie
