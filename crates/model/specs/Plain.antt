@@ -1,6 +1,6 @@
--- The plain tree of paper 01, section "The plain tree". "It is fed each command with its arguments, a file as its bytes, and whether the command was accepted; nothing
--- from the engine's state." What arguments mean and what can be done with them is stated here by itself: a command that the plain tree has no way to do answers none.
--- docs/TRACE.md lists what is shared with the engine.
+-- The plain tree of paper 01, section "The plain tree". "It is fed each command with its arguments, a file as its bytes, and whether the command
+-- was accepted; nothing from the engine's state." What arguments mean is stated here by itself, and so is what can be done with them: a command
+-- that the plain tree has no way to do answers none. docs/TRACE.md lists what is shared with the engine.
 use Prim.Native.Nat.{ℕ, zero, suc, _+_, _-_, min}
 use mathlib.Core.Bool.{Bool, true, false}
 use mathlib.Core.List.{List, [], _∷_, _++_, map}
@@ -142,7 +142,8 @@ latestAfter f latest = ifSome latest (λ n. pick (has numberIn n f) (some n) non
 abbrev pub withTree : Forest PlainNode → Plain → Plain
 withTree f p = record { tree = f; names = p .names; next = p .next; latest = latestAfter f (p .latest); buses = p .buses }
 
--- "Add actions: 0 head, 1 tail of the target group; 2 before, 3 after the target; 4 replaces the target, whose subtree is freed": where there is such a target
+-- "Add actions: 0 head, 1 tail of the target group; 2 before, 3 after the target; 4 replaces the target, whose subtree is freed":
+-- 0 and 1 need a group, the others a node below another
 abbrev pub atHead : Forest PlainNode → ℕ → Forest PlainNode → Option (Forest PlainNode)
 atHead g n f = onlyIf (isGroupIn n f) (putHead numberIn g n f)
 
