@@ -2,18 +2,21 @@
 use Prim.Native.Nat.{ℕ, _≤_}
 use mathlib.Core.Path.{_≡_, refl, sym, ap, _∙_}
 use mathlib.Core.Bool.{Bool, true, false}
-use mathlib.Core.List.{List}
+use mathlib.Core.List.{List, _++_}
 use mathlib.Core.Option.{Option, none, some}
 use native.Mathlib.Omega.{arith}
-use lib.ListN.{length}
+use lib.ListN.{length, take, drop}
+use lib.Seq.{take-append-le, take-length}
 use lib.Dec.{ltb}
 use borrow.Author.Tests.{le-ltb}
 use Rattle.words.specs.Choice.{pick}
 use Rattle.refusals.specs.declared.Refusal.the-variants.{NoRoom, Malformed}
+use Rattle.model.specs.declared.Answer.{Answer}
 use Rattle.model.specs.declared.Answer.the-variants.{Replied, Refused}
 use Rattle.model.specs.Checks.{firstOf}
+use Rattle.model.specs.Apply.{written}
 use Rattle.messages.specs.Table.{Row, Given}
-use Rattle.messages.specs.Write.{rowOf, anyUnfit, messageBy, messageFrom, messageOf, writeChecks, writeAnswer}
+use Rattle.messages.specs.Write.{rowOf, anyUnfit, messageBy, messageFrom, messageOf, writeChecks, writeAnswer, Writes}
 
 -- a call that the writer accepts: its row, and no name or file in it that is unfit
 pub record Fits (g : Given) : Type 0 where
@@ -41,3 +44,24 @@ answer-fits g room n a = by (rowOf (g .numbers .op)) refl a
     by : (o : Option Row) → rowOf (g .numbers .op) ≡ o → firstOf (writeChecks o g room) (Replied (length (messageFrom o g))) ≡ Replied n → Fits g
     by none e a = let z : _≡_ {A = ℕ} 0 1 = cc in absurd (omega arith)
     by (some r) e a = choose r e (anyUnfit (g .bytes) (r .slots)) refl a
+
+-- the length that it answers is the message's
+pub answer-size : (g : Given) (room n : ℕ) → writeAnswer g room ≡ Replied n → length (messageOf g) ≡ n
+unfolding writeAnswer messageOf firstOf
+answer-size g room n a = by (rowOf (g .numbers .op)) a
+  where
+    choose : (size : ℕ) (u short : Bool) → pick u (Refused Malformed) (pick short (Refused NoRoom) (Replied size)) ≡ Replied n → size ≡ n
+    choose size true short a = let z : _≡_ {A = ℕ} 0 1 = cc in absurd (omega arith)
+    choose size false true a = let z : _≡_ {A = ℕ} 0 1 = cc in absurd (omega arith)
+    choose size false false a = cc
+
+    by : (o : Option Row) → firstOf (writeChecks o g room) (Replied (length (messageFrom o g))) ≡ Replied n → length (messageFrom o g) ≡ n
+    by none a = let z : _≡_ {A = ℕ} 0 1 = cc in absurd (omega arith)
+    by (some r) a = choose (length (messageBy r g)) (anyUnfit (g .bytes) (r .slots)) (ltb room (length (messageBy r g))) a
+
+-- what a call of the writer wrote: as many bytes of the buffer as it answered
+pub wrote-message : (g : Given) (out out′ : List ℕ) (n : ℕ) → Writes g out (Replied n) out′ → take n out′ ≡ messageOf g
+wrote-message g out out′ n w =
+    let size = answer-size g (length out) n (sym (w .answers)) in
+    let left : out′ ≡ messageOf g ++ drop n out = w .left ∙ ap (λ (a : Answer). written a (messageOf g) out) (sym (w .answers)) in
+    ap (take n) left ∙ take-append-le n (messageOf g) (drop n out) (omega arith) ∙ ap (λ (k : ℕ). take k (messageOf g)) (sym size) ∙ take-length (messageOf g)

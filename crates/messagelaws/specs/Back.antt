@@ -9,11 +9,11 @@ use Rattle.osc.specs.Message.{Argument, message}
 use Rattle.model.specs.declared.Command.{Command}
 use Rattle.calls.specs.declared.Parsed.the-variants.{Call}
 use Rattle.messages.specs.Form.{Message, parsed, readMessage}
-use Rattle.messages.specs.Table.{Row, Given, giveAll}
+use Rattle.messages.specs.Table.{Row, Given, Words, giveAll}
 use Rattle.messages.specs.Receive.{bare, means, commandIn, calls, known, meaningOf, meaning}
 use Rattle.messages.specs.Write.{messageFrom, messageOf}
 use Rattle.messagelaws.specs.Form.{message-back}
-use Rattle.messagelaws.specs.Slots.{Words, given-fits, all-well}
+use Rattle.messagelaws.specs.Slots.{given-fits, all-well}
 use Rattle.messagelaws.specs.Taken.{beside, taken-bytes}
 use Rattle.messagelaws.specs.Rows.{row-fine, look-own}
 use Rattle.messagelaws.specs.Commands.{taken-command}

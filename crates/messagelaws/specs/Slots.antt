@@ -1,5 +1,5 @@
 -- The slots of a row: what is given to them is taken from them again, and the other way round.
-use Prim.Native.Nat.{ℕ, _<_}
+use Prim.Native.Nat.{ℕ}
 use mathlib.Core.Path.{_≡_, refl, ap₂, _∙_}
 use mathlib.Core.Bool.{Bool, true, false, not}
 use mathlib.Core.List.{List, [], _∷_}
@@ -9,17 +9,9 @@ use borrow.Author.Tests.{not-true, not-false, le-ltb, ltb-false}
 use Rattle.words.specs.Choice.{pick, both, either, both-true, either-false}
 use Rattle.format.specs.Fields.{nameBytes, highest32}
 use Rattle.osc.specs.Message.{Argument, int, float, text, blob, tagOf, tags}
-use Rattle.messages.specs.declared.Numbers.{Numbers}
-use Rattle.messages.specs.Table.{Slot, at-a, at-b, at-c, value, name, file, Given, takes, numberIn, bytesIn, take, give, fitAll, takeAll, giveAll}
+use Rattle.messages.specs.Table.{Slot, at-a, at-b, at-c, value, name, file, Given, Words, takes, numberIn, bytesIn, take, give, fitAll, takeAll, giveAll}
 use Rattle.messages.specs.Write.{unfit, anyUnfit}
 use Rattle.messagelaws.specs.Arguments.{Well, AllWell}
-
--- numbers of 32 bits
-pub record Words (n : Numbers) : Type 0 where
-  pub a : n .a < 4294967296
-  pub b : n .b < 4294967296
-  pub c : n .c < 4294967296
-  pub e : n .e < 4294967296
 
 -- a number, a string, a blob by their tags
 int-of : (x : Argument) → eqb (tagOf x) 105 ≡ true → int (numberIn x) ≡ x

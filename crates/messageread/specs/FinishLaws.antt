@@ -4,6 +4,7 @@ use Prim.Native.Nat.{ℕ}
 use mathlib.Core.Path.{_≡_, refl, sym, ap, _∙_}
 use mathlib.Core.List.{List}
 use lib.ListN.{length, drop}
+use Rattle.words.specs.Bytes.{AreBytes}
 use borrow.Author.Tests.{eq-eqb, ne-eqb}
 use Rattle.model.specs.declared.Command.{Command}
 use Rattle.calls.specs.declared.Parsed.{Parsed}
@@ -58,16 +59,17 @@ module _ (s address : List ℕ) (next : ℕ) where
       ∙ ap (λ (l : List ℕ). meaningOf (andThen (argumentsAt l s place) (messageEnd s address))) (sym e)
       ∙ taken-meaning s address ts op found place
 
-module _ (s : List ℕ) where
+module _ (s : List ℕ) (lent : AreBytes s) where
   by-address : meaning s ≡ meaningOf (andThen (headed 47 (stringAt s 0)) (afterAddress s))
   unfolding meaning readMessage
   by-address = refl
 
   pub no-address : faulty ≡ headed 47 (stringAt s 0) → Reads s received.Malformed
-  no-address h = record { stands = by-address ∙ ap meaningOf (sym (stops (headed 47 (stringAt s 0)) (afterAddress s) h)); within = tt }
+  no-address h = record { stands = by-address ∙ ap meaningOf (sym (stops (headed 47 (stringAt s 0)) (afterAddress s) h)); within = tt; lentMessage = lent }
 
   pub addressed : (address : List ℕ) (next : ℕ) (r : Received) → parsed address next ≡ headed 47 (stringAt s 0) → Stands s (meaningOf (afterAddress s address next)) r → Reads s r
   addressed address next r h t = record {
     stands = by-address ∙ ap meaningOf (sym (goes-on (headed 47 (stringAt s 0)) (afterAddress s) h)) ∙ t .stands;
     within = t .within;
+    lentMessage = lent;
   }

@@ -6,6 +6,7 @@ use mathlib.Core.List.{List, [], _∷_}
 use mathlib.Core.Option.{Option, none, some}
 use lib.ListN.{length}
 use Rattle.words.specs.Choice.{pick, both}
+use Rattle.words.specs.Bytes.{AreBytes}
 use Rattle.words.specs.Parts.{region}
 use Rattle.format.specs.Reader.{sameName}
 use Rattle.osc.specs.Message.{tags}
@@ -69,6 +70,8 @@ Within s received.Malformed = Unit {0}
 Within s received.Unknown = Unit {0}
 Within s (received.Command c start end) = (start ≤ end) × (end ≤ length s)
 
+-- a message that was read, and what was handed on; what is lent as bytes is bytes
 pub record Reads (s : List ℕ) (r : Received) : Type 0 where
   pub stands : meaning s ≡ handed s r
   pub within : Within s r
+  pub lentMessage : AreBytes s

@@ -1,5 +1,5 @@
 -- The table of addresses and tags, which the reader and the writer both go by: a row for each op of a call (`calls` `Ops`), from 1 on. Export, 27, has no address.
-use Prim.Native.Nat.{ℕ}
+use Prim.Native.Nat.{ℕ, _<_}
 use mathlib.Core.Bool.{Bool, true, false}
 use mathlib.Core.List.{List, [], _∷_}
 use lib.Dec.{eqb}
@@ -87,6 +87,15 @@ table =
 pub record Given : Type 0 where
   pub numbers : Numbers
   pub bytes : List ℕ
+
+-- numbers of 32 bits, as those of every call are
+pub record Words (n : Numbers) : Type 0 where
+  pub op : n .op < 4294967296
+  pub a : n .a < 4294967296
+  pub b : n .b < 4294967296
+  pub c : n .c < 4294967296
+  pub d : n .d < 4294967296
+  pub e : n .e < 4294967296
 
 -- whether a slot takes an argument of a tag
 abbrev pub takes : Slot → ℕ → Bool

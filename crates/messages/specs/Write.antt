@@ -7,6 +7,7 @@ use mathlib.Core.Option.{Option, none, some}
 use lib.ListN.{length}
 use lib.Dec.{ltb}
 use Rattle.words.specs.Choice.{either}
+use Rattle.words.specs.Bytes.{AreBytes}
 use Rattle.refusals.specs.declared.Refusal.the-variants.{NoRoom, Malformed, UnknownMessage}
 use Rattle.format.specs.Fields.{nameBytes, highest32}
 use Rattle.osc.specs.Message.{message}
@@ -14,7 +15,7 @@ use Rattle.model.specs.declared.Answer.{Answer}
 use Rattle.model.specs.declared.Answer.the-variants.{Replied}
 use Rattle.model.specs.Checks.{Check, check, firstOf}
 use Rattle.model.specs.Apply.{written}
-use Rattle.messages.specs.Table.{Slot, at-a, at-b, at-c, value, name, file, Row, table, Given, giveAll}
+use Rattle.messages.specs.Table.{Slot, at-a, at-b, at-c, value, name, file, Row, table, Given, Words, giveAll}
 
 -- the row of an op; none for one that has no address
 unfoldable pub rowFrom : List Row → ℕ → Option Row
@@ -58,7 +59,9 @@ writeChecks (some r) g room = check Malformed (anyUnfit (g .bytes) (r .slots)) �
 unfoldable pub writeAnswer : Given → ℕ → Answer
 writeAnswer g room = firstOf (writeChecks (rowOf (g .numbers .op)) g room) (Replied (length (messageOf g)))
 
--- a call written into a lent buffer, from its first byte; bytes past it stay, and a refusal changes none
+-- a call written into a lent buffer, from its first byte; bytes past it stay, and a refusal changes none. Its numbers have 32 bits, and what is lent as bytes is bytes
 pub record Writes (g : Given) (out : List ℕ) (a : Answer) (out′ : List ℕ) : Type 0 where
   pub answers : a ≡ writeAnswer g (length out)
   pub left : out′ ≡ written (writeAnswer g (length out)) (messageOf g) out
+  pub numbers : Words (g .numbers)
+  pub lentBytes : AreBytes (g .bytes)

@@ -9,6 +9,7 @@ use borrow.Author.Tests.{lt-ltb, le-ltb}
 use lib.ListN.{length}
 use lib.Dec.{ltb}
 use Rattle.words.specs.Choice.{pick}
+use Rattle.words.specs.Bytes.{AreBytes}
 use Rattle.refusals.specs.declared.Refusal.the-variants.{NoRoom, Malformed, UnknownMessage}
 use Rattle.osc.specs.Message.{message, arguments}
 use Rattle.osc.specs.Over.{over, over-first}
@@ -17,7 +18,7 @@ use Rattle.model.specs.declared.Answer.{Answer}
 use Rattle.model.specs.declared.Answer.the-variants.{Replied, Refused}
 use Rattle.model.specs.Checks.{firstOf}
 use Rattle.model.specs.Apply.{written}
-use Rattle.messages.specs.Table.{Row, Given, giveAll}
+use Rattle.messages.specs.Table.{Row, Given, Words, giveAll}
 use Rattle.messages.specs.Write.{rowOf, anyUnfit, messageFrom, messageOf, writeChecks, writeAnswer, Writes}
 use Rattle.messages.specs.Rows.{slotsIn, addressIn, slotsOf, addressOf}
 use Rattle.messagewrite.specs.Slots.{given-count, sizes, arguments-size}
@@ -47,10 +48,10 @@ unfolding firstOf
 row-answer none g room a h = absurd (omega arith)
 row-answer (some r) g room a h = refl
 
-module _ (g : Given) (out : List ℕ) where
+module _ (g : Given) (out : List ℕ) (w : Words (g .numbers)) (lent : AreBytes (g .bytes)) where
   pub writes-unknown : length (addressOf (g .numbers .op)) ≡ 0 → Writes g out (Refused UnknownMessage) out
   unfolding writeAnswer firstOf
-  writes-unknown e = let z : rowOf (g .numbers .op) ≡ none = no-row (g .numbers .op) e in record { answers = rw z; left = rw z }
+  writes-unknown e = let z : rowOf (g .numbers .op) ≡ none = no-row (g .numbers .op) e in record { answers = rw z; left = rw z; numbers = w; lentBytes = lent }
 
   module _ (h : 0 < length (addressOf (g .numbers .op))) where
     is-message : messageOf g ≡ wholeMessage g
@@ -65,7 +66,7 @@ module _ (g : Given) (out : List ℕ) where
     is-size = ap (length {A = ℕ}) is-message ∙ whole-size g
 
     by-answer : (a : Answer) (out′ : List ℕ) → writeAnswer g (length out) ≡ a → out′ ≡ written a (messageOf g) out → Writes g out a out′
-    by-answer a out′ e o = record { answers = sym e; left = o ∙ ap (λ (b : Answer). written b (messageOf g) out) (sym e) }
+    by-answer a out′ e o = record { answers = sym e; left = o ∙ ap (λ (b : Answer). written b (messageOf g) out) (sym e); numbers = w; lentBytes = lent }
 
     pub writes-unfit : anyUnfit (g .bytes) (slotsOf (g .numbers .op)) ≡ true → Writes g out (Refused Malformed) out
     writes-unfit u = by-answer (Refused Malformed) out (rw u at is-answer) refl

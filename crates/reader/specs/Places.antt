@@ -1,9 +1,11 @@
 -- What a reader meets at a place of a file.
 use Prim.Native.Nat.{ℕ, zero, suc, _-_}
 use mathlib.Core.Bool.{Bool}
+use mathlib.Core.Path.{_≡_}
 use mathlib.Core.List.{List, []}
 use lib.ListN.{length}
 use lib.Dec.{leb}
+use Rattle.words.specs.Bytes.{AreBytes}
 use Rattle.words.specs.Parts.{region}
 use Rattle.files.specs.declared.file.Checked.{Checked}
 use Rattle.files.specs.declared.file.Checked.the-variants.{Accepted, Refused}
@@ -23,6 +25,11 @@ definitionHere s at = definitionBy (fileWidth s) s at
 abbrev pub startOf : List ℕ → Checked → ℕ
 startOf s (Accepted n) = firstPlace
 startOf s (Refused r at) = length s
+
+-- the promise of that place; what is lent as bytes is bytes
+pub record Starts (s : List ℕ) (checked : Checked) (r : ℕ) : Type 0 where
+  pub starts : r ≡ startOf s checked
+  pub lentFile : AreBytes s
 
 -- no definition is left
 abbrev pub endedAt : List ℕ → ℕ → Bool

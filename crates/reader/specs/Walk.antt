@@ -6,6 +6,7 @@ use mathlib.Core.List.{List, [], _∷_, _++_}
 use lib.ListN.{length, take}
 use denote.Ref.{RefT, now}
 use Rattle.words.specs.Choice.{pick}
+use Rattle.words.specs.Bytes.{AreBytes}
 use Rattle.format.specs.Read.{got}
 use Rattle.format.specs.Definition.{Definition}
 use Rattle.format.specs.declared.Width.{Width}
@@ -23,6 +24,11 @@ opened f = record {
   reader = record { file = f; place = startOf (now f) (verdict (readFile (now f))) };
   checked = verdict (readFile (now f));
 }
+
+-- the promise of a file that was opened; what is lent as bytes is bytes
+pub record Opens (f : RefT (List ℕ)) (r : Opened) : Type 0 where
+  pub opens : r ≡ opened f
+  pub lentFile : AreBytes (now f)
 
 -- the reader past the next definition
 abbrev pub after : Reader → Reader
@@ -64,6 +70,6 @@ pub data Each (w : Width) : List (List ℕ) → List Definition → Type 0 where
   more : {p : List ℕ} {d : Definition} {ps : List (List ℕ)} {ds : List Definition} → Hands w p d → Each w ps ds → Each w (p ∷ ps) (d ∷ ds)
 
 -- a reader of a file hands out these definitions; the file's head and behind it the parts that were handed out are the file
-pub record Walks (f : RefT (List ℕ)) (n : ℕ) (ds : List Definition) : Type 0 where
-  pub each : Each (fileWidth (now f)) (walk n (opened f .reader)) ds
-  pub whole : take firstPlace (now f) ++ bytesOf (walk n (opened f .reader)) ≡ now f
+pub record Walks (f : RefT (List ℕ)) (r : Reader) (n : ℕ) (ds : List Definition) : Type 0 where
+  pub each : Each (fileWidth (now f)) (walk n r) ds
+  pub whole : take firstPlace (now f) ++ bytesOf (walk n r) ≡ now f

@@ -1,7 +1,7 @@
 -- A walk from the opening of a file to its end: exactly the definitions that the file is read as, each at its own bytes.
 use Prim.Native.Nat.{ℕ, zero, suc, _+_, _-_, _≤_, _<_}
 use mathlib.Core.Bool.{true, false}
-use mathlib.Core.Path.{_≡_, refl, sym, ap, _∙_}
+use mathlib.Core.Path.{_≡_, refl, sym, ap, _∙_, subst}
 use mathlib.Core.List.{List, [], _∷_, _++_}
 use native.Mathlib.Omega.{arith}
 use lib.ListN.{length, take, drop, take-append-drop, drop-of-length-le}
@@ -22,9 +22,10 @@ use Rattle.files.specs.Forward.{definition-whole}
 use Rattle.roundtrip.specs.Forth.{definition-forth}
 use Rattle.roundtrip.specs.Local.{definition-alone}
 use Rattle.reader.specs.declared.reader.Reader.{Reader}
+use Rattle.reader.specs.declared.reader.Opened.{Opened}
 use Rattle.reader.specs.Places.{definitionHere, placeAfter, placePast}
 use Rattle.reader.specs.SpanLaws.{read-whole}
-use Rattle.reader.specs.Walk.{opened, after, past, ended, handed, walk, bytesOf, Hands, Each, none, more, Walks}
+use Rattle.reader.specs.Walk.{opened, Opens, after, past, ended, handed, walk, bytesOf, Hands, Each, none, more, Walks}
 
 -- a reader at its end hands out nothing
 ended-walk : (n : ℕ) (r : Reader) → ended r ≡ true → walk n r ≡ []
@@ -103,15 +104,21 @@ module _ (f : RefT (List ℕ)) where
       let all : ds ≡ d ∷ rest = cc in
       rw all (from-step b p d next (fitting-got (fileWidth s) s names p e1) n rest (from-all b k (names ++ (d .front .name ∷ [])) next e2 (omega arith) n (omega arith)))))
 
-  -- "walks the definitions": those of an accepted file, in as many steps or more
-  pub walks : AreBytes s → {ds : List Definition} {end : ℕ} → readFile s ≡ got ds end → (n : ℕ) → length ds ≤ n → Walks f n ds
-  walks b {ds} {end} h n m =
+  opened-walks : AreBytes s → {ds : List Definition} {end : ℕ} → readFile s ≡ got ds end → (n : ℕ) → length ds ≤ n → Walks f (opened f .reader) n ds
+  opened-walks b {ds} {end} h n m =
       let w = from-all b (length ds) [] firstPlace (read-whole s h .read) (read-whole s h .whole) n m in
       record { each = rw h (w .each); whole = rw h (ap (λ (l : List ℕ). take firstPlace s ++ l) (w .rest) ∙ take-append-drop firstPlace s) }
 
+  opened-none : {q : Fault} {place : ℕ} → readFile s ≡ bad q place → (n : ℕ) → walk n (opened f .reader) ≡ []
+  opened-none h n = rw h (ended-walk n (at-place (length s)) (le-leb (length s) (length s) (omega arith)))
+
+  -- "walks the definitions", of what `open` answers: those of an accepted file, in as many steps or more
+  pub walks : (o : Opened) → Opens f o → {ds : List Definition} {end : ℕ} → readFile s ≡ got ds end → (n : ℕ) → length ds ≤ n → Walks f (o .reader) n ds
+  walks o p {ds} h n m = subst (λ (x : Opened). Walks f (x .reader) n ds) (sym (p .opens)) (opened-walks (p .lentFile) h n m)
+
   -- and none of a file that is refused
-  pub walks-none : {q : Fault} {place : ℕ} → readFile s ≡ bad q place → (n : ℕ) → walk n (opened f .reader) ≡ []
-  walks-none h n = rw h (ended-walk n (at-place (length s)) (le-leb (length s) (length s) (omega arith)))
+  pub walks-none : (o : Opened) → Opens f o → {q : Fault} {place : ℕ} → readFile s ≡ bad q place → (n : ℕ) → walk n (o .reader) ≡ []
+  walks-none o p h n = ap (λ (x : Opened). walk n (x .reader)) (p .opens) ∙ opened-none h n
 
 -- a skip of one definition is a step of the walk
 pub past-one : (r : Reader) → past 1 r ≡ after r

@@ -7,9 +7,10 @@ use files::read_definition;
 use files::width_of;
 use format::FIRST_PLACE;
 ghost use mathlib.Core.Path.{_≡_};
+ghost use lib.ListN.{length};
 ghost use Rattle.fields.specs.Answers.{stepOf};
 ghost use Rattle.format.specs.Read.{ending};
-ghost use Rattle.reader.specs.Places.{definitionHere, endedAt, placeAfter, placePast, spanAt, bytesAt, startOf};
+ghost use Rattle.reader.specs.Places.{definitionHere, endedAt, placeAfter, placePast, spanAt, bytesAt, Starts};
 
 // Where a definition starts, and the place past it; or none.
 pub enum Span {
@@ -17,13 +18,20 @@ pub enum Span {
     Nowhere,
 }
 
+// The end of a file, where no definition starts.
+fn end_of(s: &[u8]) -> usize
+    ensures { λ r. ⌜ r ≡ length (now (s .entry)) ⌝ }
+{
+    s.len()
+}
+
 // Where a reader of a file starts, by what the check of the whole file said: at its end where it is refused.
 pub fn start_of(s: &[u8], checked: Checked) -> usize
-    ensures { λ r. ⌜ r ≡ startOf (now (s .entry)) checked ⌝ }
+    ensures { λ r. ⌜ Starts (now (s .entry)) checked r ⌝ }
 {
     match checked {
         Checked::Accepted(count) => FIRST_PLACE,
-        Checked::Refused(refusal, place) => s.len(),
+        Checked::Refused(refusal, place) => end_of(s),
     }
 }
 
@@ -47,7 +55,7 @@ pub fn place_after(s: &[u8], at: usize) -> usize
 {
     match definition_at(s, at) {
         Step::Next(next) => next.at,
-        Step::Bad(refusal, place) => s.len(),
+        Step::Bad(refusal, place) => end_of(s),
     }
 }
 
@@ -59,7 +67,7 @@ pub fn place_past(s: &[u8], at: usize, count: u32) -> usize
     let mut i = 0;
     while i < count {
         if s.len() <= here {
-            return s.len();
+            return end_of(s);
         }
         here = place_after(s, here);
         i += 1;

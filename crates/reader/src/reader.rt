@@ -8,7 +8,7 @@ use crate::places::start_of;
 use files::Checked;
 use files::check_file;
 ghost use mathlib.Core.Path.{_≡_};
-ghost use Rattle.reader.specs.Walk.{opened, ended, spanned, handed, past};
+ghost use Rattle.reader.specs.Walk.{Opens, ended, spanned, handed, past};
 ghost use Rattle.reader.specs.Spans.{definitionSpan};
 
 pub struct Reader<'a> {
@@ -23,7 +23,7 @@ pub struct Opened<'a> {
 }
 
 pub fn open<'a>(file: &'a [u8]) -> Opened<'a>
-    ensures { λ r. ⌜ r ≡ opened (file .entry) ⌝ }
+    ensures { λ r. ⌜ Opens (file .entry) r ⌝ }
 {
     let checked = check_file(file);
     let place = start_of(file, checked);

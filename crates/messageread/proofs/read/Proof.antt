@@ -8,14 +8,16 @@ use Rattle.messageread.proofs.read.Tie as tie
 returns : tie.Need-returns
 returns c =
     let a = c .before .before .before .before .args in
-    no-address (a .message .now) (rw (c .enum-told .given .1) at (c .before .before .headed .ensures .reads))
+    let lent = c .before .before .before .shared-slice-known .given in
+    no-address (a .message .now) (λ i. lent i .fits) (rw (c .enum-told .given .1) at (c .before .before .headed .ensures .reads))
 
 returns-2 : tie.Need-returns-2
 returns-2 c =
     let a = c .before .before .before .before .before .before .args in
+    let lent = c .before .before .before .before .before .shared-slice-known .given in
     let s = a .message .now in
     let g = c .before .before .start .given in
-    addressed s (region (g .0 .0) (g .0 .1 .0 - g .0 .0) s) (g .0 .1 .1 .0 .at) (c .behind-address .result) (rw (g .1) at (c .before .before .before .before .headed .ensures .reads)) (c .behind-address .ensures)
+    addressed s (λ i. lent i .fits) (region (g .0 .0) (g .0 .1 .0 - g .0 .0) s) (g .0 .1 .1 .0 .at) (c .behind-address .result) (rw (g .1) at (c .before .before .before .before .headed .ensures .reads)) (c .behind-address .ensures)
 
 pub read-spec : {M : Type 1} → statement M
 read-spec =

@@ -20,9 +20,9 @@ loop-holds c = (omega arith, rw sub-zero)
 
 returns : tie.Need-returns Inv-loop μ-loop
 returns c =
-    let a = c .before .before .before .before .args in
-    let l = c .before .before .loop in
-    sym (past-end (a .s .now) (a .count) (l .i) (l .here) (omega arith) (omega arith)) ∙ l .inv .1
+    let a = c .before .before .before .before .before .args in
+    let l = c .before .before .before .loop in
+    c .end-of .ensures ∙ sym (past-end (a .s .now) (a .count) (l .i) (l .here) (omega arith) (omega arith)) ∙ l .inv .1
 
 loop-again : tie.Need-loop-again Inv-loop μ-loop
 loop-again c =
@@ -39,5 +39,5 @@ returns-2 c =
 pub place-past-spec : {M : Type 1} → statement M
 place-past-spec =
     tie.close
-    (tie.spec Inv-loop μ-loop loop-holds returns (λ c κs. search needs) (λ c. omega arith) (λ c. omega arith) loop-again
+    (tie.spec Inv-loop μ-loop loop-holds (λ c κs. search needs) returns (λ c κs. search needs) (λ c. omega arith) (λ c. omega arith) loop-again
     returns-2)

@@ -44,7 +44,7 @@ use denote.Exit.{yes}
 use denote.Triple.Clauses.{ensured, lasts}
 use Rattle.reader.specs.Spans.{definitionSpan}
 use Rattle.reader.specs.SpanLaws.{span-there}
-use Rattle.reader.specs.Walk.{opened, past, spanned}
+use Rattle.reader.specs.Walk.{Opens, past, spanned}
 use Rattle.reader.specs.declared.places.Span.{Span}
 use Rattle.reader.specs.declared.reader.Reader.{Reader}
 use Rattle.reader.specs.declared.reader.Opened.{Opened}
@@ -112,8 +112,8 @@ module _ {M : Type 1} (𝓤 : URA M) (H : Heap 𝓤) (A : Atoms 𝓤) (W : Given
       nothing ! $ move ! (1 ∷ 0 ∷ []) $ fjoin ! $ move ! (2 ∷ 0 ∷ []) $
       use2 W (raw (Open 𝓤 H A mem run .pre to-open)) (qed W ((‵ (flft κ q) ⊛ ‵ ftrue) ∷ ‵ (owns (ShrSlice (named 0) κ u8 ∷ []) (s, tt) (v ∷ [], tt)) ∷ []) ∵ join ! $ frame ! $ done !) $ frame ! $ done !
 
-  open-said : (o : Opened) → ent 𝓤 (ensured 𝓤 H A open′.ended (open′.clauses 𝓤 H A mem run) (κ, tt) (s, tt) tt o) (fact 𝓤 (o ≡ opened s))
-  open-said o = exE 𝓤 _ (λ ws. snd∗ 𝓤 (sem 𝓤 H A (lasts open′.ended (κ, tt) (s, tt) ws)) (fact 𝓤 (o ≡ opened s)))
+  open-said : (o : Opened) → ent 𝓤 (ensured 𝓤 H A open′.ended (open′.clauses 𝓤 H A mem run) (κ, tt) (s, tt) tt o) (fact 𝓤 (Opens s o))
+  open-said o = exE 𝓤 _ (λ ws. snd∗ 𝓤 (sem 𝓤 H A (lasts open′.ended (κ, tt) (s, tt) ws)) (fact 𝓤 (Opens s o)))
 
   -- the type of what `open` answers, its laws, and its fields' values
   abbrev D : Declared
@@ -148,8 +148,8 @@ module _ {M : Type 1} (𝓤 : URA M) (H : Heap 𝓤) (A : Atoms 𝓤) (W : Given
   span-said n t = exE 𝓤 _ (λ ws. snd∗ 𝓤 (sem 𝓤 H A (lasts span.ended (κ, tt) (n, tt) ws)) (fact 𝓤 (t ≡ spanned n)))
 
   -- what the three say together
-  is-span : (o : Opened) (n : Reader) (t : Span) → o ≡ opened s → n ≡ past k (o .reader) → t ≡ spanned n → t ≡ definitionSpan (now s) k
-  is-span o n t e f g = g ∙ (ap spanned (f ∙ ap (λ (x : Opened). past k (x .reader)) e) ∙ span-there (now s) k)
+  is-span : (o : Opened) (n : Reader) (t : Span) → Opens s o → n ≡ past k (o .reader) → t ≡ spanned n → t ≡ definitionSpan (now s) k
+  is-span o n t e f g = g ∙ (ap spanned (f ∙ ap (λ (x : Opened). past k (x .reader)) (e .opens)) ∙ span-there (now s) k)
 
   exits : (t : Span) (u : Val) → t ≡ definitionSpan (now s) k → ent 𝓤 (⋆ 𝓤 H A (‵ (S.the-row .own t (u ∷ [])) ∷ (‵ (flft κ q) ⊛ ‵ ftrue) ∷ ‵ File ∷ [])) (Post u)
   exits t u e =
@@ -165,7 +165,7 @@ module _ {M : Type 1} (𝓤 : URA M) (H : Heap 𝓤) (A : Atoms 𝓤) (W : Given
         move ! (12 ∷ []) $ use1 W (raw (Open 𝓤 H A mem run .pre to-open) ⊛ ‵ File) goes-open $ split ! $
         calls-at ! fm (Open 𝓤 H A mem run) known-open to-open (and-then ! (load ! (from ! (stop !)) (look ! 10 refl)) (no-more !)) (λ u.
         use1 W (later (some (λ (o : Opened). ((‵ (flft κ q) ⊛ ‵ ftrue) ⊛ ‵ (O.the-row (namedLft 1 0 tt (κ, tt)) .own o (u ∷ []))) ⊛ raw (ensured 𝓤 H A open′.ended (open′.clauses 𝓤 H A mem run) (κ, tt) (s, tt) tt o)))) (id⊢ 𝓤 _) $ await ! tt $ pick ! (λ o.
-        split ! $ move ! (1 ∷ []) $ use1 W (raw (fact 𝓤 (o ≡ opened s))) (open-said o) $ heard ! (o ≡ opened s) (λ e. split ! $ move ! (1 ∷ []) $
+        split ! $ move ! (1 ∷ []) $ use1 W (raw (fact 𝓤 (Opens s o))) (open-said o) $ heard ! (Opens s o) (λ e. split ! $ move ! (1 ∷ []) $
         -- [what was opened owns; the token; what the file owns; room for _5; …; room for _4; …; room for _3; …; _2; …; _1; …; room for _0; …]
         peeks ! (O.the-row (namedLft 1 0 tt (κ, tt))) (Is (O.the-row (namedLft 1 0 tt (κ, tt)))) (shows 𝓤 H A (O.the-row (namedLft 1 0 tt (κ, tt)))) o (u ∷ []) (λ is.
         land ! (from ! (stop !)) (init ! 5 refl (LL.lawful (O.the-type αᵉ) (O′.the-laws αᵉ) 𝓤 H A W .typed o _ is .0)) $

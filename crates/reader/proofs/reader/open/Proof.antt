@@ -48,8 +48,8 @@ use Rattle.files.proofs.file.Checked.Laws as K′
 use Rattle.files.proofs.check_file as check
 use Rattle.files.proofs.check_file.Symbol as check-def
 use Rattle.files.proofs.check_file.Met as check-thm
-use Rattle.reader.specs.Places.{startOf}
-use Rattle.reader.specs.Walk.{opened}
+use Rattle.reader.specs.Places.{startOf, Starts}
+use Rattle.reader.specs.Walk.{Opens}
 use Rattle.reader.specs.declared.reader.Reader.{Reader}
 use Rattle.reader.specs.declared.reader.Opened.{Opened}
 use Rattle.reader.proofs.reader.Reader as T
@@ -141,8 +141,8 @@ module _ {M : Type 1} (𝓤 : URA M) (H : Heap 𝓤) (A : Atoms 𝓤) (W : Given
       move ! (2 ∷ 0 ∷ []) $
       use2 W (raw (Start 𝓤 H A mem run .pre (to-start c))) (qed W ((‵ (flft κ q) ⊛ ‵ ftrue) ∷ ‵ (owns (ShrSlice (named 0) κ u8 ∷ K.the-row ∷ []) (s, (c, tt)) (v ∷ [], (answer c ∷ [], tt))) ∷ []) ∵ join ! $ frame ! $ done !) $ frame ! $ done !
 
-  start-said : (c : Checked) (n : ℕ) → ent 𝓤 (ensured 𝓤 H A start.ended (start.clauses 𝓤 H A mem run) (κ, tt) (s, (c, tt)) tt n) (fact 𝓤 (n ≡ startOf (now s) c))
-  start-said c n = exE 𝓤 _ (λ ws. snd∗ 𝓤 (sem 𝓤 H A (lasts start.ended (κ, tt) (s, (c, tt)) ws)) (fact 𝓤 (n ≡ startOf (now s) c)))
+  start-said : (c : Checked) (n : ℕ) → ent 𝓤 (ensured 𝓤 H A start.ended (start.clauses 𝓤 H A mem run) (κ, tt) (s, (c, tt)) tt n) (fact 𝓤 (Starts (now s) c n))
+  start-said c n = exE 𝓤 _ (λ ws. snd∗ 𝓤 (sem 𝓤 H A (lasts start.ended (κ, tt) (s, (c, tt)) ws)) (fact 𝓤 (Starts (now s) c n)))
 
   -- what the file owns is kept, and with the facts of the number and of the answer makes what the result owns
   makes : (c : Checked) (n : ℕ) → Is K.the-row c (answer c ∷ []) → n < 2 ^ 64 → ent 𝓤 (sem 𝓤 H A Own) (sep 𝓤 (sem 𝓤 H A (Res c n)) (sem 𝓤 H A Own))
@@ -155,10 +155,10 @@ module _ {M : Type 1} (𝓤 : URA M) (H : Heap 𝓤) (A : Atoms 𝓤) (W : Given
       use1 W (‵ (Res c n)) (own-shut 𝓤 H A W (O.the-type α) (O′.the-laws α) (held n, (c, tt))) $ frame ! $ done !
 
   -- what is made is what is defined
-  is-opened : (c : Checked) (n : ℕ) → c ≡ verdict (readFile (now s)) → n ≡ startOf (now s) c → made c n ≡ opened s
-  is-opened c n e f = ap (made c) f ∙ ap (λ (x : Checked). made x (startOf (now s) x)) e
+  is-opened : (c : Checked) (n : ℕ) → c ≡ verdict (readFile (now s)) → Starts (now s) c n → Opens s (made c n)
+  is-opened c n e f = record { opens = ap (made c) (f .starts) ∙ ap (λ (x : Checked). made x (startOf (now s) x)) e; lentFile = f .lentFile }
 
-  exits : (c : Checked) (n : ℕ) → made c n ≡ opened s → ent 𝓤 (⋆ 𝓤 H A (‵ (Res c n) ∷ ‵ Own ∷ (‵ (flft κ q) ⊛ ‵ ftrue) ∷ [])) (Post (val c n))
+  exits : (c : Checked) (n : ℕ) → Opens s (made c n) → ent 𝓤 (⋆ 𝓤 H A (‵ (Res c n) ∷ ‵ Own ∷ (‵ (flft κ q) ⊛ ‵ ftrue) ∷ [])) (Post (val c n))
   exits c n e =
       qed W (‵ (Res c n) ∷ ‵ Own ∷ (‵ (flft κ q) ⊛ ‵ ftrue) ∷ []) ∵
       suffices ! _ (ends-at 𝓤 H A open′.ended stayed (open′.clauses 𝓤 H A mem run) W (((κ, tt), (q, tt), tt, (s, tt), (v ∷ [], tt)), tt) (val c n) (made c n) (tt, tt) (tt, tt)) $ says ! e $
@@ -180,7 +180,7 @@ module _ {M : Type 1} (𝓤 : URA M) (H : Heap 𝓤) (A : Atoms 𝓤) (W : Given
         use2 W (raw (Start 𝓤 H A mem run .pre (to-start c)) ⊛ ‵ Own) (goes-start c (known c u is)) $ split ! $
         calls-at ! fm (Start 𝓤 H A mem run) known-start (to-start c) (and-then ! (load ! (from ! (stop !)) (look ! 10 refl)) (and-then ! (load ! (from ! (stop !)) (look ! 8 refl)) (no-more !))) (λ u′.
         use1 W (later (some (λ (n : ℕ). ((‵ (flft κ q) ⊛ ‵ ftrue) ⊛ ‵ (usize .own n (u′ ∷ []))) ⊛ raw (ensured 𝓤 H A start.ended (start.clauses 𝓤 H A mem run) (κ, tt) (s, (c, tt)) tt n)))) (id⊢ 𝓤 _) $ await ! tt $ pick ! (λ n.
-        split ! $ move ! (1 ∷ []) $ use1 W (raw (fact 𝓤 (n ≡ startOf (now s) c))) (start-said c n) $ heard ! (n ≡ startOf (now s) c) (λ f. split ! $ move ! (1 ∷ []) $
+        split ! $ move ! (1 ∷ []) $ use1 W (raw (fact 𝓤 (Starts (now s) c n))) (start-said c n) $ heard ! (Starts (now s) c n) (λ f. split ! $ move ! (1 ∷ []) $
         facts ! usize (Is usize) (shows 𝓤 H A usize) n (u′ ∷ []) (λ is′.
         land ! (from ! (stop !)) (init ! 6 refl (uint-lawful 𝓤 H A W w64 .typed n _ is′ .0)) $
         rewrite ! 6 (λ (w : Val). ‵ (fat fullShare (tyInt w64) l₃ 0 w)) (ap only (is′ .0)) refl $
