@@ -55,7 +55,7 @@ module _ (c : Call) (s : State) (whole : formed (s .words) (s .arena) ≡ true) 
       ∙ ap (λ (k : Command). written (c .answer) (replyOf k (c .bytes) (engineIn s)) (c .out)) is
       ∙ ap (λ (l : List ℕ). written (c .answer) l (c .out)) (export-reply (c .bytes) (engineIn s))
 
-  exports : Exports (exportFile (engineIn s .slots)) c
+  pub exports : Exports (exportFile (engineIn s .slots)) c
   exports = record {
     room = λ h.
         let e : c .answer ≡ Replied (length file) = answered ∙ rw (le-ltb (length (c .out)) (length file) h) in
@@ -66,20 +66,20 @@ module _ (c : Call) (s : State) (whole : formed (s .words) (s .arena) ≡ true) 
   }
 
 -- a load into a fresh engine
-abbrev Loads : List ℕ → Call → Type 0
-Loads file c = Does receive file freshState freshArena (c .out) (c .answer) (c .left .words) (c .left .arena) (c .reply)
+abbrev pub LoadsFresh : List ℕ → Call → Type 0
+LoadsFresh file c = Does receive file freshState freshArena (c .out) (c .answer) (c .left .words) (c .left .arena) (c .reply)
 
-load-by : (c : Call) (s : State) → Fresh s → c .command ≡ receive → Applied c s → Loads (c .bytes) c
+pub load-by : (c : Call) (s : State) → Fresh s → c .command ≡ receive → Applied c s → LoadsFresh (c .bytes) c
 load-by c s f is a =
     subst (λ (x : State). Does receive (c .bytes) (x .words) (x .arena) (c .out) (c .answer) (c .left .words) (c .left .arena) (c .reply)) (fresh-state s f)
     (subst (λ (k : Command). Does k (c .bytes) (s .words) (s .arena) (c .out) (c .answer) (c .left .words) (c .left .arena) (c .reply)) is a)
 
-module _ (file : List ℕ) (c : Call) (d : Loads file c) where
-  load-answer : c .answer ≡ answerIn receive file (decode freshState freshArena) 0
+module _ (file : List ℕ) (c : Call) (d : LoadsFresh file c) where
+  pub load-answer : c .answer ≡ answerIn receive file (decode freshState freshArena) 0
   unfolding answer answerIn
   load-answer = d .answers ∙ rw fresh-formed
 
-  load-left : c .answer ≡ Done → engineIn (c .left) ≡ decode (wordsAfter receive file freshState freshArena) (arenaAfter receive file freshState freshArena)
+  pub load-left : c .answer ≡ Done → engineIn (c .left) ≡ decode (wordsAfter receive file freshState freshArena) (arenaAfter receive file freshState freshArena)
   load-left h =
       let g : isAccepted (answer receive file freshState freshArena (c .out)) ≡ true = ap isAccepted (sym (d .answers) ∙ h) in
       ap₂ decode (d .words ∙ rw g) (d .arena ∙ rw g)
@@ -128,7 +128,7 @@ demand2 = record {
     file = exportFile (engineIn s .slots);
     exports = exports c s whole is a;
     loads = λ t f load is′ same a′.
-        let d = subst (λ (l : List ℕ). Loads l load) same (load-by load t f is′ a′) in
+        let d = subst (λ (l : List ℕ). LoadsFresh l load) same (load-by load t f is′ a′) in
         let h : load .answer ≡ Done = load-answer _ load d ∙ accepted (s .words) (s .arena) (a .lentArena) whole in
         (h, λ name. ap (λ (e : Engine). meaningIn name e) (load-left _ load d h) ∙ meant-same (s .words) (s .arena) (a .lentArena) whole name);
   };

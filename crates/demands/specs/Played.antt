@@ -1,4 +1,4 @@
--- The tables of examples are of calls: calls in a row from a fresh engine, with a script's room for each reply, answer as the script is played.
+-- The tables of examples are of calls: calls in a row from a fresh engine, with a script's room for each reply, answer as the script is played, and a query behind them writes the script's reply.
 use Prim.{Unit}
 use Prim.Native.Nat.{ℕ}
 use mathlib.Core.Bool.{Bool, true, false}
@@ -10,10 +10,11 @@ use Rattle.model.specs.declared.Answer.{Answer}
 use Rattle.model.specs.Engine.{Engine}
 use Rattle.model.specs.Formed.{formed}
 use Rattle.model.specs.Effects.{effect}
-use Rattle.model.specs.Apply.{answerIn, answer, isAccepted, answerNumber}
+use Rattle.model.specs.Apply.{answerIn, answer, isAccepted, written, replyOf, answerNumber}
 use Rattle.model.specs.Chain.{State, engineIn, Call, Applied, Chain, leftBy, Fresh}
 use Rattle.model.specs.Fresh.{freshEngine}
-use Rattle.model.specs.Script.{Line, line, room, afterLine, played, answersOf}
+use Rattle.model.specs.Script.{Line, line, room, afterLine, played, answersOf, replied}
+use Rattle.sequence.specs.Ends.{reply-left}
 use Rattle.sequence.specs.Fresh.{fresh-state, fresh-formed}
 use Rattle.demands.specs.Theorems.{demand1}
 
@@ -37,6 +38,8 @@ AllRoom (c ∷ cs) = (length (c .out) ≡ room) × AllRoom cs
 pub record Plays (cs : List Call) (s : State) (e : Engine) : Type 0 where
   pub answers : answersGiven cs ≡ answersOf e (linesOf cs)
   pub left : engineIn (leftBy cs s) ≡ played (linesOf cs) e
+  -- of one more call: where it answers with a length the buffer has the script's reply, and past it what it had; else what it had
+  pub replies : (c : Call) → Applied c (leftBy cs s) → c .reply ≡ written (c .answer) (replied e (linesOf cs) (lineOf c)) (c .out)
 
 -- one call
 module _ (c : Call) (s : State) (whole : formed (s .words) (s .arena) ≡ true) (a : Applied c s) (roomy : length (c .out) ≡ room) where
@@ -58,15 +61,22 @@ module _ (c : Call) (s : State) (whole : formed (s .words) (s .arena) ≡ true) 
       go true h = demand1 c s a .effected h ∙ sym (ap (λ (b : Bool). pick b (effect (c .command) (c .bytes) (engineIn s)) (engineIn s)) h)
       go false h = ap engineIn (demand1 c s a .unchanged h .0) ∙ sym (ap (λ (b : Bool). pick b (effect (c .command) (c .bytes) (engineIn s)) (engineIn s)) h)
 
+-- the reply of a call in a state that holds what was played
+replies-by : (cs : List Call) (s : State) (e : Engine) → engineIn (leftBy cs s) ≡ played (linesOf cs) e → (c : Call) → Applied c (leftBy cs s)
+    → c .reply ≡ written (c .answer) (replied e (linesOf cs) (lineOf c)) (c .out)
+replies-by cs s e left c a = reply-left c (leftBy cs s) a ∙ ap (λ (x : Engine). written (c .answer) (replyOf (c .command) (c .bytes) x) (c .out)) left
+
 plays : (cs : List Call) (s : State) → formed (s .words) (s .arena) ≡ true → Chain cs s → AllRoom cs → Plays cs s (engineIn s)
 unfolding Chain AllRoom leftBy linesOf answersGiven answersOf played
-plays [] s h a r = record { answers = refl; left = refl }
+plays [] s h a r = record { answers = refl; left = refl; replies = replies-by [] s (engineIn s) refl }
 plays (c ∷ cs) s h a r =
     let more = plays cs (c .left) (next-formed c s h (a .0) (r .0)) (a .1) (r .1) in
     let next = next-engine c s h (a .0) (r .0) in
+    let left = more .left ∙ ap (λ (e : Engine). played (linesOf cs) e) next in
     record {
       answers = ap₂ (λ (n : ℕ) (l : List ℕ). n ∷ l) (ap answerNumber (fact c s h (a .0) (r .0))) (more .answers ∙ ap (λ (e : Engine). answersOf e (linesOf cs)) next);
-      left = more .left ∙ ap (λ (e : Engine). played (linesOf cs) e) next;
+      left = left;
+      replies = replies-by (c ∷ cs) s (engineIn s) left;
     }
 
 pub played-by-calls : (s : State) → Fresh s → (cs : List Call) → Chain cs s → AllRoom cs → Plays cs s freshEngine

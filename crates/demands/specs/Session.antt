@@ -1,20 +1,26 @@
--- Calls of every kind in a row, commands, messages and lists in any mixture, and what demands 1 and 3 say of them: paper 02, 1/14 and 5/14. A message that is a command stands for that
--- command; one that is refused with 26 or 27 stands for none. A list "stands for the commands it tried, in order, or for none where it is refused with 34".
+-- Calls of every kind in a row, commands, messages, lists and questions why in any mixture, and what the demands say of them: paper 02, 1/14, 5/14 and 7/14. A message that is a command stands
+-- for that command; one that is refused with 26 or 27 stands for none. A list "stands for the commands it tried, in order, or for none where it is refused with 34". A question why stands for none.
 use Prim.{Unit}
 use Prim.Native.Nat.{ℕ}
-use mathlib.Core.Bool.{false}
+use mathlib.Core.Bool.{Bool, true, false}
 use mathlib.Core.Path.{_≡_}
 use mathlib.Core.List.{List, [], _∷_, _++_}
-use Rattle.words.specs.Choice.{pick}
+use Rattle.words.specs.Choice.{pick, both}
 use Rattle.refusals.specs.declared.Refusal.{Refusal}
 use Rattle.refusals.specs.declared.Refusal.the-variants.{BadState, Malformed, UnknownMessage}
+use Rattle.refusals.specs.Refusals.{numberOf}
+use Rattle.format.specs.Reader.{readFile}
+use Rattle.format.specs.HeaderLaws.{versionIn}
+use Rattle.format.specs.Writer.{fileVersion, writeFile}
 use Rattle.model.specs.declared.Command.{Command}
+use Rattle.model.specs.declared.Command.the-variants as commands
 use Rattle.model.specs.declared.Answer.{Answer}
-use Rattle.model.specs.declared.Answer.the-variants.{Refused}
+use Rattle.model.specs.declared.Answer.the-variants.{Done, Refused}
+use Rattle.model.specs.Checks.{definitionsOf}
 use Rattle.model.specs.Formed.{formed}
-use Rattle.model.specs.Apply.{Does}
-use Rattle.model.specs.Chain.{State, Call, leftBy}
-use Rattle.model.specs.Demands.{refusalIn, Ends, Demand3}
+use Rattle.model.specs.Apply.{isAccepted, Does}
+use Rattle.model.specs.Chain.{State, engineIn, Call, Applied, leftBy, Fresh}
+use Rattle.model.specs.Demands.{meaningIn as definitionNamed, refusalIn, Ends, receive, export, Exports, Demand3}
 use Rattle.messages.specs.Receive.{Meaning, malformed, unknown, means, meaning}
 use Rattle.messages.specs.Sent.{Sends}
 use Rattle.lists.specs.declared.Outcome.{Outcome}
@@ -23,6 +29,9 @@ use Rattle.lists.specs.declared.Verdict.the-variants.{Fit}
 use Rattle.lists.specs.Lent.{verdict}
 use Rattle.lists.specs.OneByOne.{outcomeOf, Lists}
 use Rattle.lists.specs.OneByOne as lists
+use Rattle.why.specs.declared.Told.{Told}
+use Rattle.why.specs.declared.Told.the-variants as told
+use Rattle.why.specs.Held.{whyTold}
 
 -- what a call of one command is given beside the state and the reply buffer
 pub data Given : Type 0 where
@@ -44,13 +53,26 @@ pub record Listed : Type 0 where
   pub outcome : Outcome
   pub left : State
 
+-- a question why as it was asked: its number; what was told, and the state that it left
+pub record Asked : Type 0 where
+  pub number : ℕ
+  pub told : Told
+  pub left : State
+
 pub data Made : Type 0 where
   one : One → Made
   list : Listed → Made
+  why : Asked → Made
 
 abbrev pub leftOf : Made → State
 leftOf (one m) = m .left
 leftOf (list m) = m .left
+leftOf (why m) = m .left
+
+-- what `why::why` promises of a question in a state, which is lent to be read alone
+pub record Tells (m : Asked) (s : State) : Type 0 where
+  pub tells : m .told ≡ whyTold (m .number) (s .words) (s .arena)
+  pub left : m .left ≡ s
 
 -- what `engine::apply`, `engine::message` and `lists::list` promise of a call in a state
 abbrev pub PromisedOf : Given → (ws bs out : List ℕ) (a : Answer) (ws′ bs′ out′ : List ℕ) → Type 0
@@ -63,6 +85,7 @@ PromisedOne m s = PromisedOf (m .given) (s .words) (s .arena) (m .out) (m .answe
 abbrev pub Promised : Made → State → Type 0
 Promised (one m) s = PromisedOne m s
 Promised (list m) s = Lists (m .items) (m .bytes) (s .words) (s .arena) (m .outcome) (m .left .words) (m .left .arena)
+Promised (why m) s = Tells m s
 
 -- calls, each in the state that the one before left
 unfoldable pub Session : List Made → State → Type 0
@@ -91,6 +114,7 @@ callsBy m (means c bytes) = callOf m c bytes ∷ []
 abbrev pub callsOf : Made → State → List Call
 callsOf (one m) s = callsBy m (meaningIn (m .given))
 callsOf (list m) s = lists.callsOf (m .items) (m .bytes) s
+callsOf (why m) s = []
 
 unfoldable pub commandsOf : List Made → State → List Call
 commandsOf [] s = []
@@ -122,8 +146,9 @@ pub record ListEnds (m : Listed) (s : State) : Type 0 where
 abbrev pub EndsOf : Made → State → Type 0
 EndsOf (one m) s = EndsBy (meaningIn (m .given)) m s
 EndsOf (list m) s = ListEnds m s
+EndsOf (why m) s = Tells m s
 
--- Demand 1, of every call: the command's own end, 26 or 27, or that of a list
+-- Demand 1, of every call: the command's own end, 26 or 27, that of a list, or what a question is told
 abbrev pub Demand1OfCalls : Type 0
 Demand1OfCalls = (m : Made) (s : State) → Promised m s → EndsOf m s
 
@@ -132,9 +157,14 @@ abbrev pub refusalAtEnd : Outcome → ℕ
 refusalAtEnd NoList = 255
 refusalAtEnd (Ended a n) = refusalIn a
 
+abbrev pub refusalTold : Told → ℕ
+refusalTold (told.Refused r) = numberOf r
+refusalTold (told.Because r) = 0
+
 abbrev pub refusalOf : Made → ℕ
 refusalOf (one m) = refusalIn (m .answer)
 refusalOf (list m) = refusalAtEnd (m .outcome)
+refusalOf (why m) = refusalTold (m .told)
 
 -- in a session: never refusal 1; a message that is no command is refused by its own number, a list that holds a query by 34
 pub record CallHolds (m : Made) (s : State) : Type 0 where
@@ -144,6 +174,43 @@ pub record CallHolds (m : Made) (s : State) : Type 0 where
 unfoldable pub AllHold : List Made → State → Type 0
 AllHold [] s = Unit {0}
 AllHold (m ∷ ms) s = CallHolds m s × AllHold ms (leftOf m)
+
+abbrev pub isOfDefinitions : Command → Bool
+isOfDefinitions (commands.Definitions c) = true
+isOfDefinitions (commands.Tree c) = false
+isOfDefinitions (commands.Controls c) = false
+isOfDefinitions (commands.Buses c) = false
+isOfDefinitions (commands.Query q) = false
+
+-- none of these calls is an accepted `/d_recv` or `/d_free`
+unfoldable pub DefinitionsStay : List Call → Type 0
+DefinitionsStay [] = Unit {0}
+DefinitionsStay (c ∷ cs) = (both (isAccepted (c .answer)) (isOfDefinitions (c .command)) ≡ false) × DefinitionsStay cs
+
+-- calls that load a file, by a command, by a message or inside a list: the first command that they stand for is that load, and the ones behind it leave the definitions as they are
+pub record Loads (file : List ℕ) (ms : List Made) (s : State) : Type 0 where
+  pub load : Call
+  pub later : List Call
+  pub first : commandsOf ms s ≡ load ∷ later
+  pub receives : load .command ≡ receive
+  pub bytes : load .bytes ≡ file
+  pub stay : DefinitionsStay later
+
+-- a call that exports a file, which a fresh engine then accepts by calls of any kind; after them each name means the definition that it means here
+pub record ReloadsByCalls (c : Call) (s : State) : Type 0 where
+  pub file : List ℕ
+  pub exports : Exports file c
+  pub loads : (t : State) → Fresh t → (ms : List Made) → Session ms t → (l : Loads file ms t)
+      → (l .load .answer ≡ Done) × ((name : List ℕ) → definitionNamed name (engineIn (leftAfter ms t)) ≡ definitionNamed name (engineIn s))
+
+-- Demand 2, of calls of every kind: what they loaded into a fresh engine is exported, in version 2, and a version 2 file byte for byte; and what is exported behind any calls, loaded by calls of any
+-- kind into a fresh engine, gives the same definitions. An export is a call of a command: it has no address, and no list takes it
+pub record Demand2OfCalls : Type 0 where
+  pub exported : (s : State) → Fresh s → (ms : List Made) → Session ms s → (file : List ℕ) (l : Loads file ms s) → l .load .answer ≡ Done
+      → (next : Call) → next .command ≡ export → Applied next (leftAfter ms s) → Exports (writeFile (definitionsOf (readFile file))) next
+  pub same : (s : State) → Fresh s → (ms : List Made) → Session ms s → (file : List ℕ) (l : Loads file ms s) → l .load .answer ≡ Done → versionIn file ≡ fileVersion
+      → (next : Call) → next .command ≡ export → Applied next (leftAfter ms s) → Exports file next
+  pub loaded : (s : State) → Fresh s → (ms : List Made) → Session ms s → (c : Call) → c .command ≡ export → Applied c (leftAfter ms s) → ReloadsByCalls c (leftAfter ms s)
 
 -- Demand 3, of calls of every kind in a row in a fresh state: that of the commands that they stand for, which leave the same state. It is claimed of all:
 -- `(s : State) → Fresh s → (ms : List Made) → Session ms s → Demand3OfCalls ms s`

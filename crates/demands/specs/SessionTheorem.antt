@@ -25,7 +25,7 @@ use Rattle.lists.specs.declared.Verdict.the-variants.{NoList, Unfit, Fit}
 use Rattle.lists.specs.Lent.{verdict, linesOf}
 use Rattle.lists.specs.OneByOne.{outcomeBy, tried, lastAnswer}
 use Rattle.lists.specs.OneByOne as lists
-use Rattle.demands.specs.Session.{Given, command, message, One, Listed, Made, one, list, leftOf, PromisedOne, Promised, Session, leftAfter, meaningIn, callOf, callsBy, callsOf, commandsOf, EndsWith, EndsBy, AllEnd, ListEnds, Demand1OfCalls, refusalAtEnd, refusalOf, AllHold, Demand3OfCalls}
+use Rattle.demands.specs.Session.{Given, command, message, One, Listed, Made, one, list, why, leftOf, PromisedOne, Promised, Session, leftAfter, meaningIn, callOf, callsBy, callsOf, commandsOf, EndsWith, EndsBy, AllEnd, ListEnds, Demand1OfCalls, refusalAtEnd, refusalTold, refusalOf, AllHold, Demand3OfCalls}
 
 -- what is done by its meaning
 abbrev Served : Meaning → One → State → Type 0
@@ -92,6 +92,7 @@ module _ (m : Listed) (s : State) (p : Promised (list m) s) where
 pub demand1-of-calls : Demand1OfCalls
 demand1-of-calls (one m) s p = ends-by (meaningIn (m .given)) m s (served m s p)
 demand1-of-calls (list m) s p = list-ends m s p
+demand1-of-calls (why m) s p = p
 
 -- a call in a well-formed state leaves one, and is not refused with 1
 module _ (m : One) (s : State) (whole : formed (s .words) (s .arena) ≡ true) where
@@ -144,16 +145,24 @@ list-sound m s h e q = go (verdict (m .items) (m .bytes)) (e .each) (ap refusalA
 pub sound : (m : Made) (s : State) → formed (s .words) (s .arena) ≡ true → Promised m s → refusalOf m ≡ 1 → ⊥
 sound (one m) s h p = sound-by m s h (meaningIn (m .given)) (served m s p)
 sound (list m) s h p = list-sound m s h (list-ends m s p)
+sound (why m) s h p = λ z. let told = ap refusalTold (p .tells) in let k = rw h at told in omega arith
 
 pub next-formed : (m : Made) (s : State) → formed (s .words) (s .arena) ≡ true → Promised m s → formed (leftOf m .words) (leftOf m .arena) ≡ true
 next-formed (one m) s h p = formed-by m s h (meaningIn (m .given)) (ends-by (meaningIn (m .given)) m s (served m s p))
 next-formed (list m) s h p =
     ap (λ (x : State). formed (x .words) (x .arena)) (sym (list-left m s p)) ∙ all-formed (lists.callsOf (m .items) (m .bytes) s) s h (list-ends m s p .each)
+next-formed (why m) s h p = ap (λ (x : State). formed (x .words) (x .arena)) (p .left) ∙ h
 
 all-hold : (ms : List Made) (s : State) → formed (s .words) (s .arena) ≡ true → Session ms s → AllHold ms s
 unfolding Session AllHold
 all-hold [] s h p = tt
 all-hold (m ∷ ms) s h p = (record { sound = sound m s h (p .0); ends = demand1-of-calls m s (p .0) }, all-hold ms (leftOf m) (next-formed m s h (p .0)) (p .1))
+
+-- a session in two parts
+pub session-parts : (ms more : List Made) (s : State) → Session (ms ++ more) s → Session ms s × Session more (leftAfter ms s)
+unfolding Session leftAfter
+session-parts [] more s p = (tt, p)
+session-parts (m ∷ ms) more s p = let rest = session-parts ms more (leftOf m) (p .1) in ((p .0, rest .0), rest .1)
 
 -- calls in a row, and more behind them
 chain-append : (cs : List Call) (s : State) → Chain cs s → (more : List Call) → Chain more (leftBy cs s) → Chain (cs ++ more) s
@@ -178,11 +187,13 @@ one-stands unknown m s p e = (tt, sym (e .unchanged .0))
 one-stands (means c bytes) m s p e = ((p, tt), refl)
 
 stands : (m : Made) (s : State) → Promised m s → StandsFor m s
+unfolding Chain leftBy
 stands (one m) s p =
     let v = served m s p in
     let h = one-stands (meaningIn (m .given)) m s v (ends-by (meaningIn (m .given)) m s v) in
     record { chain = h .0; left = h .1 }
 stands (list m) s p = record { chain = p .chain; left = list-left m s p }
+stands (why m) s p = record { chain = tt; left = sym (p .left) }
 
 -- the commands that a session stands for are a chain, and leave what it leaves
 pub chained : (ms : List Made) (s : State) → Session ms s → Chain (commandsOf ms s) s
@@ -200,10 +211,19 @@ same-left (m ∷ ms) s p =
     ∙ ap (λ (t : State). leftBy (commandsOf ms (leftOf m)) t) (stands m s (p .0) .left)
     ∙ same-left ms (leftOf m) (p .1)
 
--- Demand 3 of commands, messages and lists in any mixture
+-- a session in a fresh state leaves a well-formed one
+pub session-formed : (ms : List Made) (s : State) → formed (s .words) (s .arena) ≡ true → Session ms s → formed (leftAfter ms s .words) (leftAfter ms s .arena) ≡ true
+unfolding Session leftAfter
+session-formed [] s h p = h
+session-formed (m ∷ ms) s h p = session-formed ms (leftOf m) (next-formed m s h (p .0)) (p .1)
+
+pub formed-at-first : (s : State) → Fresh s → formed (s .words) (s .arena) ≡ true
+formed-at-first s f = ap (λ (x : State). formed (x .words) (x .arena)) (fresh-state s f) ∙ fresh-formed
+
+-- Demand 3 of commands, messages, lists and questions in any mixture
 pub demand3-of-calls : (s : State) → Fresh s → (ms : List Made) → Session ms s → Demand3OfCalls ms s
 demand3-of-calls s f ms p = record {
-  each = all-hold ms s (ap (λ (x : State). formed (x .words) (x .arena)) (fresh-state s f) ∙ fresh-formed) p;
+  each = all-hold ms s (formed-at-first s f) p;
   commands = demand3 s f (commandsOf ms s) (chained ms s p);
   left = same-left ms s p;
 }

@@ -1,8 +1,9 @@
--- Why a node is silent, of calls: paper 02, 7/14. "The reason given must be the true one": after any calls in a row from a fresh engine the answer is the plain tree's, fed the same commands.
+-- Why a node is silent, of calls: paper 02, 7/14. "The reason given must be the true one": a question after any calls in a row from a fresh engine is told the plain tree's reason, of the tree
+-- that was fed the same commands.
 use Prim.Native.Nat.{ℕ, _≤_}
 use mathlib.Core.Bool.{true, not}
 use mathlib.Core.Path.{_≡_, refl, sym, ap, ap₂, _∙_, subst}
-use mathlib.Core.List.{List}
+use mathlib.Core.List.{List, _∷_, _++_}
 use mathlib.Core.Option.{Option, some}
 use Rattle.words.specs.Choice.{both}
 use Rattle.nodes.specs.declared.Node.{Node}
@@ -30,8 +31,8 @@ use Rattle.why.specs.Facts.{isOff, isSynth, Facts, facts}
 use Rattle.why.specs.Rebuilt.{rebuilt}
 use Rattle.sequence.specs.Theorem.{going-on}
 use Rattle.demands.specs.Theorems.{demand3}
-use Rattle.demands.specs.Session.{Made, Session, leftAfter, commandsOf}
-use Rattle.demands.specs.SessionTheorem.{chained, same-left}
+use Rattle.demands.specs.Session.{Asked, Made, why, Session, leftAfter, commandsOf}
+use Rattle.demands.specs.SessionTheorem.{session-parts, chained, same-left, demand3-of-calls}
 
 -- the tree that a state holds is the plain tree
 pub held-tree : (e : Engine) (p : Plain) → Kept e p → heldTree e ≡ p .tree
@@ -77,6 +78,24 @@ why-of-commands s f cs a p h =
       silent = λ n. all n .silent ∙ ap (λ (l : List ℕ). both (isSynth numberIn isGroupNode isOnNode (nodeOf numberIn n (p .tree))) (not (stands n l))) (sym order);
     }
 
--- of commands, messages and lists in any mixture: the plain tree is fed the commands that they stand for
-pub why-of-calls : (s : State) → Fresh s → (ms : List Made) → Session ms s → (p : Plain) → replay (commandsOf ms s) atFirst ≡ some p → Answers (leftAfter ms s) p
-why-of-calls s f ms c p h = subst (λ (x : State). Answers x p) (same-left ms s c) (why-of-commands s f (commandsOf ms s) (chained ms s c) p h)
+-- of calls of every kind in any mixture: the plain tree is fed the commands that they stand for
+pub why-of-sessions : (s : State) → Fresh s → (ms : List Made) → Session ms s → (p : Plain) → replay (commandsOf ms s) atFirst ≡ some p → Answers (leftAfter ms s) p
+why-of-sessions s f ms c p h = subst (λ (x : State). Answers x p) (same-left ms s c) (why-of-commands s f (commandsOf ms s) (chained ms s c) p h)
+
+-- of a question that was asked in a state, and the plain tree that was fed the same, which was never at a loss: it was told that tree's reason, and the state is as it was
+pub record ToldTrue (m : Asked) (s : State) (replayed : Option Plain) : Type 0 where
+  pub plain : Plain
+  pub fed : replayed ≡ some plain
+  pub told : m .told ≡ Because (plainWhy (m .number) plain)
+  pub left : m .left ≡ s
+  pub answers : Answers s plain
+
+-- of every question of a session, by the calls before it
+pub why-of-calls : (s : State) → Fresh s → (ms : List Made) (m : Asked) (more : List Made) → Session (ms ++ (why m ∷ more)) s → ToldTrue m (leftAfter ms s) (replay (commandsOf ms s) atFirst)
+unfolding Session
+why-of-calls s f ms m more c =
+    let parts = session-parts ms (why m ∷ more) s c in
+    let end = demand3-of-calls s f ms (parts .0) .commands in
+    let answers = why-of-sessions s f ms (parts .0) (end .plain) (end .replayed) in
+    let told = parts .1 .0 in
+    record { plain = end .plain; fed = end .replayed; told = told .tells ∙ answers .told (m .number); left = told .left; answers = answers }
