@@ -121,7 +121,7 @@ fn answer_to(asked: Asked) -> Answer
 }
 
 // /n_fill; /n_set is the same with a count of one
-pub fn fill_controls(
+fn fill_controls(
     node: NodeArgument,
     key: Key,
     count: u32,
@@ -167,7 +167,7 @@ fn mapping_to(bus: u32) -> Mapping
 }
 
 // /n_map
-pub fn map_control(
+fn map_control(
     node: NodeArgument,
     key: Key,
     bus: u32,

@@ -1,14 +1,14 @@
 -- The tests of one item, as the code makes them.
 use Prim.Native.Nat.{ℕ, _+_, _-_, _<_, _≤_}
 use mathlib.Core.Bool.{Bool, true, false}
-use mathlib.Core.Path.{_≡_, refl}
+use mathlib.Core.Path.{_≡_, refl, sym, ap, _∙_}
 use mathlib.Core.List.{[], _∷_}
 use native.Mathlib.Omega.{arith}
 use lib.Dec.{eqb, leb}
 use borrow.Author.Tests.{le-leb, lt-leb, eq-eqb, ne-eqb, leb-true, leb-false}
 use Rattle.words.specs.Choice.{pick, both, both-true}
 use Rattle.lists.specs.declared.Kind.the-variants.{NoItem, Acts}
-use Rattle.calls.specs.Ops.{commandOf}
+use Rattle.calls.specs.declared.Parsed.the-variants.{Nothing}
 use Rattle.lists.specs.Lent.{Item, parsed, zeros, isLaid, ofParsed, kindOf}
 
 -- four words
@@ -58,9 +58,8 @@ module _ (room : ℕ) (i : Item) where
   pub acts-laid : kindOf room i ≡ Acts → i .start + i .size ≤ room
   acts-laid h = leb-true (i .start + i .size) room (both-true (zeros (i .later)) (leb (i .start + i .size) room) (acts-both h .0) .1)
 
-  pub acts-kind : kindOf room i ≡ Acts → ofParsed (parsed i) ≡ Acts
-  acts-kind h = acts-both h .1
-
--- the command of an item by its words
-pub parsed-by : (i : Item) (op a b c d e : ℕ) → op ≡ i .op → a ≡ i .a → b ≡ i .b → c ≡ i .c → d ≡ i .d → e ≡ i .e → commandOf op a b c d e ≡ parsed i
-parsed-by i op a b c d e h₀ h₁ h₂ h₃ h₄ h₅ = rw (h₀, h₁, h₂, h₃, h₄, h₅)
+  pub acts-parsed : kindOf room i ≡ Acts → parsed i ≡ Nothing → ⊥
+  acts-parsed h n =
+      let k : NoItem ≡ Acts = sym (ap ofParsed n) ∙ acts-both h .1 in
+      let z : _≡_ {A = ℕ} 0 1 = cc in
+      absurd (omega arith)

@@ -1,8 +1,6 @@
 pub mod Lent
 pub mod OneByOne
 pub mod Laid
-pub mod Kinds
-pub mod Acting
 pub mod Walk
 pub mod Judging
 pub mod Running

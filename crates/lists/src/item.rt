@@ -1,18 +1,35 @@
 // One item of a list, read where it lies.
 use crate::Kind;
+use calls::Parsed;
+use calls::command_of;
+use model::Command;
 use words::wide;
 ghost use Prim.Native.Nat.{_+_, _<_, _≤_};
 ghost use mathlib.Core.Path.{_≡_};
 ghost use lib.ListN.{length, drop, getD};
-ghost use Rattle.lists.specs.Lent.{width, itemIn, zeros, isLaid, kindOf};
-ghost use Rattle.lists.specs.Kinds.{kindLimit};
+ghost use Rattle.lists.specs.Lent.{width, itemIn, parsed, zeros, isLaid, ofParsed, kindOf};
 
 // A word of the item at a place.
-pub(crate) fn word(items: &[u32], at: usize, k: usize) -> u32
+fn word(items: &[u32], at: usize, k: usize) -> u32
     requires { ⌜ at + k < length (now items) ⌝ }
     ensures { λ r. ⌜ r ≡ getD (drop at (now (items .entry))) k 0 ⌝ }
 {
     items[at + k]
+}
+
+// Its command, or none.
+pub(crate) fn command_at(items: &[u32], at: usize) -> Parsed
+    requires { ⌜ at + width ≤ length (now items) ⌝ }
+    ensures { λ r. ⌜ r ≡ parsed (itemIn (drop at (now (items .entry)))) ⌝ }
+{
+    command_of(
+        word(items, at, 0),
+        word(items, at, 1),
+        word(items, at, 2),
+        word(items, at, 3),
+        word(items, at, 4),
+        word(items, at, 5),
+    )
 }
 
 // Where its bytes begin.
@@ -64,40 +81,19 @@ fn is_laid(items: &[u32], at: usize, room: usize) -> bool
     size <= room - start
 }
 
-// From where on the word of a value's kind is none: of an op with a value from 2; of one without it is not looked at; of one that is none from 0. It takes no jump to say so.
-fn kind_limit(op: u32) -> usize
-    ensures { λ r. ⌜ r ≡ kindLimit op ⌝ }
+// A command that replies is one that a list can't hold.
+fn kind_of(command: Parsed) -> Kind
+    ensures { λ r. ⌜ r ≡ ofParsed command ⌝ }
 {
-    match op {
-        0 => 0,
-        1 => 4294967296,
-        2 => 4294967296,
-        3 => 4294967296,
-        4 => 4294967296,
-        5 => 4294967296,
-        6 => 4294967296,
-        7 => 4294967296,
-        8 => 4294967296,
-        9 => 4294967296,
-        10 => 4294967296,
-        11 => 4294967296,
-        12 => 4294967296,
-        13 => 2,
-        14 => 2,
-        15 => 2,
-        16 => 2,
-        17 => 4294967296,
-        18 => 4294967296,
-        19 => 2,
-        20 => 2,
-        21 => 4294967296,
-        22 => 4294967296,
-        23 => 4294967296,
-        24 => 4294967296,
-        25 => 4294967296,
-        26 => 4294967296,
-        27 => 4294967296,
-        _ => 0,
+    match command {
+        Parsed::Call(command) => match command {
+            Command::Definitions(of) => Kind::Acts,
+            Command::Tree(of) => Kind::Acts,
+            Command::Controls(of) => Kind::Acts,
+            Command::Buses(of) => Kind::Acts,
+            Command::Query(of) => Kind::Replies,
+        },
+        Parsed::Nothing => Kind::NoItem,
     }
 }
 
@@ -109,12 +105,5 @@ pub(crate) fn item_kind(items: &[u32], at: usize, room: usize) -> Kind
     if !is_laid(items, at, room) {
         return Kind::NoItem;
     }
-    let op = word(items, at, 0);
-    if kind_limit(op) <= wide(word(items, at, 4)) {
-        return Kind::NoItem;
-    }
-    if 20 < op {
-        return Kind::Replies;
-    }
-    Kind::Acts
+    kind_of(command_at(items, at))
 }

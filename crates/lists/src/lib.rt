@@ -1,5 +1,4 @@
 // A list of commands in one call: the list judged as a whole, the state check, and then its commands one by one up to the first refusal.
-mod act;
 mod item;
 mod judged;
 mod number;

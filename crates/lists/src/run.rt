@@ -1,14 +1,15 @@
 // The commands of a list, one by one: each item is read where it lies, when it is reached.
 use crate::Outcome;
 use crate::Verdict;
-use crate::act::act;
+use crate::item::command_at;
 use crate::item::part_size;
 use crate::item::part_start;
-use crate::item::word;
 use crate::judged::judge;
+use calls::Parsed;
 use model::Answer;
 use refusals::Refusal;
 use statecheck::well_formed;
+use steps::step;
 ghost use Prim.Native.Nat.{_+_, _≤_};
 ghost use mathlib.Core.Bool.{true};
 ghost use mathlib.Core.Path.{_≡_};
@@ -33,24 +34,19 @@ fn is_accepted(answer: Answer) -> bool
     }
 }
 
-// The command of the item at a place, in a well-formed state.
+// The command of the item at a place, in a well-formed state: there is no room for a reply, since none of these replies.
 fn item_step(items: &[u32], at: usize, bytes: &[u8], words: &mut [u32], arena: &mut [u8]) -> Answer
     requires { ⌜ (at + width ≤ length (now items)) × ((kindOf (length (now bytes)) (itemIn (drop at (now items))) ≡ Acts) × (formed (now words) (now arena) ≡ true)) ⌝ }
     ensures { λ r. ⌜ Goes (itemIn (drop at (now (items .entry)))) (now (bytes .entry)) (now (words .entry)) (now (arena .entry)) r (now (words .exit)) (now (arena .exit)) ⌝ }
 {
     let start = part_start(items, at);
     let end = start + part_size(items, at);
-    act(
-        word(items, at, 0),
-        word(items, at, 1),
-        word(items, at, 2),
-        word(items, at, 3),
-        word(items, at, 4),
-        word(items, at, 5),
-        &bytes[start..end],
-        words,
-        arena,
-    )
+    let mut reply = [0; 0];
+    match command_at(items, at) {
+        Parsed::Call(command) => step(command, &bytes[start..end], words, arena, &mut reply),
+        // No item that acts is without a command.
+        Parsed::Nothing => Answer::Refused(Refusal::ListUnfit),
+    }
 }
 
 // The commands of a list whose commands are tried, in a well-formed state.

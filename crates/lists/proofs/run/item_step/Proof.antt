@@ -1,10 +1,11 @@
-use mathlib.Core.Path.{ap₂}
-use Rattle.words.specs.Parts.{region}
+-- `lists::run::item_step` meets its contract.
 use Rattle.lists.specs.Running.{goes-by}
-use Rattle.lists.specs.Lent.{itemIn, ofParsed}
-use Rattle.lists.specs.Laid.{acts-laid, acts-kind, parsed-by}
+use Rattle.lists.specs.Laid.{acts-laid, acts-parsed}
+use Rattle.lists.specs.Lent.{itemIn}
+use Rattle.words.specs.Parts.{region}
+use mathlib.Core.Path.{ap₂}
 use Prim.Native.Nat.{ℕ, _+_, _-_, _≤_}
-use mathlib.Core.Path.{_≡_, sym, ap, _∙_}
+use mathlib.Core.Path.{_≡_, sym, _∙_}
 use native.Mathlib.Omega.{arith}
 use borrow.Author.Needs.{needs}
 use lib.ListN.{length, drop}
@@ -19,37 +20,44 @@ add-end c =
     let within = acts-laid (length (s .args .bytes .now)) (itemIn (drop (s .args .at) (s .args .items .now))) (s .pre .1 .0) in
     omega arith
 
-part-act-end : tie.Need-part-act-end
-part-act-end c =
-    let s = c .before .before .before .before .before .before .before .before .before .before .before .before in
-    let start = c .before .before .before .before .before .before .before .part-start .ensures in
-    let size = c .before .before .before .before .before .before .part-size .ensures in
+part-step-end : tie.Need-part-step-end
+part-step-end c =
+    let s = c .before .before .before .before .before .before .before .before .before .before in
+    let begins = c .before .before .before .before .before .part-start in
+    let long = c .before .before .before .before .part-size in
+    let start = begins .ensures in
+    let size = long .ensures in
     let within = acts-laid (length (s .args .bytes .now)) (itemIn (drop (s .args .at) (s .args .items .now))) (s .pre .1 .0) in
-    let end : c .before .before .before .before .before .before .before .part-start .result + c .before .before .before .before .before .before .part-size .result ≤ length (s .args .bytes .now) = omega arith in
+    let end : begins .result + long .result ≤ length (s .args .bytes .now) = omega arith in
     search needs
 
-act-requires : tie.Need-act-requires
-act-requires c κs =
-    let s = c .before .before .before .before .before .before .before .before .before .before .before .before .before .before .before in
-    let i = itemIn (drop (s .args .at) (s .args .items .now)) in
-    (s .pre .1 .1, ap ofParsed (parsed-by i (c .before .before .before .before .before .before .before .before .word .result) (c .before .before .before .before .before .before .before .word2 .result) (c .before .before .before .before .before .before .word3 .result) (c .before .before .before .before .before .word4 .result) (c .before .before .before .before .word5 .result) (c .before .before .before .word6 .result) (c .before .before .before .before .before .before .before .before .word .ensures) (c .before .before .before .before .before .before .before .word2 .ensures) (c .before .before .before .before .before .before .word3 .ensures) (c .before .before .before .before .before .word4 .ensures) (c .before .before .before .before .word5 .ensures) (c .before .before .before .word6 .ensures)) ∙ acts-kind (length (s .args .bytes .now)) i (s .pre .1 .0))
+step-requires : tie.Need-step-requires
+step-requires c κs = c .before .before .before .before .before .before .before .before .before .before .before .before .before .before .pre .1 .1
 
 returns : tie.Need-returns
 returns c =
-    let a = c .before .before .before .before .before .before .before .before .before .before .before .before .before .before .before .before .before .before .before .before .args in
+    let called = c .before .before .before .before .before .before .before .before .before .before .before in
+    let a = called .before .before .before .before .before .before .before .before .before .args in
     let i = itemIn (drop (a .at) (a .items .now)) in
-    let start = c .before .before .before .before .before .before .before .before .before .before .before .before .before .before .before .part-start .ensures in
-    let size = c .before .before .before .before .before .before .before .before .before .before .before .before .before .before .part-size .ensures in
-    let acted = c .before .before .before .before .act .ensures in
-    let long : c .before .before .before .before .before .before .before .before .before .before .before .before .before .before .before .part-start .result + c .before .before .before .before .before .before .before .before .before .before .before .before .before .before .part-size .result - c .before .before .before .before .before .before .before .before .before .before .before .before .before .before .before .part-start .result ≡ i .size = omega arith in
-    goes-by i (a .bytes .now) (a .words .now) (a .arena .now) (acted .command) _ (c .before .before .before .before .act .result) _ _ _
-    (sym (parsed-by i (c .before .before .before .before .before .before .before .before .before .before .before .before .before .word .result) (c .before .before .before .before .before .before .before .before .before .before .before .before .word2 .result) (c .before .before .before .before .before .before .before .before .before .before .before .word3 .result) (c .before .before .before .before .before .before .before .before .before .before .word4 .result) (c .before .before .before .before .before .before .before .before .before .word5 .result) (c .before .before .before .before .before .before .before .before .word6 .result) (c .before .before .before .before .before .before .before .before .before .before .before .before .before .word .ensures) (c .before .before .before .before .before .before .before .before .before .before .before .before .word2 .ensures) (c .before .before .before .before .before .before .before .before .before .before .before .word3 .ensures) (c .before .before .before .before .before .before .before .before .before .before .word4 .ensures) (c .before .before .before .before .before .before .before .before .before .word5 .ensures) (c .before .before .before .before .before .before .before .before .word6 .ensures)) ∙ acted .is)
+    let begins = called .before .before .before .before .part-start in
+    let many = called .before .before .before .part-size in
+    let start = begins .ensures in
+    let size = many .ensures in
+    let step = c .before .before .before .before .before .step in
+    let long : begins .result + many .result - begins .result ≡ i .size = omega arith in
+    goes-by i (a .bytes .now) (a .words .now) (a .arena .now) (called .command .given .0 .0) _ (step .result) _ _ _
+    (sym (called .before .before .command-at .ensures) ∙ called .command .given .1)
     (ap₂ (λ (n k : ℕ). region n k (a .bytes .now)) start long)
-    (acted .does)
+    (step .ensures)
+
+returns-2 : tie.Need-returns-2
+returns-2 c =
+    let s = c .before .before .before .before .before .before .before .before .before in
+    absurd (acts-parsed (length (s .args .bytes .now)) (itemIn (drop (s .args .at) (s .args .items .now))) (s .pre .1 .0) (sym (c .before .before .command-at .ensures) ∙ c .enum-told .given .1))
 
 pub item-step-spec : {M : Type 1} → statement M
 item-step-spec =
     tie.close
-    (tie.spec (λ c κs. search needs) (λ c κs. search needs) add-end (λ c κs. search needs) (λ c κs. search needs)
-    (λ c κs. search needs) (λ c κs. search needs) (λ c κs. search needs) (λ c κs. search needs) (λ c. search needs)
-    (λ c. search needs) part-act-end act-requires (λ c. search needs) (λ c. search needs) returns)
+    (tie.spec (λ c κs. search needs) (λ c κs. search needs) add-end (λ c κs. search needs) (λ c. search needs)
+    (λ c. search needs) (λ c. search needs) part-step-end (λ c. search needs) step-requires (λ c. search needs)
+    (λ c. search needs) (λ c. search needs) returns returns-2)
