@@ -20,13 +20,13 @@ use Rattle.model.specs.After.{wordsAfter, arenaAfter, freshState, freshArena}
 use Rattle.model.specs.Apply.{queryAnswer, answerIn, answer, isAccepted, written, replyOf, Does}
 use Rattle.model.specs.Chain.{State, engineIn, Call, Applied, Chain, Fresh}
 use Rattle.model.specs.Demands.{meaningIn, refusalIn, receive, export, Exports, SameLoads, Written, twin, Demand2}
-use Rattle.reload.specs.Theorem.{exported-file, exported-same, accepted, meant-same}
-use Rattle.reload.specs.Twins.{same-load}
+use Rattle.demands.specs.ReloadTheorem.{exported-file, exported-same, accepted, meant-same}
+use Rattle.demands.specs.Twins.{same-load}
 use Rattle.roundtrip.specs.Twin.{Agree, twin-agrees}
 use Rattle.format.specs.Definition.{Definition}
 use Rattle.format.specs.Reader.{readFile}
-use Rattle.sequence.specs.Ends.{reply-left, demand1}
-use Rattle.sequence.specs.Fresh.{fresh-state, fresh-formed}
+use Rattle.demands.specs.Ends.{reply-left, demand1}
+use Rattle.demands.specs.FreshState.{fresh-state, fresh-formed}
 
 export-reply : (bytes : List ℕ) (e : Engine) → reply query.Export bytes e ≡ exportFile (e .slots)
 unfolding replyTo

@@ -14,8 +14,8 @@ use Rattle.model.specs.Apply.{answerIn, answer, isAccepted, written, replyOf, a
 use Rattle.model.specs.Chain.{State, engineIn, Call, Applied, Chain, leftBy, Fresh}
 use Rattle.model.specs.Fresh.{freshEngine}
 use Rattle.model.specs.Script.{Line, line, room, afterLine, played, answersOf, replied}
-use Rattle.sequence.specs.Ends.{reply-left}
-use Rattle.sequence.specs.Fresh.{fresh-state, fresh-formed}
+use Rattle.demands.specs.Ends.{reply-left}
+use Rattle.demands.specs.FreshState.{fresh-state, fresh-formed}
 use Rattle.demands.specs.Theorems.{demand1}
 
 abbrev lineOf : Call → Line

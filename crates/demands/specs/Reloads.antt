@@ -21,7 +21,7 @@ use Rattle.model.specs.Replies.{exportFile}
 use Rattle.model.specs.Apply.{isAccepted}
 use Rattle.model.specs.Chain.{State, engineIn, Call, Applied, Chain, leftBy, Fresh}
 use Rattle.model.specs.Demands.{meaningIn as definitionNamed, export, Exports}
-use Rattle.reload.specs.Theorem.{exported-file, exported-same, accepted, meant-same}
+use Rattle.demands.specs.ReloadTheorem.{exported-file, exported-same, accepted, meant-same}
 use Rattle.demands.specs.Theorems.{demand1}
 use Rattle.demands.specs.Loads.{exports, LoadsFresh, load-by, load-answer, load-left}
 use Rattle.demands.specs.Session.{Made, Session, leftAfter, isOfDefinitions, DefinitionsStay, Loads, Demand2OfCalls}

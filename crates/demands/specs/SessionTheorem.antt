@@ -15,8 +15,8 @@ use Rattle.model.specs.Formed.{formed}
 use Rattle.model.specs.Apply.{answerIn, answer, isAccepted}
 use Rattle.model.specs.Chain.{State, engineIn, Call, Chain, leftBy, Fresh}
 use Rattle.model.specs.Demands.{refusalIn, Ends}
-use Rattle.sequence.specs.Fresh.{fresh-state, fresh-formed}
-use Rattle.sequence.specs.Sound.{never-one}
+use Rattle.demands.specs.FreshState.{fresh-state, fresh-formed}
+use Rattle.demands.specs.Sound.{never-one}
 use Rattle.messages.specs.Receive.{Meaning, malformed, unknown, means}
 use Rattle.messages.specs.Sent.{Refuses, Serves}
 use Rattle.demands.specs.Theorems.{demand1, demand3}

@@ -2,8 +2,8 @@
 use mathlib.Core.List.{List}
 use Rattle.model.specs.Chain.{State, Call, Chain, Fresh}
 use Rattle.model.specs.Demands.{Demand1, Demand2, Demand3}
-use Rattle.sequence.specs.Ends as calls
-use Rattle.sequence.specs.Theorem as sequence
+use Rattle.demands.specs.Ends as calls
+use Rattle.demands.specs.SequenceTheorem as sequence
 use Rattle.demands.specs.Loads as loads
 
 pub demand1 : Demand1

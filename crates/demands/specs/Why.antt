@@ -29,7 +29,7 @@ use Rattle.why.specs.Mapped.{map-times}
 use Rattle.why.specs.Exactly.{StandsAt}
 use Rattle.why.specs.Facts.{isOff, isSynth, Facts, facts}
 use Rattle.why.specs.Rebuilt.{rebuilt}
-use Rattle.sequence.specs.Theorem.{going-on}
+use Rattle.demands.specs.SequenceTheorem.{going-on}
 use Rattle.demands.specs.Theorems.{demand3}
 use Rattle.demands.specs.Session.{Asked, Made, why, Session, leftAfter, commandsOf}
 use Rattle.demands.specs.SessionTheorem.{session-parts, chained, same-left, demand3-of-calls}

@@ -6,7 +6,7 @@ use Rattle.model.specs.Chain.{State, engineIn, Fresh}
 use Rattle.model.specs.Fresh.{freshEngine}
 use Rattle.lists.specs.OneByOne.{listNumber}
 use Rattle.lists.specs.OnEngine.{listOn, list-on}
-use Rattle.sequence.specs.Fresh.{fresh-state, fresh-formed}
+use Rattle.demands.specs.FreshState.{fresh-state, fresh-formed}
 use Rattle.demands.specs.Session.{Listed, list, Promised}
 
 pub fresh-lists : (s : State) → Fresh s → (m : Listed) → Promised (list m) s → listNumber (m .outcome) ≡ listNumber (listOn (m .items) (m .bytes) freshEngine)

@@ -1,1 +1,2 @@
-// The three demands, of calls as `start::fresh` and `engine::apply` promise them. They stand in specs/.
+// The three demands, of calls as `engine::fresh`, `engine::apply`, `engine::message`, `lists::list` and `why::why` promise them, with the laws that
+// only they need: what a command leaves alone, every sequence, export and load. They stand in specs/.

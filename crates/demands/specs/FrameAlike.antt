@@ -34,7 +34,7 @@ use Rattle.refinement.specs.Load.{freeCount, free-staying, held-loaded}
 use Rattle.refinement.specs.DefinitionsReplay.{bytes-alike, retired-bytes, set-bytes}
 use Rattle.refinement.specs.RowChange.{FitsWord}
 use Rattle.refinement.specs.ControlsReplay.{AllOf, both-of, rows-of, formed-rows, kind-same, all-other}
-use Rattle.frame.specs.Seen.{all-more, all-left, all-of, Among, all-among}
+use Rattle.demands.specs.FrameSeen.{all-more, all-left, all-of, Among, all-among}
 
 -- a node whose row's words are the same
 same-row : (slots : List Slot) (y : Node) (a b : List ℕ) → (isGroup y ≡ false → region (rowWords * y .row) rowWords a ≡ region (rowWords * y .row) rowWords b) → viewOf slots a y ≡ viewOf slots b y

@@ -26,8 +26,8 @@ use Rattle.model.specs.Frame.{displacedBy, turnedBy, displaced, numbersLeft}
 use Rattle.state.specs.Known.{known}
 use Rattle.state.specs.Accepted.{TreeAccepted, accepted}
 use Rattle.preservation.specs.TreeKept.{known-sound}
-use Rattle.frame.specs.Seen.{numbers-view}
-use Rattle.frame.specs.TreeUntouched.{tree-untouched}
+use Rattle.demands.specs.FrameSeen.{numbers-view}
+use Rattle.demands.specs.TreeUntouched.{tree-untouched}
 
 -- by the records alone
 ordered-by : (test : ℕ → Bool) (e after : Engine) → numbers (left test (after .nodes)) ≡ numbers (left test (e .nodes)) → numbersLeft test (view e) ≡ numbersLeft test (view after)

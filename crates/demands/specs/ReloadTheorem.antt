@@ -31,8 +31,8 @@ use Rattle.slots.specs.Slots.{lengthsOn, flagsOn, slotsOn, slots-length, slots-
 use Rattle.definitions.specs.Slots.{Formed}
 use Rattle.definitions.specs.Lent.{tableIn, formed-lent}
 use Rattle.definitions.specs.Exported.{AllFine, formed-fine, residents-file, export-read, fresh-residents, fresh-export, meaningOf, meaning-residents}
-use Rattle.reload.specs.Fresh.{fresh-many, fresh-out, fresh-idle, fresh-staying}
-use Rattle.reload.specs.Loaded.{freshLoaded, fresh-after}
+use Rattle.demands.specs.FreshLoad.{fresh-many, fresh-out, fresh-idle, fresh-staying}
+use Rattle.demands.specs.Loaded.{freshLoaded, fresh-after}
 
 abbrev fresh : Engine
 fresh = decode freshState freshArena

@@ -23,7 +23,7 @@ use Rattle.model.specs.Demands.{receive}
 use Rattle.state.specs.Decoded.{Backed, slots-decoded}
 use Rattle.definitions.specs.Retiring.{retired-length}
 use Rattle.state.specs.Fresh.{fresh-length, arena-length}
-use Rattle.reload.specs.Fresh.{fresh-many}
+use Rattle.demands.specs.FreshLoad.{fresh-many}
 
 -- a resident put in is backed
 backed-set : (slots old : List Slot) (k : ℕ) (x : Slot) → Backed slots old → x .resident ≡ true → length (x .bytes) ≤ slotRoom → Backed (set slots k x) old

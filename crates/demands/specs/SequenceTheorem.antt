@@ -33,13 +33,13 @@ use Rattle.model.specs.Demands.{refusalIn, Ends, afterCall, replay, madeIn, mad
 use Rattle.refinement.specs.Kept.{Kept, Replayed}
 use Rattle.refinement.specs.Same.{kept-same}
 use Rattle.refinement.specs.Replay.{replayed}
-use Rattle.frame.specs.Ordered.{ordered-step}
-use Rattle.frame.specs.Untouched.{untouched-step}
-use Rattle.frame.specs.Tree.{tree-holds}
-use Rattle.sequence.specs.Ends.{unwritten, reply-left, demand1}
-use Rattle.sequence.specs.Sound.{never-one}
-use Rattle.sequence.specs.Fresh.{fresh-state, fresh-formed, fresh-kept, fresh-synths}
-use Rattle.sequence.specs.Made.{controls-made, tree-made}
+use Rattle.demands.specs.FrameOrder.{ordered-step}
+use Rattle.demands.specs.Untouched.{untouched-step}
+use Rattle.demands.specs.FrameTree.{tree-holds}
+use Rattle.demands.specs.Ends.{unwritten, reply-left, demand1}
+use Rattle.demands.specs.Sound.{never-one}
+use Rattle.demands.specs.FreshState.{fresh-state, fresh-formed, fresh-kept, fresh-synths}
+use Rattle.demands.specs.MadeSynths.{controls-made, tree-made}
 
 -- what holds along the calls: of the state, the plain tree, and what each synth's name meant
 pub record Going (s : State) (p : Plain) (madeFrom : ℕ → Option Definition) : Type 0 where

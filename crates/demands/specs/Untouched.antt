@@ -37,9 +37,9 @@ use Rattle.state.specs.Accepted.{NewSynthAccepted, TreeAccepted, ChangeAccepted
 use Rattle.preservation.specs.TreeSteps.{Sound, synth-comes}
 use Rattle.preservation.specs.TreeKept.{known-sound}
 use Rattle.refinement.specs.ControlsReplay.{AllOf}
-use Rattle.frame.specs.Seen.{entries-stay, all-left, all-of}
-use Rattle.frame.specs.TreeUntouched.{tree-untouched}
-use Rattle.frame.specs.Alike.{controls-alike, synth-alike, definitions-alike}
+use Rattle.demands.specs.FrameSeen.{entries-stay, all-left, all-of}
+use Rattle.demands.specs.TreeUntouched.{tree-untouched}
+use Rattle.demands.specs.FrameAlike.{controls-alike, synth-alike, definitions-alike}
 
 -- where the nodes are the same
 same-nodes : (test : ℕ → Bool) (t : List Node) → Untouched test t t

@@ -1,4 +1,0 @@
-pub mod Fresh
-pub mod Loaded
-pub mod Theorem
-pub mod Twins
