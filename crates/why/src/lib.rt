@@ -1,4 +1,4 @@
-// Why a node is silent: the state check, with an eye on the node that a number names, and then its reason.
+// Why a node is silent: the state check, and then the reason of the node that a number names.
 mod number;
 mod place;
 mod reasons;
@@ -6,7 +6,8 @@ mod sight;
 
 use refusals::Refusal;
 
-// The first of these that is true: no such node, a group, off by its own flag, the number of the ancestor nearest the root that is off, or the place in the running order, from 1.
+// The first of these that is true: no such node, a group, off by its own flag, the number of the ancestor nearest the root that is off,
+// or the place in the running order, from 1.
 pub enum Reason {
     NoNode,
     Group,
