@@ -20,7 +20,7 @@ use Rattle.nodes.specs.Split.{runOf-at}
 use Rattle.nodes.specs.Formed.{mostNodes, mostRows}
 use Rattle.values.specs.declared.Key.{Key}
 use Rattle.values.specs.Controls.{ControlValue}
-use Rattle.model.specs.Layout.{slotCount, lengthsPlace, slotRoom, nodesPlace, nodesWords, controlsPlace, controlsWords, wordsLength, countIn, nodesIn, controlsIn, putControls}
+use Rattle.model.specs.Layout.{slotCount, lengthsPlace, nodesPlace, nodesWords, controlsPlace, controlsWords, wordsLength, countIn, nodesIn, controlsIn, slotIn, putControls}
 use Rattle.model.specs.Engine.{Slot, decode, definitionOf}
 use Rattle.model.specs.Meaning.{coverOf}
 use Rattle.model.specs.Effects.{changeCovered, changeAll}
@@ -47,7 +47,7 @@ module _ (cs ws : List ℕ) (size : length ws ≡ wordsLength) (many : length cs
 
   pub bytes-kept : (arena : List ℕ) (k : ℕ) → k < 32 → slotBytes (putControls cs ws) arena k ≡ slotBytes ws arena k
   bytes-kept arena k h =
-      ap (λ (n : ℕ). take n (take slotRoom (drop (slotRoom * k) arena)))
+      ap (slotIn arena k)
       (word-before controlsPlace controlsWords cs ws (omega arith) many (lengthsPlace + k) (omega arith))
 
   -- the node at a place of them

@@ -25,7 +25,6 @@ use Rattle.model.specs.declared.Answer.the-variants.{Done, Replied, Refused, Re
 use Rattle.model.specs.Layout.{slotCount, lengthsPlace, nodesPlace, nodesWords, countIn, nodesIn}
 use Rattle.model.specs.Engine.{Slot, decode, residentOf}
 use Rattle.model.specs.Checks.{firstOf, faultOf, definitionsOf, namesOf, staying, noSlot, noResident}
-use Rattle.model.specs.Effects.{retire}
 use Rattle.model.specs.Replies.{exportFile, replyTo, reply}
 use Rattle.model.specs.After.{wordsAfter, arenaAfter}
 use Rattle.model.specs.Apply.{queryAnswer, answerIn}
@@ -35,8 +34,6 @@ use Rattle.slots.specs.Slots.{tableWords, slotsOn, slots-lent, decoded-many}
 use Rattle.definitions.specs.Slots.{Formed}
 use Rattle.definitions.specs.Holders.{HeldBy, holders}
 use Rattle.definitions.specs.Files.{Accepted, definitionsOn}
-use Rattle.definitions.specs.Storing.{tableOf}
-use Rattle.definitions.specs.Retiring.{retire-table}
 use Rattle.definitions.specs.Lent.{tableIn, formed-lent, staying-lent, free-lent}
 
 abbrev pub Steps : DefinitionCommand → List ℕ → List ℕ → List ℕ → Answer → List ℕ → List ℕ → Type 0
@@ -101,8 +98,7 @@ module _ (bytes ws bs : List ℕ) (k : ℕ) (fact : k ≡ residentOf bytes (slot
   unfolding answerIn firstOf
   free-done known table h o =
       let some : noResident bytes (decode ws bs) ≡ false = lt-leb (length (decode ws bs .slots)) (residentOf bytes (decode ws bs .slots)) (omega (arith, decoded-many ws bs, here)) in
-      let left = free-lent ws bs bytes table (known .size) (omega (arith, here))
-      (o ∙ retire-table (tableIn ws) bs k (formed-table ws bs known) h ∙ ap (λ (j : ℕ). tableOf (retire j (slotsOn (tableIn ws) bs)) (tableIn ws)) fact) in
+      let left = free-lent ws bs bytes table k (known .size) (formed-table ws bs known) fact h o in
       record { answers = rw some; words = left .0; arena = left .1 }
 
 -- the export

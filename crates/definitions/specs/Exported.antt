@@ -116,7 +116,7 @@ export-read slots many fine apart = file-back (definitionsIn (residents slots)) 
 -- the slots of a well-formed state
 pub formed-fine : (table arena : List ℕ) → AreBytes arena → Formed table arena → AllFine (slotsOn table arena)
 formed-fine table arena b f k h r =
-    let less : k < slotCount = rw (slots-length slotCount (lengthsOn table) (flagsOn table) arena) at h in
+    let less : k < slotCount = rw (slots-length 0 slotCount (lengthsOn table) (flagsOn table) arena) at h in
     let is : slotAt (slotsOn table arena) k ≡ slotOn table arena k = slot-is table arena k less in
     let w = f .resident k less (sym (ap (λ (s : Slot). s .resident) is) ∙ r) in
     let small = w .small in

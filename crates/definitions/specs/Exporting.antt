@@ -1,5 +1,5 @@
 -- Export: the residents' definitions as read, written one after the other, are their slots' bytes.
-use Prim.Native.Nat.{ℕ, suc, _+_, _*_, _-_, _/_, _%_, _≤_, _<_}
+use Prim.Native.Nat.{ℕ, suc, _+_, _-_, _/_, _%_, _≤_, _<_}
 use mathlib.Core.Bool.{Bool, true, false}
 use mathlib.Core.Path.{_≡_, refl, sym, ap, ap₂, _∙_}
 use mathlib.Core.List.{List, [], _∷_, _++_, append-assoc, append-nil}
@@ -10,12 +10,13 @@ use lib.Dec.{ltb}
 use borrow.Author.Tests.{ltb-true, ltb-false}
 use Rattle.words.specs.Bytes.{AreBytes}
 use Rattle.words.specs.Choice.{pick}
-use Rattle.words.specs.Parts.{put, put-length, past-put}
+use Rattle.words.specs.Parts.{region, put, put-length, past-put}
 use Rattle.format.specs.declared.Width.the-variants.{Long}
 use Rattle.format.specs.Read.{Read}
 use Rattle.format.specs.Definition.{Definition}
+use Rattle.format.specs.Reader.{sizeLimit}
 use Rattle.format.specs.Writer.{writeAll, writeDefinition, writeFile}
-use Rattle.model.specs.Layout.{slotCount, slotRoom}
+use Rattle.model.specs.Layout.{slotCount, startOf}
 use Rattle.model.specs.Engine.{Slot, residents, definitionIn, noDefinition, valueOr}
 use Rattle.model.specs.Replies.{definitionsIn, exportFile}
 use Rattle.roundtrip.specs.Forth.{definition-forth}
@@ -38,7 +39,7 @@ bytes-drop n s b i = rw (getD-drop n s i 0) (b (n + i))
 
 pub bytes-on : (table arena : List ℕ) (k : ℕ) → AreBytes arena → AreBytes (bytesOn table arena k)
 bytes-on table arena k b =
-    bytes-take (getD table k 0) (take slotRoom (drop (slotRoom * k) arena)) (bytes-take slotRoom (drop (slotRoom * k) arena) (bytes-drop (slotRoom * k) arena b))
+    bytes-take (getD table k 0) (region (startOf k) sizeLimit arena) (bytes-take sizeLimit (drop (startOf k) arena) (bytes-drop (startOf k) arena b))
 
 -- a resident's bytes are the writing of its definition as read
 pub whole-written : (table arena : List ℕ) (k : ℕ) → AreBytes arena → SlotsFit table arena → k < slotCount → Whole table arena k

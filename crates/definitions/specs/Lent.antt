@@ -1,18 +1,17 @@
 -- The table as it is lent from the engine's words: what is proved of the table, said of the engine.
-use Prim.Native.Nat.{ℕ, zero, suc, _+_, _≤_, _<_}
+use Prim.Native.Nat.{ℕ, _+_, _≤_, _<_}
 use mathlib.Core.Bool.{Bool, true, false}
 use mathlib.Core.Path.{_≡_, refl, sym, ap, ap₂, _∙_}
 use mathlib.Core.List.{List, [], _∷_, _++_, append-assoc}
 use native.Mathlib.Omega.{arith}
-use lib.ListN.{length, take, drop, getD, set, length-set}
-use lib.Dec.{eqb}
-use lib.Seq.{drop-drop, drop-at, length-take-le}
+use lib.ListN.{length, take, drop, set, length-set, take-append-drop}
+use lib.Seq.{drop-drop, drop-at, length-take-le, take-set-le}
 use Rattle.words.specs.Choice.{both}
 use Rattle.words.specs.Parts.{region, region-length, put, before-put}
 use Rattle.format.specs.Definition.{Definition}
 use Rattle.nodes.specs.declared.Node.{Node}
-use Rattle.model.specs.Layout.{slotCount, slotRoom, lengthsPlace, residentPlace, wordsLength, arenaLength, lengthsIn, flagsIn, nodesIn, putLengths, putResident}
-use Rattle.model.specs.Engine.{Slot, slotsFrom, slotAt, decode, held, residentOf}
+use Rattle.model.specs.Layout.{slotCount, lengthsPlace, residentPlace, wordsLength, arenaLength, lengthsIn, flagsIn, nodesIn, putLengths, putResident}
+use Rattle.model.specs.Engine.{Slot, slotAt, decode, held, residentOf}
 use Rattle.model.specs.Formed.{flagsFormed, slotsFormed, namesApart}
 use Rattle.model.specs.Checks.{namesOf, staying}
 use Rattle.model.specs.Effects.{placed, loaded, retired, retire, effect}
@@ -21,11 +20,12 @@ use Rattle.model.specs.declared.DefinitionCommand.the-variants as definitions
 use Rattle.model.specs.declared.Command.{Command}
 use Rattle.model.specs.declared.Command.the-variants as command
 use Rattle.definitions.specs.Holders.{HeldBy, holders, SameHeld, same-held, free-held, staying-held, formed-held}
-use Rattle.slots.specs.Slots.{tableWords, lengthsOn, flagsOn, slotsOn, slots-length, slots-lent, lengths-lent, flags-lent}
+use Rattle.slots.specs.Slots.{tableWords, lengthsOn, flagsOn, slotsOn, slots-length, slots-lent, lengths-lent, flags-lent, drop-take}
 use Rattle.definitions.specs.Slots.{SlotsFit, Formed}
 use Rattle.definitions.specs.Files.{definitionsOn}
-use Rattle.definitions.specs.Storing.{tableOf, lengths-size, arena-same}
-use Rattle.definitions.specs.Retiring.{retired-many}
+use Rattle.definitions.specs.Storing.{tableOf, lengths-size}
+use Rattle.definitions.specs.Retiring.{retired-many, retire-table}
+use Rattle.definitions.specs.Retired.{table-lengths}
 use Rattle.definitions.specs.Loading.{Loaded, loadedOn, placed-many}
 use Rattle.definitions.specs.Checking.{check-formed}
 
@@ -80,7 +80,7 @@ loaded-held t u same (d ∷ ds) slots many =
 module _ (ws arena : List ℕ) (tests : List Bool) (h : HeldBy tests (nodesIn ws)) where
   many : length (decode ws arena .slots) ≡ slotCount
   unfolding decode
-  many = slots-length slotCount (lengthsIn ws) (flagsIn ws) arena
+  many = slots-length 0 slotCount (lengthsIn ws) (flagsIn ws) arena
 
   same : SameHeld (holders tests) (nodesIn ws)
   same = same-held h
@@ -120,33 +120,43 @@ receive-lent ws arena file tests table′ arena′ h held l =
       l .bytes ∙ ap (λ (s : List Slot). arenaOf s arena) same,
     )
 
--- a resident retired leaves the arena as it is
-retire-from : (n k : ℕ) (lengths flags arena : List ℕ) → k < n → n ≤ length flags → retire k (slotsFrom n lengths flags arena) ≡ slotsFrom n lengths (set flags k 0) arena
-unfolding slotsFrom
-retire-from zero k lengths flags arena h l = absurd (omega arith)
-retire-from (suc n) k lengths [] arena h l = absurd (omega arith)
-retire-from (suc n) zero lengths (f ∷ flags) arena h l = refl
-retire-from (suc n) (suc k) lengths (f ∷ flags) arena h l =
-    ap (λ (s : List Slot). record { bytes = take (getD lengths 0 0) (take slotRoom arena); resident = eqb f 1 } ∷ s)
-    (retire-from n k (drop 1 lengths) flags (drop slotRoom arena) (omega arith) (omega arith))
+-- a part put over itself
+put-own : (a k : ℕ) (ys ws : List ℕ) → region a k ws ≡ ys → put a k ys ws ≡ ws
+put-own a k ys ws e =
+    ap (λ (l : List ℕ). take a ws ++ (l ++ drop k (drop a ws))) (sym e)
+    ∙ ap (λ (l : List ℕ). take a ws ++ l) (take-append-drop k (drop a ws))
+    ∙ take-append-drop a ws
+
+-- the flags put in leave the lengths
+lengths-kept : (fs ws : List ℕ) → length ws ≡ wordsLength → lengthsIn (putResident fs ws) ≡ lengthsIn ws
+lengths-kept fs ws h =
+    sym (drop-take lengthsPlace slotCount (putResident fs ws))
+    ∙ ap (λ (l : List ℕ). drop lengthsPlace l) (before-put residentPlace slotCount residentPlace fs ws (omega arith) (omega arith))
+    ∙ drop-take lengthsPlace slotCount ws
 
 -- the words and the arena after an accepted `/d_free`: what `retire` leaves
-pub free-lent : (ws arena name table′ : List ℕ) → length ws ≡ wordsLength → residentOf name (decode ws arena .slots) < slotCount
-    → table′ ≡ tableOf (retire (residentOf name (slotsOn (tableIn ws) arena)) (slotsOn (tableIn ws) arena)) (tableIn ws)
+pub free-lent : (ws arena name table′ : List ℕ) (k : ℕ) → length ws ≡ wordsLength → Formed (tableIn ws) arena → k ≡ residentOf name (slotsOn (tableIn ws) arena) → k < slotCount
+    → table′ ≡ set (tableIn ws) (slotCount + k) 0
     → (put lengthsPlace tableWords table′ ws ≡ wordsAfter free name ws arena) × (arena ≡ arenaAfter free name ws arena)
 unfolding wordsAfter arenaAfter effect decode
-free-lent ws arena name table′ h less e =
-    let slots = slotsOn (tableIn ws) arena in
-    let k = residentOf name slots in
-    let many : length slots ≡ slotCount = slots-length slotCount (lengthsOn (tableIn ws)) (flagsOn (tableIn ws)) arena in
-    let same : slots ≡ decode ws arena .slots = slots-lent ws arena in
-    let inside : k < slotCount = rw same less in
-    let long : length (flagsOn (tableIn ws)) ≡ slotCount = ap length (flags-lent ws) ∙ region-length residentPlace slotCount ws (omega arith) in
-    let kept : arenaOf (retire k slots) arena ≡ arena =
-    ap (λ (s : List Slot). arenaOf s arena) (retire-from slotCount k (lengthsOn (tableIn ws)) (flagsOn (tableIn ws)) arena inside (omega arith))
-    ∙ arena-same slotCount (lengthsOn (tableIn ws)) (set (flagsOn (tableIn ws)) k 0) arena in (
-      ap (λ (x : List ℕ). put lengthsPlace tableWords x ws) e
-          ∙ put-slots (retire k slots) ws (length-set slots k (record { bytes = slotAt slots k .bytes; resident = false }) ∙ many) h
-          ∙ ap (λ (s : List Slot). putSlots (retire (residentOf name s) s) ws) same,
-      sym kept ∙ ap (λ (s : List Slot). arenaOf (retire (residentOf name s) s) arena) same,
+free-lent ws arena name table′ k h f found less e =
+    let table = tableIn ws in
+    let slots = retire k (slotsOn table arena) in
+    let flags = flagsOf slots in
+    let many : length slots ≡ slotCount =
+    length-set (slotsOn table arena) k (record { bytes = slotAt (slotsOn table arena) k .bytes; resident = false }) ∙ slots-length 0 slotCount (lengthsOn table) (flagsOn table) arena in
+    let left : set table (slotCount + k) 0 ≡ tableOf slots table = retire-table table arena k f less in
+    let lengths : lengthsOf slots (lengthsOn table) ≡ lengthsIn ws =
+    sym (table-lengths slots table many)
+    ∙ ap (λ (l : List ℕ). lengthsOn l) (sym left)
+    ∙ take-set-le slotCount table (slotCount + k) 0 (omega arith)
+    ∙ lengths-lent ws in
+    let retired : flags ≡ flagsOf (retire (residentOf name (decode ws arena .slots)) (decode ws arena .slots)) =
+    ap (λ (j : ℕ). flagsOf (retire j (slotsOn table arena))) found
+    ∙ ap (λ (s : List Slot). flagsOf (retire (residentOf name s) s)) (slots-lent ws arena) in (
+      ap (λ (x : List ℕ). put lengthsPlace tableWords x ws) (e ∙ left)
+          ∙ put-two lengthsPlace slotCount slotCount (lengthsOf slots (lengthsOn table)) flags ws (omega arith) (lengths-size slots (lengthsOn table) ∙ many)
+          ∙ put-own lengthsPlace slotCount (lengthsOf slots (lengthsOn table)) (putResident flags ws) (lengths-kept flags ws h ∙ sym lengths)
+          ∙ ap (λ (l : List ℕ). putResident l ws) retired,
+      refl,
     )

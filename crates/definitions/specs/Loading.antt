@@ -1,5 +1,5 @@
 -- An accepted file's definitions put into slots, one after the other.
-use Prim.Native.Nat.{ℕ, _+_, _*_, _≤_, _<_}
+use Prim.Native.Nat.{ℕ, _+_, _≤_, _<_}
 use mathlib.Core.Bool.{Bool, true, false}
 use mathlib.Core.Path.{_≡_, refl, sym, ap, ap₂, _∙_}
 use mathlib.Core.List.{List, [], _++_}
@@ -12,9 +12,10 @@ use borrow.Author.Tests.{ltb-true, ltb-false, eqb-true, eqb-false}
 use Rattle.words.specs.Choice.{either-false}
 use Rattle.words.specs.Parts.{put, put-length}
 use Rattle.format.specs.Definition.{Definition}
+use Rattle.format.specs.Reader.{sizeLimit}
 use Rattle.format.specs.Writer.{writeDefinition}
 use Rattle.nodes.specs.declared.Node.{Node}
-use Rattle.model.specs.Layout.{slotCount, slotRoom, arenaLength}
+use Rattle.model.specs.Layout.{slotCount, startOf, arenaLength}
 use Rattle.model.specs.Engine.{Slot, slotsFrom, slotAt, held}
 use Rattle.model.specs.Effects.{freeFrom, placed, loaded, retired}
 use Rattle.model.specs.Searches.{free-slot}
@@ -22,9 +23,10 @@ use Rattle.model.specs.Checks.{namesOf}
 use Rattle.model.specs.After.{flagsOf, lengthsOf, arenaOf}
 use Rattle.definitions.specs.Holders.{holders}
 use Rattle.slots.specs.Slots.{lengthsOn, flagsOn, slotsOn, slots-length}
+use Rattle.slots.specs.Arena.{Short, arena-set, arena-same}
 use Rattle.definitions.specs.Slots.{SlotsFit, Formed}
 use Rattle.definitions.specs.Files.{Run, firstPlace, definitionsOn}
-use Rattle.definitions.specs.Storing.{tableOf, table-set, Short, arena-set, arena-same, flags-back, free-flags}
+use Rattle.definitions.specs.Storing.{tableOf, table-set, flags-back, free-flags}
 use Rattle.definitions.specs.Naming.{Next, run-last}
 use Rattle.definitions.specs.Retiring.{slot-is, table-same}
 use Rattle.definitions.specs.Retired.{table-flags, retired-lengths, retired-slots}
@@ -40,9 +42,9 @@ placed-many d slots t many = length-set slots (freeFrom 0 slots t) (record { byt
 -- the flags in a table of slots
 flags-in : (slots : List Slot) (table arena : List ℕ) → length slots ≡ slotCount → flagsOf (slotsOn (tableOf slots table) arena) ≡ flagsOf slots
 flags-in slots table arena many =
-    ap (λ (l : List ℕ). flagsOf (slotsFrom slotCount (lengthsOn (tableOf slots table)) l arena)) (table-flags slots table many)
-    ∙ ap (λ (n : ℕ). flagsOf (slotsFrom n (lengthsOn (tableOf slots table)) (flagsOf slots) arena)) (sym many)
-    ∙ flags-back slots (lengthsOn (tableOf slots table)) arena
+    ap (λ (l : List ℕ). flagsOf (slotsFrom 0 slotCount (lengthsOn (tableOf slots table)) l arena)) (table-flags slots table many)
+    ∙ ap (λ (n : ℕ). flagsOf (slotsFrom 0 n (lengthsOn (tableOf slots table)) (flagsOf slots) arena)) (sym many)
+    ∙ flags-back 0 slots (lengthsOn (tableOf slots table)) arena
 
 -- the definitions before a place in the file are in their slots
 pub record Loading (table₀ arena₀ file : List ℕ) (tests : List Bool) (at : ℕ) (table arena : List ℕ) : Type 0 where
@@ -71,21 +73,21 @@ short-on table arena k e = by (ltb k slotCount) refl
     slots : List Slot
     slots = slotsOn table arena
 
-    by : (b : Bool) → ltb k slotCount ≡ b → length (slotAt slots k .bytes) ≤ slotRoom
+    by : (b : Bool) → ltb k slotCount ≡ b → length (slotAt slots k .bytes) ≤ sizeLimit
     by true q =
         let less : k < slotCount = ltb-true k slotCount q in
         rw (slot-is table arena k less) (simp (length-take, length-drop) (omega arith))
     by false q =
         let past : slotCount ≤ k = ltb-false k slotCount q in
-        rw (List·getD-eq-default slots (record { bytes = []; resident = false }) {n = k} (rw (slots-length slotCount (lengthsOn table) (flagsOn table) arena) past)) (omega arith)
+        rw (List·getD-eq-default slots (record { bytes = []; resident = false }) {n = k} (rw (slots-length 0 slotCount (lengthsOn table) (flagsOn table) arena) past)) (omega arith)
 
-short-set : (slots : List Slot) (k : ℕ) (x : Slot) → Short slots → length (x .bytes) ≤ slotRoom → Short (set slots k x)
+short-set : (slots : List Slot) (k : ℕ) (x : Slot) → Short slots → length (x .bytes) ≤ sizeLimit → Short (set slots k x)
 short-set slots k x short fits j e = by (eqb j k) refl (ltb k (length slots)) refl
   where
     none : Slot
     none = record { bytes = []; resident = false }
 
-    by : (b : Bool) → eqb j k ≡ b → (l : Bool) → ltb k (length slots) ≡ l → length (slotAt (set slots k x) j .bytes) ≤ slotRoom
+    by : (b : Bool) → eqb j k ≡ b → (l : Bool) → ltb k (length slots) ≡ l → length (slotAt (set slots k x) j .bytes) ≤ sizeLimit
     by true q true l =
         let same : j ≡ k = eqb-true j k q in
         rw (same, getD-set-same slots k x none (ltb-true k (length slots) l)) fits
@@ -103,10 +105,10 @@ loading-first table arena file tests f r = record {
   rest = definitionsOn file;
   run = r;
   left = refl;
-  many = slots-length slotCount (lengthsOn table) (flagsOn table) arena;
+  many = slots-length 0 slotCount (lengthsOn table) (flagsOn table) arena;
   short = short-on table arena;
   tableNow = sym (table-same table arena f);
-  arenaNow = sym (arena-same slotCount (lengthsOn table) (flagsOn table) arena);
+  arenaNow = sym (arena-same 0 slotCount (lengthsOn table) (flagsOn table) arena);
   sized = f .sized;
 }
 
@@ -145,12 +147,12 @@ module _ (table₀ arena₀ file : List ℕ) (tests : List Bool) (at : ℕ) (tab
   }
 
   pub loading-next : k < slotCount
-      → Loading table₀ arena₀ file tests (n .next) (set (set table k (length (writeDefinition (n .first)))) (slotCount + k) 1) (put (slotRoom * k) (length (writeDefinition (n .first))) (writeDefinition (n .first)) arena)
+      → Loading table₀ arena₀ file tests (n .next) (set (set table k (length (writeDefinition (n .first)))) (slotCount + k) 1) (put (startOf k) (length (writeDefinition (n .first))) (writeDefinition (n .first)) arena)
   loading-next less =
       let from = writeDefinition (n .first) in
       let small = n .here .small in
       let many = m .many in
-      let fits : length (writeDefinition (n .first)) ≤ slotRoom = omega arith in
+      let fits : length (writeDefinition (n .first)) ≤ sizeLimit = omega arith in
       let free : slotAt (m .slots) k .resident ≡ false = free-resident (m .slots) (holders tests) k (sym found-in ∙ sym (zero-add k)) (rw (m .many) less) in
       record {
         slots = set (m .slots) k (newSlot (n .first));
@@ -160,10 +162,10 @@ module _ (table₀ arena₀ file : List ℕ) (tests : List Bool) (at : ℕ) (tab
         many = length-set (m .slots) k (newSlot (n .first)) ∙ m .many;
         short = short-set (m .slots) k (newSlot (n .first)) (m .short) fits;
         tableNow = rw (m .tableNow) (sym (table-set (m .slots) table₀ k (newSlot (n .first)) (m .many) less refl));
-        arenaNow = rw (m .arenaNow) (sym (arena-set (m .slots) arena₀ k (newSlot (n .first)) (m .short) (omega arith) (omega arith) free refl fits));
+        arenaNow = rw (m .arenaNow) (sym (arena-set 0 (m .slots) arena₀ k (newSlot (n .first)) (m .short) (omega arith) (omega arith) free refl fits ∙ rw zero-add));
         sized = record {
           tableSize = length-set (set table k (length from)) (slotCount + k) 1 ∙ length-set table k (length from) ∙ m .sized .tableSize;
-          arenaSize = let z = m .sized .arenaSize in put-length (slotRoom * k) (length from) from arena (omega arith) refl ∙ z;
+          arenaSize = let z = m .sized .arenaSize in put-length (startOf k) (length from) from arena (omega arith) refl ∙ z;
         };
       }
 

@@ -9,7 +9,7 @@ use lib.Seq.{getD-take, ext-getD, take-at, take-all, drop-at, getD-append-add, l
 use lib.Dec.{eqb}
 use Rattle.words.specs.Choice.{pick, both, both-true}
 use Rattle.format.specs.Reader.{among}
-use Rattle.model.specs.Layout.{slotCount, slotRoom}
+use Rattle.model.specs.Layout.{slotCount, slotIn}
 use Rattle.model.specs.Engine.{Slot, slotsFrom, slotAt, nameIn}
 use Rattle.model.specs.Effects.{retired}
 use Rattle.model.specs.After.{flagsOf, lengthsOf}
@@ -25,12 +25,12 @@ flag-test true = refl
 flag-test false = refl
 
 -- slots with other flags
-retired-from : (n : ℕ) (lengths flags arena : List ℕ) (names : List (List ℕ))
-    → slotsFrom n lengths (flagsOf (retired names (slotsFrom n lengths flags arena))) arena ≡ retired names (slotsFrom n lengths flags arena)
+retired-from : (k n : ℕ) (lengths flags arena : List ℕ) (names : List (List ℕ))
+    → slotsFrom k n lengths (flagsOf (retired names (slotsFrom k n lengths flags arena))) arena ≡ retired names (slotsFrom k n lengths flags arena)
 unfolding slotsFrom flagsOf retired
-retired-from zero lengths flags arena names = refl
-retired-from (suc n) lengths flags arena names =
-    rw (flag-test (both (eqb (getD flags 0 0) 1) (not (among (nameIn (record { bytes = take (getD lengths 0 0) (take slotRoom arena); resident = eqb (getD flags 0 0) 1 })) names))), retired-from n (drop 1 lengths) (drop 1 flags) (drop slotRoom arena) names)
+retired-from k zero lengths flags arena names = refl
+retired-from k (suc n) lengths flags arena names =
+    rw (flag-test (both (eqb (getD flags 0 0) 1) (not (among (nameIn (record { bytes = slotIn arena k (getD lengths 0 0); resident = eqb (getD flags 0 0) 1 })) names))), retired-from (k + 1) n (drop 1 lengths) (drop 1 flags) arena names)
 
 -- a table's parts
 pub table-lengths : (slots : List Slot) (table : List ℕ) → length slots ≡ slotCount → lengthsOn (tableOf slots table) ≡ lengthsOf slots (lengthsOn table)
@@ -68,7 +68,7 @@ module _ (table arena : List ℕ) (names : List (List ℕ)) (f : Formed table ar
 
   pub retired-slots : slotsOn (tableOf (retired names (slotsOn table arena)) table) arena ≡ retired names (slotsOn table arena)
   retired-slots =
-      rw (retired-lengths, table-flags (retired names (slotsOn table arena)) table many) (retired-from slotCount (lengthsOn table) (flagsOn table) arena names)
+      rw (retired-lengths, table-flags (retired names (slotsOn table arena)) table many) (retired-from 0 slotCount (lengthsOn table) (flagsOn table) arena names)
 
   length-kept : (k : ℕ) → k < slotCount → getD (tableOf (retired names (slotsOn table arena)) table) k 0 ≡ getD table k 0
   length-kept k h =

@@ -81,7 +81,7 @@ module _ (table arena : List ℕ) (f : Formed table arena) where
   -- slots that lie there leave the table as it is
   pub table-same : tableOf (slotsOn table arena) table ≡ table
   table-same =
-      sym (table-is (slotsOn table arena) table table (slots-length slotCount (lengthsOn table) (flagsOn table) arena) (f .sized .tableSize)
+      sym (table-is (slotsOn table arena) table table (slots-length 0 slotCount (lengthsOn table) (flagsOn table) arena) (f .sized .tableSize)
       (λ k h. rw (slot-is table arena k h) (size-fact k h))
       (λ k h. rw (slot-is table arena k h) (flag-fact (getD table (slotCount + k) 0) (f .flag k h))))
 
@@ -101,11 +101,11 @@ retired-at names (s ∷ more) (suc k) h = retired-at names more k (omega arith)
 
 module _ (table arena : List ℕ) (names : List (List ℕ)) where
   pub retired-many : length (retired names (slotsOn table arena)) ≡ slotCount
-  retired-many = retired-length names (slotsOn table arena) ∙ slots-length slotCount (lengthsOn table) (flagsOn table) arena
+  retired-many = retired-length names (slotsOn table arena) ∙ slots-length 0 slotCount (lengthsOn table) (flagsOn table) arena
 
   pub retired-is : (k : ℕ) → k < slotCount → slotAt (retired names (slotsOn table arena)) k ≡ retiredSlot names (slotOn table arena k)
   retired-is k h =
-      retired-at names (slotsOn table arena) k (rw (slots-length slotCount (lengthsOn table) (flagsOn table) arena) h)
+      retired-at names (slotsOn table arena) k (rw (slots-length 0 slotCount (lengthsOn table) (flagsOn table) arena) h)
       ∙ ap (λ (s : Slot). retiredSlot names s) (slot-is table arena k h)
 
 -- the flags of the slots before k are cleared where they are marked
@@ -197,7 +197,7 @@ module _ (table arena : List ℕ) (k : ℕ) (f : Formed table arena) (less : k <
       x = record { bytes = slotAt slots k .bytes; resident = false }
 
       many : length slots ≡ slotCount
-      many = slots-length slotCount (lengthsOn table) (flagsOn table) arena
+      many = slots-length 0 slotCount (lengthsOn table) (flagsOn table) arena
 
       here : slotAt (retire k slots) k ≡ x
       here = getD-set-same slots k x none (rw many less)

@@ -1,19 +1,18 @@
--- Slots put into the table and onto the arena.
-use Prim.Native.Nat.{ℕ, zero, suc, _+_, _*_, _≤_, _<_}
+-- Slots put into the table.
+use Prim.Native.Nat.{ℕ, zero, suc, _+_, _<_}
 use mathlib.Core.Bool.{Bool, true, false}
 use mathlib.Core.Path.{_≡_, refl, sym, ap, ap₂, _∙_}
-use mathlib.Core.List.{List, [], _∷_, _++_, append-assoc}
+use mathlib.Core.List.{List, [], _∷_, _++_}
 use native.Mathlib.Omega.{arith}
-use lib.ListN.{length, take, drop, getD, set, length-drop, length-append, length-set, take-append-drop}
-use lib.Seq.{getD-drop, drop-append-le, drop-append-add, take-append-add, length-take-le, set-append-left}
+use lib.ListN.{length, drop, getD, set, length-append, length-set}
+use lib.Seq.{getD-drop, set-append-left}
 use lib.Dec.{eqb}
 use Rattle.words.specs.Choice.{pick}
-use Rattle.words.specs.Parts.{put}
 use Rattle.nodes.specs.declared.Node.{Node}
-use Rattle.model.specs.Layout.{slotCount, slotRoom}
+use Rattle.model.specs.Layout.{slotCount}
 use Rattle.model.specs.Engine.{Slot, slotsFrom, slotAt}
 use Rattle.model.specs.Effects.{freeFrom}
-use Rattle.model.specs.After.{flagsOf, lengthsOf, arenaOf}
+use Rattle.model.specs.After.{flagsOf, lengthsOf}
 use Rattle.definitions.specs.Lists.{set-append-add}
 use Rattle.slots.specs.Slots.{lengthsOn}
 
@@ -78,74 +77,11 @@ table-set slots table k x many h r =
     rw (lengths-set slots (lengthsOn table) k x r, flags-set slots k x, r)
     (sym (rw (set-append-left ls fs k (length (x .bytes)) (omega arith), sym size′) (set-append-add (set ls k (length (x .bytes))) fs k 1)))
 
--- a run with a part put in, behind a first part
-pub put-behind : (p q : List ℕ) (a k : ℕ) (ys : List ℕ) → put (length p + a) k ys (p ++ q) ≡ p ++ put a k ys q
-put-behind p q a k ys =
-    rw (take-append-add p q a, drop-append-add p q a) (append-assoc p (take a q) (ys ++ drop k (drop a q)))
-
--- a resident's bytes have room
-abbrev pub Short : List Slot → Type 0
-Short slots = (k : ℕ) → slotAt slots k .resident ≡ true → length (slotAt slots k .bytes) ≤ slotRoom
-
--- what a slot leaves in its room
-abbrev chunk : Slot → List ℕ → List ℕ
-chunk s room = pick (s .resident) (s .bytes ++ drop (length (s .bytes)) room) room
-
-chunk-size : (s : Slot) (room : List ℕ) → (s .resident ≡ true → length (s .bytes) ≤ length room) → length (chunk s room) ≡ length room
-chunk-size s room h = by (s .resident) refl
-  where
-    by : (r : Bool) → s .resident ≡ r → length (pick r (s .bytes ++ drop (length (s .bytes)) room) room) ≡ length room
-    by true e =
-        let fits = h e in
-        simp (length-append, length-drop) (omega arith)
-    by false e = refl
-
--- a resident put into a slot that is not resident, in the arena
-pub arena-set : (slots : List Slot) (arena : List ℕ) (k : ℕ) (x : Slot) → Short slots → slotRoom * length slots ≤ length arena → k < length slots
-    → slotAt slots k .resident ≡ false → x .resident ≡ true → length (x .bytes) ≤ slotRoom
-    → arenaOf (set slots k x) arena ≡ put (slotRoom * k) (length (x .bytes)) (x .bytes) (arenaOf slots arena)
-unfolding arenaOf
-arena-set [] arena k x short long h free r fits = absurd (omega arith)
-arena-set (s ∷ more) arena zero x short long h free r fits =
-    let room : length (take slotRoom arena) ≡ slotRoom = length-take-le slotRoom arena (omega arith) in
-    let rest = arenaOf more (drop slotRoom arena) in
-    rw (r, free)
-    (append-assoc (x .bytes) (drop (length (x .bytes)) (take slotRoom arena)) rest
-    ∙ ap (λ (l : List ℕ). x .bytes ++ l) (sym (drop-append-le (length (x .bytes)) (take slotRoom arena) rest (omega arith))))
-arena-set (s ∷ more) arena (suc k) x short long h free r fits =
-    let room : length (take slotRoom arena) ≡ slotRoom = length-take-le slotRoom arena (omega arith) in
-    let size : length (chunk s (take slotRoom arena)) ≡ slotRoom = chunk-size s (take slotRoom arena) (λ e. omega (arith, short 0 e)) ∙ room in
-    let at : slotRoom * suc k ≡ length (chunk s (take slotRoom arena)) + slotRoom * k = omega arith in
-    let inner : slotRoom * length more ≤ length (drop slotRoom arena) = simp length-drop (omega arith) in
-    ap (λ (l : List ℕ). chunk s (take slotRoom arena) ++ l) (arena-set more (drop slotRoom arena) k x (λ j e. short (suc j) e) inner (omega arith) free r fits)
-    ∙ sym (put-behind (chunk s (take slotRoom arena)) (arenaOf more (drop slotRoom arena)) (slotRoom * k) (length (x .bytes)) (x .bytes))
-    ∙ ap (λ (a : ℕ). put a (length (x .bytes)) (x .bytes) (chunk s (take slotRoom arena) ++ arenaOf more (drop slotRoom arena))) (sym at)
-
--- slots that lie there leave the arena as it is
-take-prefix : (n : ℕ) (l : List ℕ) → take n l ++ drop (length (take n l)) l ≡ l
-take-prefix zero l = refl
-take-prefix (suc n) [] = refl
-take-prefix (suc n) (x ∷ l) = ap (λ (m : List ℕ). x ∷ m) (take-prefix n l)
-
-pub arena-same : (n : ℕ) (lengths flags arena : List ℕ) → arenaOf (slotsFrom n lengths flags arena) arena ≡ arena
-unfolding slotsFrom arenaOf
-arena-same zero lengths flags arena = refl
-arena-same (suc n) lengths flags arena =
-    ap₂ (λ (a b : List ℕ). a ++ b) (kept (eqb (getD flags 0 0) 1)) (arena-same n (drop 1 lengths) (drop 1 flags) (drop slotRoom arena))
-    ∙ take-append-drop slotRoom arena
-  where
-    bytes : List ℕ
-    bytes = take (getD lengths 0 0) (take slotRoom arena)
-
-    kept : (b : Bool) → pick b (bytes ++ drop (length bytes) (take slotRoom arena)) (take slotRoom arena) ≡ take slotRoom arena
-    kept true = take-prefix (getD lengths 0 0) (take slotRoom arena)
-    kept false = refl
-
--- and so the flags
-pub flags-back : (slots : List Slot) (lengths arena : List ℕ) → flagsOf (slotsFrom (length slots) lengths (flagsOf slots) arena) ≡ flagsOf slots
+-- the flags of slots, read back
+pub flags-back : (k : ℕ) (slots : List Slot) (lengths arena : List ℕ) → flagsOf (slotsFrom k (length slots) lengths (flagsOf slots) arena) ≡ flagsOf slots
 unfolding slotsFrom flagsOf
-flags-back [] lengths arena = refl
-flags-back (s ∷ more) lengths arena = ap₂ (λ (a : ℕ) (b : List ℕ). a ∷ b) (flag (s .resident)) (flags-back more (drop 1 lengths) (drop slotRoom arena))
+flags-back k [] lengths arena = refl
+flags-back k (s ∷ more) lengths arena = ap₂ (λ (a : ℕ) (b : List ℕ). a ∷ b) (flag (s .resident)) (flags-back (k + 1) more (drop 1 lengths) arena)
   where
     flag : (b : Bool) → _≡_ {A = ℕ} (pick (eqb (pick b 1 0) 1) 1 0) (pick b 1 0)
     flag true = refl

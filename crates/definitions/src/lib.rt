@@ -1,17 +1,18 @@
-// Definition slots in the lent state: 64 words, the slots' lengths and then their resident flags, and the arena with 2,048 bytes for each slot.
+// Definition slots in the lent state: 64 words, the slots' lengths and then their resident flags, and the arena with their bytes.
 use fields::Cursor;
 use fields::Step;
 use fields::same_long;
 use files::read_definition;
 use files::width_of;
 use format::FIRST_PLACE;
+use format::SIZE_LIMIT;
 use format::Width;
 use layout::RECORD;
 use layout::SLOT;
-use layout::SLOT_ROOM;
 use layout::SLOTS;
 use slots::bytes_on;
 use slots::resident_count;
+use slots::start_of;
 use widening::widen;
 use words::wide;
 ghost use Prim.Native.Nat.{ℕ, _+_, _*_, _≤_, _<_};
@@ -28,7 +29,7 @@ ghost use Rattle.format.specs.Reader.{definitionBy, readDefinition, sizeLimit, 
 ghost use Rattle.format.specs.HeaderLaws.{fileWidth};
 ghost use Rattle.format.specs.Writer.{writeDefinition};
 ghost use Rattle.format.specs.Fields.{stringAt};
-ghost use Rattle.model.specs.Layout.{slotCount, slotRoom};
+ghost use Rattle.model.specs.Layout.{slotCount, startOf};
 ghost use Rattle.nodes.specs.declared.Node.{Node};
 ghost use Rattle.nodes.specs.Table.{width, rows};
 ghost use Rattle.model.specs.Checks.{namesOf, staying};
@@ -105,9 +106,9 @@ fn place(
     width: Width,
 )
     requires { ⌜ SlotsFit (now table) (now arena) × ((k < slotCount) × Placeable width (now file) at end) ⌝ }
-    ensures { λ r. ⌜ ((d : Definition) → definitionBy width (now (file .entry)) at ≡ got d end → (now (table .exit) ≡ set (set (now (table .entry)) k (length (writeDefinition d))) (slotCount + k) 1) × (now (arena .exit) ≡ put (slotRoom * k) (length (writeDefinition d)) (writeDefinition d) (now (arena .entry)))) ⌝ }
+    ensures { λ r. ⌜ ((d : Definition) → definitionBy width (now (file .entry)) at ≡ got d end → (now (table .exit) ≡ set (set (now (table .entry)) k (length (writeDefinition d))) (slotCount + k) 1) × (now (arena .exit) ≡ put (startOf k) (length (writeDefinition d)) (writeDefinition d) (now (arena .entry)))) ⌝ }
 {
-    let start = SLOT_ROOM * k;
+    let start = start_of(arena, k);
     let past = widen(arena, start, file, at, end, width);
     table[k] = (past - start) as u32;
     table[SLOTS + k] = 1;
@@ -332,7 +333,7 @@ fn bytes_formed(table: &[u32], arena: &[u8], k: usize) -> bool
     ensures { λ r. ⌜ r ≡ both (leb (getD (now (table .entry)) k 0) sizeLimit) (isWhole (getD (now (table .entry)) k 0) (readDefinition (bytesOn (now (table .entry)) (now (arena .entry)) k) 0)) ⌝ }
 {
     let size = wide(table[k]);
-    if SLOT_ROOM < size {
+    if SIZE_LIMIT < size {
         return false;
     }
     match read_definition(bytes_on(table, arena, k), Cursor { at: 0 }, Width::Long) {

@@ -1,11 +1,11 @@
 -- A file loaded into a fresh engine: the slots that the words and the arena after it hold.
 use Prim.{tt}
-use Prim.Native.Nat.{ℕ, zero, suc, _≤_}
+use Prim.Native.Nat.{ℕ, zero, suc, _+_, _≤_}
 use mathlib.Core.Bool.{true, not}
 use mathlib.Core.Path.{_≡_, refl, ap, _∙_}
 use mathlib.Core.List.{List, [], _∷_, _++_}
 use native.Mathlib.Omega.{arith}
-use lib.ListN.{length, take, drop, getD, set, length-set, length-take}
+use lib.ListN.{length, drop, getD, set, length-set}
 use lib.Dec.{leb}
 use borrow.Author.Tests.{leb-true}
 use Rattle.words.specs.Choice.{both-true}
@@ -14,19 +14,20 @@ use Rattle.format.specs.Reader.{readFile, sizeLimit, among}
 use Rattle.format.specs.Writer.{writeDefinition}
 use Rattle.format.specs.Bounds.{isDefinition, areDefinitions, isFile}
 use Rattle.nodes.specs.declared.Node.{Node}
-use Rattle.model.specs.Layout.{slotCount, slotRoom, lengthsIn, flagsIn}
+use Rattle.model.specs.Layout.{slotCount, lengthsIn, flagsIn}
 use Rattle.model.specs.Engine.{Slot, Engine, slotsFrom, decode}
 use Rattle.model.specs.Checks.{definitionsOf, namesOf}
 use Rattle.model.specs.Effects.{freeFrom, placed, loaded, retired, effect}
 use Rattle.model.specs.After.{wordsAfter, arenaAfter, freshState, freshArena}
 use Rattle.model.specs.Demands.{receive}
-use Rattle.state.specs.Decoded.{Backed, slots-decoded}
+use Rattle.slots.specs.Arena.{slot-most, Backed}
+use Rattle.state.specs.Decoded.{slots-decoded}
 use Rattle.definitions.specs.Retiring.{retired-length}
 use Rattle.state.specs.Fresh.{fresh-length, arena-length}
 use Rattle.demands.specs.FreshLoad.{fresh-many}
 
 -- a resident put in is backed
-backed-set : (slots old : List Slot) (k : ℕ) (x : Slot) → Backed slots old → x .resident ≡ true → length (x .bytes) ≤ slotRoom → Backed (set slots k x) old
+backed-set : (slots old : List Slot) (k : ℕ) (x : Slot) → Backed slots old → x .resident ≡ true → length (x .bytes) ≤ sizeLimit → Backed (set slots k x) old
 unfolding Backed
 backed-set [] old k x b r fits = b
 backed-set (s ∷ slots) [] k x b r fits = absurd b
@@ -43,14 +44,11 @@ backed-loaded (d ∷ ds) names slots old t a b =
     backed-loaded ds (names ++ (d .front .name ∷ [])) (placed d slots t) old t (t3 .1)
     (backed-set slots old (freeFrom 0 slots t) (record { bytes = writeDefinition d; resident = true }) b refl (leb-true (length (writeDefinition d)) sizeLimit (t2 .0)))
 
-backed-retired : (n : ℕ) (names : List (List ℕ)) (lengths flags arena : List ℕ) → Backed (retired names (slotsFrom n lengths flags arena)) (slotsFrom n lengths flags arena)
+backed-retired : (k n : ℕ) (names : List (List ℕ)) (lengths flags arena : List ℕ) → Backed (retired names (slotsFrom k n lengths flags arena)) (slotsFrom k n lengths flags arena)
 unfolding Backed retired slotsFrom
-backed-retired zero names lengths flags arena = tt
-backed-retired (suc n) names lengths flags arena =
-    ((λ e. short, λ e. refl), backed-retired n names (drop 1 lengths) (drop 1 flags) (drop slotRoom arena))
-  where
-    short : length (take (getD lengths 0 0) (take slotRoom arena)) ≤ slotRoom
-    short = omega (arith, length-take (getD lengths 0 0) (take slotRoom arena), length-take slotRoom arena)
+backed-retired k zero names lengths flags arena = tt
+backed-retired k (suc n) names lengths flags arena =
+    ((λ e. slot-most arena k (getD lengths 0 0), λ e. refl), backed-retired (k + 1) n names (drop 1 lengths) (drop 1 flags) arena)
 
 loaded-many : (ds : List Definition) (slots : List Slot) (t : List Node) → length (loaded ds slots t) ≡ length slots
 unfolding loaded
@@ -65,7 +63,7 @@ fresh-backed : (ds : List Definition) → areDefinitions [] ds ≡ true → Back
 unfolding decode
 fresh-backed ds a =
     backed-loaded ds [] (retired (namesOf ds) (decode freshState freshArena .slots)) (decode freshState freshArena .slots) (decode freshState freshArena .nodes) a
-    (backed-retired slotCount (namesOf ds) (lengthsIn freshState) (flagsIn freshState) freshArena)
+    (backed-retired 0 slotCount (namesOf ds) (lengthsIn freshState) (flagsIn freshState) freshArena)
 
 pub fresh-after : (file : List ℕ) (ds : List Definition) → definitionsOf (readFile file) ≡ ds → isFile ds ≡ true
     → decode (wordsAfter receive file freshState freshArena) (arenaAfter receive file freshState freshArena) .slots ≡ freshLoaded ds

@@ -4,7 +4,7 @@ use mathlib.Core.Bool.{true, false}
 use mathlib.Core.Path.{_≡_, sym, ap, ap₂, _∙_, subst}
 use mathlib.Core.List.{List, [], _∷_}
 use native.Mathlib.Omega.{arith}
-use lib.ListN.{length, take, drop, getD, length-take}
+use lib.ListN.{length, getD, length-take}
 use lib.Dec.{leb}
 use borrow.Author.Tests.{lt-ltb, leb-true}
 use Rattle.words.specs.Choice.{both-true}
@@ -26,7 +26,7 @@ use Rattle.values.specs.declared.NodeArgument.{NodeArgument}
 use Rattle.model.specs.declared.TreeCommand.the-variants as tree
 use Rattle.model.specs.declared.Command.the-variants as command
 use Rattle.model.specs.declared.Answer.the-variants.{Done, Refused}
-use Rattle.model.specs.Layout.{slotCount, slotRoom, rowWords, wordsLength, lengthsPlace, nodesPlace, nodesWords, controlsPlace, controlsWords, countIn, nextIn, lengthsIn, nodesIn, controlsIn, putHeader, putControls, putIndex, putOrder, putNodes}
+use Rattle.model.specs.Layout.{slotCount, rowWords, wordsLength, lengthsPlace, nodesPlace, nodesWords, controlsPlace, controlsWords, countIn, nextIn, lengthsIn, nodesIn, controlsIn, putHeader, putControls, putIndex, putOrder, putNodes}
 use Rattle.model.specs.Engine.{Engine, decode, definitionIn, noDefinition, valueOr, definitionOf, residentOf, slotAt}
 use Rattle.model.specs.Meaning.{meant, known}
 use Rattle.model.specs.Checks.{firstOf, treeChecks}
@@ -73,7 +73,7 @@ pub record Fit (number : ℕ) (action : Action) (at slot : ℕ) (ws bs : List �
 
 -- the bytes of a slot that is lent
 abbrev pub lentBytes : ℕ → ℕ → List ℕ → List ℕ
-lentBytes slot size bs = take size (take slotRoom (drop (slotRoom * slot) bs))
+lentBytes slot size bs = slotIn bs slot size
 
 -- a resident's front is what its slot's bytes tell
 module _ (ws bs : List ℕ) (k : Known ws bs) (slot : ℕ) (low : slot < slotCount) (live : slotAt (decode ws bs .slots) slot .resident ≡ true) (size : ℕ) (same : size ≡ getD ws (lengthsPlace + slot) 0) where

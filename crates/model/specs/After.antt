@@ -1,16 +1,18 @@
 -- The words and the arena after each accepted command: a few parts put in, each the part of the engine after it. What no part covers stays as it was.
 use Prim.Native.Nat.{ℕ, _+_, _-_}
 use mathlib.Core.List.{List, [], _∷_, _++_}
-use lib.ListN.{length, take, drop, getD, replicate}
+use lib.ListN.{length, drop, getD, replicate}
 use Rattle.words.specs.Choice.{pick}
+use Rattle.words.specs.Parts.{put}
 use Rattle.nodes.specs.declared.Node.{Node}
 use Rattle.nodes.specs.Table.{width, encode}
 use Rattle.nodes.specs.Formed.{firstGiven}
 use Rattle.nodes.specs.Place.{groupSlot}
 use Rattle.index.specs.Index.{indexOf}
+use Rattle.model.specs.declared.DefinitionCommand.the-variants.{Receive, Free}
 use Rattle.model.specs.declared.Command.{Command}
 use Rattle.model.specs.declared.Command.the-variants as command
-use Rattle.model.specs.Layout.{slotCount, slotRoom, nodesPlace, wordsLength, arenaLength, lengthsIn, putNodes, putOrder, putIndex, putControls, putBuses, putLengths, putResident, putHeader}
+use Rattle.model.specs.Layout.{slotCount, startOf, nodesPlace, wordsLength, arenaLength, lengthsIn, putNodes, putOrder, putIndex, putControls, putBuses, putLengths, putResident, putHeader}
 use Rattle.model.specs.Engine.{Slot, Engine, decode}
 use Rattle.model.specs.Effects.{effect}
 
@@ -33,20 +35,30 @@ lengthsOf (s ∷ more) sizes = pick (s .resident) (length (s .bytes)) (getD size
 abbrev pub putSlots : List Slot → List ℕ → List ℕ
 putSlots slots ws = putLengths (lengthsOf slots (lengthsIn ws)) (putResident (flagsOf slots) ws)
 
--- the arena: a resident's bytes at its slot's place, what lies past them and the slots of others as they were
-unfoldable pub arenaOf : List Slot → List ℕ → List ℕ
-arenaOf [] arena = arena
-arenaOf (s ∷ more) arena = pick (s .resident) (s .bytes ++ drop (length (s .bytes)) (take slotRoom arena)) (take slotRoom arena) ++ arenaOf more (drop slotRoom arena)
+-- the arena: the bytes of a resident from its slot's start on, what lies past them and the slots of others as they were
+abbrev pub putBytes : ℕ → Slot → List ℕ → List ℕ
+putBytes k s arena = pick (s .resident) (put (startOf k) (length (s .bytes)) (s .bytes) arena) arena
 
+unfoldable pub arenaFrom : ℕ → List Slot → List ℕ → List ℕ
+arenaFrom k [] arena = arena
+arenaFrom k (s ∷ more) arena = putBytes k s (arenaFrom (k + 1) more arena)
+
+abbrev pub arenaOf : List Slot → List ℕ → List ℕ
+arenaOf slots arena = arenaFrom 0 slots arena
+
+-- a load writes the lengths and the flags, and `/d_free` the flags
 unfoldable pub wordsAfter : Command → List ℕ → List ℕ → List ℕ → List ℕ
-wordsAfter (command.Definitions c) bytes ws arena = putSlots (effect (command.Definitions c) bytes (decode ws arena) .slots) ws
+wordsAfter (command.Definitions Receive) bytes ws arena = putSlots (effect (command.Definitions Receive) bytes (decode ws arena) .slots) ws
+wordsAfter (command.Definitions Free) bytes ws arena = putResident (flagsOf (effect (command.Definitions Free) bytes (decode ws arena) .slots)) ws
 wordsAfter (command.Tree c) bytes ws arena = putTree (effect (command.Tree c) bytes (decode ws arena)) ws
 wordsAfter (command.Controls c) bytes ws arena = putControls (effect (command.Controls c) bytes (decode ws arena) .controls) ws
 wordsAfter (command.Buses c) bytes ws arena = putBuses (effect (command.Buses c) bytes (decode ws arena) .buses) ws
 wordsAfter (command.Query q) bytes ws arena = ws
 
+-- only a load writes the arena
 unfoldable pub arenaAfter : Command → List ℕ → List ℕ → List ℕ → List ℕ
-arenaAfter (command.Definitions c) bytes ws arena = arenaOf (effect (command.Definitions c) bytes (decode ws arena) .slots) arena
+arenaAfter (command.Definitions Receive) bytes ws arena = arenaOf (effect (command.Definitions Receive) bytes (decode ws arena) .slots) arena
+arenaAfter (command.Definitions Free) bytes ws arena = arena
 arenaAfter (command.Tree c) bytes ws arena = arena
 arenaAfter (command.Controls c) bytes ws arena = arena
 arenaAfter (command.Buses c) bytes ws arena = arena

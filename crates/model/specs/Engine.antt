@@ -2,7 +2,7 @@
 use Prim.Native.Nat.{ℕ, zero, suc, _+_, _*_}
 use mathlib.Core.Bool.{Bool, false}
 use mathlib.Core.List.{List, [], _∷_}
-use lib.ListN.{length, take, drop, getD}
+use lib.ListN.{length, drop, getD}
 use lib.Dec.{eqb}
 use Rattle.words.specs.Choice.{pick, both, either}
 use Rattle.format.specs.Read.{Read, got, bad}
@@ -10,7 +10,7 @@ use Rattle.format.specs.Definition.{Definition}
 use Rattle.format.specs.Reader.{readDefinition, sameName}
 use Rattle.nodes.specs.declared.Node.{Node}
 use Rattle.values.specs.Controls.{ControlValue, controlAt}
-use Rattle.model.specs.Layout.{slotCount, slotRoom, rowWords, lengthsIn, flagsIn, nodesIn, orderIn, controlsIn, busesIn, nextIn, latestIn}
+use Rattle.model.specs.Layout.{slotCount, rowWords, lengthsIn, flagsIn, nodesIn, orderIn, controlsIn, busesIn, nextIn, latestIn, slotIn}
 
 -- a definition's slot: its encoded bytes, and whether it is resident, that is, what its name means today
 pub record Slot : Type 0 where
@@ -28,16 +28,15 @@ pub record Engine : Type 0 where
   pub next : ℕ
   pub latest : ℕ
 
--- so many slots, by their lengths, their resident flags and the arena
-unfoldable pub slotsFrom : ℕ → List ℕ → List ℕ → List ℕ → List Slot
-slotsFrom zero lengths flags arena = []
-slotsFrom (suc n) lengths flags arena =
-    record { bytes = take (getD lengths 0 0) (take slotRoom arena); resident = eqb (getD flags 0 0) 1 }
-    ∷ slotsFrom n (drop 1 lengths) (drop 1 flags) (drop slotRoom arena)
+-- from the slot k on so many, by their lengths, their resident flags and the arena
+unfoldable pub slotsFrom : ℕ → ℕ → List ℕ → List ℕ → List ℕ → List Slot
+slotsFrom k zero lengths flags arena = []
+slotsFrom k (suc n) lengths flags arena =
+    record { bytes = slotIn arena k (getD lengths 0 0); resident = eqb (getD flags 0 0) 1 } ∷ slotsFrom (k + 1) n (drop 1 lengths) (drop 1 flags) arena
 
 unfoldable pub decode : List ℕ → List ℕ → Engine
 decode ws arena = record {
-  slots = slotsFrom slotCount (lengthsIn ws) (flagsIn ws) arena;
+  slots = slotsFrom 0 slotCount (lengthsIn ws) (flagsIn ws) arena;
   nodes = nodesIn ws;
   order = orderIn ws;
   controls = controlsIn ws;

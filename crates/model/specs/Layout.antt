@@ -3,6 +3,7 @@ use Prim.Native.Nat.{ℕ, _+_, _*_}
 use mathlib.Core.List.{List, _∷_, _++_}
 use lib.ListN.{length, take, drop, getD, replicate}
 use Rattle.words.specs.Parts.{region, put}
+use Rattle.format.specs.Reader.{sizeLimit}
 use Rattle.nodes.specs.declared.Node.{Node}
 use Rattle.nodes.specs.Table.{width, rows, fill}
 use Rattle.nodes.specs.Formed.{mostNodes}
@@ -14,9 +15,9 @@ slotCount = 32
 abbrev pub busCount : ℕ
 busCount = 4096
 
--- a slot's room in the arena
+-- a slot's room in the arena: that of the longest definition
 abbrev pub slotRoom : ℕ
-slotRoom = 2048
+slotRoom = sizeLimit
 
 -- the words of a control, its own float and its mapping, and of a row of controls
 abbrev pub controlWords : ℕ
@@ -109,9 +110,13 @@ busesIn ws = region busesPlace busCount ws
 abbrev pub indexIn : List ℕ → List ℕ
 indexIn ws = take (countIn ws) (region indexPlace indexWords ws)
 
--- the bytes of the slot k in the arena
+-- where the bytes of the slot k start in the arena
+abbrev pub startOf : ℕ → ℕ
+startOf k = slotRoom * k
+
+-- the bytes of the slot k: as many as its length says, at most those of the longest definition
 abbrev pub slotIn : List ℕ → ℕ → ℕ → List ℕ
-slotIn arena k size = region (slotRoom * k) size arena
+slotIn arena k size = take size (region (startOf k) sizeLimit arena)
 
 -- the words with a part put in
 abbrev pub putNodes : List Node → List ℕ → List ℕ

@@ -1,21 +1,22 @@
 -- An accepted command of the tree kind leaves a well-formed state, which decodes to the command's effect.
-use Prim.Native.Nat.{ℕ, zero, suc, _≤_}
+use Prim.Native.Nat.{ℕ, _≤_}
 use mathlib.Core.Bool.{true}
 use mathlib.Core.Path.{_≡_, refl, ap, _∙_}
 use mathlib.Core.List.{List}
 use native.Mathlib.Omega.{arith}
-use lib.ListN.{length, drop}
+use lib.ListN.{length}
 use Rattle.words.specs.Parts.{region-length}
 use Rattle.nodes.specs.Order.{order}
 use Rattle.index.specs.Nodes.{afresh-indexed}
 use Rattle.model.specs.declared.TreeCommand.{TreeCommand}
 use Rattle.model.specs.declared.TreeCommand.the-variants as tree
 use Rattle.model.specs.declared.Command.the-variants as command
-use Rattle.model.specs.Layout.{slotCount, slotRoom, controlsPlace, controlsWords, orderWords, lengthsIn, flagsIn, busesIn, indexIn}
-use Rattle.model.specs.Engine.{Engine, slotsFrom, decode}
+use Rattle.model.specs.Layout.{slotCount, controlsPlace, controlsWords, orderWords, lengthsIn, flagsIn, busesIn, indexIn}
+use Rattle.model.specs.Engine.{Engine, decode}
 use Rattle.model.specs.Effects.{treeEffect, effect}
 use Rattle.model.specs.After.{putTree, wordsAfter}
 use Rattle.model.specs.Formed.{formed, flagsFormed, slotsFormed, namesApart}
+use Rattle.slots.specs.Slots.{slots-length}
 use Rattle.state.specs.Known.{Known, known}
 use Rattle.state.specs.Accepted.{TreeAccepted}
 use Rattle.state.specs.Decoded.{tree-size, tree-lengths, tree-flags, tree-index, tree-decoded}
@@ -23,17 +24,12 @@ use Rattle.preservation.specs.Assemble.{Whole, tree-formed, whole-formed
 use Rattle.preservation.specs.Rows.{order-short}
 use Rattle.preservation.specs.TreeSteps.{Sound, sound-step}
 
-pub slots-many : (n : ℕ) (sizes flags arena : List ℕ) → length (slotsFrom n sizes flags arena) ≡ n
-unfolding slotsFrom
-slots-many zero sizes flags arena = refl
-slots-many (suc n) sizes flags arena = ap suc (slots-many n (drop 1 sizes) (drop 1 flags) (drop slotRoom arena))
-
 -- what the state check tells of the engine
 pub known-sound : (ws bs : List ℕ) → Known ws bs → Sound (lengthsIn ws) (decode ws bs)
 unfolding decode
 known-sound ws bs k = record {
   tree = k .tree;
-  many = slots-many slotCount (lengthsIn ws) (flagsIn ws) bs;
+  many = slots-length 0 slotCount (lengthsIn ws) (flagsIn ws) bs;
   words = region-length controlsPlace controlsWords ws (omega (arith, k .size));
   slots = k .slots;
   controls = k .controls;

@@ -1,24 +1,23 @@
 -- Slots after a command of definitions against those before it: each stays, maybe retired, or has a new definition. Such slots can be put in, and keep the rule on slots.
 use Prim.{Unit, tt}
-use Prim.Native.Nat.{ℕ, zero, suc, _+_, _-_, _*_, _≤_, min}
+use Prim.Native.Nat.{ℕ, zero, suc, _+_, _*_, _≤_}
 use mathlib.Core.Bool.{Bool, true, false, not}
 use mathlib.Core.Path.{_≡_, refl, sym, ap, ap₂, _∙_}
-use mathlib.Core.List.{List, [], _∷_, _++_}
+use mathlib.Core.List.{List, [], _∷_}
 use native.Mathlib.Omega.{arith}
-use lib.ListN.{length, take, drop, getD, set, length-append, length-take, length-drop}
-use lib.Seq.{length-take-le}
+use lib.ListN.{length, drop, getD, set}
 use lib.Dec.{leb, eqb}
 use borrow.Author.Tests.{leb-true, le-leb, eq-eqb}
 use Rattle.words.specs.Choice.{pick, both, either, both-true}
 use Rattle.format.specs.Reader.{readDefinition, sizeLimit, among}
 use Rattle.nodes.specs.declared.Node.{Node}
 use Rattle.nodes.specs.Place.{isGroup}
-use Rattle.model.specs.Layout.{slotRoom, rowWords}
+use Rattle.model.specs.Layout.{rowWords, startOf, slotIn}
 use Rattle.model.specs.Engine.{Slot, noDefinition, valueOr, nameIn, slotAt, held, slotsFrom}
 use Rattle.model.specs.Effects.{retired, retire}
-use Rattle.model.specs.After.{flagsOf, lengthsOf, arenaOf}
+use Rattle.model.specs.After.{flagsOf, lengthsOf}
 use Rattle.model.specs.Formed.{isWhole, slotFormed, slotsFormed, flagsFormed, mappingsFormed, controlsFormed}
-use Rattle.state.specs.Decoded.{Backed}
+use Rattle.slots.specs.Arena.{slot-most, slot-size, Backed, flag-back}
 
 -- a slot after, of one before: it stays, maybe retired, or it is resident with the bytes of a whole definition
 pub data Follows (s o : Slot) : Type 0 where
@@ -98,53 +97,21 @@ flags-right (s ∷ more) = go (s .resident) (flags-right more)
     go true h = h
     go false h = h
 
--- a slot's bytes in the arena are at most 2,048, and as many as its length word says where that is no more
-slot-most : (size : ℕ) (arena : List ℕ) → length (take size (take slotRoom arena)) ≤ slotRoom
-slot-most size arena =
-    let a : length (take size (take slotRoom arena)) ≡ min size (length (take slotRoom arena)) = length-take size (take slotRoom arena) in
-    let b : length (take slotRoom arena) ≡ min slotRoom (length arena) = length-take slotRoom arena in
-    omega arith
-
-slot-size : (size : ℕ) (arena : List ℕ) → slotRoom ≤ length arena → size ≤ slotRoom → length (take size (take slotRoom arena)) ≡ size
-slot-size size arena long fits =
-    let a : length (take size (take slotRoom arena)) ≡ min size (length (take slotRoom arena)) = length-take size (take slotRoom arena) in
-    let b : length (take slotRoom arena) ≡ slotRoom = length-take-le slotRoom arena long in
-    omega arith
-
-pub follow-backed : (n : ℕ) (slots : List Slot) (lengths flags arena : List ℕ) → Follow slots (slotsFrom n lengths flags arena) → Backed slots (slotsFrom n lengths flags arena)
+-- such slots can be put in
+pub follow-backed : (k n : ℕ) (slots : List Slot) (lengths flags arena : List ℕ) → Follow slots (slotsFrom k n lengths flags arena) → Backed slots (slotsFrom k n lengths flags arena)
 unfolding Follow Backed slotsFrom
-follow-backed zero [] lengths flags arena f = tt
-follow-backed zero (s ∷ more) lengths flags arena f = absurd f
-follow-backed (suc n) [] lengths flags arena f = absurd f
-follow-backed (suc n) (s ∷ more) lengths flags arena f =
-    (go (f .0), follow-backed n more (drop 1 lengths) (drop 1 flags) (drop slotRoom arena) (f .1))
+follow-backed k zero [] lengths flags arena f = tt
+follow-backed k zero (s ∷ more) lengths flags arena f = absurd f
+follow-backed k (suc n) [] lengths flags arena f = absurd f
+follow-backed k (suc n) (s ∷ more) lengths flags arena f =
+    (go (f .0), follow-backed (k + 1) n more (drop 1 lengths) (drop 1 flags) arena (f .1))
   where
     o : Slot
-    o = record { bytes = take (getD lengths 0 0) (take slotRoom arena); resident = eqb (getD flags 0 0) 1 }
+    o = record { bytes = slotIn arena k (getD lengths 0 0); resident = eqb (getD flags 0 0) 1 }
 
-    go : Follows s o → (s .resident ≡ true → length (s .bytes) ≤ slotRoom) × (s .resident ≡ false → s .bytes ≡ take (getD lengths 0 0) (take slotRoom arena))
-    go (stays e r) = ((λ h. rw e (slot-most (getD lengths 0 0) arena)), (λ h. e))
+    go : Follows s o → (s .resident ≡ true → length (s .bytes) ≤ sizeLimit) × (s .resident ≡ false → s .bytes ≡ slotIn arena k (getD lengths 0 0))
+    go (stays e r) = ((λ h. rw e (slot-most arena k (getD lengths 0 0))), (λ h. e))
     go (comes r l w) = ((λ h. l), (λ h. let z : _≡_ {A = Bool} true false = sym r ∙ h in cc))
-
--- the arena stays as long as it was
-pub arena-length : (slots old : List Slot) (arena : List ℕ) → slotRoom * length slots ≤ length arena → Backed slots old → length (arenaOf slots arena) ≡ length arena
-unfolding arenaOf Backed
-arena-length [] old arena long b = refl
-arena-length (s ∷ more) [] arena long b = absurd b
-arena-length (s ∷ more) (o ∷ old) arena long b =
-    let room : slotRoom ≤ length arena = omega arith in
-    let rest : length (drop slotRoom arena) ≡ length arena - slotRoom = length-drop slotRoom arena in
-    let ih : length (arenaOf more (drop slotRoom arena)) ≡ length (drop slotRoom arena) = arena-length more old (drop slotRoom arena) (omega arith) (b .1) in
-    let front : length (take slotRoom arena) ≡ slotRoom = length-take-le slotRoom arena room in
-    let first : length (pick (s .resident) (s .bytes ++ drop (length (s .bytes)) (take slotRoom arena)) (take slotRoom arena)) ≡ slotRoom = go (s .resident) refl front in
-    length-append (pick (s .resident) (s .bytes ++ drop (length (s .bytes)) (take slotRoom arena)) (take slotRoom arena)) (arenaOf more (drop slotRoom arena)) ∙ omega arith
-  where
-    go : (r : Bool) → s .resident ≡ r → length (take slotRoom arena) ≡ slotRoom → length (pick r (s .bytes ++ drop (length (s .bytes)) (take slotRoom arena)) (take slotRoom arena)) ≡ slotRoom
-    go true e front =
-        let fits : length (s .bytes) ≤ slotRoom = b .0 .0 e in
-        let back : length (drop (length (s .bytes)) (take slotRoom arena)) ≡ length (take slotRoom arena) - length (s .bytes) = length-drop (length (s .bytes)) (take slotRoom arena) in
-        length-append (s .bytes) (drop (length (s .bytes)) (take slotRoom arena)) ∙ omega arith
-    go false e front = front
 
 -- what is asked of a taken slot's length and bytes
 abbrev wholeSlot : ℕ → List ℕ → Bool
@@ -154,20 +121,19 @@ whole-by : (size size′ : ℕ) (bytes bytes′ : List ℕ) → size ≡ size′
 whole-by size size′ bytes bytes′ p q h = ap₂ (λ (n : ℕ) (l : List ℕ). wholeSlot n l) p q ∙ h
 
 -- the rule on slots, with the lengths after
-pub follow-formed : (n k : ℕ) (slots : List Slot) (lengths flags arena : List ℕ) (t : List Node) → slotRoom * n ≤ length arena → Follow slots (slotsFrom n lengths flags arena)
-    → slotsFormed k lengths (slotsFrom n lengths flags arena) t ≡ true → slotsFormed k (lengthsOf slots lengths) slots t ≡ true
+pub follow-formed : (k n : ℕ) (slots : List Slot) (lengths flags arena : List ℕ) (t : List Node) → startOf (k + n) ≤ length arena → Follow slots (slotsFrom k n lengths flags arena)
+    → slotsFormed k lengths (slotsFrom k n lengths flags arena) t ≡ true → slotsFormed k (lengthsOf slots lengths) slots t ≡ true
 unfolding Follow slotsFrom slotsFormed lengthsOf
-follow-formed zero k [] lengths flags arena t long f h = refl
-follow-formed zero k (s ∷ more) lengths flags arena t long f h = absurd f
-follow-formed (suc n) k [] lengths flags arena t long f h = absurd f
-follow-formed (suc n) k (s ∷ more) lengths flags arena t long f h =
-    let rest : length (drop slotRoom arena) ≡ length arena - slotRoom = length-drop slotRoom arena in
+follow-formed k zero [] lengths flags arena t long f h = refl
+follow-formed k zero (s ∷ more) lengths flags arena t long f h = absurd f
+follow-formed k (suc n) [] lengths flags arena t long f h = absurd f
+follow-formed k (suc n) (s ∷ more) lengths flags arena t long f h =
     let w = both-true (slotFormed k (getD lengths 0 0) o t) _ h in
     ap₂ (λ (a b : Bool). both a b) (go (f .0) (s .resident) refl (w .0))
-    (follow-formed n (k + 1) more (drop 1 lengths) (drop 1 flags) (drop slotRoom arena) t (omega arith) (f .1) (w .1))
+    (follow-formed (k + 1) n more (drop 1 lengths) (drop 1 flags) arena t (omega arith) (f .1) (w .1))
   where
     o : Slot
-    o = record { bytes = take (getD lengths 0 0) (take slotRoom arena); resident = eqb (getD flags 0 0) 1 }
+    o = record { bytes = slotIn arena k (getD lengths 0 0); resident = eqb (getD flags 0 0) 1 }
 
     kept : (p q : Bool) → s .bytes ≡ o .bytes → pick (either p q) (wholeSlot (getD lengths 0 0) (o .bytes)) true ≡ true → pick q (wholeSlot (getD lengths 0 0) (s .bytes)) true ≡ true
     kept p false e g = refl
@@ -179,11 +145,40 @@ follow-formed (suc n) k (s ∷ more) lengths flags arena t long f h =
     go (stays e r) true q g =
         let whole : wholeSlot (getD lengths 0 0) (o .bytes) ≡ true = ap (λ (b : Bool). pick (either b (held k t)) (wholeSlot (getD lengths 0 0) (o .bytes)) true) (sym (r q)) ∙ g in
         let small : getD lengths 0 0 ≤ sizeLimit = leb-true (getD lengths 0 0) sizeLimit (both-true (leb (getD lengths 0 0) sizeLimit) _ whole .0) in
-        let size : length (s .bytes) ≡ getD lengths 0 0 = ap length e ∙ slot-size (getD lengths 0 0) arena (omega arith) small in
+        let size : length (s .bytes) ≡ getD lengths 0 0 = ap length e ∙ slot-size arena k (getD lengths 0 0) (omega arith) small in
         whole-by (length (s .bytes)) (getD lengths 0 0) (s .bytes) (o .bytes) size e whole
     go (stays e r) false q g = kept (o .resident) (held k t) e g
     go (comes r l w) true q g = rw (le-leb (length (s .bytes)) sizeLimit l) w
     go (comes r l w) false q g = let z : _≡_ {A = Bool} true false = sym r ∙ q in cc
+
+-- slots of which some are retired: read back by their flags, and the rule on slots with the lengths as they were
+pub less-back : (k n : ℕ) (slots : List Slot) (lengths flags arena : List ℕ) → AllLess slots (slotsFrom k n lengths flags arena) → slotsFrom k n lengths (flagsOf slots) arena ≡ slots
+unfolding AllLess slotsFrom flagsOf
+less-back k zero [] lengths flags arena f = refl
+less-back k zero (s ∷ more) lengths flags arena f = absurd f
+less-back k (suc n) [] lengths flags arena f = absurd f
+less-back k (suc n) (s ∷ more) lengths flags arena f =
+    ap₂ (λ (r : Bool) (l : List Slot). record { bytes = slotIn arena k (getD lengths 0 0); resident = r } ∷ l) (flag-back (s .resident))
+    (less-back (k + 1) n more (drop 1 lengths) (drop 1 flags) arena (f .1))
+    ∙ ap (λ (l : List ℕ). record { bytes = l; resident = s .resident } ∷ more) (sym (f .0 .0))
+
+pub less-formed : (k : ℕ) (slots old : List Slot) (lengths : List ℕ) (t : List Node) → AllLess slots old → slotsFormed k lengths old t ≡ true → slotsFormed k lengths slots t ≡ true
+unfolding AllLess slotsFormed
+less-formed k [] [] lengths t f h = refl
+less-formed k [] (o ∷ old) lengths t f h = absurd f
+less-formed k (s ∷ more) [] lengths t f h = absurd f
+less-formed k (s ∷ more) (o ∷ old) lengths t f h =
+    let w = both-true (slotFormed k (getD lengths 0 0) o t) _ h in
+    ap₂ (λ (a b : Bool). both a b)
+    (ap (λ (bytes : List ℕ). pick (either (s .resident) (held k t)) (wholeSlot (getD lengths 0 0) bytes) true) (f .0 .0)
+    ∙ taken (s .resident) (o .resident) (held k t) (wholeSlot (getD lengths 0 0) (o .bytes)) (f .0 .1) (w .0))
+    (less-formed (k + 1) more old (drop 1 lengths) t (f .1) (w .1))
+  where
+    taken : (r p q x : Bool) → (r ≡ true → p ≡ true) → pick (either p q) x true ≡ true → pick (either r q) x true ≡ true
+    taken true p q x e g = ap (λ (b : Bool). pick (either b q) x true) (sym (e refl)) ∙ g
+    taken false p false x e g = refl
+    taken false true true x e g = g
+    taken false false true x e g = g
 
 -- the controls of synths, where the bytes of the slots that they hold are as they were
 pub controls-held : (slots old : List Slot) (controls : List ℕ) (t : List Node) → ((k : ℕ) → held k t ≡ true → slotAt slots k .bytes ≡ slotAt old k .bytes)

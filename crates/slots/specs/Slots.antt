@@ -1,5 +1,5 @@
 -- The slots in the table of 64 words (32 lengths, then 32 resident flags), in the words, and in the arena.
-use Prim.Native.Nat.{ℕ, zero, suc, _+_, _*_, _-_, _≤_, _<_, min}
+use Prim.Native.Nat.{ℕ, zero, suc, _+_, _-_, _≤_, _<_, min}
 use mathlib.Core.Bool.{Bool, true, false}
 use mathlib.Core.Path.{_≡_, refl, sym, ap, _∙_}
 use mathlib.Core.List.{List, [], _∷_}
@@ -10,7 +10,7 @@ use lib.Seq.{getD-take, getD-drop, drop-drop, take-take, take-nil}
 use lib.Dec.{eqb}
 use Rattle.words.specs.Choice.{pick}
 use Rattle.words.specs.Parts.{region}
-use Rattle.model.specs.Layout.{slotCount, slotRoom, lengthsPlace, lengthsIn, flagsIn}
+use Rattle.model.specs.Layout.{slotCount, lengthsPlace, lengthsIn, flagsIn, slotIn}
 use Rattle.model.specs.Engine.{Slot, slotsFrom, slotAt, decode, residents}
 
 -- a part of a front
@@ -32,15 +32,15 @@ abbrev pub flagsOn : List ℕ → List ℕ
 flagsOn table = region slotCount slotCount table
 
 abbrev pub slotsOn : List ℕ → List ℕ → List Slot
-slotsOn table arena = slotsFrom slotCount (lengthsOn table) (flagsOn table) arena
+slotsOn table arena = slotsFrom 0 slotCount (lengthsOn table) (flagsOn table) arena
 
 -- the slot k
 abbrev pub bytesOn : List ℕ → List ℕ → ℕ → List ℕ
-bytesOn table arena k = take (getD table k 0) (take slotRoom (drop (slotRoom * k) arena))
+bytesOn table arena k = slotIn arena k (getD table k 0)
 
 -- its bytes, by the words
 abbrev pub slotBytes : List ℕ → List ℕ → ℕ → List ℕ
-slotBytes ws arena k = take (getD ws (lengthsPlace + k) 0) (take slotRoom (drop (slotRoom * k) arena))
+slotBytes ws arena k = slotIn arena k (getD ws (lengthsPlace + k) 0)
 
 abbrev pub residentOn : List ℕ → ℕ → Bool
 residentOn table k = eqb (getD table (slotCount + k) 0) 1
@@ -48,42 +48,39 @@ residentOn table k = eqb (getD table (slotCount + k) 0) 1
 abbrev pub slotOn : List ℕ → List ℕ → ℕ → Slot
 slotOn table arena k = record { bytes = bytesOn table arena k; resident = residentOn table k }
 
-pub slots-length : (n : ℕ) (lengths flags arena : List ℕ) → length (slotsFrom n lengths flags arena) ≡ n
+pub slots-length : (k n : ℕ) (lengths flags arena : List ℕ) → length (slotsFrom k n lengths flags arena) ≡ n
 unfolding slotsFrom
-slots-length zero lengths flags arena = refl
-slots-length (suc n) lengths flags arena = ap suc (slots-length n (drop 1 lengths) (drop 1 flags) (drop slotRoom arena))
+slots-length k zero lengths flags arena = refl
+slots-length k (suc n) lengths flags arena = ap suc (slots-length (k + 1) n (drop 1 lengths) (drop 1 flags) arena)
 
-slots-drop : (e n : ℕ) (lengths flags arena : List ℕ)
-    → drop e (slotsFrom n lengths flags arena) ≡ slotsFrom (n - e) (drop e lengths) (drop e flags) (drop (slotRoom * e) arena)
+slots-drop : (e k n : ℕ) (lengths flags arena : List ℕ) → drop e (slotsFrom k n lengths flags arena) ≡ slotsFrom (k + e) (n - e) (drop e lengths) (drop e flags) arena
 unfolding slotsFrom
-slots-drop zero n lengths flags arena = rw sub-zero
-slots-drop (suc e) zero lengths flags arena =
+slots-drop zero k n lengths flags arena = rw (sub-zero, add-zero)
+slots-drop (suc e) k zero lengths flags arena =
     let none : 0 - suc e ≡ 0 = omega arith in
     rw none
-slots-drop (suc e) (suc n) lengths flags arena =
+slots-drop (suc e) k (suc n) lengths flags arena =
     let fewer : suc n - suc e ≡ n - e = omega arith in
-    let more : slotRoom * suc e ≡ slotRoom + slotRoom * e = omega arith in
+    let more : k + 1 + e ≡ k + suc e = omega arith in
     let one : 1 + e ≡ suc e = omega arith in
-    rw (fewer, more)
-    (slots-drop e n (drop 1 lengths) (drop 1 flags) (drop slotRoom arena)
-    ∙ rw (drop-drop e 1 lengths, drop-drop e 1 flags, drop-drop (slotRoom * e) slotRoom arena, one))
+    rw fewer (slots-drop e (k + 1) n (drop 1 lengths) (drop 1 flags) arena ∙ rw (drop-drop e 1 lengths, drop-drop e 1 flags, one, more))
 
 -- the slot at a place, and the rest
 pub slot-at : (table arena : List ℕ) (k : ℕ) → k < slotCount → drop k (slotsOn table arena) ≡ slotOn table arena k ∷ drop (k + 1) (slotsOn table arena)
 unfolding slotsFrom
 slot-at table arena k h =
     let more : slotCount - k ≡ suc (slotCount - (k + 1)) = omega arith in
-    let next : slotRoom * k + slotRoom ≡ slotRoom * (k + 1) = omega arith in
     let size : getD (drop k (lengthsOn table)) 0 0 ≡ getD table k 0 = getD-drop k (lengthsOn table) 0 0 ∙ rw add-zero (getD-take slotCount table k 0 h) in
     let flag : getD (drop k (flagsOn table)) 0 0 ≡ getD table (slotCount + k) 0 =
     getD-drop k (flagsOn table) 0 0 ∙ rw add-zero (getD-take slotCount (drop slotCount table) k 0 h ∙ getD-drop slotCount table k 0) in
-    slots-drop k slotCount (lengthsOn table) (flagsOn table) arena
-    ∙ rw (more, size, flag, drop-drop 1 k (lengthsOn table), drop-drop 1 k (flagsOn table), drop-drop slotRoom (slotRoom * k) arena, next)
-    (ap (λ (l : List Slot). slotOn table arena k ∷ l) (sym (slots-drop (k + 1) slotCount (lengthsOn table) (flagsOn table) arena)))
+    slots-drop k 0 slotCount (lengthsOn table) (flagsOn table) arena
+    ∙ rw (more, size, flag, drop-drop 1 k (lengthsOn table), drop-drop 1 k (flagsOn table), zero-add)
+    (ap (λ (l : List Slot). slotOn table arena k ∷ l)
+    (sym (slots-drop (k + 1) 0 slotCount (lengthsOn table) (flagsOn table) arena ∙ rw zero-add)))
 
 -- past the last there is none
 pub slots-end : (table arena : List ℕ) (k : ℕ) → slotCount ≤ k → drop k (slotsOn table arena) ≡ []
-slots-end table arena k h = drop-of-length-le (slotsOn table arena) {i = k} (rw (slots-length slotCount (lengthsOn table) (flagsOn table) arena) h)
+slots-end table arena k h = drop-of-length-le (slotsOn table arena) {i = k} (rw (slots-length 0 slotCount (lengthsOn table) (flagsOn table) arena) h)
 
 -- the table lent from the words holds the engine's slots
 pub lengths-lent : (ws : List ℕ) → lengthsOn (region lengthsPlace tableWords ws) ≡ lengthsIn ws
@@ -105,7 +102,7 @@ part-word a m i ws h = getD-take m (drop a ws) i 0 h ∙ getD-drop a ws i 0
 
 -- the bytes of a slot, by the table and by the words
 pub bytes-lent : (ws arena : List ℕ) (k : ℕ) → k < tableWords → bytesOn (region lengthsPlace tableWords ws) arena k ≡ slotBytes ws arena k
-bytes-lent ws arena k h = ap (λ (n : ℕ). take n (take slotRoom (drop (slotRoom * k) arena))) (part-word lengthsPlace tableWords k ws h)
+bytes-lent ws arena k h = ap (slotIn arena k) (part-word lengthsPlace tableWords k ws h)
 
 pub slot-bytes : (ws arena : List ℕ) (k : ℕ) → k < slotCount → slotAt (decode ws arena .slots) k .bytes ≡ slotBytes ws arena k
 slot-bytes ws arena k h =
@@ -118,9 +115,9 @@ slot-bytes ws arena k h =
 
 pub decoded-many : (ws arena : List ℕ) → length (decode ws arena .slots) ≡ slotCount
 unfolding decode
-decoded-many ws arena = slots-length slotCount (lengthsIn ws) (flagsIn ws) arena
+decoded-many ws arena = slots-length 0 slotCount (lengthsIn ws) (flagsIn ws) arena
 
--- at most so many bytes of a slot's room
+-- at most so many bytes of so many
 pub take-least : (k m : ℕ) (l : List ℕ) → take (min (min m (length l)) k) l ≡ take k (take m l)
 take-least k m [] = take-nil (min (min m 0) k) ∙ sym (ap (λ (l : List ℕ). take k l) (take-nil m) ∙ take-nil k)
 take-least zero m (x ∷ l) = let none : min (min m (suc (length l))) 0 ≡ 0 = omega arith in rw none
@@ -128,6 +125,14 @@ take-least (suc k) zero (x ∷ l) = let none : min (min 0 (suc (length l))) (suc
 take-least (suc k) (suc m) (x ∷ l) =
     let more : min (min (suc m) (suc (length l))) (suc k) ≡ suc (min (min m (length l)) k) = omega arith in
     rw more (ap (λ (r : List ℕ). x ∷ r) (take-least k m l))
+
+-- what lies behind a place, and nothing past the end
+pub drop-min : (n : ℕ) (l : List ℕ) → drop (min n (length l)) l ≡ drop n l
+drop-min zero l = let none : min 0 (length l) ≡ 0 = omega arith in rw none
+drop-min (suc n) [] = let none : min (suc n) 0 ≡ 0 = omega arith in rw none
+drop-min (suc n) (x ∷ l) =
+    let more : min (suc n) (suc (length l)) ≡ suc (min n (length l)) = omega arith in
+    rw more (drop-min n l)
 
 -- how many of the slots from k on are resident
 abbrev pub countFrom : List ℕ → List ℕ → ℕ → ℕ
@@ -161,4 +166,4 @@ residents-most (s ∷ more) = by (s .resident) (residents-most more)
     by false h = omega arith
 
 pub count-few : (table arena : List ℕ) → countFrom table arena 0 ≤ slotCount
-count-few table arena = omega (arith, residents-most (slotsOn table arena), slots-length slotCount (lengthsOn table) (flagsOn table) arena)
+count-few table arena = omega (arith, residents-most (slotsOn table arena), slots-length 0 slotCount (lengthsOn table) (flagsOn table) arena)

@@ -1,4 +1,5 @@
 // The slots of definitions: the bytes of the definition in a slot, which lie in the arena where only this crate and a load know, and how many are resident.
+use format::SIZE_LIMIT;
 use layout::LENGTHS;
 use layout::RESIDENT_END;
 use layout::SLOT_ROOM;
@@ -8,7 +9,7 @@ ghost use Prim.Native.Nat.{ℕ, _<_, min};
 ghost use mathlib.Core.Path.{_≡_};
 ghost use mathlib.Core.List.{List};
 ghost use lib.ListN.{length};
-ghost use Rattle.model.specs.Layout.{slotCount, wordsLength};
+ghost use Rattle.model.specs.Layout.{slotCount, wordsLength, startOf};
 ghost use Rattle.model.specs.Engine.{residents};
 ghost use Rattle.slots.specs.Slots.{tableWords, slotsOn, bytesOn, slotBytes};
 
@@ -22,6 +23,16 @@ fn least(a: usize, b: usize) -> usize
     b
 }
 
+// Where a slot's bytes start in the arena; the arena's end where that is past it.
+pub fn start_of(arena: &[u8], slot: usize) -> usize
+    ensures { λ r. ⌜ r ≡ min (startOf slot) (length (now (arena .entry))) ⌝ }
+{
+    if arena.len() / SLOT_ROOM < slot {
+        return arena.len();
+    }
+    SLOT_ROOM * slot
+}
+
 // By the table of slots, the slots' part of the words; none past the last slot.
 pub fn bytes_on<'a, 'b>(table: &'b [u32], arena: &'a [u8], slot: usize) -> &'a [u8]
     ensures { λ r. ⌜ now r ≡ bytesOn (now (table .entry)) (now (arena .entry)) slot ⌝ }
@@ -29,11 +40,8 @@ pub fn bytes_on<'a, 'b>(table: &'b [u32], arena: &'a [u8], slot: usize) -> &'a [
     if table.len() <= slot {
         return &arena[..0];
     }
-    if arena.len() / SLOT_ROOM < slot {
-        return &arena[..0];
-    }
-    let start = SLOT_ROOM * slot;
-    let room = least(SLOT_ROOM, arena.len() - start);
+    let start = start_of(arena, slot);
+    let room = least(SIZE_LIMIT, arena.len() - start);
     let end = start + least(room, wide(table[slot]));
     &arena[start..end]
 }

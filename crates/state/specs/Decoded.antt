@@ -1,23 +1,20 @@
 -- Decoding the words and the arena after a command gives the model's effect.
-use Prim.{Unit}
-use Prim.Native.Nat.{ℕ, zero, suc, _+_, _-_, _*_, _≤_, _<_}
-use mathlib.Core.Bool.{Bool, true, false}
+use Prim.Native.Nat.{ℕ, suc, _+_, _-_, _≤_, _<_}
 use mathlib.Core.Path.{_≡_, refl, sym, ap, ap₂, _∙_}
 use mathlib.Core.List.{List, [], _∷_, _++_}
 use native.Mathlib.Omega.{arith}
 use lib.ListN.{length, take, drop, getD, replicate, length-append, length-drop}
-use lib.Dec.{eqb}
-use lib.Seq.{take-at, drop-at, take-take, length-take-le}
-use Rattle.words.specs.Choice.{pick}
+use lib.Seq.{take-at, take-take, length-take-le}
 use Rattle.words.specs.Parts.{region, region-length, region-put}
 use Rattle.nodes.specs.declared.Node.{Node}
 use Rattle.nodes.specs.Table.{rows, fill, fill-length, rows-fill}
 use Rattle.index.specs.Index.{numbers, indexOf}
 use Rattle.index.specs.Afresh.{afresh-length}
-use Rattle.model.specs.Layout.{wordsLength, nodesPlace, nodesWords, orderPlace, orderWords, controlsPlace, controlsWords, busesPlace, busCount, indexPlace, indexWords, lengthsPlace, residentPlace, slotCount, slotRoom, arenaLength, putResident, putNodes, orderRegion, putOrder, putIndex, putControls, putBuses, lengthsIn, flagsIn, nodesIn, orderIn, controlsIn, busesIn, indexIn}
+use Rattle.model.specs.Layout.{wordsLength, nodesPlace, nodesWords, orderPlace, orderWords, controlsPlace, controlsWords, busesPlace, busCount, indexPlace, indexWords, lengthsPlace, residentPlace, slotCount, arenaLength, putResident, putNodes, orderRegion, putOrder, putIndex, putControls, putBuses, lengthsIn, flagsIn, nodesIn, orderIn, controlsIn, busesIn, indexIn}
 use Rattle.model.specs.Engine.{Slot, Engine, slotsFrom, decode}
 use Rattle.model.specs.Effects.{withControls, withBuses, withSlots}
 use Rattle.model.specs.After.{putTree, flagsOf, lengthsOf, putSlots, arenaOf}
+use Rattle.slots.specs.Arena.{Backed, slots-back}
 use Rattle.state.specs.Regions.{region-before, region-past, word-before, put-size, header-length, header-region}
 
 -- an order padded to its region, and read back from it
@@ -217,60 +214,8 @@ module _ (cs ws bs : List ℕ) (size : length ws ≡ wordsLength) (many : length
       (part′ residentPlace slotCount (omega arith)) (part′ nodesPlace nodesWords (omega arith)) (part′ orderPlace orderWords (omega arith))
       (part′ controlsPlace controlsWords (omega arith)) (region-put busesPlace busCount cs ws (omega arith) many)
 
--- slots that can be put in over others: a resident's bytes fit its slot, and another's are the bytes that are there
-unfoldable pub Backed : List Slot → List Slot → Type 0
-Backed [] old = Unit {0}
-Backed (s ∷ more) [] = ⊥
-Backed (s ∷ more) (o ∷ old) = ((s .resident ≡ true → length (s .bytes) ≤ slotRoom) × (s .resident ≡ false → s .bytes ≡ o .bytes)) × Backed more old
-
--- one slot written and read back
-slot-back : (s : Slot) (size : ℕ) (arena rest : List ℕ) → slotRoom ≤ length arena
-    → (s .resident ≡ true → length (s .bytes) ≤ slotRoom) → (s .resident ≡ false → s .bytes ≡ take size (take slotRoom arena))
-    → (b : Bool) → s .resident ≡ b
-    → take (pick b (length (s .bytes)) size) (take slotRoom (pick b (s .bytes ++ drop (length (s .bytes)) (take slotRoom arena)) (take slotRoom arena) ++ rest)) ≡ s .bytes
-slot-back s size arena rest long fits kept true e =
-    let front : length (take slotRoom arena) ≡ slotRoom = length-take-le slotRoom arena long in
-    let n : length (s .bytes) ≤ slotRoom = fits e in
-    let back : length (drop (length (s .bytes)) (take slotRoom arena)) ≡ slotRoom - length (s .bytes) = length-drop (length (s .bytes)) (take slotRoom arena) ∙ ap (λ (k : ℕ). k - length (s .bytes)) front in
-    let whole : length (s .bytes ++ drop (length (s .bytes)) (take slotRoom arena)) ≡ slotRoom = length-append (s .bytes) (drop (length (s .bytes)) (take slotRoom arena)) ∙ omega arith in
-    ap (λ (l : List ℕ). take (length (s .bytes)) l) (take-at (s .bytes ++ drop (length (s .bytes)) (take slotRoom arena)) rest slotRoom whole)
-    ∙ take-at (s .bytes) (drop (length (s .bytes)) (take slotRoom arena)) (length (s .bytes)) refl
-slot-back s size arena rest long fits kept false e =
-    ap (λ (l : List ℕ). take size l) (take-at (take slotRoom arena) rest slotRoom (length-take-le slotRoom arena long)) ∙ sym (kept e)
-
--- the arena behind one slot
-behind : (s : Slot) (arena rest : List ℕ) → slotRoom ≤ length arena → (s .resident ≡ true → length (s .bytes) ≤ slotRoom) → (b : Bool) → s .resident ≡ b
-    → drop slotRoom (pick b (s .bytes ++ drop (length (s .bytes)) (take slotRoom arena)) (take slotRoom arena) ++ rest) ≡ rest
-behind s arena rest long fits true e =
-    let front : length (take slotRoom arena) ≡ slotRoom = length-take-le slotRoom arena long in
-    let n : length (s .bytes) ≤ slotRoom = fits e in
-    let back : length (drop (length (s .bytes)) (take slotRoom arena)) ≡ slotRoom - length (s .bytes) = length-drop (length (s .bytes)) (take slotRoom arena) ∙ ap (λ (k : ℕ). k - length (s .bytes)) front in
-    drop-at (s .bytes ++ drop (length (s .bytes)) (take slotRoom arena)) rest slotRoom (length-append (s .bytes) (drop (length (s .bytes)) (take slotRoom arena)) ∙ omega arith)
-behind s arena rest long fits false e = drop-at (take slotRoom arena) rest slotRoom (length-take-le slotRoom arena long)
-
-flag-back : (b : Bool) → eqb (pick b 1 0) 1 ≡ b
-flag-back true = refl
-flag-back false = refl
-
--- slots put in are read back
-pub slots-back : (n : ℕ) (slots : List Slot) (lengths flags arena : List ℕ) → length slots ≡ n → slotRoom * n ≤ length arena → Backed slots (slotsFrom n lengths flags arena)
-    → slotsFrom n (lengthsOf slots lengths) (flagsOf slots) (arenaOf slots arena) ≡ slots
-unfolding slotsFrom lengthsOf flagsOf arenaOf Backed
-slots-back zero [] lengths flags arena h long k = refl
-slots-back zero (s ∷ slots) lengths flags arena h long k = absurd (omega arith)
-slots-back (suc n) [] lengths flags arena h long k = absurd (omega arith)
-slots-back (suc n) (s ∷ slots) lengths flags arena h long k =
-    let room : slotRoom ≤ length arena = omega arith in
-    let rest : slotRoom * n ≤ length (drop slotRoom arena) = rw (length-drop slotRoom arena) (omega arith) in
-    let ih : slotsFrom n (lengthsOf slots (drop 1 lengths)) (flagsOf slots) (arenaOf slots (drop slotRoom arena)) ≡ slots =
-    slots-back n slots (drop 1 lengths) (drop 1 flags) (drop slotRoom arena) (omega arith) rest (k .1) in
-    ap₂ (λ (l : List ℕ) (more : List Slot). record { bytes = l; resident = eqb (pick (s .resident) 1 0) 1 } ∷ more)
-    (slot-back s (getD lengths 0 0) arena (arenaOf slots (drop slotRoom arena)) room (k .0 .0) (k .0 .1) (s .resident) refl)
-    (ap (λ (l : List ℕ). slotsFrom n (lengthsOf slots (drop 1 lengths)) (flagsOf slots) l) (behind s arena (arenaOf slots (drop slotRoom arena)) room (k .0 .0) (s .resident) refl) ∙ ih)
-    ∙ ap (λ (b : Bool). record { bytes = s .bytes; resident = b } ∷ slots) (flag-back (s .resident))
-
 -- the lists of a slot's words are as many as the slots
-flags-length : (slots : List Slot) → length (flagsOf slots) ≡ length slots
+pub flags-length : (slots : List Slot) → length (flagsOf slots) ≡ length slots
 unfolding flagsOf
 flags-length [] = refl
 flags-length (s ∷ slots) = ap suc (flags-length slots)
@@ -279,6 +224,30 @@ lengths-length : (slots : List Slot) (sizes : List ℕ) → length (lengthsOf sl
 unfolding lengthsOf
 lengths-length [] sizes = refl
 lengths-length (s ∷ slots) sizes = ap suc (lengths-length slots (drop 1 sizes))
+
+-- the flags put in, and nothing else
+module _ (fs ws bs : List ℕ) (size : length ws ≡ wordsLength) (many : length fs ≡ slotCount) where
+  pub resident-size : length (putResident fs ws) ≡ wordsLength
+  resident-size = put-size residentPlace slotCount fs ws (omega arith) many ∙ size
+
+  pub resident-word : (i : ℕ) → i < residentPlace → getD (putResident fs ws) i 0 ≡ getD ws i 0
+  resident-word i h = word-before residentPlace slotCount fs ws (omega arith) many i h
+
+  pub resident-lengths : lengthsIn (putResident fs ws) ≡ lengthsIn ws
+  resident-lengths = region-before residentPlace slotCount fs ws (omega arith) many lengthsPlace slotCount (omega arith)
+
+  pub resident-flags : flagsIn (putResident fs ws) ≡ fs
+  resident-flags = region-put residentPlace slotCount fs ws (omega arith) many
+
+  pub resident-past : (b m : ℕ) → nodesPlace ≤ b → region b m (putResident fs ws) ≡ region b m ws
+  resident-past b m h = region-past residentPlace slotCount fs ws (omega arith) many b m h
+
+  pub resident-decoded : decode (putResident fs ws) bs ≡ withSlots (slotsFrom 0 slotCount (lengthsIn ws) fs bs) (decode ws bs)
+  unfolding decode
+  resident-decoded =
+      same-engine bs (resident-word 0 (omega arith)) (resident-word 1 (omega arith)) (resident-word 2 (omega arith)) (resident-word 3 (omega arith)) resident-lengths resident-flags
+      (resident-past nodesPlace nodesWords (omega arith)) (resident-past orderPlace orderWords (omega arith))
+      (resident-past controlsPlace controlsWords (omega arith)) (resident-past busesPlace busCount (omega arith))
 
 -- slots put in, and nothing else
 module _ (slots : List Slot) (ws bs : List ℕ) (size : length ws ≡ wordsLength) (room : length bs ≡ arenaLength) (many : length slots ≡ slotCount) (backed : Backed slots (decode ws bs .slots)) where
@@ -292,7 +261,7 @@ module _ (slots : List Slot) (ws bs : List ℕ) (size : length ws ≡ wordsLengt
   lengthsMany = lengths-length slots (lengthsIn ws) ∙ many
 
   flaggedSize : length flagged ≡ wordsLength
-  flaggedSize = put-size residentPlace slotCount (flagsOf slots) ws (omega arith) flagsMany ∙ size
+  flaggedSize = resident-size (flagsOf slots) ws bs size flagsMany
 
   pub slots-size : length (putSlots slots ws) ≡ wordsLength
   slots-size = put-size lengthsPlace slotCount (lengthsOf slots (lengthsIn ws)) flagged (omega (arith, flaggedSize)) lengthsMany ∙ flaggedSize
@@ -300,7 +269,7 @@ module _ (slots : List Slot) (ws bs : List ℕ) (size : length ws ≡ wordsLengt
   high : (b m : ℕ) → nodesPlace ≤ b → region b m (putSlots slots ws) ≡ region b m ws
   high b m h =
       region-past lengthsPlace slotCount (lengthsOf slots (lengthsIn ws)) flagged (omega (arith, flaggedSize)) lengthsMany b m (omega arith)
-      ∙ region-past residentPlace slotCount (flagsOf slots) ws (omega arith) flagsMany b m (omega arith)
+      ∙ resident-past (flagsOf slots) ws bs size flagsMany b m h
 
   pub slots-index : region indexPlace indexWords (putSlots slots ws) ≡ region indexPlace indexWords ws
   slots-index = high indexPlace indexWords (omega arith)
@@ -308,7 +277,7 @@ module _ (slots : List Slot) (ws bs : List ℕ) (size : length ws ≡ wordsLengt
   pub slots-word : (i : ℕ) → i < lengthsPlace → getD (putSlots slots ws) i 0 ≡ getD ws i 0
   slots-word i h =
       word-before lengthsPlace slotCount (lengthsOf slots (lengthsIn ws)) flagged (omega (arith, flaggedSize)) lengthsMany i h
-      ∙ word-before residentPlace slotCount (flagsOf slots) ws (omega arith) flagsMany i (omega arith)
+      ∙ resident-word (flagsOf slots) ws bs size flagsMany i (omega arith)
 
   pub slots-lengths : lengthsIn (putSlots slots ws) ≡ lengthsOf slots (lengthsIn ws)
   slots-lengths = region-put lengthsPlace slotCount (lengthsOf slots (lengthsIn ws)) flagged (omega (arith, flaggedSize)) lengthsMany
@@ -316,11 +285,11 @@ module _ (slots : List Slot) (ws bs : List ℕ) (size : length ws ≡ wordsLengt
   pub slots-flags : flagsIn (putSlots slots ws) ≡ flagsOf slots
   slots-flags =
       region-past lengthsPlace slotCount (lengthsOf slots (lengthsIn ws)) flagged (omega (arith, flaggedSize)) lengthsMany residentPlace slotCount (omega arith)
-      ∙ region-put residentPlace slotCount (flagsOf slots) ws (omega arith) flagsMany
+      ∙ resident-flags (flagsOf slots) ws bs size flagsMany
 
   pub slots-decoded : decode (putSlots slots ws) (arenaOf slots bs) ≡ withSlots slots (decode ws bs)
   unfolding decode
   slots-decoded =
       same-engine (arenaOf slots bs) (slots-word 0 (omega arith)) (slots-word 1 (omega arith)) (slots-word 2 (omega arith)) (slots-word 3 (omega arith)) slots-lengths slots-flags
       (high nodesPlace nodesWords (omega arith)) (high orderPlace orderWords (omega arith)) (high controlsPlace controlsWords (omega arith)) (high busesPlace busCount (omega arith))
-      ∙ ap (λ (l : List Slot). withSlots l (decode ws bs)) (slots-back slotCount slots (lengthsIn ws) (flagsIn ws) bs many (omega arith) backed)
+      ∙ ap (λ (l : List Slot). withSlots l (decode ws bs)) (slots-back 0 slotCount slots (lengthsIn ws) (flagsIn ws) bs many (omega arith) backed)

@@ -5,11 +5,12 @@ use mathlib.Core.Path.{_≡_, refl, ap}
 use native.Mathlib.Omega.{arith}
 use borrow.Author.Tests.{eq-eqb, ne-eqb}
 use lib.ListN.{length, getD}
+use Rattle.format.specs.Reader.{sizeLimit}
 use Rattle.definitions.proofs.export_length.Statement.{statement}
 use Rattle.definitions.proofs.export_length.Tie as tie
 
 abbrev Inv-loop : tie.InvT-loop
-Inv-loop table arena n₀ k₀ n k = (k ≤ 32) × ((n ≤ 10 + 2048 * k) × (n + length (bodyFrom table arena k) ≡ 10 + length (bodyFrom table arena 0)))
+Inv-loop table arena n₀ k₀ n k = (k ≤ 32) × ((n ≤ 10 + sizeLimit * k) × (n + length (bodyFrom table arena k) ≡ 10 + length (bodyFrom table arena 0)))
 
 abbrev μ-loop : tie.MeasureT-loop
 μ-loop table arena n₀ k₀ n k = 32 - k
