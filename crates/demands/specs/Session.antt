@@ -15,6 +15,7 @@ use Rattle.model.specs.Formed.{formed}
 use Rattle.model.specs.Apply.{Does}
 use Rattle.model.specs.Chain.{State, Call, leftBy}
 use Rattle.model.specs.Demands.{refusalIn, Ends, Demand3}
+use Rattle.calls.specs.Numbers.{noCommand}
 use Rattle.messages.specs.Receive.{Meaning, malformed, unknown, means, meaning}
 use Rattle.messages.specs.Sent.{Sends}
 use Rattle.lists.specs.declared.Outcome.{Outcome}
@@ -129,7 +130,7 @@ Demand1OfCalls = (m : Made) (s : State) → Promised m s → EndsOf m s
 
 -- the number of the refusal that a call gives, 0 where it gives none
 abbrev pub refusalAtEnd : Outcome → ℕ
-refusalAtEnd NoList = 255
+refusalAtEnd NoList = noCommand
 refusalAtEnd (Ended a n) = refusalIn a
 
 abbrev pub refusalOf : Made → ℕ
