@@ -19,6 +19,10 @@ callNumber (Replied n) = 256 * (n % room)
 callNumber (Refused r) = numberOf r
 callNumber (RefusedAt r at) = faultNumber r + 256 * (at % room)
 
+-- the answer to a call that names no command
+abbrev pub noCommand : ℕ
+noCommand = 255
+
 -- what no machine's files and buffers reach: a place and a length within the room are given whole
 abbrev pub reach : Answer → ℕ
 reach Done = 0

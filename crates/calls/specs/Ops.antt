@@ -24,6 +24,98 @@ use Rattle.model.specs.declared.Command.the-variants as command
 use Rattle.calls.specs.declared.Parsed.{Parsed}
 use Rattle.calls.specs.declared.Parsed.the-variants.{Call, Nothing}
 
+-- the op of each command, which never changes: `src/ops.rt` has the same names
+abbrev pub noOp : ℕ
+noOp = 0
+
+abbrev pub dRecv : ℕ
+dRecv = 1
+
+abbrev pub dFree : ℕ
+dFree = 2
+
+abbrev pub sNew : ℕ
+sNew = 3
+
+abbrev pub gNew : ℕ
+gNew = 4
+
+abbrev pub nFree : ℕ
+nFree = 5
+
+abbrev pub gFreeAll : ℕ
+gFreeAll = 6
+
+abbrev pub gDeepFree : ℕ
+gDeepFree = 7
+
+abbrev pub nBefore : ℕ
+nBefore = 8
+
+abbrev pub nAfter : ℕ
+nAfter = 9
+
+abbrev pub gHead : ℕ
+gHead = 10
+
+abbrev pub gTail : ℕ
+gTail = 11
+
+abbrev pub nRun : ℕ
+nRun = 12
+
+abbrev pub nSet : ℕ
+nSet = 13
+
+abbrev pub nSetNamed : ℕ
+nSetNamed = 14
+
+abbrev pub nFill : ℕ
+nFill = 15
+
+abbrev pub nFillNamed : ℕ
+nFillNamed = 16
+
+abbrev pub nMap : ℕ
+nMap = 17
+
+abbrev pub nMapNamed : ℕ
+nMapNamed = 18
+
+abbrev pub cSet : ℕ
+cSet = 19
+
+abbrev pub cFill : ℕ
+cFill = 20
+
+abbrev pub sGet : ℕ
+sGet = 21
+
+abbrev pub sGetNamed : ℕ
+sGetNamed = 22
+
+abbrev pub cGet : ℕ
+cGet = 23
+
+abbrev pub nQuery : ℕ
+nQuery = 24
+
+abbrev pub gQueryTree : ℕ
+gQueryTree = 25
+
+abbrev pub status : ℕ
+status = 26
+
+abbrev pub export : ℕ
+export = 27
+
+-- the last op of all that have an address, and the last of all
+abbrev pub lastWithAddress : ℕ
+lastWithAddress = status
+
+abbrev pub last : ℕ
+last = export
+
 -- in a value d is 0 for a float's pattern in e, 1 for an integer in e
 abbrev pub valued : ℕ → ℕ → (Value → Command) → Parsed
 valued d e make = pick (eqb d 0) (Call (make (Float e))) (pick (eqb d 1) (Call (make (Integer e))) Nothing)
@@ -40,46 +132,46 @@ busSetting bus value = command.Buses (buses.Set bus value)
 abbrev pub busFilling : ℕ → ℕ → Value → Command
 busFilling start count value = command.Buses (buses.Fill start count value)
 
--- the ops from 0, which is none, to 27
+-- the command of each op, at the place of its number
 abbrev pub ops : ℕ → ℕ → ℕ → ℕ → ℕ → List Parsed
 ops a b c d e =
     Nothing
-    -- 1 /d_recv, 2 /d_free
+    -- /d_recv, /d_free
     ∷ (Call (command.Definitions definitions.Receive)
     ∷ (Call (command.Definitions definitions.Free)
-    -- 3 /s_new, 4 /g_new
+    -- /s_new, /g_new
     ∷ (Call (command.Tree (tree.NewSynth a b (argument c)))
     ∷ (Call (command.Tree (tree.NewGroup a b (argument c)))
-    -- 5 /n_free, 6 /g_freeAll, 7 /g_deepFree
+    -- /n_free, /g_freeAll, /g_deepFree
     ∷ (Call (command.Tree (tree.Free (argument a)))
     ∷ (Call (command.Tree (tree.FreeAll (argument a)))
     ∷ (Call (command.Tree (tree.DeepFree (argument a)))
-    -- 8 /n_before, 9 /n_after, 10 /g_head, 11 /g_tail
+    -- /n_before, /n_after, /g_head, /g_tail
     ∷ (Call (command.Tree (tree.Before (argument a) (argument b)))
     ∷ (Call (command.Tree (tree.After (argument a) (argument b)))
     ∷ (Call (command.Tree (tree.Head (argument a) (argument b)))
     ∷ (Call (command.Tree (tree.Tail (argument a) (argument b)))
-    -- 12 /n_run
+    -- /n_run
     ∷ (Call (command.Tree (tree.Run (argument a) b))
-    -- 13 /n_set by index, 14 by name
+    -- /n_set by index, by name
     ∷ (valued d e (setting (argument a) (Index b))
     ∷ (valued d e (setting (argument a) Name)
-    -- 15 /n_fill by index, 16 by name
+    -- /n_fill by index, by name
     ∷ (valued d e (filling (argument a) (Index b) c)
     ∷ (valued d e (filling (argument a) Name c)
-    -- 17 /n_map by index, 18 by name
+    -- /n_map by index, by name
     ∷ (Call (command.Controls (controls.Map (argument a) (Index b) c))
     ∷ (Call (command.Controls (controls.Map (argument a) Name c))
-    -- 19 /c_set, 20 /c_fill
+    -- /c_set, /c_fill
     ∷ (valued d e (busSetting a)
     ∷ (valued d e (busFilling a c)
-    -- 21 /s_get by index, 22 by name
+    -- /s_get by index, by name
     ∷ (Call (command.Query (query.Control (argument a) (Index b)))
     ∷ (Call (command.Query (query.Control (argument a) Name))
-    -- 23 /c_get, 24 /n_query
+    -- /c_get, /n_query
     ∷ (Call (command.Query (query.Bus a))
     ∷ (Call (command.Query (query.Node (argument a)))
-    -- 25 /g_queryTree, 26 /status, 27 export
+    -- /g_queryTree, /status, export
     ∷ (Call (command.Query (query.Tree (argument a) b))
     ∷ (Call (command.Query query.Status)
     ∷ (Call (command.Query query.Export)
@@ -94,7 +186,7 @@ pub op-is : (n op a b c d e : ℕ) → op ≡ n → getD (ops a b c d e) n Nothi
 unfolding commandOf
 op-is n op a b c d e h = ap (λ (k : ℕ). getD (ops a b c d e) k Nothing) (sym h)
 
-pub op-past : (op a b c d e : ℕ) → 27 < op → Nothing ≡ commandOf op a b c d e
+pub op-past : (op a b c d e : ℕ) → last < op → Nothing ≡ commandOf op a b c d e
 unfolding commandOf
 op-past op a b c d e h = sym (List·getD-eq-default (ops a b c d e) Nothing {n = op} (omega arith))
 

@@ -17,6 +17,11 @@ ghost use Rattle.values.specs.declared.Key.{Key};
 ghost use Rattle.calls.specs.Ops.{commandOf, valued, setting, filling, busSetting, busFilling};
 ghost use Rattle.calls.specs.Numbers.{callNumber, room};
 
+pub mod ops;
+
+// The answer to a call that names no command.
+pub const NO_COMMAND: u64 = 255;
+
 // The command that a call names, or none.
 pub enum Parsed {
     Call(Command),
@@ -116,74 +121,74 @@ pub fn command_of(op: u32, a: u32, b: u32, c: u32, d: u32, e: u32) -> Parsed
     let second = NodeArgument { number: b };
     let third = NodeArgument { number: c };
     match op {
-        0 => Parsed::Nothing,
-        1 => Parsed::Call(Command::Definitions(DefinitionCommand::Receive)),
-        2 => Parsed::Call(Command::Definitions(DefinitionCommand::Free)),
-        3 => Parsed::Call(Command::Tree(TreeCommand::NewSynth {
+        ops::NONE => Parsed::Nothing,
+        ops::D_RECV => Parsed::Call(Command::Definitions(DefinitionCommand::Receive)),
+        ops::D_FREE => Parsed::Call(Command::Definitions(DefinitionCommand::Free)),
+        ops::S_NEW => Parsed::Call(Command::Tree(TreeCommand::NewSynth {
             number: a,
             action: b,
             target: third,
         })),
-        4 => Parsed::Call(Command::Tree(TreeCommand::NewGroup {
+        ops::G_NEW => Parsed::Call(Command::Tree(TreeCommand::NewGroup {
             number: a,
             action: b,
             target: third,
         })),
-        5 => Parsed::Call(Command::Tree(TreeCommand::Free { node: first })),
-        6 => Parsed::Call(Command::Tree(TreeCommand::FreeAll { group: first })),
-        7 => Parsed::Call(Command::Tree(TreeCommand::DeepFree { group: first })),
-        8 => Parsed::Call(Command::Tree(TreeCommand::Before {
+        ops::N_FREE => Parsed::Call(Command::Tree(TreeCommand::Free { node: first })),
+        ops::G_FREE_ALL => Parsed::Call(Command::Tree(TreeCommand::FreeAll { group: first })),
+        ops::G_DEEP_FREE => Parsed::Call(Command::Tree(TreeCommand::DeepFree { group: first })),
+        ops::N_BEFORE => Parsed::Call(Command::Tree(TreeCommand::Before {
             node: first,
             place: second,
         })),
-        9 => Parsed::Call(Command::Tree(TreeCommand::After {
+        ops::N_AFTER => Parsed::Call(Command::Tree(TreeCommand::After {
             node: first,
             place: second,
         })),
-        10 => Parsed::Call(Command::Tree(TreeCommand::Head {
+        ops::G_HEAD => Parsed::Call(Command::Tree(TreeCommand::Head {
             group: first,
             node: second,
         })),
-        11 => Parsed::Call(Command::Tree(TreeCommand::Tail {
+        ops::G_TAIL => Parsed::Call(Command::Tree(TreeCommand::Tail {
             group: first,
             node: second,
         })),
-        12 => Parsed::Call(Command::Tree(TreeCommand::Run {
+        ops::N_RUN => Parsed::Call(Command::Tree(TreeCommand::Run {
             node: first,
             flag: b,
         })),
-        13 => set_control(first, Key::Index(b), d, e),
-        14 => set_control(first, Key::Name, d, e),
-        15 => fill_controls(first, Key::Index(b), c, d, e),
-        16 => fill_controls(first, Key::Name, c, d, e),
-        17 => Parsed::Call(Command::Controls(ControlCommand::Map {
+        ops::N_SET => set_control(first, Key::Index(b), d, e),
+        ops::N_SET_NAMED => set_control(first, Key::Name, d, e),
+        ops::N_FILL => fill_controls(first, Key::Index(b), c, d, e),
+        ops::N_FILL_NAMED => fill_controls(first, Key::Name, c, d, e),
+        ops::N_MAP => Parsed::Call(Command::Controls(ControlCommand::Map {
             node: first,
             key: Key::Index(b),
             bus: c,
         })),
-        18 => Parsed::Call(Command::Controls(ControlCommand::Map {
+        ops::N_MAP_NAMED => Parsed::Call(Command::Controls(ControlCommand::Map {
             node: first,
             key: Key::Name,
             bus: c,
         })),
-        19 => set_bus(a, d, e),
-        20 => fill_buses(a, c, d, e),
-        21 => Parsed::Call(Command::Query(Query::Control {
+        ops::C_SET => set_bus(a, d, e),
+        ops::C_FILL => fill_buses(a, c, d, e),
+        ops::S_GET => Parsed::Call(Command::Query(Query::Control {
             node: first,
             key: Key::Index(b),
         })),
-        22 => Parsed::Call(Command::Query(Query::Control {
+        ops::S_GET_NAMED => Parsed::Call(Command::Query(Query::Control {
             node: first,
             key: Key::Name,
         })),
-        23 => Parsed::Call(Command::Query(Query::Bus { bus: a })),
-        24 => Parsed::Call(Command::Query(Query::Node { node: first })),
-        25 => Parsed::Call(Command::Query(Query::Tree {
+        ops::C_GET => Parsed::Call(Command::Query(Query::Bus { bus: a })),
+        ops::N_QUERY => Parsed::Call(Command::Query(Query::Node { node: first })),
+        ops::G_QUERY_TREE => Parsed::Call(Command::Query(Query::Tree {
             group: first,
             flag: b,
         })),
-        26 => Parsed::Call(Command::Query(Query::Status)),
-        27 => Parsed::Call(Command::Query(Query::Export)),
+        ops::STATUS => Parsed::Call(Command::Query(Query::Status)),
+        ops::EXPORT => Parsed::Call(Command::Query(Query::Export)),
         _ => Parsed::Nothing,
     }
 }

@@ -21,6 +21,7 @@ use Rattle.model.specs.Formed.{formed}
 use Rattle.model.specs.Apply.{isAccepted, Does}
 use Rattle.model.specs.Chain.{State, engineIn, Call, Applied, leftBy, Fresh}
 use Rattle.model.specs.Demands.{meaningIn as definitionNamed, refusalIn, Ends, receive, export, Exports, Demand3}
+use Rattle.calls.specs.Numbers.{noCommand}
 use Rattle.messages.specs.Receive.{Meaning, malformed, unknown, means, meaning}
 use Rattle.messages.specs.Sent.{Sends}
 use Rattle.lists.specs.declared.Outcome.{Outcome}
@@ -154,7 +155,7 @@ Demand1OfCalls = (m : Made) (s : State) → Promised m s → EndsOf m s
 
 -- the number of the refusal that a call gives, 0 where it gives none
 abbrev pub refusalAtEnd : Outcome → ℕ
-refusalAtEnd NoList = 255
+refusalAtEnd NoList = noCommand
 refusalAtEnd (Ended a n) = refusalIn a
 
 abbrev pub refusalTold : Told → ℕ

@@ -17,7 +17,7 @@ use Rattle.lists.specs.declared.Outcome.{Outcome}
 use Rattle.lists.specs.OneByOne.{Lists, listNumber}
 use Rattle.calls.specs.declared.Parsed.{Parsed}
 use Rattle.calls.specs.declared.Parsed.the-variants.{Call, Nothing}
-use Rattle.calls.specs.Numbers.{callNumber}
+use Rattle.calls.specs.Numbers.{callNumber, noCommand}
 
 -- a fresh engine, and the answer as a number
 pub record Made (ws bs : List ℕ) (r : ℕ) (ws′ bs′ : List ℕ) : Type 0 where
@@ -33,7 +33,7 @@ pub record Answered (c : Command) (bytes ws bs out : List ℕ) (r : ℕ) (ws′ 
 
 -- an `op` that is no command's answers 255 and changes nothing
 pub record Unknown (ws bs out : List ℕ) (r : ℕ) (ws′ bs′ out′ : List ℕ) : Type 0 where
-  pub number : r ≡ 255
+  pub number : r ≡ noCommand
   pub words : ws′ ≡ ws
   pub arena : bs′ ≡ bs
   pub reply : out′ ≡ out
@@ -62,7 +62,7 @@ pub record AnsweredAs (g : Given) (out : List ℕ) (r : ℕ) (out′ : List ℕ)
 
 -- an `op` or a value's kind that is none answers 255, and nothing is written
 pub record Unwritten (out : List ℕ) (r : ℕ) (out′ : List ℕ) : Type 0 where
-  pub number : r ≡ 255
+  pub number : r ≡ noCommand
   pub left : out′ ≡ out
 
 abbrev pub Wrote : Parsed → (g : Given) (out : List ℕ) (r : ℕ) (out′ : List ℕ) → Type 0

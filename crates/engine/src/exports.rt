@@ -2,6 +2,7 @@
 use crate::commands::apply;
 use crate::sent::message;
 use crate::start::fresh;
+use calls::NO_COMMAND;
 use calls::Parsed;
 use calls::call_number;
 use calls::command_of;
@@ -62,7 +63,7 @@ pub extern "C" fn engine_apply(
 {
     match command_of(op, a, b, c, d, e) {
         Parsed::Call(command) => call_number(apply(command, bytes, words, arena, reply)),
-        Parsed::Nothing => 255,
+        Parsed::Nothing => NO_COMMAND,
     }
 }
 
@@ -79,7 +80,7 @@ pub extern "C" fn engine_message(
     call_number(message(sent, words, arena, reply))
 }
 
-// One call: a list of commands, on what is lent. 255 where it is no list.
+// One call: a list of commands, on what is lent. `NO_COMMAND` where it is no list.
 #[no_mangle]
 pub extern "C" fn engine_list(
     items: &[u32],
@@ -126,6 +127,6 @@ pub extern "C" fn message_write(
             };
             call_number(write(numbers, bytes, out))
         }
-        Parsed::Nothing => 255,
+        Parsed::Nothing => NO_COMMAND,
     }
 }

@@ -23,7 +23,7 @@ use Rattle.lists.specs.declared.Verdict.the-variants as verdict
 use Rattle.lists.specs.declared.Outcome.{Outcome}
 use Rattle.lists.specs.declared.Outcome.the-variants.{NoList, Ended}
 use Rattle.lists.specs.Lent as lent
-use Rattle.lists.specs.Lent.{Item, width, itemsFrom, countIn, itemsOf, parsed, partOf, acts, every, isList, most, lineBy, linesIn, linesOf}
+use Rattle.lists.specs.Lent.{Item, itemWords, itemsFrom, countIn, itemsOf, parsed, partOf, acts, every, isList, mostCommands, lineBy, linesIn, linesOf}
 use Rattle.lists.specs.OneByOne.{takes, after, tried, lastAnswer, acceptedIn, outcomeBy, outcomeOf, countRoom, placeRoom, placeIn, listNumber}
 use Rattle.lists.specs.Running.{on, refused}
 
@@ -48,11 +48,11 @@ lines-few (i ∷ is) bytes = go (parsed i) (lines-few is bytes)
 items-many : (n : ℕ) (us : List ℕ) → length (itemsFrom n us) ≡ n
 unfolding itemsFrom
 items-many zero us = refl
-items-many (suc n) us = ap suc (items-many n (drop width us))
+items-many (suc n) us = ap suc (items-many n (drop itemWords us))
 
-fit-short : (us bytes : List ℕ) → lent.verdict us bytes ≡ verdict.Fit → countIn us ≤ most
+fit-short : (us bytes : List ℕ) → lent.verdict us bytes ≡ verdict.Fit → countIn us ≤ mostCommands
 unfolding lent.verdict
-fit-short us bytes h = leb-true (countIn us) most (go (isList us bytes) (leb (countIn us) most) (every acts (length bytes) (itemsOf us)) h)
+fit-short us bytes h = leb-true (countIn us) mostCommands (go (isList us bytes) (leb (countIn us) mostCommands) (every acts (length bytes) (itemsOf us)) h)
   where
     go : (listed short each : Bool) → pick listed (pick (both short each) verdict.Fit verdict.Unfit) verdict.NoList ≡ verdict.Fit → short ≡ true
     go listed true each k = refl
@@ -63,15 +63,15 @@ abbrev countOf : Outcome → ℕ
 countOf NoList = 0
 countOf (Ended a n) = n
 
-count-few : (us bytes : List ℕ) (s : State) → countOf (outcomeOf us bytes s) ≤ most
+count-few : (us bytes : List ℕ) (s : State) → countOf (outcomeOf us bytes s) ≤ mostCommands
 count-few us bytes s = go (lent.verdict us bytes) refl
   where
-    go : (v : Verdict) → lent.verdict us bytes ≡ v → countOf (outcomeBy v (linesOf us bytes) s) ≤ most
+    go : (v : Verdict) → lent.verdict us bytes ≡ v → countOf (outcomeBy v (linesOf us bytes) s) ≤ mostCommands
     go verdict.NoList h = omega arith
     go verdict.Unfit h = omega arith
     go verdict.Fit h = by-check (formed (s .words) (s .arena))
       where
-        by-check : (b : Bool) → countOf (pick b (Ended (lastAnswer (tried (linesOf us bytes) s)) (acceptedIn (tried (linesOf us bytes) s))) (Ended (Refused BadState) 0)) ≤ most
+        by-check : (b : Bool) → countOf (pick b (Ended (lastAnswer (tried (linesOf us bytes) s)) (acceptedIn (tried (linesOf us bytes) s))) (Ended (Refused BadState) 0)) ≤ mostCommands
         by-check true =
             let few = tried-few (linesOf us bytes) s in
             let lines = lines-few (itemsOf us) bytes in

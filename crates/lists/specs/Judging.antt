@@ -11,19 +11,19 @@ use Rattle.words.specs.Choice.{pick, both}
 use Rattle.lists.specs.declared.Verdict.the-variants.{NoList, Unfit, Fit}
 use Rattle.lists.specs.declared.Kind.{Kind}
 use Rattle.lists.specs.declared.Kind.the-variants.{NoItem, Replies, Acts}
-use Rattle.lists.specs.Lent.{Item, width, most, countIn, itemsOf, kindOf, isItem, acts, every, isList, verdict}
+use Rattle.lists.specs.Lent.{Item, itemWords, mostCommands, countIn, itemsOf, kindOf, isItem, acts, every, isList, verdict}
 use Rattle.lists.specs.Walk.{itemAt, itemsAt, items-first, items-next, items-last}
 
 -- words left over are no item's
-pub not-whole : (us bytes : List ℕ) → (length us % width ≡ 0 → ⊥) → NoList ≡ verdict us bytes
+pub not-whole : (us bytes : List ℕ) → (length us % itemWords ≡ 0 → ⊥) → NoList ≡ verdict us bytes
 unfolding verdict
-not-whole us bytes h = rw (ne-eqb (length us % width) 0 h)
+not-whole us bytes h = rw (ne-eqb (length us % itemWords) 0 h)
 
 -- what is left to judge decides as the whole does
 pub record Judging (us : List ℕ) (room i : ℕ) (fit : Bool) : Type 0 where
   pub near : i ≤ countIn us
   pub items : every isItem room (itemsOf us) ≡ every isItem room (itemsAt us i)
-  pub fits : both (leb (countIn us) most) (every acts room (itemsOf us)) ≡ both fit (every acts room (itemsAt us i))
+  pub fits : both (leb (countIn us) mostCommands) (every acts room (itemsOf us)) ≡ both fit (every acts room (itemsAt us i))
 
 both-assoc : (a b c : Bool) → both a (both b c) ≡ both (both a b) c
 both-assoc true b c = refl
@@ -38,11 +38,11 @@ both-right true = refl
 both-right false = refl
 
 module _ (us : List ℕ) (room : ℕ) where
-  pub judge-begins : Judging us room 0 (leb (countIn us) most)
+  pub judge-begins : Judging us room 0 (leb (countIn us) mostCommands)
   judge-begins = record {
     near = omega arith;
     items = ap (λ (l : List Item). every isItem room l) (sym (items-first us));
-    fits = ap (λ (l : List Item). both (leb (countIn us) most) (every acts room l)) (sym (items-first us));
+    fits = ap (λ (l : List Item). both (leb (countIn us) mostCommands) (every acts room l)) (sym (items-first us));
   }
 
   pub every-next : (pass : Kind → Bool) (i : ℕ) → i < countIn us → every pass room (itemsAt us i) ≡ both (pass (kindOf room (itemAt us i))) (every pass room (itemsAt us (i + 1)))
@@ -67,23 +67,23 @@ module _ (us : List ℕ) (room : ℕ) where
           ∙ both-assoc fit (acts (kindOf room (itemAt us i))) (every acts room (itemsAt us (i + 1)));
     }
 
-    pub judge-ends : countIn us ≤ i → (every isItem room (itemsOf us) ≡ true) × (both (leb (countIn us) most) (every acts room (itemsOf us)) ≡ fit)
+    pub judge-ends : countIn us ≤ i → (every isItem room (itemsOf us) ≡ true) × (both (leb (countIn us) mostCommands) (every acts room (itemsOf us)) ≡ fit)
     judge-ends h = (j .items ∙ every-last isItem i h, j .fits ∙ ap (λ (b : Bool). both fit b) (every-last acts i h) ∙ both-right fit)
 
 -- the verdict, where the items are whole
-module _ (us bytes : List ℕ) (whole : length us % width ≡ 0) where
+module _ (us bytes : List ℕ) (whole : length us % itemWords ≡ 0) where
   pub no-list : every isItem (length bytes) (itemsOf us) ≡ false → NoList ≡ verdict us bytes
   unfolding verdict
-  no-list h = rw (eq-eqb (length us % width) 0 whole, h)
+  no-list h = rw (eq-eqb (length us % itemWords) 0 whole, h)
 
-  pub a-list : (fit : Bool) → (every isItem (length bytes) (itemsOf us) ≡ true) × (both (leb (countIn us) most) (every acts (length bytes) (itemsOf us)) ≡ fit) → pick fit Fit Unfit ≡ verdict us bytes
+  pub a-list : (fit : Bool) → (every isItem (length bytes) (itemsOf us) ≡ true) × (both (leb (countIn us) mostCommands) (every acts (length bytes) (itemsOf us)) ≡ fit) → pick fit Fit Unfit ≡ verdict us bytes
   unfolding verdict
-  a-list fit h = rw (eq-eqb (length us % width) 0 whole, h .0, h .1)
+  a-list fit h = rw (eq-eqb (length us % itemWords) 0 whole, h .0, h .1)
 
 -- a list that is fit: each item is a command that doesn't reply
 pub fit-acts : (us bytes : List ℕ) → verdict us bytes ≡ Fit → every acts (length bytes) (itemsOf us) ≡ true
 unfolding verdict
-fit-acts us bytes h = go (isList us bytes) (leb (countIn us) most) (every acts (length bytes) (itemsOf us)) h
+fit-acts us bytes h = go (isList us bytes) (leb (countIn us) mostCommands) (every acts (length bytes) (itemsOf us)) h
   where
     go : (listed short each : Bool) → pick listed (pick (both short each) Fit Unfit) NoList ≡ Fit → each ≡ true
     go listed short true k = refl

@@ -30,8 +30,8 @@ pub record Item : Type 0 where
   pub later : List ℕ
 
 -- its words
-abbrev pub width : ℕ
-width = 12
+abbrev pub itemWords : ℕ
+itemWords = 12
 
 -- the item that a run of words begins with
 abbrev pub itemIn : List ℕ → Item
@@ -49,10 +49,10 @@ itemIn us = record {
 
 unfoldable pub itemsFrom : ℕ → List ℕ → List Item
 itemsFrom zero us = []
-itemsFrom (suc n) us = itemIn us ∷ itemsFrom n (drop width us)
+itemsFrom (suc n) us = itemIn us ∷ itemsFrom n (drop itemWords us)
 
 abbrev pub countIn : List ℕ → ℕ
-countIn us = length us / width
+countIn us = length us / itemWords
 
 abbrev pub itemsOf : List ℕ → List Item
 itemsOf us = itemsFrom (countIn us) us
@@ -105,15 +105,15 @@ every pass room (i ∷ is) = both (pass (kindOf room i)) (every pass room is)
 
 -- whole items, and each is one: else it is no list
 abbrev pub isList : List ℕ → List ℕ → Bool
-isList us bytes = both (eqb (length us % width) 0) (every isItem (length bytes) (itemsOf us))
+isList us bytes = both (eqb (length us % itemWords) 0) (every isItem (length bytes) (itemsOf us))
 
 -- "up to 512 commands"
-abbrev pub most : ℕ
-most = 512
+abbrev pub mostCommands : ℕ
+mostCommands = 512
 
 -- "A longer list, or one that holds a query or an export, is refused whole with 34"
 abbrev pub isFit : List ℕ → List ℕ → Bool
-isFit us bytes = both (leb (countIn us) most) (every acts (length bytes) (itemsOf us))
+isFit us bytes = both (leb (countIn us) mostCommands) (every acts (length bytes) (itemsOf us))
 
 unfoldable pub verdict : List ℕ → List ℕ → Verdict
 verdict us bytes = pick (isList us bytes) (pick (isFit us bytes) Fit Unfit) NoList

@@ -16,6 +16,7 @@ use Rattle.model.specs.Apply.{answer, isAccepted, written, replyOf}
 use Rattle.model.specs.Chain.{State, Call, Chain, leftBy}
 use Rattle.model.specs.Demands.{refusalIn}
 use Rattle.model.specs.Script.{Line}
+use Rattle.calls.specs.Numbers.{noCommand}
 use Rattle.lists.specs.declared.Verdict.{Verdict}
 use Rattle.lists.specs.declared.Verdict.the-variants as verdict
 use Rattle.lists.specs.declared.Outcome.{Outcome}
@@ -107,5 +108,5 @@ placeIn (RefusedAt r at) = at
 
 -- as one number: the refusal's (0 where all are accepted), plus 256 times how many were accepted before it, plus 2^24 times the place (refusals 2 to 11); 255 where it is no list
 abbrev pub listNumber : Outcome → ℕ
-listNumber NoList = 255
+listNumber NoList = noCommand
 listNumber (Ended a n) = refusalIn a + 256 * (n % countRoom) + 16777216 * (placeIn a % placeRoom)

@@ -11,6 +11,7 @@ use Rattle.nodes.specs.Edit.{lift, sink, takeDeeper, dropDeeper, onlyGroups, ru
 use Rattle.nodes.specs.Order.{orderFrom}
 use Rattle.values.specs.Targets.{targetOf}
 use Rattle.values.specs.Values.{inBounds, pattern}
+use Rattle.calls.specs.Ops as ops
 use Rattle.calls.specs.Ops.{commandOf}
 use Rattle.model.specs.Engine.{Engine, held, residentFrom, controlsFrom}
 use Rattle.model.specs.Meaning.{nodeNamed}
@@ -37,19 +38,19 @@ item op a b c d e start size = op ∷ (a ∷ (b ∷ (c ∷ (d ∷ (e ∷ (start 
 
 -- `/g_new` number at the root's tail, `/n_run` 0 1, `/status`, export, `/c_set` 7 with a value of a kind
 abbrev group : ℕ → List ℕ
-group n = item 4 n 1 0 0 0 0 0
+group n = item ops.gNew n 1 0 0 0 0 0
 
 abbrev runRoot : List ℕ
-runRoot = item 12 0 1 0 0 0 0 0
+runRoot = item ops.nRun 0 1 0 0 0 0 0
 
 abbrev status : List ℕ
-status = item 26 0 0 0 0 0 0 0
+status = item ops.status 0 0 0 0 0 0 0
 
 abbrev export : List ℕ
-export = item 27 0 0 0 0 0 0 0
+export = item ops.export 0 0 0 0 0 0 0
 
 abbrev setBus : ℕ → List ℕ
-setBus kind = item 19 7 0 0 kind 0 0 0
+setBus kind = item ops.cSet 7 0 0 kind 0 0 0
 
 unfoldable pub times : ℕ → List ℕ → List ℕ
 times zero l = []
@@ -70,17 +71,17 @@ rowsFrom e =
     ∷ example (ended e (group 0 ++ export) []) (34 ∷ [])
     -- no list: words left over, an op that is none behind a query, a value's kind that is none, a word kept for later
     ∷ example (ended e (group 1 ++ (0 ∷ [])) []) (255 ∷ [])
-    ∷ example (ended e (status ++ item 28 0 0 0 0 0 0 0) []) (255 ∷ [])
+    ∷ example (ended e (status ++ item (suc ops.last) 0 0 0 0 0 0 0) []) (255 ∷ [])
     ∷ example (ended e (setBus 1 ++ setBus 2) []) (255 ∷ [])
     ∷ example (ended e (take 11 (group 1) ++ (1 ∷ [])) []) (255 ∷ [])
     -- words that an op doesn't take are not looked at
-    ∷ example (ended e (item 4 1 1 0 9 9 0 0) []) ((256 * 1) ∷ [])
+    ∷ example (ended e (item ops.gNew 1 1 0 9 9 0 0) []) ((256 * 1) ∷ [])
     -- a part: an empty one may start at the end of the bytes, and not past it, also where the op takes none
-    ∷ example (ended e (item 4 1 1 0 0 0 1 0) (7 ∷ [])) ((256 * 1) ∷ [])
-    ∷ example (ended e (item 4 1 1 0 0 0 2 0) (7 ∷ [])) (255 ∷ [])
-    ∷ example (ended e (item 4 1 1 0 0 0 1 1) (7 ∷ [])) (255 ∷ [])
+    ∷ example (ended e (item ops.gNew 1 1 0 0 0 1 0) (7 ∷ [])) ((256 * 1) ∷ [])
+    ∷ example (ended e (item ops.gNew 1 1 0 0 0 2 0) (7 ∷ [])) (255 ∷ [])
+    ∷ example (ended e (item ops.gNew 1 1 0 0 0 1 1) (7 ∷ [])) (255 ∷ [])
     -- a load that is cut, behind one that is accepted: its number, how many before it, its place
-    ∷ example (ended e (group 1 ++ (item 1 0 0 0 0 0 0 10 ++ item 1 0 0 0 0 0 0 9)) (header 0)) ((2 + 256 * 2 + 16777216 * 8) ∷ [])
+    ∷ example (ended e (group 1 ++ (item ops.dRecv 0 0 0 0 0 0 10 ++ item ops.dRecv 0 0 0 0 0 0 9)) (header 0)) ((2 + 256 * 2 + 16777216 * 8) ∷ [])
     -- 512 commands, and one more
     ∷ example (ended e (times 512 runRoot) []) ((256 * 512) ∷ [])
     ∷ example (ended e (times 513 runRoot) []) (34 ∷ [])

@@ -7,7 +7,7 @@ use words::wide;
 ghost use Prim.Native.Nat.{_+_, _<_, _≤_};
 ghost use mathlib.Core.Path.{_≡_};
 ghost use lib.ListN.{length, drop, getD};
-ghost use Rattle.lists.specs.Lent.{width, itemIn, parsed, zeros, isLaid, ofParsed, kindOf};
+ghost use Rattle.lists.specs.Lent.{itemWords, itemIn, parsed, zeros, isLaid, ofParsed, kindOf};
 
 // A word of the item at a place.
 fn word(items: &[u32], at: usize, k: usize) -> u32
@@ -19,7 +19,7 @@ fn word(items: &[u32], at: usize, k: usize) -> u32
 
 // Its command, or none.
 pub(crate) fn command_at(items: &[u32], at: usize) -> Parsed
-    requires { ⌜ at + width ≤ length (now items) ⌝ }
+    requires { ⌜ at + itemWords ≤ length (now items) ⌝ }
     ensures { λ r. ⌜ r ≡ parsed (itemIn (drop at (now (items .entry)))) ⌝ }
 {
     command_of(
@@ -34,7 +34,7 @@ pub(crate) fn command_at(items: &[u32], at: usize) -> Parsed
 
 // Where its bytes begin.
 pub(crate) fn part_start(items: &[u32], at: usize) -> usize
-    requires { ⌜ at + width ≤ length (now items) ⌝ }
+    requires { ⌜ at + itemWords ≤ length (now items) ⌝ }
     ensures { λ r. ⌜ r ≡ itemIn (drop at (now (items .entry))) .start ⌝ }
 {
     wide(word(items, at, 6))
@@ -42,7 +42,7 @@ pub(crate) fn part_start(items: &[u32], at: usize) -> usize
 
 // How many they are.
 pub(crate) fn part_size(items: &[u32], at: usize) -> usize
-    requires { ⌜ at + width ≤ length (now items) ⌝ }
+    requires { ⌜ at + itemWords ≤ length (now items) ⌝ }
     ensures { λ r. ⌜ r ≡ itemIn (drop at (now (items .entry))) .size ⌝ }
 {
     wide(word(items, at, 7))
@@ -50,7 +50,7 @@ pub(crate) fn part_size(items: &[u32], at: usize) -> usize
 
 // The words that are kept for later are 0.
 fn later_zero(items: &[u32], at: usize) -> bool
-    requires { ⌜ at + width ≤ length (now items) ⌝ }
+    requires { ⌜ at + itemWords ≤ length (now items) ⌝ }
     ensures { λ r. ⌜ r ≡ zeros (itemIn (drop at (now (items .entry))) .later) ⌝ }
 {
     if word(items, at, 8) != 0 {
@@ -67,7 +67,7 @@ fn later_zero(items: &[u32], at: usize) -> bool
 
 // And its part lies within so many bytes.
 fn is_laid(items: &[u32], at: usize, room: usize) -> bool
-    requires { ⌜ at + width ≤ length (now items) ⌝ }
+    requires { ⌜ at + itemWords ≤ length (now items) ⌝ }
     ensures { λ r. ⌜ r ≡ isLaid room (itemIn (drop at (now (items .entry)))) ⌝ }
 {
     if !later_zero(items, at) {
@@ -99,7 +99,7 @@ fn kind_of(command: Parsed) -> Kind
 
 // What the item at a place is, beside so many bytes.
 pub(crate) fn item_kind(items: &[u32], at: usize, room: usize) -> Kind
-    requires { ⌜ at + width ≤ length (now items) ⌝ }
+    requires { ⌜ at + itemWords ≤ length (now items) ⌝ }
     ensures { λ r. ⌜ r ≡ kindOf room (itemIn (drop at (now (items .entry)))) ⌝ }
 {
     if !is_laid(items, at, room) {

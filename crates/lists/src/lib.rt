@@ -6,6 +6,12 @@ mod run;
 
 use model::Answer;
 
+// The words of an item.
+pub const ITEM_WORDS: usize = 12;
+
+// "up to 512 commands"
+pub const MOST_COMMANDS: usize = 512;
+
 // A list as a whole: none, one that is refused with 34, or one whose commands are tried.
 pub enum Verdict {
     NoList,

@@ -1,5 +1,6 @@
 // What a list ends in as one number.
 use crate::Outcome;
+use calls::NO_COMMAND;
 use faults::fault_number;
 use model::Answer;
 use refusals::refusal_number;
@@ -36,7 +37,7 @@ pub fn list_number(outcome: Outcome) -> u64
     ensures { λ r. ⌜ r ≡ listNumber outcome ⌝ }
 {
     match outcome {
-        Outcome::NoList => 255,
+        Outcome::NoList => NO_COMMAND,
         Outcome::Ended(answer, accepted) => {
             refusal_in(answer) as u64
                 + 256 * (accepted as u64 % 65536)

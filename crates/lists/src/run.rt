@@ -1,4 +1,5 @@
 // The commands of a list, one by one: each item is read where it lies, when it is reached.
+use crate::ITEM_WORDS;
 use crate::Outcome;
 use crate::Verdict;
 use crate::item::command_at;
@@ -18,7 +19,7 @@ ghost use Rattle.model.specs.Formed.{formed};
 ghost use Rattle.model.specs.Apply.{isAccepted};
 ghost use Rattle.lists.specs.declared.Kind.the-variants.{Acts};
 ghost use Rattle.lists.specs.declared.Verdict.the-variants.{Fit};
-ghost use Rattle.lists.specs.Lent.{width, itemIn, kindOf, verdict};
+ghost use Rattle.lists.specs.Lent.{itemWords, itemIn, kindOf, verdict};
 ghost use Rattle.lists.specs.OneByOne.{Lists};
 ghost use Rattle.lists.specs.Running.{Goes, Ran};
 
@@ -36,7 +37,7 @@ fn is_accepted(answer: Answer) -> bool
 
 // The command of the item at a place, in a well-formed state: there is no room for a reply, since none of these replies.
 fn item_step(items: &[u32], at: usize, bytes: &[u8], words: &mut [u32], arena: &mut [u8]) -> Answer
-    requires { ⌜ (at + width ≤ length (now items)) × ((kindOf (length (now bytes)) (itemIn (drop at (now items))) ≡ Acts) × (formed (now words) (now arena) ≡ true)) ⌝ }
+    requires { ⌜ (at + itemWords ≤ length (now items)) × ((kindOf (length (now bytes)) (itemIn (drop at (now items))) ≡ Acts) × (formed (now words) (now arena) ≡ true)) ⌝ }
     ensures { λ r. ⌜ Goes (itemIn (drop at (now (items .entry)))) (now (bytes .entry)) (now (words .entry)) (now (arena .entry)) r (now (words .exit)) (now (arena .exit)) ⌝ }
 {
     let start = part_start(items, at);
@@ -54,10 +55,10 @@ fn run(items: &[u32], bytes: &[u8], words: &mut [u32], arena: &mut [u8]) -> Outc
     requires { ⌜ (verdict (now items) (now bytes) ≡ Fit) × (formed (now words) (now arena) ≡ true) ⌝ }
     ensures { λ r. ⌜ Ran (now (items .entry)) (now (bytes .entry)) (now (words .entry)) (now (arena .entry)) r (now (words .exit)) (now (arena .exit)) ⌝ }
 {
-    let count = items.len() / 12;
+    let count = items.len() / ITEM_WORDS;
     let mut i = 0;
     while i < count {
-        let answer = item_step(items, 12 * i, bytes, words, arena);
+        let answer = item_step(items, ITEM_WORDS * i, bytes, words, arena);
         if !is_accepted(answer) {
             return Outcome::Ended(answer, i);
         }

@@ -16,7 +16,7 @@ use Rattle.model.specs.declared.Command.the-variants as command
 use Rattle.model.specs.declared.Query.the-variants as query
 use Rattle.calls.specs.declared.Parsed.{Parsed}
 use Rattle.calls.specs.declared.Parsed.the-variants.{Call, Nothing}
-use Rattle.calls.specs.Ops.{ops, commandOf}
+use Rattle.calls.specs.Ops.{last, ops, commandOf}
 use Rattle.messages.specs.declared.Numbers.{Numbers}
 use Rattle.messages.specs.Table.{Row, table, Given, takeAll, giveAll}
 use Rattle.messages.specs.Receive.{bare, commandIn}
@@ -132,5 +132,5 @@ pub row-command : (n : Numbers) (r : Row) → n .d ≤ 1 → rowOf (n .op) ≡ s
 unfolding commandOf
 row-command n r h e =
     let p = row-place table (n .op) r e in
-    let few : p .place < 27 = omega (arith, p .below) in
+    let few : p .place < last = omega (arith, p .below) in
     rw (p .same) (call-at (drop 1 (ops (n .a) (n .b) (n .c) (n .d) (n .e))) (p .place) (all-calls (n .a) (n .b) (n .c) (n .d) (n .e) h) (omega arith))

@@ -14,6 +14,7 @@ use Rattle.model.specs.declared.Query.the-variants as query
 use Rattle.model.specs.declared.Command.{Command}
 use Rattle.model.specs.declared.Command.the-variants as command
 use Rattle.calls.specs.declared.Parsed.the-variants.{Call}
+use Rattle.calls.specs.Ops as ops
 use Rattle.calls.specs.Ops.{commandOf}
 use Rattle.messages.specs.declared.Numbers.{Numbers}
 use Rattle.messages.specs.Table.{Row, Given}
@@ -29,33 +30,33 @@ valued op a b c (Float p) = record { op = op; a = a; b = b; c = c; d = 0; e = p 
 valued op a b c (Integer n) = record { op = op; a = a; b = b; c = c; d = 1; e = n }
 
 abbrev pub numbersOf : Command → Numbers
-numbersOf (command.Definitions definitions.Receive) = plain 1 0 0 0
-numbersOf (command.Definitions definitions.Free) = plain 2 0 0 0
-numbersOf (command.Tree (tree.NewSynth n action target)) = plain 3 n action (target .number)
-numbersOf (command.Tree (tree.NewGroup n action target)) = plain 4 n action (target .number)
-numbersOf (command.Tree (tree.Free node)) = plain 5 (node .number) 0 0
-numbersOf (command.Tree (tree.FreeAll group)) = plain 6 (group .number) 0 0
-numbersOf (command.Tree (tree.DeepFree group)) = plain 7 (group .number) 0 0
-numbersOf (command.Tree (tree.Before node place)) = plain 8 (node .number) (place .number) 0
-numbersOf (command.Tree (tree.After node place)) = plain 9 (node .number) (place .number) 0
-numbersOf (command.Tree (tree.Head group node)) = plain 10 (group .number) (node .number) 0
-numbersOf (command.Tree (tree.Tail group node)) = plain 11 (group .number) (node .number) 0
-numbersOf (command.Tree (tree.Run node flag)) = plain 12 (node .number) flag 0
-numbersOf (command.Controls (controls.Set node (Index k) v)) = valued 13 (node .number) k 0 v
-numbersOf (command.Controls (controls.Set node Name v)) = valued 14 (node .number) 0 0 v
-numbersOf (command.Controls (controls.Fill node (Index k) count v)) = valued 15 (node .number) k count v
-numbersOf (command.Controls (controls.Fill node Name count v)) = valued 16 (node .number) 0 count v
-numbersOf (command.Controls (controls.Map node (Index k) bus)) = plain 17 (node .number) k bus
-numbersOf (command.Controls (controls.Map node Name bus)) = plain 18 (node .number) 0 bus
-numbersOf (command.Buses (buses.Set bus v)) = valued 19 bus 0 0 v
-numbersOf (command.Buses (buses.Fill start count v)) = valued 20 start 0 count v
-numbersOf (command.Query (query.Control node (Index k))) = plain 21 (node .number) k 0
-numbersOf (command.Query (query.Control node Name)) = plain 22 (node .number) 0 0
-numbersOf (command.Query (query.Bus bus)) = plain 23 bus 0 0
-numbersOf (command.Query (query.Node node)) = plain 24 (node .number) 0 0
-numbersOf (command.Query (query.Tree group flag)) = plain 25 (group .number) flag 0
-numbersOf (command.Query query.Status) = plain 26 0 0 0
-numbersOf (command.Query query.Export) = plain 27 0 0 0
+numbersOf (command.Definitions definitions.Receive) = plain ops.dRecv 0 0 0
+numbersOf (command.Definitions definitions.Free) = plain ops.dFree 0 0 0
+numbersOf (command.Tree (tree.NewSynth n action target)) = plain ops.sNew n action (target .number)
+numbersOf (command.Tree (tree.NewGroup n action target)) = plain ops.gNew n action (target .number)
+numbersOf (command.Tree (tree.Free node)) = plain ops.nFree (node .number) 0 0
+numbersOf (command.Tree (tree.FreeAll group)) = plain ops.gFreeAll (group .number) 0 0
+numbersOf (command.Tree (tree.DeepFree group)) = plain ops.gDeepFree (group .number) 0 0
+numbersOf (command.Tree (tree.Before node place)) = plain ops.nBefore (node .number) (place .number) 0
+numbersOf (command.Tree (tree.After node place)) = plain ops.nAfter (node .number) (place .number) 0
+numbersOf (command.Tree (tree.Head group node)) = plain ops.gHead (group .number) (node .number) 0
+numbersOf (command.Tree (tree.Tail group node)) = plain ops.gTail (group .number) (node .number) 0
+numbersOf (command.Tree (tree.Run node flag)) = plain ops.nRun (node .number) flag 0
+numbersOf (command.Controls (controls.Set node (Index k) v)) = valued ops.nSet (node .number) k 0 v
+numbersOf (command.Controls (controls.Set node Name v)) = valued ops.nSetNamed (node .number) 0 0 v
+numbersOf (command.Controls (controls.Fill node (Index k) count v)) = valued ops.nFill (node .number) k count v
+numbersOf (command.Controls (controls.Fill node Name count v)) = valued ops.nFillNamed (node .number) 0 count v
+numbersOf (command.Controls (controls.Map node (Index k) bus)) = plain ops.nMap (node .number) k bus
+numbersOf (command.Controls (controls.Map node Name bus)) = plain ops.nMapNamed (node .number) 0 bus
+numbersOf (command.Buses (buses.Set bus v)) = valued ops.cSet bus 0 0 v
+numbersOf (command.Buses (buses.Fill start count v)) = valued ops.cFill start 0 count v
+numbersOf (command.Query (query.Control node (Index k))) = plain ops.sGet (node .number) k 0
+numbersOf (command.Query (query.Control node Name)) = plain ops.sGetNamed (node .number) 0 0
+numbersOf (command.Query (query.Bus bus)) = plain ops.cGet bus 0 0
+numbersOf (command.Query (query.Node node)) = plain ops.nQuery (node .number) 0 0
+numbersOf (command.Query (query.Tree group flag)) = plain ops.gQueryTree (group .number) flag 0
+numbersOf (command.Query query.Status) = plain ops.status 0 0 0
+numbersOf (command.Query query.Export) = plain ops.export 0 0 0
 
 -- the command's own call, with bytes beside it
 abbrev pub callOf : Command → List ℕ → Given

@@ -12,11 +12,12 @@ use Rattle.words.specs.Bytes.{AreBytes}
 use Rattle.format.specs.Fields.{word}
 use Rattle.format.specs.Reader.{sameName}
 use Rattle.order.specs.Same.{same-true, same-refl}
+use Rattle.calls.specs.Ops.{lastWithAddress}
 
 -- an op that has a row
 pub record Known (op : ℕ) : Type 0 where
   pub some : 1 ≤ op
-  pub few : op ≤ 26
+  pub few : op ≤ lastWithAddress
 
 -- the number of four bytes at a place
 pub record Quad (s : List ℕ) (at r : ℕ) : Type 0 where

@@ -1,19 +1,21 @@
 -- Laws of an address's candidate: no op but it and the one behind it can have the address.
-use Prim.Native.Nat.{ℕ, zero, suc, _+_, _<_}
+use Prim.Native.Nat.{ℕ, zero, suc, _+_, _≤_, _<_}
 use mathlib.Core.Bool.{Bool, true, false}
 use mathlib.Core.Path.{_≡_, refl, sym, ap, _∙_}
 use mathlib.Core.List.{List, [], _∷_}
 use mathlib.Core.Option.{some}
 use native.Mathlib.Omega.{arith}
-use lib.Dec.{eqb}
-use lib.ListN.{getD, List·getD-eq-default}
-use borrow.Author.Tests.{ne-eqb, eqb-true, eqb-false}
-use Rattle.words.specs.Choice.{both, either, both-true}
+use lib.Dec.{eqb, leb, ltb}
+use lib.ListN.{length, getD, List·getD-eq-default}
+use borrow.Author.Tests.{ne-eqb, eqb-true, eqb-false, leb-true}
+use Rattle.words.specs.Choice.{pick, both, either, both-true}
+use Rattle.format.specs.Bounds.{every}
 use Rattle.format.specs.Reader.{sameName}
 use Rattle.order.specs.Same.{same-true}
+use Rattle.calls.specs.Ops.{lastWithAddress}
 use Rattle.messages.specs.Table.{Row, table}
 use Rattle.messages.specs.Write.{rowFrom, rowOf}
-use Rattle.messageread.specs.Lookup.{meets, opFrom, candidates, candidateOf}
+use Rattle.messageread.specs.Lookup.{meets, opFrom, candidates, keyOf, candidateOf}
 use Rattle.messageread.specs.LookupLaws.{miss, hit}
 
 -- the op at a key
@@ -22,6 +24,21 @@ op-at n key h = ap (λ (k : ℕ). getD candidates k 0) (sym h)
 
 pub op-past : (key : ℕ) → 28 < key → 0 ≡ getD candidates key 0
 op-past key h = sym (List·getD-eq-default candidates 0 {n = key} (omega arith))
+
+-- a candidate is the op of an address, or none
+few-ops : (l : List ℕ) (k : ℕ) → every (λ n. leb n lastWithAddress) l ≡ true → getD l k 0 ≤ lastWithAddress
+unfolding every
+few-ops [] k h = omega arith
+few-ops (n ∷ l) zero h = leb-true n lastWithAddress (both-true (leb n lastWithAddress) (every (λ m. leb m lastWithAddress) l) h .0)
+few-ops (n ∷ l) (suc k) h = few-ops l k (both-true (leb n lastWithAddress) (every (λ m. leb m lastWithAddress) l) h .1)
+
+pub few-candidate : (address : List ℕ) → candidateOf address ≤ lastWithAddress
+unfolding every
+few-candidate address = go (ltb (length address) 6)
+  where
+    go : (b : Bool) → pick b 0 (getD candidates (keyOf address) 0) ≤ lastWithAddress
+    go true = omega arith
+    go false = few-ops candidates (keyOf address) refl
 
 -- each address leads to its op, or to the one before it
 leads : ℕ → Row → Bool

@@ -7,6 +7,7 @@ use lib.ListN.{length, getD}
 use lib.Dec.{eqb, ltb}
 use Rattle.words.specs.Choice.{pick, both, either}
 use Rattle.format.specs.Reader.{sameName}
+use Rattle.calls.specs.Ops as ops
 use Rattle.messages.specs.Table.{Row, fitAll}
 
 -- a row of the address whose slots the tags fit
@@ -14,9 +15,9 @@ abbrev pub meets : Option Row → List ℕ → List ℕ → Bool
 meets none address tags = false
 meets (some r) address tags = both (sameName address (r .address)) (fitAll (r .slots) tags)
 
--- the first op of such a row, 0 where there is none
+-- the first op of such a row, `noOp` where there is none
 unfoldable pub opFrom : ℕ → List Row → List ℕ → List ℕ → ℕ
-opFrom op [] address tags = 0
+opFrom op [] address tags = ops.noOp
 opFrom op (r ∷ rows) address tags = pick (meets (some r) address tags) op (opFrom (suc op) rows address tags)
 
 -- whether the slot of a code takes an argument of a tag
@@ -29,10 +30,15 @@ takesBy code tag =
 
 -- the first op of an address by three of its bytes: the only one that can have it, with the op behind it
 abbrev pub candidates : List ℕ
-candidates = 0 ∷ 11 ∷ 9 ∷ 21 ∷ 26 ∷ 6 ∷ 4 ∷ 24 ∷ 0 ∷ 0 ∷ 3 ∷ 19 ∷ 13 ∷ 8 ∷ 0 ∷ 0 ∷ 0 ∷ 10 ∷ 1 ∷ 23 ∷ 17 ∷ 5 ∷ 25 ∷ 2 ∷ 12 ∷ 20 ∷ 15 ∷ 0 ∷ 7 ∷ []
+candidates =
+    ops.noOp ∷ ops.gTail ∷ ops.nAfter ∷ ops.sGet ∷ ops.status ∷ ops.gFreeAll ∷ ops.gNew ∷ ops.nQuery
+    ∷ ops.noOp ∷ ops.noOp ∷ ops.sNew ∷ ops.cSet ∷ ops.nSet ∷ ops.nBefore ∷ ops.noOp ∷ ops.noOp
+    ∷ ops.noOp ∷ ops.gHead ∷ ops.dRecv ∷ ops.cGet ∷ ops.nMap ∷ ops.nFree ∷ ops.gQueryTree ∷ ops.dFree
+    ∷ ops.nRun ∷ ops.cFill ∷ ops.nFill ∷ ops.noOp ∷ ops.gDeepFree
+    ∷ []
 
 abbrev pub keyOf : List ℕ → ℕ
 keyOf address = (3 * getD address 1 0 + 2 * getD address 3 0 + 19 * getD address (length address - 1) 0) % 32
 
 abbrev pub candidateOf : List ℕ → ℕ
-candidateOf address = pick (ltb (length address) 6) 0 (getD candidates (keyOf address) 0)
+candidateOf address = pick (ltb (length address) 6) ops.noOp (getD candidates (keyOf address) ops.noOp)

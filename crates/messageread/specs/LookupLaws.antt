@@ -11,6 +11,7 @@ use lib.Seq.{drop-cons}
 use lib.Dec.{eqb}
 use Rattle.words.specs.Choice.{both}
 use Rattle.format.specs.Reader.{sameName}
+use Rattle.calls.specs.Ops.{lastWithAddress}
 use Rattle.messages.specs.Table.{Slot, at-a, at-b, at-c, value, name, file, Row, table, takes, fitAll}
 use Rattle.messages.specs.Rows.{codeOf, codeAt, slotsIn, addressIn, slotsOf, addressOf}
 use Rattle.messages.specs.Write.{rowFrom, rowOf}
@@ -63,7 +64,7 @@ module _ (address ts : List ℕ) where
   row-parts (r ∷ rows) zero h = refl
   row-parts (r ∷ rows) (suc i) h = row-parts rows i (omega arith)
 
-  pub meets-parts : (op : ℕ) → 1 ≤ op → op ≤ 26 → meets (rowOf op) address ts ≡ both (sameName address (addressOf op)) (fitAll (slotsOf op) ts)
+  pub meets-parts : (op : ℕ) → 1 ≤ op → op ≤ lastWithAddress → meets (rowOf op) address ts ≡ both (sameName address (addressOf op)) (fitAll (slotsOf op) ts)
   unfolding addressOf slotsOf
   meets-parts zero l m = absurd (omega arith)
   meets-parts (suc i) l m = row-parts table i (omega arith)
@@ -74,7 +75,7 @@ module _ (address ts : List ℕ) where
   no-row (r ∷ rows) zero h = absurd (omega arith)
   no-row (r ∷ rows) (suc i) h = no-row rows i (omega arith)
 
-  pub meets-past : (op : ℕ) → 26 < op → meets (rowOf op) address ts ≡ false
+  pub meets-past : (op : ℕ) → lastWithAddress < op → meets (rowOf op) address ts ≡ false
   meets-past zero h = absurd (omega arith)
   meets-past (suc i) h = no-row table i (omega arith)
 

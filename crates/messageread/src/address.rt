@@ -1,4 +1,5 @@
 // An address against those of the table. Three bytes of it say which op can have it.
+use calls::ops;
 use messages::address_end;
 use messages::address_length;
 use messages::address_middle;
@@ -19,49 +20,49 @@ fn wide(byte: u8) -> usize
 }
 
 // The first op of an address by the key of its bytes.
-fn first_op(key: usize) -> u8
+fn first_op(key: usize) -> u32
     ensures { λ r. ⌜ r ≡ getD candidates key 0 ⌝ }
 {
     match key {
-        0 => 0,
-        1 => 11,
-        2 => 9,
-        3 => 21,
-        4 => 26,
-        5 => 6,
-        6 => 4,
-        7 => 24,
-        8 => 0,
-        9 => 0,
-        10 => 3,
-        11 => 19,
-        12 => 13,
-        13 => 8,
-        14 => 0,
-        15 => 0,
-        16 => 0,
-        17 => 10,
-        18 => 1,
-        19 => 23,
-        20 => 17,
-        21 => 5,
-        22 => 25,
-        23 => 2,
-        24 => 12,
-        25 => 20,
-        26 => 15,
-        27 => 0,
-        28 => 7,
-        _ => 0,
+        0 => ops::NONE,
+        1 => ops::G_TAIL,
+        2 => ops::N_AFTER,
+        3 => ops::S_GET,
+        4 => ops::STATUS,
+        5 => ops::G_FREE_ALL,
+        6 => ops::G_NEW,
+        7 => ops::N_QUERY,
+        8 => ops::NONE,
+        9 => ops::NONE,
+        10 => ops::S_NEW,
+        11 => ops::C_SET,
+        12 => ops::N_SET,
+        13 => ops::N_BEFORE,
+        14 => ops::NONE,
+        15 => ops::NONE,
+        16 => ops::NONE,
+        17 => ops::G_HEAD,
+        18 => ops::D_RECV,
+        19 => ops::C_GET,
+        20 => ops::N_MAP,
+        21 => ops::N_FREE,
+        22 => ops::G_QUERY_TREE,
+        23 => ops::D_FREE,
+        24 => ops::N_RUN,
+        25 => ops::C_FILL,
+        26 => ops::N_FILL,
+        27 => ops::NONE,
+        28 => ops::G_DEEP_FREE,
+        _ => ops::NONE,
     }
 }
 
-pub(crate) fn candidate(address: &[u8]) -> u8
+pub(crate) fn candidate(address: &[u8]) -> u32
     ensures { λ r. ⌜ r ≡ candidateOf (now (address .entry)) ⌝ }
 {
     let size = address.len();
     if size < 6 {
-        return 0;
+        return ops::NONE;
     }
     let last = size - 1;
     first_op((3 * wide(address[1]) + 2 * wide(address[3]) + 19 * wide(address[last])) % 32)

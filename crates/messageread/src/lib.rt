@@ -1,6 +1,7 @@
 // Reading a message: its form, then the command that it stands for.
 use calls::Parsed;
 use calls::command_of;
+use calls::ops;
 use cursor::Cursor;
 use cursor::Text;
 use fields::part;
@@ -31,7 +32,7 @@ fn finish(message: &[u8], step: Step, op: u32) -> Received
             if end != message.len() {
                 return Received::Malformed;
             }
-            if op == 0 {
+            if op == ops::NONE {
                 return Received::Unknown;
             }
             match command_of(op, kept.a, kept.b, kept.c, kept.d, kept.e) {

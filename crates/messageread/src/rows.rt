@@ -1,6 +1,7 @@
 // The op of an address and its tags.
 use crate::address::candidate;
 use crate::address::same_address;
+use calls::ops;
 use messages::slot_codes;
 ghost use mathlib.Core.Path.{_≡_};
 ghost use Rattle.messages.specs.Table.{table, fitAll};
@@ -54,7 +55,7 @@ fn meets_row(address: &[u8], tags: &[u8], op: u32) -> bool
     if op < 1 {
         return false;
     }
-    if 26 < op {
+    if ops::LAST_WITH_ADDRESS < op {
         return false;
     }
     if same_address(address, op) {
@@ -67,7 +68,7 @@ fn meets_row(address: &[u8], tags: &[u8], op: u32) -> bool
 pub(crate) fn find(address: &[u8], tags: &[u8]) -> u32
     ensures { λ r. ⌜ r ≡ opFrom 1 table (now (address .entry)) (now (tags .entry)) ⌝ }
 {
-    let first = candidate(address) as u32;
+    let first = candidate(address);
     if meets_row(address, tags, first) {
         return first;
     }
@@ -75,5 +76,5 @@ pub(crate) fn find(address: &[u8], tags: &[u8]) -> u32
     if meets_row(address, tags, second) {
         return second;
     }
-    0
+    ops::NONE
 }

@@ -1,6 +1,6 @@
 -- The table in code is the table: an op's row is the row of its number, and an op past the last has none.
 use Prim.Native.Nat.{ℕ, zero, suc, _+_, _-_, _/_, _%_, _≤_, _<_}
-use mathlib.Core.Path.{_≡_, refl, sym, ap, _∙_}
+use mathlib.Core.Path.{_≡_, refl, sym, ap, ap₂, _∙_}
 use mathlib.Core.List.{List, [], _∷_}
 use mathlib.Core.Option.{none}
 use native.Mathlib.Omega.{arith}
@@ -8,6 +8,8 @@ use native.Mathlib.Numerals.{add-one}
 use native.Mathlib.Nat.{le-of-suc-le-suc, not-suc-le-zero}
 use lib.ListN.{length, drop}
 use Rattle.format.specs.Fields.{word}
+use Rattle.calls.specs.Ops.{lastWithAddress}
+use Rattle.messages.specs.declared.table.Entry.{Entry}
 use Rattle.messages.specs.Table.{Slot, at-a, at-b, at-c, value, name, file, Row, table}
 use Rattle.messages.specs.Write.{rowFrom}
 use Rattle.messages.specs.TableRows.{few-slots}
@@ -20,52 +22,50 @@ past-row (r ∷ rows) zero h = refl
 past-row (r ∷ rows) (suc zero) h = absurd (not-suc-le-zero (le-of-suc-le-suc h))
 past-row (r ∷ rows) (suc (suc op)) h = past-row rows (suc op) (le-of-suc-le-suc h)
 
-slots-past : (op : ℕ) → 26 < op → [] ≡ slotsOf op
+slots-past : (op : ℕ) → lastWithAddress < op → [] ≡ slotsOf op
 unfolding slotsOf
 slots-past op h = sym (ap slotsIn (past-row table op h))
 
-address-past : (op : ℕ) → 26 < op → [] ≡ addressOf op
+address-past : (op : ℕ) → lastWithAddress < op → [] ≡ addressOf op
 unfolding addressOf
 address-past op h = sym (ap addressIn (past-row table op h))
 
-module _ (n op : ℕ) (h : op ≡ n) where
-  pub codes-is : packed (slotsOf n) ≡ packed (slotsOf op)
-  codes-is = ap (λ (k : ℕ). packed (slotsOf k)) (sym h)
+-- a row as code has it: the codes of its slots, and the length and four words of its address
+abbrev entryIn : List Slot → List ℕ → Entry
+entryIn slots address = record {
+  codes = packed slots;
+  size = length address;
+  start = word address 0;
+  middle = word address 4;
+  third = word address 8;
+  end = word address (length address - 4);
+}
 
-  pub length-is : length (addressOf n) ≡ length (addressOf op)
-  length-is = ap (λ (k : ℕ). length (addressOf k)) (sym h)
+-- the row of an op
+pub record EntryOf (op : ℕ) (e : Entry) : Type 0 where
+  pub codes : e .codes ≡ packed (slotsOf op)
+  pub size : e .size ≡ length (addressOf op)
+  pub start : e .start ≡ word (addressOf op) 0
+  pub middle : e .middle ≡ word (addressOf op) 4
+  pub third : e .third ≡ word (addressOf op) 8
+  pub end : e .end ≡ word (addressOf op) (length (addressOf op) - 4)
 
-  pub start-is : word (addressOf n) 0 ≡ word (addressOf op) 0
-  start-is = ap (λ (k : ℕ). word (addressOf k) 0) (sym h)
+entry-by : (op : ℕ) (e : Entry) → e ≡ entryIn (slotsOf op) (addressOf op) → EntryOf op e
+entry-by op e h = record {
+  codes = ap (λ (x : Entry). x .codes) h;
+  size = ap (λ (x : Entry). x .size) h;
+  start = ap (λ (x : Entry). x .start) h;
+  middle = ap (λ (x : Entry). x .middle) h;
+  third = ap (λ (x : Entry). x .third) h;
+  end = ap (λ (x : Entry). x .end) h;
+}
 
-  pub middle-is : word (addressOf n) 4 ≡ word (addressOf op) 4
-  middle-is = ap (λ (k : ℕ). word (addressOf k) 4) (sym h)
+-- the row of the op n
+pub entry-is : (n op : ℕ) (e : Entry) → op ≡ n → e ≡ entryIn (slotsOf n) (addressOf n) → EntryOf op e
+entry-is n op e h is = entry-by op e (is ∙ ap (λ (k : ℕ). entryIn (slotsOf k) (addressOf k)) (sym h))
 
-  pub third-is : word (addressOf n) 8 ≡ word (addressOf op) 8
-  third-is = ap (λ (k : ℕ). word (addressOf k) 8) (sym h)
-
-  pub end-is : word (addressOf n) (length (addressOf n) - 4) ≡ word (addressOf op) (length (addressOf op) - 4)
-  end-is = ap (λ (k : ℕ). word (addressOf k) (length (addressOf k) - 4)) (sym h)
-
-module _ (op : ℕ) (h : 26 < op) where
-  pub codes-past : 0 ≡ packed (slotsOf op)
-  unfolding packed
-  codes-past = ap packed (slots-past op h)
-
-  pub length-past : 0 ≡ length (addressOf op)
-  length-past = ap (λ (l : List ℕ). length l) (address-past op h)
-
-  pub start-past : 0 ≡ word (addressOf op) 0
-  start-past = ap (λ (l : List ℕ). word l 0) (address-past op h)
-
-  pub middle-past : 0 ≡ word (addressOf op) 4
-  middle-past = ap (λ (l : List ℕ). word l 4) (address-past op h)
-
-  pub third-past : 0 ≡ word (addressOf op) 8
-  third-past = ap (λ (l : List ℕ). word l 8) (address-past op h)
-
-  pub end-past : 0 ≡ word (addressOf op) (length (addressOf op) - 4)
-  end-past = ap (λ (l : List ℕ). word l (length l - 4)) (address-past op h)
+pub entry-past : (op : ℕ) (e : Entry) → lastWithAddress < op → e ≡ entryIn [] [] → EntryOf op e
+entry-past op e h is = entry-by op e (is ∙ ap₂ entryIn (slots-past op h) (address-past op h))
 
 -- the lowest digit is the first slot's code, and the digits above it are those of the slots behind it
 code-small : (slot : Slot) → codeOf slot < 16

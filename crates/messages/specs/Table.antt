@@ -1,4 +1,4 @@
--- The table of addresses and tags, which the reader and the writer both go by: a row for each op of a call (`calls` `Ops`), from 1 on. Export, 27, has no address.
+-- The table of addresses and tags, which the reader and the writer both go by: a row for each op of a call that has an address (`calls` `Ops`), from the first on.
 use Prim.Native.Nat.{ℕ, _<_}
 use mathlib.Core.Bool.{Bool, true, false}
 use mathlib.Core.List.{List, [], _∷_}
@@ -29,57 +29,57 @@ row address slots = record { address = address; slots = slots }
 
 abbrev pub table : List Row
 table =
-    -- 1 /d_recv: b
+    -- /d_recv: b
     row (47 ∷ (100 ∷ (95 ∷ (114 ∷ (101 ∷ (99 ∷ (118 ∷ []))))))) (file ∷ [])
-    -- 2 /d_free: s
+    -- /d_free: s
     ∷ (row (47 ∷ (100 ∷ (95 ∷ (102 ∷ (114 ∷ (101 ∷ (101 ∷ []))))))) (name ∷ [])
-    -- 3 /s_new: siii
+    -- /s_new: siii
     ∷ (row (47 ∷ (115 ∷ (95 ∷ (110 ∷ (101 ∷ (119 ∷ [])))))) (name ∷ (at-a ∷ (at-b ∷ (at-c ∷ []))))
-    -- 4 /g_new: iii
+    -- /g_new: iii
     ∷ (row (47 ∷ (103 ∷ (95 ∷ (110 ∷ (101 ∷ (119 ∷ [])))))) (at-a ∷ (at-b ∷ (at-c ∷ [])))
-    -- 5 /n_free: i
+    -- /n_free: i
     ∷ (row (47 ∷ (110 ∷ (95 ∷ (102 ∷ (114 ∷ (101 ∷ (101 ∷ []))))))) (at-a ∷ [])
-    -- 6 /g_freeAll: i
+    -- /g_freeAll: i
     ∷ (row (47 ∷ (103 ∷ (95 ∷ (102 ∷ (114 ∷ (101 ∷ (101 ∷ (65 ∷ (108 ∷ (108 ∷ [])))))))))) (at-a ∷ [])
-    -- 7 /g_deepFree: i
+    -- /g_deepFree: i
     ∷ (row (47 ∷ (103 ∷ (95 ∷ (100 ∷ (101 ∷ (101 ∷ (112 ∷ (70 ∷ (114 ∷ (101 ∷ (101 ∷ []))))))))))) (at-a ∷ [])
-    -- 8 /n_before: ii
+    -- /n_before: ii
     ∷ (row (47 ∷ (110 ∷ (95 ∷ (98 ∷ (101 ∷ (102 ∷ (111 ∷ (114 ∷ (101 ∷ []))))))))) (at-a ∷ (at-b ∷ []))
-    -- 9 /n_after: ii
+    -- /n_after: ii
     ∷ (row (47 ∷ (110 ∷ (95 ∷ (97 ∷ (102 ∷ (116 ∷ (101 ∷ (114 ∷ [])))))))) (at-a ∷ (at-b ∷ []))
-    -- 10 /g_head: ii
+    -- /g_head: ii
     ∷ (row (47 ∷ (103 ∷ (95 ∷ (104 ∷ (101 ∷ (97 ∷ (100 ∷ []))))))) (at-a ∷ (at-b ∷ []))
-    -- 11 /g_tail: ii
+    -- /g_tail: ii
     ∷ (row (47 ∷ (103 ∷ (95 ∷ (116 ∷ (97 ∷ (105 ∷ (108 ∷ []))))))) (at-a ∷ (at-b ∷ []))
-    -- 12 /n_run: ii
+    -- /n_run: ii
     ∷ (row (47 ∷ (110 ∷ (95 ∷ (114 ∷ (117 ∷ (110 ∷ [])))))) (at-a ∷ (at-b ∷ []))
-    -- 13 /n_set: i, i, f or i
+    -- /n_set: i, i, f or i
     ∷ (row (47 ∷ (110 ∷ (95 ∷ (115 ∷ (101 ∷ (116 ∷ [])))))) (at-a ∷ (at-b ∷ (value ∷ [])))
-    -- 14 /n_set: i, s, f or i
+    -- /n_set: i, s, f or i
     ∷ (row (47 ∷ (110 ∷ (95 ∷ (115 ∷ (101 ∷ (116 ∷ [])))))) (at-a ∷ (name ∷ (value ∷ [])))
-    -- 15 /n_fill: i, i, i, f or i
+    -- /n_fill: i, i, i, f or i
     ∷ (row (47 ∷ (110 ∷ (95 ∷ (102 ∷ (105 ∷ (108 ∷ (108 ∷ []))))))) (at-a ∷ (at-b ∷ (at-c ∷ (value ∷ []))))
-    -- 16 /n_fill: i, s, i, f or i
+    -- /n_fill: i, s, i, f or i
     ∷ (row (47 ∷ (110 ∷ (95 ∷ (102 ∷ (105 ∷ (108 ∷ (108 ∷ []))))))) (at-a ∷ (name ∷ (at-c ∷ (value ∷ []))))
-    -- 17 /n_map: iii
+    -- /n_map: iii
     ∷ (row (47 ∷ (110 ∷ (95 ∷ (109 ∷ (97 ∷ (112 ∷ [])))))) (at-a ∷ (at-b ∷ (at-c ∷ [])))
-    -- 18 /n_map: isi
+    -- /n_map: isi
     ∷ (row (47 ∷ (110 ∷ (95 ∷ (109 ∷ (97 ∷ (112 ∷ [])))))) (at-a ∷ (name ∷ (at-c ∷ [])))
-    -- 19 /c_set: i, f or i
+    -- /c_set: i, f or i
     ∷ (row (47 ∷ (99 ∷ (95 ∷ (115 ∷ (101 ∷ (116 ∷ [])))))) (at-a ∷ (value ∷ []))
-    -- 20 /c_fill: ii, f or i
+    -- /c_fill: ii, f or i
     ∷ (row (47 ∷ (99 ∷ (95 ∷ (102 ∷ (105 ∷ (108 ∷ (108 ∷ []))))))) (at-a ∷ (at-c ∷ (value ∷ [])))
-    -- 21 /s_get: ii
+    -- /s_get: ii
     ∷ (row (47 ∷ (115 ∷ (95 ∷ (103 ∷ (101 ∷ (116 ∷ [])))))) (at-a ∷ (at-b ∷ []))
-    -- 22 /s_get: is
+    -- /s_get: is
     ∷ (row (47 ∷ (115 ∷ (95 ∷ (103 ∷ (101 ∷ (116 ∷ [])))))) (at-a ∷ (name ∷ []))
-    -- 23 /c_get: i
+    -- /c_get: i
     ∷ (row (47 ∷ (99 ∷ (95 ∷ (103 ∷ (101 ∷ (116 ∷ [])))))) (at-a ∷ [])
-    -- 24 /n_query: i
+    -- /n_query: i
     ∷ (row (47 ∷ (110 ∷ (95 ∷ (113 ∷ (117 ∷ (101 ∷ (114 ∷ (121 ∷ [])))))))) (at-a ∷ [])
-    -- 25 /g_queryTree: ii
+    -- /g_queryTree: ii
     ∷ (row (47 ∷ (103 ∷ (95 ∷ (113 ∷ (117 ∷ (101 ∷ (114 ∷ (121 ∷ (84 ∷ (114 ∷ (101 ∷ (101 ∷ [])))))))))))) (at-a ∷ (at-b ∷ []))
-    -- 26 /status: none
+    -- /status: none
     ∷ (row (47 ∷ (115 ∷ (116 ∷ (97 ∷ (116 ∷ (117 ∷ (115 ∷ []))))))) ([])
     ∷ [])))))))))))))))))))))))))
 

@@ -10,6 +10,7 @@ use lib.ListN.{length}
 use lib.Dec.{ltb, leb}
 use Rattle.words.specs.Choice.{both, both-true}
 use Rattle.words.specs.Bytes.{AreBytes}
+use Rattle.calls.specs.Ops.{lastWithAddress}
 use Rattle.messages.specs.Table.{Row, table}
 use Rattle.messages.specs.Write.{rowFrom, rowOf}
 use Rattle.messages.specs.Rows.{slotsIn, addressIn, slotsOf, addressOf}
@@ -110,7 +111,7 @@ long-from [] i h l = absurd (omega arith)
 long-from (r ∷ rows) zero h l = row-long r (both-true (small r) (allSmall rows) h .0)
 long-from (r ∷ rows) (suc i) h l = long-from rows i (both-true (small r) (allSmall rows) h .1) (omega arith)
 
-pub long-address : (op : ℕ) → 1 ≤ op → op ≤ 26 → 6 ≤ length (addressOf op)
+pub long-address : (op : ℕ) → 1 ≤ op → op ≤ lastWithAddress → 6 ≤ length (addressOf op)
 unfolding addressOf
 long-address zero l m = absurd (omega arith)
 long-address (suc i) l m = long-from table i table-small (omega arith)

@@ -14,7 +14,7 @@ use Rattle.model.specs.declared.ControlCommand.the-variants as controls
 use Rattle.model.specs.declared.BusCommand.the-variants as buses
 use Rattle.model.specs.declared.Query.the-variants as query
 use Rattle.model.specs.declared.Command.the-variants as command
-use Rattle.calls.specs.Ops.{commandOf}
+use Rattle.calls.specs.Ops.{sNew, commandOf}
 use Rattle.messages.specs.Form.{textLength, zeros, argumentsAt, readMessage}
 use Rattle.messages.specs.Table.{fitAll, takeAll, giveAll}
 use Rattle.messages.specs.Receive.{lookUp, Meaning, malformed, unknown, means, meaning}
@@ -96,6 +96,6 @@ unfolding nameBytes sameName tags commandOf textLength zeros argumentsAt readMes
 worked = refl
 
 -- "/s_new" "ping" 1000 1 1 as it is written
-pub written : messageOf (record { numbers = record { op = 3; a = 1000; b = 1; c = 1; d = 0; e = 0 }; bytes = 112 ∷ 105 ∷ 110 ∷ 103 ∷ [] }) ≡ 47 ∷ 115 ∷ 95 ∷ 110 ∷ 101 ∷ 119 ∷ 0 ∷ 0 ∷ 44 ∷ 115 ∷ 105 ∷ 105 ∷ 105 ∷ 0 ∷ 0 ∷ 0 ∷ 112 ∷ 105 ∷ 110 ∷ 103 ∷ 0 ∷ 0 ∷ 0 ∷ 0 ∷ 0 ∷ 0 ∷ 3 ∷ 232 ∷ 0 ∷ 0 ∷ 0 ∷ 1 ∷ 0 ∷ 0 ∷ 0 ∷ 1 ∷ []
+pub written : messageOf (record { numbers = record { op = sNew; a = 1000; b = 1; c = 1; d = 0; e = 0 }; bytes = 112 ∷ 105 ∷ 110 ∷ 103 ∷ [] }) ≡ 47 ∷ 115 ∷ 95 ∷ 110 ∷ 101 ∷ 119 ∷ 0 ∷ 0 ∷ 44 ∷ 115 ∷ 105 ∷ 105 ∷ 105 ∷ 0 ∷ 0 ∷ 0 ∷ 112 ∷ 105 ∷ 110 ∷ 103 ∷ 0 ∷ 0 ∷ 0 ∷ 0 ∷ 0 ∷ 0 ∷ 3 ∷ 232 ∷ 0 ∷ 0 ∷ 0 ∷ 1 ∷ 0 ∷ 0 ∷ 0 ∷ 1 ∷ []
 unfolding tags arguments giveAll rowFrom messageOf
 written = refl
