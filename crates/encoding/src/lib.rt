@@ -10,20 +10,23 @@ ghost use Rattle.format.specs.Reader.{sizeLimit, definitionBy};
 ghost use Rattle.format.specs.Writer.{writeDefinition};
 ghost use Rattle.encoding.specs.Encoding.{Measured};
 
-// Whether the encoding of the definition that was read from one place to another, with so many counts and indices, is longer than the
-// limit. It has at least as many bytes as the file.
+// How many bytes the version 2 encoding of the definition has that was read from one place to another, with so many counts and indices:
+// each of these takes two bytes more than in version 1.
+pub fn encoded_length(s: &[u8], at: usize, end: usize, width: Width, fields: usize) -> usize
+    requires { ⌜ Measured width (now s) at end fields ⌝ }
+    ensures { λ r. ⌜ ((d : Definition) → definitionBy width (now (s .entry)) at ≡ got d end → r ≡ length (writeDefinition d)) ⌝ }
+{
+    let size = end - at;
+    match width {
+        Width::Long => size,
+        Width::Short => size + 2 * fields,
+    }
+}
+
+// Whether the encoding is longer than the limit.
 pub fn too_long(s: &[u8], at: usize, end: usize, width: Width, fields: usize) -> bool
     requires { ⌜ Measured width (now s) at end fields ⌝ }
     ensures { λ r. ⌜ ((d : Definition) → definitionBy width (now (s .entry)) at ≡ got d end → r ≡ ltb sizeLimit (length (writeDefinition d))) ⌝ }
 {
-    let size = end - at;
-    match width {
-        Width::Long => SIZE_LIMIT < size,
-        Width::Short => {
-            if SIZE_LIMIT < size {
-                return true;
-            }
-            SIZE_LIMIT < size + 2 * fields
-        }
-    }
+    SIZE_LIMIT < encoded_length(s, at, end, width, fields)
 }

@@ -152,12 +152,12 @@ module _ (e : Engine) (ws : List ℕ) (size : length ws ≡ wordsLength) (few : 
   pub tree-decoded : (bs : List ℕ) → length (e .order) ≤ orderWords → e .slots ≡ decode ws bs .slots → e .buses ≡ busesIn ws → decode (putTree e ws) bs ≡ e
   unfolding decode
   tree-decoded bs short same kept =
-      same-parts (e .next) (e .latest) (ap₂ (λ (ls fs : List ℕ). slotsFrom slotCount ls fs bs) tree-lengths tree-flags ∙ sym same) tree-nodes (tree-order short) tree-controls (tree-buses ∙ sym kept)
+      same-parts (e .next) (e .latest) (ap₂ (λ (ls fs : List ℕ). slotsFrom 0 slotCount ls fs bs) tree-lengths tree-flags ∙ sym same) tree-nodes (tree-order short) tree-controls (tree-buses ∙ sym kept)
 
 -- the engine of the parts of the words
 abbrev engineOf : (count orderLength next latest : ℕ) (lengths flags nodes order controls buses arena : List ℕ) → Engine
 engineOf count orderLength next latest lengths flags nodes order controls buses arena = record {
-  slots = slotsFrom slotCount lengths flags arena;
+  slots = slotsFrom 0 slotCount lengths flags arena;
   nodes = rows count nodes;
   order = take orderLength order;
   controls = controls;
