@@ -36,12 +36,12 @@ use Rattle.definitions.specs.Retiring.{slot-is, whole-size, retired-leng
 use Rattle.definitions.specs.Exporting.{bytes-on, whole-written}
 
 -- a resident's definition, as read, is within the bounds
-pub record Fine (s : Slot) : Type 0 where
+pub record DefinitionBounded (s : Slot) : Type 0 where
   pub bounded : isDefinition (definitionIn s) ≡ true
   pub small : length (writeDefinition (definitionIn s)) ≤ sizeLimit
 
-abbrev pub AllFine : List Slot → Type 0
-AllFine slots = (k : ℕ) → k < length slots → slotAt slots k .resident ≡ true → Fine (slotAt slots k)
+abbrev pub AllBounded : List Slot → Type 0
+AllBounded slots = (k : ℕ) → k < length slots → slotAt slots k .resident ≡ true → DefinitionBounded (slotAt slots k)
 
 -- a name among one more
 among-snoc : (n m : List ℕ) (names : List (List ℕ)) → among n names ≡ false → sameName m n ≡ false → among n (names ++ (m ∷ [])) ≡ false
@@ -74,7 +74,7 @@ name-other name (s ∷ more) e k h r = by (both (s .resident) (sameName (nameIn 
     by false q e zero h r ih = first (s .resident) (sameName (nameIn s) name) q r
     by false q e (suc k) h r ih = ih e k (omega arith) r
 
-fine-definitions : (slots : List Slot) (names : List (List ℕ)) → AllFine slots → namesApart slots ≡ true → NoneAmong names slots → areDefinitions names (definitionsIn (residents slots)) ≡ true
+fine-definitions : (slots : List Slot) (names : List (List ℕ)) → AllBounded slots → namesApart slots ≡ true → NoneAmong names slots → areDefinitions names (definitionsIn (residents slots)) ≡ true
 unfolding residents definitionsIn areDefinitions namesApart
 fine-definitions [] names fine apart new = refl
 fine-definitions (s ∷ more) names fine apart new =
@@ -103,18 +103,18 @@ residents-fewer (s ∷ more) = by (s .resident) (residents-fewer more)
     by false h = omega arith
 
 -- the residents are the definitions of a file
-pub residents-file : (slots : List Slot) → length slots ≡ slotCount → AllFine slots → namesApart slots ≡ true → isFile (definitionsIn (residents slots)) ≡ true
+pub residents-file : (slots : List Slot) → length slots ≡ slotCount → AllBounded slots → namesApart slots ≡ true → isFile (definitionsIn (residents slots)) ≡ true
 unfolding among
 residents-file slots many fine apart =
     rw (le-leb (length (definitionsIn (residents slots))) mostDefinitions (omega (arith, residents-fewer slots))) (fine-definitions slots [] fine apart (λ k h r. refl))
 
 -- Demand 2, an export loaded into a fresh engine gives the same definitions: an export is read as the residents' definitions, in slot order
-pub export-read : (slots : List Slot) → length slots ≡ slotCount → AllFine slots → namesApart slots ≡ true
+pub export-read : (slots : List Slot) → length slots ≡ slotCount → AllBounded slots → namesApart slots ≡ true
     → readFile (exportFile slots) ≡ got (definitionsIn (residents slots)) (length (exportFile slots))
 export-read slots many fine apart = file-back (definitionsIn (residents slots)) (residents-file slots many fine apart)
 
 -- the slots of a well-formed state
-pub formed-fine : (table arena : List ℕ) → AreBytes arena → Formed table arena → AllFine (slotsOn table arena)
+pub formed-fine : (table arena : List ℕ) → AreBytes arena → Formed table arena → AllBounded (slotsOn table arena)
 formed-fine table arena b f k h r =
     let less : k < slotCount = rw (slots-length 0 slotCount (lengthsOn table) (flagsOn table) arena) at h in
     let is : slotAt (slotsOn table arena) k ≡ slotOn table arena k = slot-is table arena k less in

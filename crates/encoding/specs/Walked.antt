@@ -77,13 +77,13 @@ units-inside w k s zero start l h = l
 units-inside w k s (suc n) start l h = unit-read w k s (suc n) start h n (omega arith) .within
 
 -- what the front's counts and U tell of a definition that was read
-pub record Told (w : Width) (s : List ℕ) (d : Definition) (names start count : ℕ) : Type 0 where
+pub record CountsTold (w : Width) (s : List ℕ) (d : Definition) (names start count : ℕ) : Type 0 where
   pub named : names ≡ length (d .front .names)
   pub fields : walked w s start count ≡ total unitFields (d .units)
   pub inside : unitPlace w s start count ≤ length s
 
 pub told : (w : Width) (s : List ℕ) (at : ℕ) {d : Definition} {end past start n : ℕ} {c : Counts} → definitionBy w s at ≡ got d end
-    → mapRead (countsOf w at) (frontBy w s at) ≡ got c past → countBy w s past ≡ got n start → Told w s d (c .names) start n
+    → mapRead (countsOf w at) (frontBy w s at) ≡ got c past → countBy w s past ≡ got n start → CountsTold w s d (c .names) start n
 told w s at {d} {end} {past} {start} {n} {c} h e1 e2 =
     let t = definition-parts w s at h in
     let front : got (countsOf w at (d .front)) (t .past) ≡ got c past = rw (t .front) at e1 in

@@ -61,7 +61,7 @@ use Rattle.making.specs.Rows.{Standing, stayingAt, staying-first}
 use Rattle.making.specs.Parts.{header-put}
 
 -- no check fires on the name in the bytes
-pub record Ground (number : ℕ) (action : Action) (target : NodeArgument) (at slot : ℕ) (bytes ws bs : List ℕ) : Type 0 where
+pub record MakingReady (number : ℕ) (action : Action) (target : NodeArgument) (at slot : ℕ) (bytes ws bs : List ℕ) : Type 0 where
   pub known : Known ws bs
   pub meant : Meant slot bytes ws bs
   pub clear : Clear number action target slot ws at
@@ -69,7 +69,7 @@ pub record Ground (number : ℕ) (action : Action) (target : NodeArgument) (at s
 pub record Fit (number : ℕ) (action : Action) (at slot : ℕ) (ws bs : List ℕ) : Type 0 where
   pub target : NodeArgument
   pub bytes : List ℕ
-  pub ground : Ground number action target at slot bytes ws bs
+  pub ground : MakingReady number action target at slot bytes ws bs
 
 -- the bytes of a slot that is lent
 abbrev pub lentBytes : ℕ → ℕ → List ℕ → List ℕ
@@ -99,7 +99,7 @@ module _ (ws bs : List ℕ) (k : Known ws bs) (slot : ℕ) (low : slot < slotCou
       (whole-readable (slotOn (tableIn ws) bs slot .bytes)
       (record { definition = whole .definition; past = getD (tableIn ws) slot 0; reads = whole .read; short = rw lent-bytes (simp length-take (omega arith)) }))
 
-module _ (number : ℕ) (action : Action) (target : NodeArgument) (at slot : ℕ) (bytes ws bs : List ℕ) (g : Ground number action target at slot bytes ws bs) where
+module _ (number : ℕ) (action : Action) (target : NodeArgument) (at slot : ℕ) (bytes ws bs : List ℕ) (g : MakingReady number action target at slot bytes ws bs) where
   k : Known ws bs
   k = g .known
 

@@ -32,12 +32,12 @@ ghost use Rattle.model.specs.declared.Answer.the-variants.{Done};
 ghost use Rattle.state.specs.Known.{Known};
 ghost use Rattle.state.specs.Does.{WordsStep};
 ghost use Rattle.tree.specs.Action.{numberOf};
-ghost use Rattle.making.specs.Synth.{Ground, Fit};
+ghost use Rattle.making.specs.Synth.{MakingReady, Fit};
 
 // A new synth, which runs, put in by the add action, with its definition's initial values.
 fn put_synth(number: u32, action: Action, at: usize, slot: u32, words: &mut [u32], arena: &[u8])
     requires { ⌜ Fit number action at slot (now words) (now arena) ⌝ }
-    ensures { λ r. ⌜ ((target : NodeArgument) (bytes : List ℕ) → Ground number action target at slot bytes (now (words .entry)) (now (arena .entry)) → WordsStep (command.Tree (tree.NewSynth number (numberOf action) target)) bytes (now (words .entry)) (now (arena .entry)) Done (now (words .exit))) ⌝ }
+    ensures { λ r. ⌜ ((target : NodeArgument) (bytes : List ℕ) → MakingReady number action target at slot bytes (now (words .entry)) (now (arena .entry)) → WordsStep (command.Tree (tree.NewSynth number (numberOf action) target)) bytes (now (words .entry)) (now (arena .entry)) Done (now (words .exit))) ⌝ }
 {
     let count = wide(words[COUNT]);
     let next = words[NEXT];

@@ -99,7 +99,7 @@ taken-command g r c e h =
     ∙ among-call (kind-among (n .a) (n .b) (n .c) (n .d) (n .e)) (n .op) c h
 
 -- a command
-pub record Is (p : Parsed) : Type 0 where
+pub record IsCommand (p : Parsed) : Type 0 where
   pub command : Command
   pub is : p ≡ Call command
 
@@ -107,11 +107,11 @@ abbrev isCall : Parsed → Bool
 isCall (Call c) = true
 isCall Nothing = false
 
-call-is : (p : Parsed) → isCall p ≡ true → Is p
+call-is : (p : Parsed) → isCall p ≡ true → IsCommand p
 call-is (Call c) h = record { command = c; is = refl }
 call-is Nothing h = let z : _≡_ {A = ℕ} 0 1 = cc in absurd (omega arith)
 
-call-at : (l : List Parsed) (k : ℕ) → every isCall l ≡ true → k < length l → Is (getD l k Nothing)
+call-at : (l : List Parsed) (k : ℕ) → every isCall l ≡ true → k < length l → IsCommand (getD l k Nothing)
 unfolding every
 call-at [] k t h = absurd (omega arith)
 call-at (p ∷ l) zero t h = call-is p (both-true (isCall p) (every isCall l) t .0)
@@ -128,7 +128,7 @@ all-calls a b c d e h = by (eqb d 0) refl
         rw one
 
 -- an op that has a row is a command, with a value's kind 0 or 1
-pub row-command : (n : Numbers) (r : Row) → n .d ≤ 1 → rowOf (n .op) ≡ some r → Is (commandIn n)
+pub row-command : (n : Numbers) (r : Row) → n .d ≤ 1 → rowOf (n .op) ≡ some r → IsCommand (commandIn n)
 unfolding commandOf
 row-command n r h e =
     let p = row-place table (n .op) r e in

@@ -52,12 +52,12 @@ all-fine : every fine table ≡ true
 unfolding every nameBytes among apart
 all-fine = refl
 
-pub record Fine (r : Row) : Type 0 where
+pub record RowFormed (r : Row) : Type 0 where
   pub slash : getD (r .address) 0 0 ≡ 47
   pub plain : nameBytes (r .address) ≡ true
   pub distinct : apart (r .slots) ≡ true
 
-pub row-fine : (op : ℕ) (r : Row) → rowOf op ≡ some r → Fine r
+pub row-fine : (op : ℕ) (r : Row) → rowOf op ≡ some r → RowFormed r
 row-fine op r e =
     let t = both-true (eqb (getD (r .address) 0 0) 47) _ (row-all fine table all-fine op r e) in
     let u = both-true (nameBytes (r .address)) (apart (r .slots)) (t .1) in

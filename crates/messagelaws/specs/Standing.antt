@@ -8,10 +8,10 @@ use Rattle.calls.specs.declared.Parsed.the-variants.{Call}
 use Rattle.messages.specs.Form.{Parse, parsed, faulty, Message, readMessage}
 use Rattle.messages.specs.Table.{table, Given}
 use Rattle.messages.specs.Receive.{lookUp, Meaning, malformed, unknown, means, commandIn, known, meaningOf, meaning}
-use Rattle.messagelaws.specs.Commands.{Is, row-command}
+use Rattle.messagelaws.specs.Commands.{IsCommand, row-command}
 use Rattle.messagelaws.specs.Looked.{looked}
 
-pub looked-command : (m : Message) (g : Given) → lookUp 1 table m ≡ some g → Is (commandIn (g .numbers))
+pub looked-command : (m : Message) (g : Given) → lookUp 1 table m ≡ some g → IsCommand (commandIn (g .numbers))
 looked-command m g l = let k = looked m g l in row-command (g .numbers) (k .row) (k .kind) (k .known)
 
 -- a message that has a form and fits no row

@@ -23,7 +23,7 @@ use Rattle.messages.specs.Write.{rowOf, messageOf, writeAnswer, Writes}
 use Rattle.messages.specs.Sent.{Serves, Sends}
 use Rattle.messagelaws.specs.Form.{message-forth}
 use Rattle.messagelaws.specs.Slots.{none-unfit}
-use Rattle.messagelaws.specs.Commands.{Is}
+use Rattle.messagelaws.specs.Commands.{IsCommand}
 use Rattle.messagelaws.specs.Looked.{looked, looked-message}
 use Rattle.messagelaws.specs.Answers.{Fits, fits-answer, answer-fits, wrote-message}
 use Rattle.messagelaws.specs.Every.{callOf, Called, every-called}
@@ -113,7 +113,7 @@ pub write-sent : (s ws bs out : List ℕ) (a : Answer) (ws′ bs′ out′ : Lis
 write-sent s ws bs out a ws′ bs′ out′ r c part e = meant-back s (r .lentMessage) c part e
 
 -- Every message that is looked up is a command, so one is unknown exactly where it has a form and fits no row
-pub looked-up : (m : Message) (g : Given) → lookUp 1 table m ≡ some g → Is (commandIn (g .numbers))
+pub looked-up : (m : Message) (g : Given) → lookUp 1 table m ≡ some g → IsCommand (commandIn (g .numbers))
 looked-up m g l = looked-command m g l
 
 pub unknown-exactly : (s : List ℕ) → (meaning s ≡ unknown → Unfound s) × (Unfound s → meaning s ≡ unknown)

@@ -14,7 +14,7 @@ use Rattle.values.specs.Values.{inBounds, pattern}
 use Rattle.model.specs.Plain.{Plain, ifSome, atFirst, minusOne, lowest, meaning, undefine, define, nodeIn, hasParent, initialControls, indicesOf, isNamed, unnamedFrom, step}
 use Rattle.model.specs.Examples.{ping, load}
 use Rattle.model.specs.Script.{Line, Example, example, agrees}
-use Rattle.model.specs.Traps.{synth, Sides, two, places, others}
+use Rattle.model.specs.EdgeCases.{synth, Sides, two, places, others}
 
 -- for each command 1 where the plain tree is at a loss, and stays as it was, and else 0
 unfoldable pub losses : Plain → List Line → List ℕ

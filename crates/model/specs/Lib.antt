@@ -17,5 +17,5 @@ pub mod Demands
 pub mod Fresh
 pub mod Script
 pub mod Examples
-pub mod Traps
+pub mod EdgeCases
 pub mod AtLoss

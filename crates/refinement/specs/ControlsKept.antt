@@ -33,7 +33,7 @@ use Rattle.state.specs.Regions.{region-before, word-before}
 use Rattle.state.specs.Decoded.{controls-size, controls-index, controls-decoded}
 use Rattle.preservation.specs.Every.{Fewer, every-fewer}
 use Rattle.refinement.specs.Beside.{beside-formed}
-use Rattle.refinement.specs.Mappings.{Mild, all-changed, controls-mild}
+use Rattle.refinement.specs.Mappings.{MappingsStayLow, all-changed, controls-mild}
 
 -- the rows of a node and of all below it are among 256
 rows-low : (next : ℕ) (t : List Node) → allFormed next t ≡ true → every rowFormed t ≡ true
@@ -51,16 +51,16 @@ run-few n t = record { sum = λ p b s. omega (arith, tally-cut p b n t) }
 
 -- the controls after, of an engine whose rows are among 256
 changed-right : (c : ControlCommand) (bytes : List ℕ) (e : Engine) → ControlAccepted c bytes e → every rowFormed (e .nodes) ≡ true → length (e .controls) ≡ controlsWords
-    → (length (controlEffect c bytes e .controls) ≡ controlsWords) × Mild (controlEffect c bytes e .controls) (e .controls)
+    → (length (controlEffect c bytes e .controls) ≡ controlsWords) × MappingsStayLow (controlEffect c bytes e .controls) (e .controls)
 changed-right c bytes e a rows size = go c a
   where
     by : {f : ControlValue → ControlValue} {n : NodeArgument} {key : Key} {count : ℕ} {badValue : Bool} → ChangeAccepted f n key count badValue bytes e
-        → (length (changed f n key count bytes e .controls) ≡ controlsWords) × Mild (changed f n key count bytes e .controls) (e .controls)
+        → (length (changed f n key count bytes e .controls) ≡ controlsWords) × MappingsStayLow (changed f n key count bytes e .controls) (e .controls)
     by {f} {n} {key} {count} a =
         all-changed f (record { low = a .busLow }) key bytes count (e .slots) (runOf (meant n e) (e .nodes))
         (every-fewer rowFormed (λ d r. refl) (λ flag r. refl) (run-few (meant n e) (e .nodes)) rows) (e .controls) size
 
-    go : (c : ControlCommand) → ControlAccepted c bytes e → (length (controlEffect c bytes e .controls) ≡ controlsWords) × Mild (controlEffect c bytes e .controls) (e .controls)
+    go : (c : ControlCommand) → ControlAccepted c bytes e → (length (controlEffect c bytes e .controls) ≡ controlsWords) × MappingsStayLow (controlEffect c bytes e .controls) (e .controls)
     go (controls.Set n key value) a = by a
     go (controls.Fill n key count value) a = by (a .change)
     go (controls.Map n key bus) a = by a
@@ -78,7 +78,7 @@ module _ (c : ControlCommand) (bytes ws bs : List ℕ) (h : formed ws bs ≡ tru
   abbrev cs : List ℕ
   cs = controlEffect c bytes (decode ws bs) .controls
 
-  right : (length cs ≡ controlsWords) × Mild cs (controlsIn ws)
+  right : (length cs ≡ controlsWords) × MappingsStayLow cs (controlsIn ws)
   unfolding decode
   right =
       changed-right c bytes (decode ws bs) a (rows-low (nextIn ws) (nodesIn ws) (k .tree .fields)) (region-length controlsPlace controlsWords ws (omega (arith, k .size)))

@@ -41,12 +41,12 @@ retired-kept : (slots old : List Slot) (t : List Node) → namesApart old ≡ tr
 retired-kept slots old t n f = record { follow = less-follow slots old f; apart = less-apart slots old f n; holds = λ k h. less-bytes slots old f k }
 
 -- definitions within the bounds, each of at most 2,048 bytes
-unfoldable pub Fine : List Definition → Type 0
-Fine [] = Unit {0}
-Fine (d ∷ ds) = ((isDefinition d ≡ true) × (length (writeDefinition d) ≤ sizeLimit)) × Fine ds
+unfoldable pub DefinitionsBounded : List Definition → Type 0
+DefinitionsBounded [] = Unit {0}
+DefinitionsBounded (d ∷ ds) = ((isDefinition d ≡ true) × (length (writeDefinition d) ≤ sizeLimit)) × DefinitionsBounded ds
 
-all-fine : (names : List (List ℕ)) (ds : List Definition) → areDefinitions names ds ≡ true → Fine ds
-unfolding areDefinitions Fine
+all-fine : (names : List (List ℕ)) (ds : List Definition) → areDefinitions names ds ≡ true → DefinitionsBounded ds
+unfolding areDefinitions DefinitionsBounded
 all-fine names [] h = tt
 all-fine names (d ∷ ds) h =
     let a = both-true (isDefinition d) _ h in
@@ -63,7 +63,7 @@ written-whole d h =
 -- before the definitions ds go in: their names differ, no resident has one of them, and there is room
 record Ready (ds : List Definition) (slots old : List Slot) (t : List Node) : Type 0 where
   kept : Kept slots old t
-  fine : Fine ds
+  fine : DefinitionsBounded ds
   differ : Differ (namesOf ds)
   absent : (m : List ℕ) → among m (namesOf ds) ≡ true → nameResident m slots ≡ false
   room : length ds ≤ freeCount 0 slots t
@@ -73,7 +73,7 @@ module _ (d : Definition) (ds : List Definition) (slots old : List Slot) (t : Li
   some-room = let l = r .room in omega arith
 
   named : nameIn (newSlot d) ≡ d .front .name
-  unfolding Fine
+  unfolding DefinitionsBounded
   named = ap (λ (x : Definition). x .front .name) (written-read d (r .fine .0 .0))
 
   new : nameResident (nameIn (newSlot d)) slots ≡ false
@@ -95,7 +95,7 @@ module _ (d : Definition) (ds : List Definition) (slots old : List Slot) (t : Li
       in-rest false = h
 
   ready-next : Ready ds (placed d slots t) old t
-  unfolding Fine Differ namesOf
+  unfolding DefinitionsBounded Differ namesOf
   ready-next = record {
     kept = record {
       follow = follow-set slots old (freeFrom 0 slots t) (newSlot d) (r .kept .follow) (λ o. comes refl (r .fine .0 .1) (written-whole d (r .fine .0 .0)));

@@ -26,17 +26,17 @@ use Rattle.preservation.specs.Parameters.{few-parameters}
 use Rattle.refinement.specs.Widths.{Inside, cover-inside}
 
 -- every second word that was at most 4,096 is so after
-pub record Mild (after before : List ℕ) : Type 0 where
+pub record MappingsStayLow (after before : List ℕ) : Type 0 where
   pub low : (j : ℕ) → getD before (2 * j + 1) 0 ≤ busCount → getD after (2 * j + 1) 0 ≤ busCount
 
-mild-same : {after before : List ℕ} → after ≡ before → Mild after before
+mild-same : {after before : List ℕ} → after ≡ before → MappingsStayLow after before
 mild-same e = record { low = λ j h. rw e h }
 
-mild-then : {a b c : List ℕ} → Mild a b → Mild b c → Mild a c
+mild-then : {a b c : List ℕ} → MappingsStayLow a b → MappingsStayLow b c → MappingsStayLow a c
 mild-then f g = record { low = λ j h. f .low j (g .low j h) }
 
 -- from an even place on
-mild-drop : {after before : List ℕ} (m : ℕ) → Mild after before → Mild (drop (2 * m) after) (drop (2 * m) before)
+mild-drop : {after before : List ℕ} (m : ℕ) → MappingsStayLow after before → MappingsStayLow (drop (2 * m) after) (drop (2 * m) before)
 mild-drop {after} {before} m f = record {
   low = λ j h.
       let e : 2 * m + (2 * j + 1) ≡ 2 * (m + j) + 1 = omega arith in
@@ -45,7 +45,7 @@ mild-drop {after} {before} m f = record {
 }
 
 -- behind words that stay
-mild-behind : (m : ℕ) (cs xs : List ℕ) → 2 * m ≤ length cs → Mild xs (drop (2 * m) cs) → Mild (take (2 * m) cs ++ xs) cs
+mild-behind : (m : ℕ) (cs xs : List ℕ) → 2 * m ≤ length cs → MappingsStayLow xs (drop (2 * m) cs) → MappingsStayLow (take (2 * m) cs ++ xs) cs
 mild-behind m cs xs fits f = record { low = λ j h. go j h (ltb j m) refl }
   where
     front : length (take (2 * m) cs) ≡ 2 * m
@@ -63,7 +63,7 @@ mild-behind m cs xs fits f = record { low = λ j h. go j h (ltb j m) refl }
         rw (i, getD-append-add (take (2 * m) cs) xs (2 * (j - m) + 1) 0) (f .low (j - m) g)
 
 -- the rule on controls
-mappings-mild : (n : ℕ) (after before : List ℕ) → Mild after before → mappingsFormed n before ≡ true → mappingsFormed n after ≡ true
+mappings-mild : (n : ℕ) (after before : List ℕ) → MappingsStayLow after before → mappingsFormed n before ≡ true → mappingsFormed n after ≡ true
 unfolding mappingsFormed
 mappings-mild zero after before f h = refl
 mappings-mild (suc n) after before f h =
@@ -72,7 +72,7 @@ mappings-mild (suc n) after before f h =
     (le-leb (getD after 1 0) busCount (f .low 0 (leb-true (getD before 1 0) busCount (w .0))))
     (mappings-mild n (drop 2 after) (drop 2 before) (mild-drop 1 f) (w .1))
 
-pub controls-mild : (slots : List Slot) (after before : List ℕ) (t : List Node) → Mild after before → controlsFormed slots before t ≡ true → controlsFormed slots after t ≡ true
+pub controls-mild : (slots : List Slot) (after before : List ℕ) (t : List Node) → MappingsStayLow after before → controlsFormed slots before t ≡ true → controlsFormed slots after t ≡ true
 unfolding controlsFormed
 controls-mild slots after before [] f h = refl
 controls-mild slots after before (r ∷ l) f h =
@@ -98,12 +98,12 @@ module _ (f : ControlValue → ControlValue) (right : Right f) where
       let rest : length (drop 2 us) ≡ length us - 2 = length-drop 2 us in
       omega (arith, change-length n (drop 2 us) (omega arith))
 
-  change-mild : (n : ℕ) (us : List ℕ) → Mild (changeWords f n us) us
+  change-mild : (n : ℕ) (us : List ℕ) → MappingsStayLow (changeWords f n us) us
   unfolding changeWords
   change-mild zero us = mild-same refl
   change-mild (suc n) us = record { low = λ j h. go j h (change-mild n (drop 2 us)) }
     where
-      go : (j : ℕ) → getD us (2 * j + 1) 0 ≤ busCount → Mild (changeWords f n (drop 2 us)) (drop 2 us)
+      go : (j : ℕ) → getD us (2 * j + 1) 0 ≤ busCount → MappingsStayLow (changeWords f n (drop 2 us)) (drop 2 us)
           → getD (changeWords f (suc n) us) (2 * j + 1) 0 ≤ busCount
       go zero h ih = right .low (controlAt (getD us 0 0) (getD us 1 0))
       go (suc j) h ih =
@@ -114,11 +114,11 @@ module _ (f : ControlValue → ControlValue) (right : Right f) where
 
   -- one row: its number is one of 256, and it has at most 32 controls
   module _ (row start many p : ℕ) (cs : List ℕ) (low : row < mostRows) (few : p ≤ 32) (inside : many ≤ p - start) (size : length cs ≡ controlsWords) where
-    row-changed : (length (changeRow f row start many cs) ≡ controlsWords) × Mild (changeRow f row start many cs) cs
+    row-changed : (length (changeRow f row start many cs) ≡ controlsWords) × MappingsStayLow (changeRow f row start many cs) cs
     unfolding changeWords
     row-changed = go (ltb start p) refl
       where
-        go : (b : Bool) → ltb start p ≡ b → (length (changeRow f row start many cs) ≡ controlsWords) × Mild (changeRow f row start many cs) cs
+        go : (b : Bool) → ltb start p ≡ b → (length (changeRow f row start many cs) ≡ controlsWords) × MappingsStayLow (changeRow f row start many cs) cs
         go true e =
             let l : start < p = ltb-true start p e in
             let even : rowWords * row + 2 * start ≡ 2 * (32 * row + start) = omega arith in
@@ -141,7 +141,7 @@ module _ (f : ControlValue → ControlValue) (right : Right f) where
 
   -- every synth of some nodes whose rows are among 256
   pub all-changed : (key : Key) (bytes : List ℕ) (count : ℕ) (slots : List Slot) (t : List Node) → every rowFormed t ≡ true → (cs : List ℕ) → length cs ≡ controlsWords
-      → (length (changeAll f key bytes count slots t cs) ≡ controlsWords) × Mild (changeAll f key bytes count slots t cs) cs
+      → (length (changeAll f key bytes count slots t cs) ≡ controlsWords) × MappingsStayLow (changeAll f key bytes count slots t cs) cs
   unfolding changeAll every
   all-changed key bytes count slots [] h cs size = (size, mild-same refl)
   all-changed key bytes count slots (r ∷ l) h cs size =
@@ -151,7 +151,7 @@ module _ (f : ControlValue → ControlValue) (right : Right f) where
       (rest .0, mild-then (rest .1) (first .1))
     where
       go : (g : Bool) → pick g true (ltb (r .row) mostRows) ≡ true → (o : Option Covered) → Inside (length (definitionOf slots r .front .values)) o
-          → (length (pick g cs (changeCovered f o (r .row) count cs)) ≡ controlsWords) × Mild (pick g cs (changeCovered f o (r .row) count cs)) cs
+          → (length (pick g cs (changeCovered f o (r .row) count cs)) ≡ controlsWords) × MappingsStayLow (pick g cs (changeCovered f o (r .row) count cs)) cs
       go true q o i = (size, mild-same refl)
       go false q none i = (size, mild-same refl)
       go false q (some c) i =

@@ -41,18 +41,18 @@ abbrev sits : ℕ → ℕ → Node → Bool
 sits n s r = both (eqb (r .number) n) (eqb (r .slot) s)
 
 -- the slot of the synth n
-pub record Sits (slots : List Slot) (n : ℕ) (d : Definition) (t : List Node) : Type 0 where
+pub record SynthSlot (slots : List Slot) (n : ℕ) (d : Definition) (t : List Node) : Type 0 where
   pub slot : ℕ
   pub there : 1 ≤ tally (sits n slot) t
   pub definition : definitionIn (slotAt slots slot) ≡ d
   pub synth : eqb slot 32 ≡ false
 
-pub synth-sits : (slots : List Slot) (n : ℕ) (d : Definition) (t : List Node) → definitionAt slots n t ≡ some d → Sits slots n d t
+pub synth-sits : (slots : List Slot) (n : ℕ) (d : Definition) (t : List Node) → definitionAt slots n t ≡ some d → SynthSlot slots n d t
 unfolding definitionAt tally
 synth-sits slots n d [] h = let z : _≡_ {A = ℕ} 0 1 = cc in absurd (omega arith)
 synth-sits slots n d (r ∷ l) h = go (eqb (r .number) n) refl (isGroup r) refl h (λ g. synth-sits slots n d l g)
   where
-    go : (p : Bool) → eqb (r .number) n ≡ p → (g : Bool) → isGroup r ≡ g → pick p (pick g none (some (definitionOf slots r))) (definitionAt slots n l) ≡ some d → (definitionAt slots n l ≡ some d → Sits slots n d l) → Sits slots n d (r ∷ l)
+    go : (p : Bool) → eqb (r .number) n ≡ p → (g : Bool) → isGroup r ≡ g → pick p (pick g none (some (definitionOf slots r))) (definitionAt slots n l) ≡ some d → (definitionAt slots n l ≡ some d → SynthSlot slots n d l) → SynthSlot slots n d (r ∷ l)
     go true e true f k ih = let z : _≡_ {A = ℕ} 0 1 = cc in absurd (omega arith)
     go true e false f k ih = record {
       slot = r .slot;
@@ -94,7 +94,7 @@ sits-found slots n s d e v (r ∷ l) a b = go (eqb (r .number) n) refl (eqb (r .
         let num : one (numbered n r) ≡ 0 = ap one f in
         ih (omega arith) (omega arith)
 
-pub sits-definition : (slots : List Slot) (n : ℕ) (d : Definition) (t : List Node) → apart t ≡ true → Sits slots n d t → definitionAt slots n t ≡ some d
+pub sits-definition : (slots : List Slot) (n : ℕ) (d : Definition) (t : List Node) → apart t ≡ true → SynthSlot slots n d t → definitionAt slots n t ≡ some d
 sits-definition slots n d t h w = sits-found slots n (w .slot) d (w .definition) (w .synth) t (w .there) (apart-few t h n)
 
 -- fewer nodes: a synth that is there was there

@@ -15,7 +15,7 @@ use Rattle.index.specs.Index.{numbers, numberAt}
 use Rattle.reindex.specs.declared.edit.Edit.{Edit}
 use Rattle.reindex.specs.declared.edit.Edit.the-variants.{Cut, Put, Swap}
 use Rattle.reindex.specs.Numbers.{numbers-length}
-use Rattle.reindex.specs.Follow.{gone, Carries, Came}
+use Rattle.reindex.specs.Follow.{gone, Carries, PlaceOfNode}
 
 -- the new place of a node: the nodes from one place up to another gone, and `by` new ones there
 abbrev pub closed : ℕ → ℕ → ℕ → ℕ → ℕ
@@ -156,10 +156,10 @@ module _ (from to : ℕ) (xs : List ℕ) (t s : List Node) (r : Replaced from to
       same p h false e false f k = at-back p (ltb-false p to f)
 
   -- those beside the new ones were there
-  pub came-front : (q : ℕ) → q < from → Came (closed from to by) t q
+  pub came-front : (q : ℕ) → q < from → PlaceOfNode (closed from to by) t q
   came-front q h = record { from = q; live = omega (arith, r .order, r .end); here = rw (lt-ltb q from h) }
 
-  pub came-back : (q : ℕ) → q < length s → from + by ≤ q → Came (closed from to by) t q
+  pub came-back : (q : ℕ) → q < length s → from + by ≤ q → PlaceOfNode (closed from to by) t q
   came-back q h k =
       let p = q - by + (to - from) in
       let order = r .order in
@@ -259,10 +259,10 @@ module _ (a b c : ℕ) (t s : List Node) (x : Exchanged a b c t s) where
       same p false e false f false g = at-end p (ltb-false p c g)
 
   -- every node was there
-  pub exchanged-came : (q : ℕ) → q < length s → Came (swapped a b c) t q
+  pub exchanged-came : (q : ℕ) → q < length s → PlaceOfNode (swapped a b c) t q
   exchanged-came q h = go (ltb q a) refl (ltb q (a + (c - b))) refl (ltb q c) refl
     where
-      go : (u : Bool) → ltb q a ≡ u → (v : Bool) → ltb q (a + (c - b)) ≡ v → (w : Bool) → ltb q c ≡ w → Came (swapped a b c) t q
+      go : (u : Bool) → ltb q a ≡ u → (v : Bool) → ltb q (a + (c - b)) ≡ v → (w : Bool) → ltb q c ≡ w → PlaceOfNode (swapped a b c) t q
       go true e v f w g = record { from = q; live = omega (arith, exchanged-size); here = rw e }
       go false e true f w g =
           let p = q + (b - a) in

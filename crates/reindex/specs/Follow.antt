@@ -31,7 +31,7 @@ pub record Carries (to : ℕ → ℕ) (t s : List Node) : Type 0 where
   pub same : (p : ℕ) → p < length t → to p < gone → numberAt (numbers s) (to p) ≡ numberAt (numbers t) p
 
 -- the node at the place q is one that was there before
-pub record Came (to : ℕ → ℕ) (t : List Node) (q : ℕ) : Type 0 where
+pub record PlaceOfNode (to : ℕ → ℕ) (t : List Node) (q : ℕ) : Type 0 where
   pub from : ℕ
   pub live : from < length t
   pub here : to from ≡ q
@@ -91,7 +91,7 @@ follow-stands to (p ∷ ix) (suc i) h k = go (follow-stands to ix i (omega arith
     go ih false = ih
 
 -- the number at an entry is one that a node had before
-pub record Had (t : List Node) (k : ℕ) : Type 0 where
+pub record NumberOfNode (t : List Node) (k : ℕ) : Type 0 where
   pub at : ℕ
   pub live : at < length t
   pub is : numberAt (numbers t) at ≡ k
@@ -110,19 +110,19 @@ module _ (to : ℕ → ℕ) (t s : List Node) (carries : Carries to t s) where
           next {least = least} {p = to p} (carries .live p a stays) (omega arith) (rising-from (suc (numberAt (numbers s) (to p))) (omega arith) ih)
       go ih false e = rising-from least (omega arith) ih
 
-  follow-had : {least : ℕ} {ix : List ℕ} → Rising (numbers t) (length t) least ix → (i : ℕ) → i < length (followed to ix) → Had t (numberAt (numbers s) (getD (followed to ix) i 0))
+  follow-had : {least : ℕ} {ix : List ℕ} → Rising (numbers t) (length t) least ix → (i : ℕ) → i < length (followed to ix) → NumberOfNode t (numberAt (numbers s) (getD (followed to ix) i 0))
   unfolding followed
   follow-had done i h = absurd (omega arith)
   follow-had (next {p = p} {ix = ix} a b r) i h = go (follow-had r) (ltb (to p) gone) refl i h
     where
-      go : ((j : ℕ) → j < length (followed to ix) → Had t (numberAt (numbers s) (getD (followed to ix) j 0))) → (x : Bool) → ltb (to p) gone ≡ x
-          → (j : ℕ) → j < length (pick x (to p ∷ followed to ix) (followed to ix)) → Had t (numberAt (numbers s) (getD (pick x (to p ∷ followed to ix) (followed to ix)) j 0))
+      go : ((j : ℕ) → j < length (followed to ix) → NumberOfNode t (numberAt (numbers s) (getD (followed to ix) j 0))) → (x : Bool) → ltb (to p) gone ≡ x
+          → (j : ℕ) → j < length (pick x (to p ∷ followed to ix) (followed to ix)) → NumberOfNode t (numberAt (numbers s) (getD (pick x (to p ∷ followed to ix) (followed to ix)) j 0))
       go ih true e zero k = record { at = p; live = a; is = sym (carries .same p a (ltb-true (to p) gone e)) }
       go ih true e (suc j) k = ih j (omega arith)
       go ih false e j k = ih j k
 
   module _ (ix : List ℕ) (rule : indexed ix t ≡ true) where
-    came-stands : (q : ℕ) → q < length s → Came to t q → Stands (followed to ix) q
+    came-stands : (q : ℕ) → q < length s → PlaceOfNode to t q → Stands (followed to ix) q
     came-stands q h m =
         let b = indexed-parts ix t rule in
         let f = all-stand (numbers t) (length t) (b .1) (b .0) (m .from) (m .live) in
@@ -139,11 +139,11 @@ module _ (to : ℕ → ℕ) (t s : List Node) (carries : Carries to t s) where
     follow-higher i j h k = higher (follow-rising (indexed-parts ix t rule .1)) i j h k
 
     -- where every node was there before, the entries followed are the index
-    pub follow-indexed : ((q : ℕ) → q < length s → Came to t q) → indexed (followed to ix) s ≡ true
+    pub follow-indexed : ((q : ℕ) → q < length s → PlaceOfNode to t q) → indexed (followed to ix) s ≡ true
     follow-indexed m = all-indexed (followed to ix) s (follow-rising (indexed-parts ix t rule .1)) (λ q h. came-stands q h (m q h))
 
     -- and with one new node, whose number did not live, with its entry put in
-    pub insert-indexed : (at : ℕ) → at < length s → lives (numberAt (numbers s) at) t ≡ false → ((q : ℕ) → q < length s → (q ≡ at → ⊥) → Came to t q)
+    pub insert-indexed : (at : ℕ) → at < length s → lives (numberAt (numbers s) at) t ≡ false → ((q : ℕ) → q < length s → (q ≡ at → ⊥) → PlaceOfNode to t q)
         → indexed (putIn (numbers s) at (followed to ix)) s ≡ true
     insert-indexed at near fresh m = all-indexed (putIn (numbers s) at (followed to ix)) s rises each
       where

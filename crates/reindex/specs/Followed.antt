@@ -19,14 +19,14 @@ use Rattle.index.specs.Nodes.{indexed-parts, indexed-apart, indexed-afresh}
 use Rattle.index.specs.Words.{number-word}
 use Rattle.reindex.specs.declared.edit.Edit.{Edit}
 use Rattle.reindex.specs.declared.edit.Edit.the-variants.{Cut, Put, Swap}
-use Rattle.reindex.specs.Follow.{followed, Carries, Came, follow-below, follow-higher, follow-indexed, insert-indexed}
+use Rattle.reindex.specs.Follow.{followed, Carries, PlaceOfNode, follow-below, follow-higher, follow-indexed, insert-indexed}
 use Rattle.reindex.specs.FollowWords.{Entries, Followed, followed-entries}
 use Rattle.reindex.specs.Spot.{Reads}
 use Rattle.reindex.specs.Edits.{closed, swapped, Bounded, Replaced, OneNew, Exchanged, Does, replaced-size, at-new, replaced-carries, came-front, came-back, exchanged-carries, exchanged-came}
 use Rattle.reindex.specs.Kept.{placeIn}
 
 -- the entries in ws are the index of the table t; the words us hold the table after
-pub record Ground (ws : List ℕ) (before : ℕ) (us : List ℕ) (count : ℕ) (t : List Node) : Type 0 where
+pub record IndexBefore (ws : List ℕ) (before : ℕ) (us : List ℕ) (count : ℕ) (t : List Node) : Type 0 where
   pub size : length t ≡ before
   pub few : before ≤ 256
   pub rule : indexed (take before ws) t ≡ true
@@ -37,17 +37,17 @@ pub record Ground (ws : List ℕ) (before : ℕ) (us : List ℕ) (count : ℕ) (
 -- which an edit took there
 pub record Edited (ws : List ℕ) (before : ℕ) (edit : Edit) (us : List ℕ) (count : ℕ) : Type 0 where
   pub old : List Node
-  pub ground : Ground ws before us count old
+  pub ground : IndexBefore ws before us count old
   pub does : Does edit old (rows count us)
 
 -- or one of which these places tell where each node went, and none came
 pub record Moved (ws : List ℕ) (before : ℕ) (ps us : List ℕ) (count : ℕ) : Type 0 where
   pub old : List Node
-  pub ground : Ground ws before us count old
+  pub ground : IndexBefore ws before us count old
   pub carries : Carries (placeIn ps) old (rows count us)
-  pub came : (q : ℕ) → q < length (rows count us) → Came (placeIn ps) old q
+  pub came : (q : ℕ) → q < length (rows count us) → PlaceOfNode (placeIn ps) old q
 
-module _ (ws : List ℕ) (before : ℕ) (us : List ℕ) (count : ℕ) (t : List Node) (g : Ground ws before us count t) where
+module _ (ws : List ℕ) (before : ℕ) (us : List ℕ) (count : ℕ) (t : List Node) (g : IndexBefore ws before us count t) where
   abbrev s : List Node
   s = rows count us
 
@@ -76,7 +76,7 @@ module _ (ws : List ℕ) (before : ℕ) (us : List ℕ) (count : ℕ) (t : List 
     kept = followed to (take before ws)
 
     -- no node is new
-    module _ (came : (q : ℕ) → q < length s → Came to t q) where
+    module _ (came : (q : ℕ) → q < length s → PlaceOfNode to t q) where
       rule : indexed kept s ≡ true
       rule = follow-indexed to t s carries (take before ws) (g .rule) came
 
@@ -89,7 +89,7 @@ module _ (ws : List ℕ) (before : ℕ) (us : List ℕ) (count : ℕ) (t : List 
           f .words ∙ ap₂ (λ (ix : List ℕ) (n : ℕ). ix ++ drop n ws) (indexed-afresh kept s rule) many
 
     -- one is, at the place `new`
-    module _ (new : ℕ) (near : new < count) (fresh : lives (numberAt (numbers s) new) t ≡ false) (came : (q : ℕ) → q < length s → (q ≡ new → ⊥) → Came to t q) where
+    module _ (new : ℕ) (near : new < count) (fresh : lives (numberAt (numbers s) new) t ≡ false) (came : (q : ℕ) → q < length s → (q ≡ new → ⊥) → PlaceOfNode to t q) where
       entered : indexed (putIn (numbers s) new kept) s ≡ true
       entered = insert-indexed to t s carries (take before ws) (g .rule) new (omega (arith, size)) fresh came
 
@@ -137,7 +137,7 @@ module _ (ws : List ℕ) (before : ℕ) (us : List ℕ) (count : ℕ) (t : List 
             ∙ ap₂ (λ (x y : List ℕ). x ++ y) (indexed-afresh (putIn (numbers s) new kept) s entered) past
 
 -- each kind of edit
-module _ (ws : List ℕ) (before : ℕ) (us : List ℕ) (count : ℕ) (t : List Node) (g : Ground ws before us count t) where
+module _ (ws : List ℕ) (before : ℕ) (us : List ℕ) (count : ℕ) (t : List Node) (g : IndexBefore ws before us count t) where
   few-after : length (rows count us) ≤ 256
   few-after = omega (arith, rows-length count us, g .fewAfter)
 
@@ -149,10 +149,10 @@ module _ (ws : List ℕ) (before : ℕ) (us : List ℕ) (count : ℕ) (t : List 
   edit-bounds (Swap a b c) d = (d .first, (d .second, omega (arith, d .end, g .size)))
 
   module _ (from to : ℕ) (d : Replaced from to [] t (rows count us)) where
-    cut-came : (q : ℕ) → q < length (rows count us) → Came (closed from to 0) t q
+    cut-came : (q : ℕ) → q < length (rows count us) → PlaceOfNode (closed from to 0) t q
     cut-came q h = go (ltb q from) refl
       where
-        go : (b : Bool) → ltb q from ≡ b → Came (closed from to 0) t q
+        go : (b : Bool) → ltb q from ≡ b → PlaceOfNode (closed from to 0) t q
         go true e = came-front from to [] t (rows count us) d q (ltb-true q from e)
         go false e = came-back from to [] t (rows count us) d q h (omega (arith, ltb-false q from e))
 
@@ -182,10 +182,10 @@ module _ (ws : List ℕ) (before : ℕ) (us : List ℕ) (count : ℕ) (t : List 
     put-fresh : lives (numberAt (numbers (rows count us)) from) t ≡ false
     put-fresh = ap (λ (k : ℕ). lives k t) (at-new from to xs t (rows count us) (d .replaced) (omega arith)) ∙ d .fresh
 
-    put-came : (q : ℕ) → q < length (rows count us) → (q ≡ from → ⊥) → Came (closed from to 1) t q
+    put-came : (q : ℕ) → q < length (rows count us) → (q ≡ from → ⊥) → PlaceOfNode (closed from to 1) t q
     put-came q h o = go (ltb q from) refl
       where
-        go : (b : Bool) → ltb q from ≡ b → Came (closed from to 1) t q
+        go : (b : Bool) → ltb q from ≡ b → PlaceOfNode (closed from to 1) t q
         go true e = came-front from to xs t (rows count us) (d .replaced) q (ltb-true q from e)
         go false e = came-back from to xs t (rows count us) (d .replaced) q h (omega (arith, ltb-false q from e))
 

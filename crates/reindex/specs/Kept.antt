@@ -16,7 +16,7 @@ use Rattle.nodes.specs.Edit.{onlyGroups}
 use Rattle.index.specs.Index.{numbers, numberAt}
 use Rattle.index.specs.Words.{number-word}
 use Rattle.reindex.specs.Numbers.{numbers-length, numbers-append}
-use Rattle.reindex.specs.Follow.{gone, Carries, Came}
+use Rattle.reindex.specs.Follow.{gone, Carries, PlaceOfNode}
 
 -- whether the node r at the place i stays
 abbrev pub stays : ℕ → ℕ → ℕ → Node → Bool
@@ -90,9 +90,9 @@ pub record Sifted (from to : ℕ) (t : List Node) (i next : ℕ) (ps : List ℕ)
   pub rest : (p : ℕ) → i ≤ p → placeIn ps p ≡ gone
 
 -- the places of all are told
-pub record Sieved (from to : ℕ) (t : List Node) (ps : List ℕ) : Type 0 where
+pub record PlacesTold (from to : ℕ) (t : List Node) (ps : List ℕ) : Type 0 where
   pub carries : Carries (placeIn ps) t (sift from to 0 t)
-  pub came : (q : ℕ) → q < length (sift from to 0 t) → Came (placeIn ps) t q
+  pub came : (q : ℕ) → q < length (sift from to 0 t) → PlaceOfNode (placeIn ps) t q
 
 module _ (from to : ℕ) where
   all-gone : (n p : ℕ) → placeIn (replicate n gone) p ≡ gone
@@ -209,7 +209,7 @@ module _ (from to : ℕ) where
               let f = s .came q (omega arith) in
               record { from = f .from; live = omega (arith, f .live); here = other (f .from) (omega (arith, f .live)) ∙ f .here }
 
-    pub sifted-all : (i next : ℕ) (ps : List ℕ) → count ≤ i → i ≤ count → next ≤ i → Sifted from to t i next ps → Sieved from to t ps
+    pub sifted-all : (i next : ℕ) (ps : List ℕ) → count ≤ i → i ≤ count → next ≤ i → Sifted from to t i next ps → PlacesTold from to t ps
     unfolding sift
     sifted-all i next ps h l low s = record {
       carries = record {

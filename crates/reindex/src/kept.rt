@@ -10,7 +10,7 @@ ghost use lib.ListN.{length};
 ghost use Rattle.nodes.specs.Table.{width, rows, nodeFrom};
 ghost use Rattle.nodes.specs.Sizes.{TableFits};
 ghost use Rattle.reindex.specs.FollowWords.{Followed};
-ghost use Rattle.reindex.specs.Kept.{stays, placeIn, Sieved};
+ghost use Rattle.reindex.specs.Kept.{stays, placeIn, PlacesTold};
 
 // From this place on, a new place says that the node is gone.
 const GONE: u32 = 256;
@@ -32,7 +32,7 @@ fn stays_at(nodes: &[u32], at: usize, from: usize, to: usize) -> bool
 // The new place of each node, by its place.
 pub fn kept_places(nodes: &[u32], count: usize, from: usize, to: usize) -> [u32; MOST_NODES]
     requires { ⌜ TableFits (now nodes) count ⌝ }
-    ensures { λ r. ⌜ Sieved from to (rows count (now (nodes .entry))) r ⌝ }
+    ensures { λ r. ⌜ PlacesTold from to (rows count (now (nodes .entry))) r ⌝ }
 {
     let mut places = [GONE; MOST_NODES];
     let mut next: u32 = 0;

@@ -14,7 +14,7 @@ use Rattle.nodes.specs.Formed.{mostNodes}
 use Rattle.nodes.specs.Edit.{editAt, freeAllHere, deepFreeHere, cutBelow, deepFree}
 use Rattle.treerefinement.specs.Tally.{cutBelow-within, deepFree-within}
 use Rattle.reindex.specs.declared.edit.Edit.the-variants as edit
-use Rattle.reindex.specs.Kept.{Sieved}
+use Rattle.reindex.specs.Kept.{PlacesTold}
 use Rattle.values.specs.declared.NodeArgument.{NodeArgument}
 use Rattle.model.specs.declared.TreeCommand.the-variants as tree
 use Rattle.model.specs.declared.Command.the-variants as command
@@ -89,7 +89,7 @@ module _ (g : NodeArgument) (ws : List ℕ) (k : Ready ws) (count : ℕ) (same :
           step-done (command.Tree (tree.FreeAll g)) bytes ws bs out (group-right b bs) (edited-left g ws k count same at group-at freeAllHere us many does all-few out o bs)
 
     module _ (us : List ℕ) (many : ℕ) (does : Leaves (nodeWords ws) (editAt at deepFreeHere (rows count (nodeWords ws))) us many) where
-      pub deep-ready : (end : ℕ) → end ≡ endAt count (nodeWords ws) at → (ps : List ℕ) → Sieved (at + 1) end (rows count (nodeWords ws)) ps → Sifted ps many (put nodesPlace nodesWords us ws)
+      pub deep-ready : (end : ℕ) → end ≡ endAt count (nodeWords ws) at → (ps : List ℕ) → PlacesTold (at + 1) end (rows count (nodeWords ws)) ps → Sifted ps many (put nodesPlace nodesWords us ws)
       deep-ready end ends ps sieved = edited-sifts g ws k count same at group-at deepFreeHere us many does deep-few (at + 1) end (rw ends (deep-sifts count (nodeWords ws) at live)) ps sieved
 
       pub deep-done : (out : List ℕ) → not (isGroup (nodeIn ws at)) ≡ false → out ≡ renewed many (put nodesPlace nodesWords us ws) → Steps (tree.DeepFree g) ws Done out

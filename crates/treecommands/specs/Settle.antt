@@ -17,10 +17,10 @@ use Rattle.index.specs.Index.{numbers, rises, indexed, indexOf}
 use Rattle.index.specs.Words.{Keeps}
 use Rattle.index.specs.Nodes.{indexed-afresh, afresh-indexed}
 use Rattle.reindex.specs.declared.edit.Edit.{Edit}
-use Rattle.reindex.specs.Follow.{Carries, Came}
+use Rattle.reindex.specs.Follow.{Carries, PlaceOfNode}
 use Rattle.reindex.specs.Edits.{Does}
 use Rattle.reindex.specs.Kept.{placeIn}
-use Rattle.reindex.specs.Followed.{Ground, Edited, Moved, edit-apart, follow-apart}
+use Rattle.reindex.specs.Followed.{IndexBefore, Edited, Moved, edit-apart, follow-apart}
 use Rattle.model.specs.Layout.{wordsLength, nodesPlace, nodesWords, orderPlace, orderWords, controlsPlace, controlsWords, indexPlace, indexWords, countIn, nextIn, latestIn, nodesIn, controlsIn, indexIn, putNodes, putOrder, orderRegion, putIndex, putControls, putHeader}
 use Rattle.model.specs.Engine.{decode}
 use Rattle.model.specs.Effects.{latestAmong, withNodes}
@@ -272,7 +272,7 @@ module _ (ws : List ℕ) (size : length ws ≡ wordsLength) (t : List Node) (few
 
 -- and what that asks: of the table as it is, in the place of the one that the words held
 module _ (ws : List ℕ) (k : Ready ws) (t : List Node) (few : length t ≤ mostNodes) where
-  ground : Ground (indexRegion ws) (countIn ws) (fill (nodeWords ws) t) (length t) (nodesIn ws)
+  ground : IndexBefore (indexRegion ws) (countIn ws) (fill (nodeWords ws) t) (length t) (nodesIn ws)
   ground = record {
     size = rows-length (countIn ws) (nodeWords ws);
     few = k .few;
@@ -296,7 +296,7 @@ module _ (ws : List ℕ) (k : Ready ws) (t : List Node) (few : length t ≤ most
       let edited : Edited (indexRegion ws) (countIn ws) edit (fill (nodeWords ws) t) (length t) = record { old = nodesIn ws; ground = ground; does = rw rows-fill d } in
       rw (h .size, h .words) (record { size = nodes-size ws (k .size) t few; edited = rw (index-there, nodes-there, first-word ws (k .size) t few 0 (omega arith)) edited })
 
-  pub sifted-left : (ps : List ℕ) → Carries (placeIn ps) (nodesIn ws) t → ((q : ℕ) → q < length t → Came (placeIn ps) (nodesIn ws) q)
+  pub sifted-left : (ps : List ℕ) → Carries (placeIn ps) (nodesIn ws) t → ((q : ℕ) → q < length t → PlaceOfNode (placeIn ps) (nodesIn ws) q)
       → (us : List ℕ) (n : ℕ) → Leaves (nodeWords ws) t us n → Sifted ps n (put nodesPlace nodesWords us ws)
   sifted-left ps carries came us n h =
       let moved : Moved (indexRegion ws) (countIn ws) ps (fill (nodeWords ws) t) (length t) = record { old = nodesIn ws; ground = ground; carries = rw rows-fill carries; came = rw rows-fill came } in

@@ -20,9 +20,9 @@ use Rattle.model.specs.declared.Command.the-variants as command
 use Rattle.model.specs.declared.Answer.{Answer}
 use Rattle.index.specs.Index.{numbers}
 use Rattle.reindex.specs.declared.edit.Edit.{Edit}
-use Rattle.reindex.specs.Follow.{Carries, Came}
+use Rattle.reindex.specs.Follow.{Carries, PlaceOfNode}
 use Rattle.reindex.specs.Edits.{Does}
-use Rattle.reindex.specs.Kept.{sift, placeIn, Sieved}
+use Rattle.reindex.specs.Kept.{sift, placeIn, PlacesTold}
 use Rattle.model.specs.Layout.{nodesPlace, nodesWords, countIn, latestIn, nodesIn}
 use Rattle.model.specs.Engine.{decode}
 use Rattle.model.specs.Effects.{withNodes}
@@ -56,12 +56,12 @@ module _ (a : NodeArgument) (ws : List ℕ) (k : Ready ws) (count : ℕ) (same :
   edited-ready few edit d = changed-left ws k (editRows (meantIn a ws) H (nodesIn ws)) few edit (subst₂ (λ (n : ℕ) (l : List Node). Does edit (rows n (nodeWords ws)) l) same edits d) us many left
 
   pub edited-sifts : length (editRows (meantIn a ws) H (nodesIn ws)) ≤ mostNodes → (from to : ℕ) → editAt at H (rows count (nodeWords ws)) ≡ sift from to 0 (rows count (nodeWords ws))
-      → (ps : List ℕ) → Sieved from to (rows count (nodeWords ws)) ps → Sifted ps many (put nodesPlace nodesWords us ws)
+      → (ps : List ℕ) → PlacesTold from to (rows count (nodeWords ws)) ps → Sifted ps many (put nodesPlace nodesWords us ws)
   edited-sifts few from to sifts ps s =
       let there : sift from to 0 (rows count (nodeWords ws)) ≡ editRows (meantIn a ws) H (nodesIn ws) = sym sifts ∙ edits in
       sifted-left ws k (editRows (meantIn a ws) H (nodesIn ws)) few ps
       (subst₂ (λ (n : ℕ) (l : List Node). Carries (placeIn ps) (rows n (nodeWords ws)) l) same there (s .carries))
-      (subst₂ (λ (n : ℕ) (l : List Node). (q : ℕ) → q < length l → Came (placeIn ps) (rows n (nodeWords ws)) q) same there (s .came)) us many left
+      (subst₂ (λ (n : ℕ) (l : List Node). (q : ℕ) → q < length l → PlaceOfNode (placeIn ps) (rows n (nodeWords ws)) q) same there (s .came)) us many left
 
   pub edited-stays : length (editRows (meantIn a ws) H (nodesIn ws)) ≤ mostNodes → (lives (latestIn ws) (nodesIn ws) ≡ true → lives (latestIn ws) (editRows (meantIn a ws) H (nodesIn ws)) ≡ true)
       → Stays many (put nodesPlace nodesWords us ws)

@@ -174,13 +174,13 @@ pub input-bad : (w : Width) (k : ℕ) (outs s : List ℕ) (at : ℕ) {u next : �
 input-bad w k outs s at {u} {next} e h l = rw (e, ne-eqb u minusOne h, le-ltb u (length outs) l)
 
 -- Behind i units, at a place: they are remembered, and their counts and indices are counted.
-pub record Stood (w : Width) (s : List ℕ) (start : ℕ) (outs : List ℕ) (stride : ℕ) (marks : List ℕ) (at i fields : ℕ) : Type 0 where
+pub record UnitsRead (w : Width) (s : List ℕ) (start : ℕ) (outs : List ℕ) (stride : ℕ) (marks : List ℕ) (at i fields : ℕ) : Type 0 where
   pub here : at ≡ unitPlace w s start i
   pub counted : fields ≡ walked w s start i
   pub sized : length outs ≡ remembered
   pub before : Remembered w s start i outs stride marks
 
-pub stood-first : (w : Width) (s : List ℕ) (start : ℕ) (outs : List ℕ) (stride : ℕ) (marks : List ℕ) → length outs ≡ remembered → 0 < stride → length marks ≡ 0 → Stood w s start outs stride marks start 0 0
+pub stood-first : (w : Width) (s : List ℕ) (start : ℕ) (outs : List ℕ) (stride : ℕ) (marks : List ℕ) → length outs ≡ remembered → 0 < stride → length marks ≡ 0 → UnitsRead w s start outs stride marks start 0 0
 unfolding unitPlace walked
 stood-first w s start outs stride marks h p none = record {
   here = refl;
@@ -196,11 +196,11 @@ stood-first w s start outs stride marks h p none = record {
 -- What a run of units leaves, from one number to another: behind them the units are remembered, and what is left to read, however much, reads as it does with the run; or the run is bad.
 unfoldable pub Ran : (w : Width) (k : ℕ) (s : List ℕ) (start from to at stride : ℕ) (marks outs : List ℕ) → Read ℕ → Type 0
 Ran w k s start from to at stride marks outs (got fields next) =
-    Stood w s start outs stride marks next to fields × ((n : ℕ) → ending (unitsBy w k s n (outsFrom w s start to) next) ≡ ending (unitsBy w k s ((to - from) + n) (outsFrom w s start from) at))
+    UnitsRead w s start outs stride marks next to fields × ((n : ℕ) → ending (unitsBy w k s n (outsFrom w s start to) next) ≡ ending (unitsBy w k s ((to - from) + n) (outsFrom w s start from) at))
 Ran w k s start from to at stride marks outs (bad q place) = (length outs ≡ remembered) × ((n : ℕ) → ending (unitsBy w k s ((to - from) + n) (outsFrom w s start from) at) ≡ bad q place)
 
 -- The turns of the loop of a run.
-module _ (w : Width) (k : ℕ) (s : List ℕ) (start : ℕ) {outs : List ℕ} {stride : ℕ} {marks : List ℕ} {at i fields : ℕ} (st : Stood w s start outs stride marks at i fields) where
+module _ (w : Width) (k : ℕ) (s : List ℕ) (start : ℕ) {outs : List ℕ} {stride : ℕ} {marks : List ℕ} {at i fields : ℕ} (st : UnitsRead w s start outs stride marks at i fields) where
   run-shaped : {ins o next : ℕ} → skipUnit w k (outsFrom w s start i) s at ≡ got (ins, o) next → Shaped w s (unitPlace w s start i) ins o next
   run-shaped e = rw (st .here) at (unit-shape w k (outsFrom w s start i) s at (skip-unit w k (outsFrom w s start i) s at ∙ e))
 
@@ -218,7 +218,7 @@ module _ (w : Width) (k : ℕ) (s : List ℕ) (start : ℕ) {outs : List ℕ} {s
       omega (arith, walked-few w s start (suc i), st .counted, shape .inputs, shape .past, shape .within)
 
   pub run-stood : {ins o next : ℕ} → skipUnit w k (outsFrom w s start i) s at ≡ got (ins, o) next
-      → Stood w s start (set outs (i % remembered) o) stride marks next (i + 1) (fields + (2 + 2 * ins))
+      → UnitsRead w s start (set outs (i % remembered) o) stride marks next (i + 1) (fields + (2 + 2 * ins))
   unfolding unitPlace walked
   run-stood {ins} {o} {next} e =
       let shape = run-shaped e in
@@ -281,7 +281,7 @@ pub record Standing (w : Width) (k : ℕ) (s : List ℕ) (start count : ℕ) (ou
   pub most : i ≤ count
   pub room : known ≤ length marks
   pub few : length marks ≤ mostMarks
-  pub stood : Stood w s start outs stride (take known marks) at i fields
+  pub stood : UnitsRead w s start outs stride (take known marks) at i fields
   pub left : ending (unitsBy w k s (count - i) (outsFrom w s start i) at) ≡ ending (unitsBy w k s count [] start)
 
 pub stands-first : (w : Width) (k : ℕ) (s : List ℕ) (start count : ℕ) (outs : List ℕ) (stride : ℕ) (marks : List ℕ) → length outs ≡ remembered → 0 < stride → length marks ≤ mostMarks

@@ -15,7 +15,7 @@ ghost use mathlib.Core.Path.{_≡_};
 ghost use lib.ListN.{length};
 ghost use Rattle.units.specs.Answers.{runOf};
 ghost use Rattle.units.specs.Marks.{mostMarks};
-ghost use Rattle.units.specs.Units.{remembered, countUnits, Stood, Ran};
+ghost use Rattle.units.specs.Units.{remembered, countUnits, UnitsRead, Ran};
 
 // How many counts and indices the units have that were read, and the next cursor; or the refusal and its place.
 pub enum Run {
@@ -38,7 +38,7 @@ fn read_run(
     stride: u32,
     marks: &[u32],
 ) -> Run
-    requires { ⌜ (from ≤ to) × Stood width (now s) start (now outs) stride (now marks) (cursor .at) from before ⌝ }
+    requires { ⌜ (from ≤ to) × UnitsRead width (now s) start (now outs) stride (now marks) (cursor .at) from before ⌝ }
     ensures { λ r. ⌜ Ran width constants (now (s .entry)) start from to (cursor .at) stride (now (marks .entry)) (now (outs .exit)) (runOf r) ⌝ }
 {
     let mut fields = before;

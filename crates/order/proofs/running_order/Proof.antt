@@ -1,18 +1,18 @@
--- `order::running_order` meets its contract. The invariant: the numbers found so far with those that the marks give of the rest are the order (`So`).
+-- `order::running_order` meets its contract. The invariant: the numbers found so far with those that the marks give of the rest are the order (`OrderSoFar`).
 use Prim.Native.Nat.{_+_, _-_, _≤_, _<_}
 use mathlib.Core.Path.{_∙_}
 use mathlib.Core.Logic.{⊎-elim}
 use native.Mathlib.Omega.{arith}
 use borrow.Author.Needs.{needs}
 use Rattle.nodes.specs.Table.{rows, rows-end}
-use Rattle.order.specs.Order.{So, so-none, so-all, so-same, so-unmarked, so-group, so-more, so-full}
+use Rattle.order.specs.Order.{OrderSoFar, so-none, so-all, so-same, so-unmarked, so-group, so-more, so-full}
 use lib.ListN.{length, drop}
 use Rattle.order.proofs.running_order.Statement.{statement}
 use Rattle.order.proofs.running_order.Tie as tie
 
 abbrev Inv-loop : tie.InvT-loop
 Inv-loop nodes count visited numbers₀ length₀ i₀ numbers length i =
-    (i ≤ count) × (length ≤ i) × So (rows count nodes) (drop i visited) (drop i (rows count nodes)) length numbers
+    (i ≤ count) × (length ≤ i) × OrderSoFar (rows count nodes) (drop i visited) (drop i (rows count nodes)) length numbers
 
 abbrev μ-loop : tie.MeasureT-loop
 μ-loop nodes count visited numbers₀ length₀ i₀ numbers length i = count - i
@@ -32,7 +32,7 @@ loop-again c =
     let rest = drop (l .i + 1) t in
     let left = drop (l .i + 1) ms in
     let h : l .i < a .count = omega arith in
-    let so : (c .if1 .length ≤ l .i + 1) × So t left rest (c .if1 .length) (c .if1 .numbers) =
+    let so : (c .if1 .length ≤ l .i + 1) × OrderSoFar t left rest (c .if1 .length) (c .if1 .numbers) =
     ⊎-elim
     (λ w. (
       omega arith,

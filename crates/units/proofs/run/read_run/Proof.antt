@@ -4,7 +4,7 @@ use native.Mathlib.Omega.{arith}
 use borrow.Author.Needs.{needs}
 use Rattle.format.specs.Read.{ending}
 use Rattle.format.specs.Reader.{unitsBy}
-use Rattle.units.specs.Units.{outsFrom, Stood, Ran, run-few, run-stood, run-next, run-bad}
+use Rattle.units.specs.Units.{outsFrom, UnitsRead, Ran, run-few, run-stood, run-next, run-bad}
 use Rattle.units.proofs.run.read_run.Statement.{statement}
 use Rattle.units.proofs.run.read_run.Tie as tie
 
@@ -12,7 +12,7 @@ abbrev Inv-loop : tie.InvT-loop
 Inv-loop s width constants start from to before outs₀ stride marks fields₀ at₀ i₀ outs fields at i =
     (from ≤ i)
     × (i ≤ to)
-    × Stood width s start outs stride marks at i fields
+    × UnitsRead width s start outs stride marks at i fields
     × ((n : ℕ) → ending (unitsBy width constants s ((to - i) + n) (outsFrom width s start i) at) ≡ ending (unitsBy width constants s ((to - from) + n) (outsFrom width s start from) at₀))
 
 abbrev μ-loop : tie.MeasureT-loop
