@@ -1,2 +1,4 @@
 pub mod Ops
+pub mod OpsLaws
 pub mod Numbers
+pub mod NumbersLaws

@@ -1,12 +1,10 @@
 -- An answer as one number of 64 bits.
-use Prim.Native.Nat.{ℕ, _+_, _*_, _%_, _<_}
-use mathlib.Core.Path.{_≡_, refl, ap}
-use native.Mathlib.Nat.{mod-eq-of-lt}
+use Prim.Native.Nat.{ℕ, _+_, _*_, _%_}
 use Rattle.faults.specs.Faults.{faultNumber}
 use Rattle.refusals.specs.Refusals.{numberOf}
 use Rattle.model.specs.declared.Answer.{Answer}
 use Rattle.model.specs.declared.Answer.the-variants.{Done, Replied, Refused, RefusedAt}
-use Rattle.model.specs.Apply.{answerNumber}
+
 
 -- what the 64 bits leave for a place or a length: 2^56
 abbrev pub room : ℕ
@@ -29,9 +27,3 @@ reach Done = 0
 reach (Replied n) = n
 reach (Refused r) = 0
 reach (RefusedAt r at) = at
-
-pub number-whole : (a : Answer) → reach a < room → callNumber a ≡ answerNumber a
-number-whole Done h = refl
-number-whole (Replied n) h = ap (λ (k : ℕ). 256 * k) (mod-eq-of-lt h)
-number-whole (Refused r) h = refl
-number-whole (RefusedAt r at) h = ap (λ (k : ℕ). faultNumber r + 256 * k) (mod-eq-of-lt h)

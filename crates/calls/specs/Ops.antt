@@ -1,12 +1,10 @@
 -- The commands of calls from another language: the op's number, and five numbers a to e, of which each command takes the first that it has.
 use Prim.{Unit}
-use Prim.Native.Nat.{ℕ, zero, suc, _<_}
-use mathlib.Core.Path.{_≡_, sym, ap}
+use Prim.Native.Nat.{ℕ, zero, suc}
+use mathlib.Core.Path.{_≡_}
 use mathlib.Core.List.{List, [], _∷_}
-use native.Mathlib.Omega.{arith}
-use lib.ListN.{getD, List·getD-eq-default}
+use lib.ListN.{getD}
 use lib.Dec.{eqb}
-use borrow.Author.Tests.{eq-eqb, ne-eqb}
 use Rattle.words.specs.Choice.{pick}
 use Rattle.values.specs.declared.Key.{Key}
 use Rattle.values.specs.declared.Key.the-variants.{Index, Name}
@@ -181,32 +179,7 @@ ops a b c d e =
 unfoldable pub commandOf : ℕ → ℕ → ℕ → ℕ → ℕ → ℕ → Parsed
 commandOf op a b c d e = getD (ops a b c d e) op Nothing
 
--- the command of the op n
-pub op-is : (n op a b c d e : ℕ) → op ≡ n → getD (ops a b c d e) n Nothing ≡ commandOf op a b c d e
-unfolding commandOf
-op-is n op a b c d e h = ap (λ (k : ℕ). getD (ops a b c d e) k Nothing) (sym h)
-
-pub op-past : (op a b c d e : ℕ) → last < op → Nothing ≡ commandOf op a b c d e
-unfolding commandOf
-op-past op a b c d e h = sym (List·getD-eq-default (ops a b c d e) Nothing {n = op} (omega arith))
-
 -- an op that is none of those up to n is past n
 unfoldable pub Others : ℕ → ℕ → Type 0
 Others zero op = Unit {0} × (op ≡ 0 → ⊥)
 Others (suc n) op = Others n op × (op ≡ suc n → ⊥)
-
-pub past : (n op : ℕ) → Others n op → n < op
-unfolding Others
-past zero op h = let other = h .1 in omega arith
-past (suc n) op h = let ih = past n op (h .0) in let other = h .1 in omega arith
-
--- values by their kind
-module _ (d e : ℕ) (make : Value → Command) where
-  pub float-valued : d ≡ 0 → Call (make (Float e)) ≡ valued d e make
-  float-valued h = rw (eq-eqb d 0 h)
-
-  pub integer-valued : d ≡ 1 → Call (make (Integer e)) ≡ valued d e make
-  integer-valued h = rw (ne-eqb d 0 (λ z. omega arith), eq-eqb d 1 h)
-
-  pub none-valued : (d ≡ 0 → ⊥) → (d ≡ 1 → ⊥) → Nothing ≡ valued d e make
-  none-valued h k = rw (ne-eqb d 0 h, ne-eqb d 1 k)

@@ -7,10 +7,11 @@ use native.Mathlib.Omega.{arith}
 use borrow.Author.Tests.{leb-true, le-ltb}
 use lib.ListN.{take, drop}
 use lib.Dec.{leb, ltb, eqb}
-use Rattle.words.specs.Choice.{both, both-true}
+use Rattle.words.specs.Choice.{both}
+use Rattle.words.specs.ChoiceLaws.{both-true}
 use Rattle.words.specs.Parts.{region}
 use Rattle.nodes.specs.declared.Node.{Node}
-use Rattle.nodes.specs.Table.{row-from}
+use Rattle.nodes.specs.TableLaws.{row-from}
 use Rattle.nodes.specs.Place.{isGroup, deeper}
 use Rattle.nodes.specs.Formed.{reach, steps, rooted}
 use Rattle.values.specs.declared.Key.{Key}

@@ -6,8 +6,10 @@ use mathlib.Core.List.{List}
 use native.Mathlib.Omega.{arith}
 use lib.ListN.{length, set, replicate}
 use lib.Dec.{leb}
-use Rattle.words.specs.Choice.{pick, both-true}
-use Rattle.words.specs.Parts.{put, region-length}
+use Rattle.words.specs.Choice.{pick}
+use Rattle.words.specs.ChoiceLaws.{both-true}
+use Rattle.words.specs.Parts.{put}
+use Rattle.words.specs.PartsLaws.{region-length}
 use Rattle.refusals.specs.declared.Refusal.the-variants.{NoBus, BadValue}
 use Rattle.values.specs.declared.Value.{Value}
 use Rattle.values.specs.declared.ValuePattern.the-variants.{Pattern, OutOfBounds}

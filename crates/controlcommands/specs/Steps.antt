@@ -11,7 +11,7 @@ use Rattle.words.specs.Parts.{region}
 use Rattle.refusals.specs.declared.Refusal.{Refusal}
 use Rattle.refusals.specs.declared.Refusal.the-variants.{NoNode, NoControl, NoBus, BadValue, PastWidth}
 use Rattle.nodes.specs.declared.Node.{Node}
-use Rattle.nodes.specs.Place.{end-most}
+use Rattle.nodes.specs.PlaceLaws.{end-most}
 use Rattle.values.specs.declared.Key.{Key}
 use Rattle.values.specs.declared.NodeArgument.{NodeArgument}
 use Rattle.values.specs.declared.Value.{Value}

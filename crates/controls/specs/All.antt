@@ -7,13 +7,15 @@ use mathlib.Core.Option.{Option}
 use native.Mathlib.Omega.{arith}
 use lib.ListN.{length, take, drop, getD, length-append, length-take, length-drop}
 use Rattle.words.specs.Choice.{pick}
-use Rattle.words.specs.Parts.{region, put, region-length, region-put, put-put}
+use Rattle.words.specs.Parts.{region, put}
+use Rattle.words.specs.PartsLaws.{region-length, region-put, put-put}
 use Rattle.format.specs.Names.{Covered}
 use Rattle.readable.specs.declared.cover.Cover.{Cover}
 use Rattle.readable.specs.Lookup.{coverAt}
 use Rattle.readable.specs.Readable.{Readable, whole-readable}
 use Rattle.nodes.specs.declared.Node.{Node}
-use Rattle.nodes.specs.Table.{width, rows, nodeFrom, row-from, depthField}
+use Rattle.nodes.specs.Table.{width, rows, nodeFrom, depthField}
+use Rattle.nodes.specs.TableLaws.{row-from}
 use Rattle.nodes.specs.Place.{isGroup, place, deeper}
 use Rattle.nodes.specs.Edit.{sink, runOf}
 use Rattle.nodes.specs.Split.{runOf-at}

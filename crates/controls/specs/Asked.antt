@@ -9,7 +9,8 @@ use borrow.Author.Tests.{not-false, leb-true, lt-leb}
 use lib.ListN.{length, drop, getD}
 use lib.Dec.{leb}
 use lib.Seq.{getD-drop}
-use Rattle.words.specs.Choice.{pick, either, either-false}
+use Rattle.words.specs.Choice.{pick, either}
+use Rattle.words.specs.ChoiceLaws.{either-false}
 use Rattle.format.specs.Definition.{Front, Definition}
 use Rattle.format.specs.Names.{Covered}
 use Rattle.format.specs.Reader.{mostParameters}

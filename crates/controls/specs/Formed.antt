@@ -10,7 +10,7 @@ use Rattle.words.specs.Parts.{region}
 use Rattle.format.specs.Definition.{Front}
 use Rattle.format.specs.Reader.{mostParameters}
 use Rattle.readable.specs.Readable.{whole-readable}
-use Rattle.nodes.specs.Table.{row-from, rows-end}
+use Rattle.nodes.specs.TableLaws.{row-from, rows-end}
 use Rattle.nodes.specs.Place.{isGroup}
 use Rattle.model.specs.Layout.{nodesPlace, nodesWords, rowWords, countIn, nodesIn, controlsIn}
 use Rattle.model.specs.Engine.{decode, definitionOf}

@@ -9,14 +9,16 @@ use borrow.Author.Tests.{leb-true, ltb-true, eq-eqb, eqb-false}
 use lib.ListN.{length, drop, getD, length-take}
 use lib.Seq.{getD-drop}
 use lib.Dec.{leb, ltb, eqb}
-use Rattle.words.specs.Choice.{both, either, both-true}
+use Rattle.words.specs.Choice.{both, either}
+use Rattle.words.specs.ChoiceLaws.{both-true}
 use Rattle.words.specs.Parts.{region}
 use Rattle.format.specs.Read.{Read, got, bad}
 use Rattle.format.specs.Definition.{Definition}
 use Rattle.format.specs.Reader.{sizeLimit, readDefinition}
 use Rattle.readable.specs.Readable.{Readable, ReadableWhole, whole-readable}
 use Rattle.nodes.specs.declared.Node.{Node}
-use Rattle.nodes.specs.Table.{width, nodeFrom, row-from}
+use Rattle.nodes.specs.Table.{width, nodeFrom}
+use Rattle.nodes.specs.TableLaws.{row-from}
 use Rattle.nodes.specs.Place.{groupSlot, isGroup}
 use Rattle.nodes.specs.Formed.{mostNodes, mostRows, numberFormed, rowFormed, fieldsFormed, allFormed}
 use Rattle.model.specs.Layout.{slotCount, nodesPlace, nodesWords, wordsLength, arenaLength, countIn, nextIn, lengthsIn, nodesIn}

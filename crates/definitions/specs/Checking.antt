@@ -11,7 +11,8 @@ use lib.ListN.{length, drop, getD, length-drop, drop-of-length-le}
 use lib.Seq.{getD-take, getD-drop, drop-drop, drop-cons, length-take-le}
 use lib.Dec.{leb, eqb}
 use borrow.Author.Tests.{leb-true, le-leb, eqb-true, eqb-false}
-use Rattle.words.specs.Choice.{pick, both, either, both-true}
+use Rattle.words.specs.Choice.{pick, both, either}
+use Rattle.words.specs.ChoiceLaws.{both-true}
 use Rattle.format.specs.Read.{Read, got, bad, ending}
 use Rattle.format.specs.Definition.{Definition}
 use Rattle.format.specs.Reader.{readDefinition, sizeLimit}

@@ -11,7 +11,8 @@ use lib.Seq.{set-append-seam, append-snoc}
 use lib.Dec.{ltb, leb}
 use borrow.Author.Tests.{not-true, le-leb, leb-true, lt-ltb, le-ltb}
 use Rattle.words.specs.Bytes.{AreBytes}
-use Rattle.words.specs.Choice.{pick, both, either, both-true}
+use Rattle.words.specs.Choice.{pick, both, either}
+use Rattle.words.specs.ChoiceLaws.{both-true}
 use Rattle.format.specs.declared.Width.the-variants.{Long}
 use Rattle.format.specs.Read.{Read, got}
 use Rattle.format.specs.Definition.{Definition}

@@ -10,7 +10,8 @@ use lib.Dec.{ltb}
 use borrow.Author.Tests.{ltb-true, ltb-false}
 use Rattle.words.specs.Bytes.{AreBytes}
 use Rattle.words.specs.Choice.{pick}
-use Rattle.words.specs.Parts.{region, put, put-length, past-put}
+use Rattle.words.specs.Parts.{region, put}
+use Rattle.words.specs.PartsLaws.{put-length, past-put}
 use Rattle.format.specs.declared.Width.the-variants.{Long}
 use Rattle.format.specs.Read.{Read}
 use Rattle.format.specs.Definition.{Definition}

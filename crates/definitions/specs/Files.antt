@@ -9,7 +9,7 @@ use lib.Dec.{ltb}
 use borrow.Author.Tests.{ltb-false}
 use Rattle.words.specs.Bytes.{AreBytes}
 use Rattle.words.specs.Choice.{pick}
-use Rattle.words.specs.Parts.{region-length}
+use Rattle.words.specs.PartsLaws.{region-length}
 use Rattle.faults.specs.declared.Fault.the-variants.{TooLong, NameTwice, BytesLeft, BadName}
 use Rattle.format.specs.declared.Width.{Width}
 use Rattle.format.specs.Read.{Read, got, bad, andThen, repeat}
@@ -19,8 +19,8 @@ use Rattle.format.specs.Sizes.{string-got}
 use Rattle.format.specs.Fields.{float32, stringAt, pstring, definitionName, countBy, countToBy, shortCountTo, highest16}
 use Rattle.format.specs.NameLaws.{full}
 use Rattle.format.specs.Definition.{Front, Definition}
-use Rattle.format.specs.Reader.{mostParameters, sizeLimit, parameterNameBy, variant, among, fits, frontBy, unitsBy, definitionBy, readDefinitions, readHeader, readFile}
-use Rattle.format.specs.HeaderLaws.{fileWidth, header-got}
+use Rattle.format.specs.Reader.{mostParameters, sizeLimit, parameterNameBy, variant, among, fits, frontBy, unitsBy, definitionBy, readDefinitions, readHeader, readFile, fileWidth}
+use Rattle.format.specs.HeaderLaws.{header-got}
 use Rattle.format.specs.Writer.{writeDefinitionBy, writeDefinition}
 use Rattle.model.specs.Checks.{definitionsOf, faultOf}
 use Rattle.roundtrip.specs.Forth.{definition-forth}

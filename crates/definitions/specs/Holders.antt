@@ -11,7 +11,8 @@ use lib.Dec.{eqb}
 use borrow.Author.Tests.{eq-eqb, ne-eqb, eqb-true, eqb-false}
 use Rattle.words.specs.Choice.{pick, either}
 use Rattle.nodes.specs.declared.Node.{Node}
-use Rattle.nodes.specs.Table.{width, rows, rows-end, row-from, slotField}
+use Rattle.nodes.specs.Table.{width, rows, slotField}
+use Rattle.nodes.specs.TableLaws.{rows-end, row-from}
 use Rattle.model.specs.Layout.{slotCount}
 use Rattle.model.specs.Engine.{Slot, held}
 use Rattle.model.specs.Formed.{slotsFormed}

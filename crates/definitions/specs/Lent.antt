@@ -7,7 +7,8 @@ use native.Mathlib.Omega.{arith}
 use lib.ListN.{length, take, drop, set, length-set, take-append-drop}
 use lib.Seq.{drop-drop, drop-at, length-take-le, take-set-le}
 use Rattle.words.specs.Choice.{both}
-use Rattle.words.specs.Parts.{region, region-length, put, before-put}
+use Rattle.words.specs.Parts.{region, put}
+use Rattle.words.specs.PartsLaws.{region-length, before-put}
 use Rattle.format.specs.Definition.{Definition}
 use Rattle.nodes.specs.declared.Node.{Node}
 use Rattle.model.specs.Layout.{slotCount, lengthsPlace, residentPlace, wordsLength, arenaLength, lengthsIn, flagsIn, nodesIn, putLengths, putResident}

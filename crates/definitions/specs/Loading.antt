@@ -9,8 +9,9 @@ use lib.ListN.{length, set, length-take, length-drop, length-set, List·getD-eq-
 use lib.Seq.{getD-set-same, getD-set-other, set-out}
 use lib.Dec.{ltb, eqb}
 use borrow.Author.Tests.{ltb-true, ltb-false, eqb-true, eqb-false}
-use Rattle.words.specs.Choice.{either-false}
-use Rattle.words.specs.Parts.{put, put-length}
+use Rattle.words.specs.ChoiceLaws.{either-false}
+use Rattle.words.specs.Parts.{put}
+use Rattle.words.specs.PartsLaws.{put-length}
 use Rattle.format.specs.Definition.{Definition}
 use Rattle.format.specs.Reader.{sizeLimit}
 use Rattle.format.specs.Writer.{writeDefinition}

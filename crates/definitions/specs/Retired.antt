@@ -7,7 +7,8 @@ use native.Mathlib.Omega.{arith}
 use lib.ListN.{length, take, drop, getD}
 use lib.Seq.{getD-take, ext-getD, take-at, take-all, drop-at, getD-append-add, length-take-le}
 use lib.Dec.{eqb}
-use Rattle.words.specs.Choice.{pick, both, both-true}
+use Rattle.words.specs.Choice.{pick, both}
+use Rattle.words.specs.ChoiceLaws.{both-true}
 use Rattle.format.specs.Reader.{among}
 use Rattle.model.specs.Layout.{slotCount, slotIn}
 use Rattle.model.specs.Engine.{Slot, slotsFrom, slotAt, nameIn}

@@ -8,7 +8,7 @@ use native.Mathlib.Omega.{arith}
 use lib.ListN.{length, drop, getD, set, length-set}
 use lib.Dec.{leb}
 use borrow.Author.Tests.{leb-true}
-use Rattle.words.specs.Choice.{both-true}
+use Rattle.words.specs.ChoiceLaws.{both-true}
 use Rattle.format.specs.Definition.{Definition}
 use Rattle.format.specs.Reader.{readFile, sizeLimit, among}
 use Rattle.format.specs.Writer.{writeDefinition}

@@ -7,12 +7,12 @@ use native.Mathlib.Omega.{arith}
 use lib.ListN.{length}
 use lib.Dec.{leb}
 use borrow.Author.Tests.{le-ltb, leb-true}
-use Rattle.words.specs.Choice.{both-true}
+use Rattle.words.specs.ChoiceLaws.{both-true}
 use Rattle.words.specs.Bytes.{AreBytes}
 use Rattle.refusals.specs.declared.Refusal.the-variants.{NoSlot}
 use Rattle.format.specs.Read.{Read, got, bad}
 use Rattle.format.specs.Definition.{Definition}
-use Rattle.format.specs.Reader.{readFile, mostDefinitions}
+use Rattle.format.specs.Reader.{readFile, mostDefinitions, versionIn}
 use Rattle.format.specs.Bounds.{isFile}
 use Rattle.model.specs.declared.Answer.the-variants.{Done}
 use Rattle.model.specs.Layout.{slotCount}
@@ -24,7 +24,6 @@ use Rattle.model.specs.After.{wordsAfter, arenaAfter, freshState, freshArena}
 use Rattle.model.specs.Apply.{answerIn}
 use Rattle.model.specs.Demands.{receive, meaningIn, definitionAtSlot as residentDefinition}
 use Rattle.roundtrip.specs.Forth.{file-forth, file-same}
-use Rattle.format.specs.HeaderLaws.{versionIn}
 use Rattle.format.specs.Writer.{fileVersion, writeFile}
 use Rattle.state.specs.Known.{Known, known}
 use Rattle.slots.specs.Slots.{lengthsOn, flagsOn, slotsOn, slots-length, slots-lent}

@@ -4,8 +4,7 @@ use mathlib.Core.Bool.{Bool, true, false}
 use mathlib.Core.Path.{_≡_, refl, sym, ap, _∙_, subst}
 use mathlib.Core.List.{List, [], _∷_}
 use Rattle.words.specs.Choice.{both}
-use Rattle.format.specs.Reader.{readFile}
-use Rattle.format.specs.HeaderLaws.{versionIn}
+use Rattle.format.specs.Reader.{readFile, versionIn}
 use Rattle.format.specs.Writer.{fileVersion, writeFile}
 use Rattle.model.specs.declared.Command.{Command}
 use Rattle.model.specs.declared.Command.the-variants as command

@@ -9,8 +9,7 @@ use Rattle.words.specs.Choice.{pick, both}
 use Rattle.refusals.specs.declared.Refusal.{Refusal}
 use Rattle.refusals.specs.declared.Refusal.the-variants.{BadState, Malformed, UnknownMessage}
 use Rattle.refusals.specs.Refusals.{numberOf}
-use Rattle.format.specs.Reader.{readFile}
-use Rattle.format.specs.HeaderLaws.{versionIn}
+use Rattle.format.specs.Reader.{readFile, versionIn}
 use Rattle.format.specs.Writer.{fileVersion, writeFile}
 use Rattle.model.specs.declared.Command.{Command}
 use Rattle.model.specs.declared.Command.the-variants as commands

@@ -8,7 +8,7 @@ use lib.ListN.{length}
 use lib.Dec.{ltb}
 use borrow.Author.Tests.{eqb-false, not-true}
 use Rattle.words.specs.Choice.{pick}
-use Rattle.faults.specs.Faults.{fault-low}
+use Rattle.faults.specs.FaultsLaws.{fault-low}
 use Rattle.refusals.specs.declared.Refusal.the-variants.{NoRoom}
 use Rattle.refusals.specs.Refusals.{numberOf}
 use Rattle.model.specs.declared.Command.{Command}

@@ -11,7 +11,7 @@ use Rattle.nodes.specs.Forest.{Forest, mapForest}
 use Rattle.nodes.specs.Formed.{apart}
 use Rattle.treerefinement.specs.Flatten.{key}
 use Rattle.treerefinement.specs.Family.{stands}
-use Rattle.treerefinement.specs.Shape.{build}
+use Rattle.treerefinement.specs.Build.{build}
 use Rattle.model.specs.Engine.{Engine}
 use Rattle.model.specs.View.{PlainNode, viewOf}
 use Rattle.model.specs.Plain.{Plain, ifSome, atFirst, numberIn, isGroupNode, isOnNode, plainOrder}

@@ -1,15 +1,10 @@
 -- What calls from another language answer and leave.
-use Prim.Native.Nat.{ℕ, _≤_}
-use mathlib.Core.Bool.{Bool, true, false}
+use Prim.Native.Nat.{ℕ}
 use mathlib.Core.Path.{_≡_}
 use mathlib.Core.List.{List}
-use native.Mathlib.Omega.{arith}
-use Rattle.words.specs.Choice.{pick}
-use Rattle.refusals.specs.declared.Refusal.the-variants.{BadState}
 use Rattle.model.specs.declared.Command.{Command}
 use Rattle.model.specs.declared.Answer.{Answer}
-use Rattle.model.specs.declared.Answer.the-variants.{Done, Refused}
-use Rattle.model.specs.Apply.{Does, sized, freshAnswer, Freshly}
+use Rattle.model.specs.Apply.{Does, Freshly}
 use Rattle.messages.specs.Table.{Given}
 use Rattle.messages.specs.Write.{Writes}
 use Rattle.messages.specs.Sent.{Sends}
@@ -68,12 +63,3 @@ pub record Unwritten (out : List ℕ) (r : ℕ) (out′ : List ℕ) : Type 0 whe
 abbrev pub Wrote : Parsed → (g : Given) (out : List ℕ) (r : ℕ) (out′ : List ℕ) → Type 0
 Wrote (Call c) g out r out′ = AnsweredAs g out r out′
 Wrote Nothing g out r out′ = Unwritten out r out′
-
--- a fresh engine's number is 0 or 1
-pub fresh-small : (ws bs : List ℕ) → callNumber (freshAnswer ws bs) ≤ 1
-unfolding freshAnswer
-fresh-small ws bs = go (sized ws bs)
-  where
-    go : (b : Bool) → callNumber (pick b Done (Refused BadState)) ≤ 1
-    go true = omega arith
-    go false = omega arith

@@ -12,7 +12,7 @@ use lib.ListN.{length, getD, take, drop, set, length-set, length-take, length-dr
 use lib.Dec.{ltb, eqb}
 use borrow.Author.Tests.{lt-ltb, le-ltb, leb-true, ne-eqb, eqb-true}
 use Rattle.words.specs.Choice.{pick, both, either}
-use Rattle.words.specs.Parts.{region-length}
+use Rattle.words.specs.PartsLaws.{region-length}
 use Rattle.faults.specs.declared.Fault.{Fault}
 use Rattle.faults.specs.declared.Fault.the-variants.{TooLong, NameTwice, BytesLeft}
 use Rattle.format.specs.Read.{Read, got, bad, andThen, mapRead, ending}
@@ -20,8 +20,8 @@ use Rattle.format.specs.Fields.{stringAt}
 use Rattle.format.specs.Definition.{Definition}
 use Rattle.format.specs.declared.Width.{Width}
 use Rattle.format.specs.declared.Width.the-variants.{Long}
-use Rattle.format.specs.Reader.{Header, widthOf, sizeLimit, mostDefinitions, sameName, among, fits, definitionBy, readDefinitions, readHeader, readFile}
-use Rattle.format.specs.HeaderLaws.{versionIn, fileWidth, header-got}
+use Rattle.format.specs.Reader.{Header, widthOf, sizeLimit, mostDefinitions, sameName, among, fits, definitionBy, readDefinitions, readHeader, readFile, versionIn, fileWidth}
+use Rattle.format.specs.HeaderLaws.{header-got}
 use Rattle.format.specs.Writer.{firstVersion, writeDefinition}
 use Rattle.format.specs.Endings.{Mapped, mapped-got, then-got, then-bad, ending-keeps, ending-got}
 use Rattle.format.specs.RepeatLaws.{went-on}

@@ -6,7 +6,8 @@ use native.Mathlib.Omega.{arith}
 use lib.ListN.{length, getD, length-take}
 use lib.Dec.{ltb, leb}
 use borrow.Author.Tests.{ltb-true}
-use Rattle.words.specs.Choice.{both, both-true}
+use Rattle.words.specs.Choice.{both}
+use Rattle.words.specs.ChoiceLaws.{both-true}
 use Rattle.faults.specs.declared.Fault.the-variants.{BadName, BadCount}
 use Rattle.format.specs.Read.{Read, got, repeat, mapRead}
 use Rattle.format.specs.declared.Width.{Width}

@@ -23,8 +23,7 @@ ghost use lib.ListN.{length, take};
 ghost use Rattle.fields.specs.Answers.{numberOf, stepOf};
 ghost use Rattle.format.specs.Fields.{stringAt};
 ghost use Rattle.format.specs.Read.{ending, mapRead};
-ghost use Rattle.format.specs.Reader.{Header, mostDefinitions, sameName, among, isVersion, readHeader, readDefinitions, readFile};
-ghost use Rattle.format.specs.HeaderLaws.{fileWidth};
+ghost use Rattle.format.specs.Reader.{Header, mostDefinitions, sameName, among, isVersion, readHeader, readDefinitions, readFile, fileWidth};
 ghost use Rattle.units.specs.Units.{remembered};
 ghost use Rattle.files.specs.File.{Begun, Named, verdict, namesFrom, skipFitting};
 

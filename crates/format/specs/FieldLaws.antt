@@ -8,7 +8,8 @@ use borrow.Author.Tests.{leb-true}
 use lib.ListN.{length, getD}
 use lib.Dec.{leb, ltb}
 use Rattle.words.specs.Choice.{pick}
-use Rattle.words.specs.Parts.{region, region-length}
+use Rattle.words.specs.Parts.{region}
+use Rattle.words.specs.PartsLaws.{region-length}
 use Rattle.faults.specs.declared.Fault.{Fault}
 use Rattle.faults.specs.declared.Fault.the-variants.{Truncated, BadName, BadCount}
 use Rattle.format.specs.NameLaws.{full}

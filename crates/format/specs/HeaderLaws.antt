@@ -6,20 +6,12 @@ use mathlib.Core.List.{List}
 use native.Mathlib.Omega.{arith}
 use lib.Dec.{leb, eqb}
 use Rattle.faults.specs.declared.Fault.the-variants.{NotSynthDef, BadVersion, BadCount}
-use Rattle.format.specs.declared.Width.{Width}
 use Rattle.format.specs.Read.{got, checked}
 use Rattle.format.specs.Fields.{word, int16, int32, shortCountTo}
 use Rattle.format.specs.FieldLaws.{checked-got, whole-got}
 use Rattle.format.specs.RepeatLaws.{went-on}
 use Rattle.format.specs.Writer.{fileType}
-use Rattle.format.specs.Reader.{mostDefinitions, isVersion, widthOf, Header, readHeader}
-
--- the version of a file, and the width of its fields
-abbrev pub versionIn : List ℕ → ℕ
-versionIn s = word s 4
-
-abbrev pub fileWidth : List ℕ → Width
-fileWidth s = widthOf (versionIn s)
+use Rattle.format.specs.Reader.{mostDefinitions, isVersion, widthOf, versionIn, fileWidth, Header, readHeader}
 
 pub record HeaderGot (s : List ℕ) (h : Header) (p : ℕ) : Type 0 where
   pub past : p ≡ 10

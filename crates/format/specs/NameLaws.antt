@@ -10,7 +10,8 @@ use lib.ListN.{length, getD, drop-of-length-le}
 use lib.Seq.{drop-cons, take-nil}
 use lib.Dec.{leb, ltb}
 use Rattle.words.specs.Choice.{both}
-use Rattle.words.specs.Parts.{region, region-length}
+use Rattle.words.specs.Parts.{region}
+use Rattle.words.specs.PartsLaws.{region-length}
 use Rattle.format.specs.Fields.{nameBytes}
 
 -- a part that is not empty: its first item and the rest

@@ -9,7 +9,7 @@ use Rattle.faults.specs.declared.Fault.the-variants.{NotSynthDef, BadVersion, B
 use Rattle.format.specs.Read.{Read, got, bad, andThen, checked, repeat}
 use Rattle.format.specs.declared.Width.{Width}
 use Rattle.format.specs.declared.Width.the-variants.{Short, Long}
-use Rattle.format.specs.Fields.{int16, int32, float32, name, definitionName, integerBy, minusOne, highest16, countToBy, countBy, shortCountTo, rate, indexBelowBy}
+use Rattle.format.specs.Fields.{word, int16, int32, float32, name, definitionName, integerBy, minusOne, highest16, countToBy, countBy, shortCountTo, rate, indexBelowBy}
 use Rattle.format.specs.Definition.{Input, constant, output, UnitSpec, ParameterName, Variant, Front, Definition}
 use Rattle.format.specs.Writer.{fileType, firstVersion, fileVersion, writeDefinition}
 
@@ -127,6 +127,13 @@ widthOf v = pick (eqb v firstVersion) Short Long
 pub record Header : Type 0 where
   pub width : Width
   pub count : ℕ
+
+-- the version of a file, and the width of its fields
+abbrev pub versionIn : List ℕ → ℕ
+versionIn s = word s 4
+
+abbrev pub fileWidth : List ℕ → Width
+fileWidth s = widthOf (versionIn s)
 
 abbrev pub readHeader : List ℕ → Read Header
 readHeader s =

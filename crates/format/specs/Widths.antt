@@ -7,7 +7,8 @@ use mathlib.Core.Option.{Option, none, some, Option·none-ne-some, Option·some-
 use native.Mathlib.Omega.{arith}
 use borrow.Author.Tests.{ltb-true, ltb-false}
 use lib.Dec.{ltb}
-use Rattle.words.specs.Choice.{pick, both, both-true}
+use Rattle.words.specs.Choice.{pick, both}
+use Rattle.words.specs.ChoiceLaws.{both-true}
 use Rattle.format.specs.Definition.{ParameterName}
 use Rattle.format.specs.Reader.{sameName}
 use Rattle.format.specs.Bounds.{isName, isParameterName, every}

@@ -3,6 +3,7 @@ pub mod Rising
 pub mod Afresh
 pub mod Nodes
 pub mod Lookup
+pub mod LookupLaws
 pub mod Words
 pub mod Checks
 pub mod Worked

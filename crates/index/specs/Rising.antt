@@ -7,7 +7,8 @@ use native.Mathlib.Omega.{arith}
 use borrow.Author.Tests.{ltb-true, leb-true, lt-ltb, le-leb}
 use lib.ListN.{length, getD}
 use lib.Dec.{ltb, leb}
-use Rattle.words.specs.Choice.{both, both-true}
+use Rattle.words.specs.Choice.{both}
+use Rattle.words.specs.ChoiceLaws.{both-true}
 use Rattle.index.specs.Index.{numberAt, rises}
 
 pub data Rising (ks : List ℕ) (n : ℕ) : ℕ → List ℕ → Type 0 where

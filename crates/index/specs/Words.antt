@@ -8,13 +8,15 @@ use native.Mathlib.Numerals.{add-one}
 use lib.ListN.{length, take, drop, getD}
 use lib.Seq.{getD-drop, getD-take, length-take-le}
 use Rattle.nodes.specs.declared.Node.{Node}
-use Rattle.nodes.specs.Table.{width, rows, rows-length}
+use Rattle.nodes.specs.Table.{width, rows}
+use Rattle.nodes.specs.TableLaws.{rows-length}
 use Rattle.index.specs.declared.step.Known.{Known}
 use Rattle.index.specs.declared.step.Known.the-variants.{Between}
 use Rattle.index.specs.Index.{numbers, numberAt, indexed}
 use Rattle.index.specs.Rising.{entry, higher}
 use Rattle.index.specs.Nodes.{indexed-parts}
-use Rattle.index.specs.Lookup.{halfway, step, afterSteps, lookup, answer, settled, mostSteps, SettledBy, stepAt, one-more, Sound, lookup-sound, steps-settle, settled-early}
+use Rattle.index.specs.Lookup.{halfway, step, afterSteps, lookup, answer, settled, mostSteps, SettledBy, stepAt, Sound}
+use Rattle.index.specs.LookupLaws.{one-more, lookup-sound, steps-settle, settled-early}
 
 -- words that hold so many records, and words that hold as many entries
 pub record IndexFits (us ws : List ℕ) (count : ℕ) : Type 0 where

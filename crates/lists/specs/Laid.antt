@@ -6,7 +6,8 @@ use mathlib.Core.List.{[], _∷_}
 use native.Mathlib.Omega.{arith}
 use lib.Dec.{eqb, leb}
 use borrow.Author.Tests.{le-leb, lt-leb, eq-eqb, ne-eqb, leb-true, leb-false}
-use Rattle.words.specs.Choice.{pick, both, both-true}
+use Rattle.words.specs.Choice.{pick, both}
+use Rattle.words.specs.ChoiceLaws.{both-true}
 use Rattle.lists.specs.declared.Kind.the-variants.{NoItem, Acts}
 use Rattle.calls.specs.declared.Parsed.the-variants.{Nothing}
 use Rattle.lists.specs.Lent.{Item, parsed, zeros, isLaid, ofParsed, kindOf}

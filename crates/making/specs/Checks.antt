@@ -9,8 +9,9 @@ use borrow.Author.Tests.{le-ltb, le-leb, lt-leb}
 use Rattle.words.specs.Choice.{both}
 use Rattle.refusals.specs.declared.Refusal.{Refusal}
 use Rattle.refusals.specs.declared.Refusal.the-variants.{BadNumber, NumberLive, NoDefinition, NoNode, WrongKind, NodesFull, NoNumber}
-use Rattle.nodes.specs.Table.{rows-length}
-use Rattle.nodes.specs.Place.{lives, place, lives-place}
+use Rattle.nodes.specs.TableLaws.{rows-length}
+use Rattle.nodes.specs.Place.{lives, place}
+use Rattle.nodes.specs.PlaceLaws.{lives-place}
 use Rattle.nodes.specs.Formed.{noneLeft}
 use Rattle.values.specs.declared.NodeArgument.{NodeArgument}
 use Rattle.model.specs.declared.TreeCommand.the-variants as tree

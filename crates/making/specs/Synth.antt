@@ -7,8 +7,9 @@ use native.Mathlib.Omega.{arith}
 use lib.ListN.{length, getD, length-take}
 use lib.Dec.{leb}
 use borrow.Author.Tests.{lt-ltb, leb-true}
-use Rattle.words.specs.Choice.{both-true}
-use Rattle.words.specs.Parts.{region, put, region-length, put-put}
+use Rattle.words.specs.ChoiceLaws.{both-true}
+use Rattle.words.specs.Parts.{region, put}
+use Rattle.words.specs.PartsLaws.{region-length, put-put}
 use Rattle.refusals.specs.declared.Refusal.{Refusal}
 use Rattle.refusals.specs.declared.Refusal.the-variants.{BadFlag}
 use Rattle.format.specs.Read.{Read}

@@ -9,7 +9,8 @@ use native.Mathlib.Omega.{arith}
 use lib.ListN.{length, drop, getD, List·getD-append}
 use lib.Dec.{eqb}
 use borrow.Author.Tests.{eqb-true, eqb-false}
-use Rattle.words.specs.Choice.{pick, both-true}
+use Rattle.words.specs.Choice.{pick}
+use Rattle.words.specs.ChoiceLaws.{both-true}
 use Rattle.format.specs.Bounds.{every}
 use Rattle.model.specs.declared.Command.{Command}
 use Rattle.model.specs.declared.Command.the-variants as command

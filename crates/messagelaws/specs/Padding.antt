@@ -8,8 +8,10 @@ use lib.ListN.{length, take, drop, replicate, length-append, length-replicate}
 use lib.Seq.{drop-drop, take-add}
 use lib.Dec.{leb, eqb}
 use borrow.Author.Tests.{le-leb, leb-true, eqb-true}
-use Rattle.words.specs.Choice.{pick, both, both-true}
-use Rattle.words.specs.Parts.{region, region-length}
+use Rattle.words.specs.Choice.{pick, both}
+use Rattle.words.specs.ChoiceLaws.{both-true}
+use Rattle.words.specs.Parts.{region}
+use Rattle.words.specs.PartsLaws.{region-length}
 use Rattle.roundtrip.specs.Stands.{stands-left, stands-right}
 use Rattle.messages.specs.Form.{parsed, faulty, zeros, paddedAt}
 use Rattle.messagelaws.specs.Codec.{Reads}

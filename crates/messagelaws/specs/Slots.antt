@@ -6,7 +6,8 @@ use mathlib.Core.List.{List, [], _∷_}
 use lib.ListN.{length}
 use lib.Dec.{eqb}
 use borrow.Author.Tests.{not-true, not-false, le-ltb, ltb-false}
-use Rattle.words.specs.Choice.{pick, both, either, both-true, either-false}
+use Rattle.words.specs.Choice.{pick, both, either}
+use Rattle.words.specs.ChoiceLaws.{both-true, either-false}
 use Rattle.format.specs.Fields.{nameBytes, highest32}
 use Rattle.osc.specs.Message.{Argument, int, float, text, blob, tagOf, tags}
 use Rattle.messages.specs.Table.{Slot, at-a, at-b, at-c, value, name, file, Given, Words, takes, numberIn, bytesIn, take, give, fitAll, takeAll, giveAll}

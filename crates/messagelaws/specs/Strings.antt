@@ -7,7 +7,8 @@ use native.Mathlib.Omega.{arith}
 use lib.ListN.{length, drop, replicate, take-append-drop}
 use lib.Dec.{leb}
 use borrow.Author.Tests.{leb-true, ne-eqb}
-use Rattle.words.specs.Choice.{both, both-true}
+use Rattle.words.specs.Choice.{both}
+use Rattle.words.specs.ChoiceLaws.{both-true}
 use Rattle.format.specs.Fields.{nameBytes}
 use Rattle.osc.specs.Message.{padded}
 use Rattle.roundtrip.specs.Stands.{Stands}

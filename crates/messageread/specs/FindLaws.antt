@@ -8,7 +8,8 @@ use native.Mathlib.Omega.{arith}
 use lib.Dec.{eqb, leb, ltb}
 use lib.ListN.{length, getD, List·getD-eq-default}
 use borrow.Author.Tests.{ne-eqb, eqb-true, eqb-false, leb-true}
-use Rattle.words.specs.Choice.{pick, both, either, both-true}
+use Rattle.words.specs.Choice.{pick, both, either}
+use Rattle.words.specs.ChoiceLaws.{both-true}
 use Rattle.format.specs.Bounds.{every}
 use Rattle.format.specs.Reader.{sameName}
 use Rattle.order.specs.Same.{same-true}

@@ -8,7 +8,8 @@ use native.Mathlib.Omega.{arith}
 use borrow.Author.Tests.{ltb-true, leb-true}
 use lib.ListN.{length}
 use lib.Dec.{ltb, leb}
-use Rattle.words.specs.Choice.{both, both-true}
+use Rattle.words.specs.Choice.{both}
+use Rattle.words.specs.ChoiceLaws.{both-true}
 use Rattle.words.specs.Bytes.{AreBytes}
 use Rattle.calls.specs.Ops.{lastWithAddress}
 use Rattle.messages.specs.Table.{Row, table}

@@ -13,8 +13,7 @@ use Rattle.refusals.specs.declared.Refusal.the-variants.{NoRoom}
 use Rattle.refusals.specs.Refusals.{numberOf}
 use Rattle.format.specs.Read.{got, repeat}
 use Rattle.format.specs.Definition.{Definition}
-use Rattle.format.specs.Reader.{Header, definitionBy, readHeader, readFile}
-use Rattle.format.specs.HeaderLaws.{versionIn}
+use Rattle.format.specs.Reader.{Header, definitionBy, readHeader, readFile, versionIn}
 use Rattle.format.specs.Writer.{fileVersion, writeFile}
 use Rattle.nodes.specs.declared.Node.{Node}
 use Rattle.nodes.specs.Place.{isGroup, lives}

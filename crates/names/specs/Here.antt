@@ -5,8 +5,10 @@ use mathlib.Core.List.{List, _∷_}
 use lib.ListN.{drop}
 use Rattle.words.specs.Parts.{region}
 use Rattle.nodes.specs.declared.Node.{Node}
-use Rattle.nodes.specs.Table.{width, nodeFrom, row-from}
-use Rattle.nodes.specs.Place.{place, search-at}
+use Rattle.nodes.specs.Table.{width, nodeFrom}
+use Rattle.nodes.specs.TableLaws.{row-from}
+use Rattle.nodes.specs.Place.{place}
+use Rattle.nodes.specs.PlaceLaws.{search-at}
 use Rattle.values.specs.declared.NodeArgument.{NodeArgument}
 use Rattle.model.specs.Layout.{nodesPlace, nodesWords, countIn, nodesIn}
 use Rattle.model.specs.Engine.{decode}

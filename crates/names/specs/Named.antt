@@ -7,9 +7,11 @@ use native.Mathlib.Omega.{arith}
 use borrow.Author.Tests.{lt-ltb, le-ltb, eq-eqb, ne-eqb}
 use lib.ListN.{length}
 use lib.Dec.{ltb}
-use Rattle.words.specs.Parts.{region, region-length}
-use Rattle.nodes.specs.Table.{rows-length}
-use Rattle.nodes.specs.Place.{place, lives, lives-place, place-most}
+use Rattle.words.specs.Parts.{region}
+use Rattle.words.specs.PartsLaws.{region-length}
+use Rattle.nodes.specs.TableLaws.{rows-length}
+use Rattle.nodes.specs.Place.{place, lives}
+use Rattle.nodes.specs.PlaceLaws.{lives-place, place-most}
 use Rattle.nodes.specs.Formed.{mostNodes}
 use Rattle.index.specs.Index.{indexed}
 use Rattle.index.specs.Words.{Keeps}

@@ -1,5 +1,7 @@
 pub mod Table
+pub mod TableLaws
 pub mod Place
+pub mod PlaceLaws
 pub mod Sizes
 pub mod Edit
 pub mod Split

@@ -6,9 +6,11 @@ use mathlib.Core.List.{List, [], _∷_, _++_, append-assoc, nil≢cons, head-eq-
 use lib.ListN.{take, drop, getD}
 use lib.Seq.{drop-drop, take-add}
 use lib.Dec.{ltb, eqb}
-use Rattle.words.specs.Choice.{pick, either-false}
+use Rattle.words.specs.Choice.{pick}
+use Rattle.words.specs.ChoiceLaws.{either-false}
 use Rattle.nodes.specs.declared.Node.{Node}
-use Rattle.nodes.specs.Table.{width, nodeFrom, rows, row-from}
+use Rattle.nodes.specs.Table.{width, nodeFrom, rows}
+use Rattle.nodes.specs.TableLaws.{row-from}
 use Rattle.nodes.specs.Place.{lives, place, deeper}
 use Rattle.nodes.specs.Edit.{withRun, lift, sink, takeDeeper, dropDeeper, onlyGroups, runOf, editRows, editAt, freeHere, freeAllHere, deepFreeHere, setRunHere, headHere, tailHere, beforeHere, afterHere, overHere}
 

@@ -7,9 +7,11 @@ use native.Mathlib.Omega.{arith}
 use lib.ListN.{length, drop, getD}
 use lib.Dec.{ltb, leb, eqb}
 use borrow.Author.Tests.{le-leb, lt-leb}
-use Rattle.words.specs.Choice.{pick, both, either, both-true}
+use Rattle.words.specs.Choice.{pick, both, either}
+use Rattle.words.specs.ChoiceLaws.{both-true}
 use Rattle.nodes.specs.declared.Node.{Node}
-use Rattle.nodes.specs.Table.{width, nodeFrom, rows, rows-end, row-from, depthField, slotField}
+use Rattle.nodes.specs.Table.{width, nodeFrom, rows, depthField, slotField}
+use Rattle.nodes.specs.TableLaws.{rows-end, row-from}
 use Rattle.nodes.specs.Place.{groupSlot}
 use Rattle.nodes.specs.Formed.{firstGiven, lastGiven, mostRows, mostNodes, countFormed, reach, steps, rooted, apart, numberFormed, fieldsFormed, rowFormed, allFormed, rowsApart, nextFormed, synthLives, latestFormed, nodesFormed}
 use Rattle.order.specs.Marks.{rowsFormed, rowsHold}

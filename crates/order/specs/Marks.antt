@@ -10,7 +10,8 @@ use lib.Dec.{ltb, eqb}
 use borrow.Author.Tests.{lt-ltb, le-ltb, ltb-true, eq-eqb, ne-eqb, eqb-true, eqb-false}
 use Rattle.words.specs.Choice.{pick, both, either}
 use Rattle.nodes.specs.declared.Node.{Node}
-use Rattle.nodes.specs.Table.{width, nodeFrom, rows, rows-end, row-from}
+use Rattle.nodes.specs.Table.{width, nodeFrom, rows}
+use Rattle.nodes.specs.TableLaws.{rows-end, row-from}
 use Rattle.nodes.specs.Place.{isGroup}
 use Rattle.nodes.specs.Formed.{mostRows, rowFormed, rowTaken, rowsApart}
 

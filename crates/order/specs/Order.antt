@@ -9,7 +9,8 @@ use lib.Seq.{drop-drop, getD-drop}
 use native.Mathlib.Nat.{add-zero}
 use borrow.Author.Tests.{eq-eqb, ne-eqb}
 use Rattle.nodes.specs.declared.Node.{Node}
-use Rattle.nodes.specs.Table.{width, nodeFrom, rows, row-from}
+use Rattle.nodes.specs.Table.{width, nodeFrom, rows}
+use Rattle.nodes.specs.TableLaws.{row-from}
 use Rattle.nodes.specs.Order.{order}
 use Rattle.order.specs.Visits.{marks, markedSynths, marked-order}
 use Rattle.order.specs.Pad.{padTo, zeros, pad-none, pad-full, pad-more}

@@ -9,7 +9,8 @@ use lib.ListN.{length, take, drop, getD, length-take}
 use lib.Seq.{drop-cons, drop-length, getD-take, length-take-le, take-at}
 use lib.Dec.{leb, eqb}
 use borrow.Author.Tests.{le-leb, lt-leb, eq-eqb, eqb-true}
-use Rattle.words.specs.Choice.{both, both-true}
+use Rattle.words.specs.Choice.{both}
+use Rattle.words.specs.ChoiceLaws.{both-true}
 use Rattle.format.specs.Reader.{sameName}
 use Rattle.nodes.specs.declared.Node.{Node}
 use Rattle.nodes.specs.Order.{order}

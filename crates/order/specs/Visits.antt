@@ -10,7 +10,8 @@ use lib.ListN.{length, drop, getD, set, replicate, length-append}
 use lib.Seq.{set-at}
 use Rattle.words.specs.Choice.{pick}
 use Rattle.nodes.specs.declared.Node.{Node}
-use Rattle.nodes.specs.Table.{width, nodeFrom, rows, row-from}
+use Rattle.nodes.specs.Table.{width, nodeFrom, rows}
+use Rattle.nodes.specs.TableLaws.{row-from}
 use Rattle.nodes.specs.Place.{isGroup}
 use Rattle.nodes.specs.Order.{isOn, orderFrom}
 

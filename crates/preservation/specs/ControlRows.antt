@@ -8,7 +8,8 @@ use lib.ListN.{length, take, drop}
 use lib.Seq.{drop-drop, drop-at, length-take-le}
 use lib.Dec.{ltb, leb, eqb}
 use borrow.Author.Tests.{ltb-true, ltb-false, eqb-false}
-use Rattle.words.specs.Choice.{pick, both, both-true, either-false}
+use Rattle.words.specs.Choice.{pick, both}
+use Rattle.words.specs.ChoiceLaws.{both-true, either-false}
 use Rattle.words.specs.Parts.{region, put}
 use Rattle.format.specs.Bounds.{every}
 use Rattle.nodes.specs.declared.Node.{Node}

@@ -6,7 +6,8 @@ use mathlib.Core.List.{List, [], _∷_}
 use native.Mathlib.Omega.{arith}
 use lib.Dec.{ltb, leb, eqb}
 use borrow.Author.Tests.{lt-ltb, le-ltb, le-leb, leb-true, leb-false, eqb-true, eqb-false, ne-eqb}
-use Rattle.words.specs.Choice.{pick, both, both-true, either}
+use Rattle.words.specs.Choice.{pick, both, either}
+use Rattle.words.specs.ChoiceLaws.{both-true}
 use Rattle.nodes.specs.declared.Node.{Node}
 use Rattle.nodes.specs.Place.{groupSlot, lives}
 use Rattle.nodes.specs.Formed.{firstGiven, lastGiven, noneLeft, mostRows, numberFormed, fieldsFormed, allFormed, nextFormed}

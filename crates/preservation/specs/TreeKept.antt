@@ -5,7 +5,7 @@ use mathlib.Core.Path.{_≡_, refl, ap, _∙_}
 use mathlib.Core.List.{List}
 use native.Mathlib.Omega.{arith}
 use lib.ListN.{length}
-use Rattle.words.specs.Parts.{region-length}
+use Rattle.words.specs.PartsLaws.{region-length}
 use Rattle.nodes.specs.Order.{order}
 use Rattle.index.specs.Nodes.{afresh-indexed}
 use Rattle.model.specs.declared.TreeCommand.{TreeCommand}

@@ -7,7 +7,8 @@ use native.Mathlib.Omega.{arith}
 use native.Mathlib.Nat.{zero-add}
 use lib.ListN.{length, drop, getD}
 use lib.Dec.{leb}
-use Rattle.words.specs.Choice.{both, both-true}
+use Rattle.words.specs.Choice.{both}
+use Rattle.words.specs.ChoiceLaws.{both-true}
 use Rattle.words.specs.Parts.{region}
 use Rattle.readable.specs.declared.found.Found.the-variants as found
 use Rattle.format.specs.Read.{Read, got, bad}
@@ -17,7 +18,8 @@ use Rattle.format.specs.Names.{firstName}
 use Rattle.readable.specs.Lookup.{unitsIn, nameIn, nameOfIn}
 use Rattle.readable.specs.LookupOf.{units-of, name-of, first-name-of}
 use Rattle.readable.specs.Readable.{ReadableWhole}
-use Rattle.nodes.specs.Table.{width, row-from, slotField}
+use Rattle.nodes.specs.Table.{width, slotField}
+use Rattle.nodes.specs.TableLaws.{row-from}
 use Rattle.nodes.specs.Place.{groupSlot, isGroup}
 use Rattle.model.specs.Layout.{slotCount, nodesPlace, nodesWords, countIn, lengthsIn, nodesIn}
 use Rattle.model.specs.Engine.{Slot, decode, noDefinition, valueOr, definitionIn, slotAt, definitionOf, slotTaken}

@@ -11,7 +11,7 @@ use Rattle.words.specs.Parts.{region}
 use Rattle.readable.specs.Lookup.{unitsIn}
 use Rattle.osc.specs.Message.{int, message, tags, arguments, padded}
 use Rattle.nodes.specs.declared.Node.{Node}
-use Rattle.nodes.specs.Table.{rows-end, rows-length}
+use Rattle.nodes.specs.TableLaws.{rows-end, rows-length}
 use Rattle.nodes.specs.Place.{isGroup}
 use Rattle.model.specs.declared.Query.the-variants as query
 use Rattle.model.specs.declared.Answer.{Answer}

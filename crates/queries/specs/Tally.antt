@@ -14,7 +14,7 @@ use Rattle.words.specs.Parts.{region}
 use Rattle.readable.specs.Lookup.{unitsIn}
 use Rattle.readable.specs.Readable.{ReadableWhole}
 use Rattle.nodes.specs.declared.Node.{Node}
-use Rattle.nodes.specs.Table.{row-from, rows-end, rows-length}
+use Rattle.nodes.specs.TableLaws.{row-from, rows-end, rows-length}
 use Rattle.nodes.specs.Place.{groupSlot, isGroup}
 use Rattle.nodes.specs.Formed.{mostNodes}
 use Rattle.model.specs.Layout.{slotCount, countIn, nodesIn, nodesPlace, nodesWords, controlsIn}

@@ -9,7 +9,7 @@ use Rattle.words.specs.Parts.{region}
 use Rattle.faults.specs.declared.Fault.{Fault}
 use Rattle.format.specs.Read.{Read, got, bad, ending, onRead}
 use Rattle.format.specs.Definition.{Definition}
-use Rattle.format.specs.HeaderLaws.{fileWidth}
+use Rattle.format.specs.Reader.{fileWidth}
 use Rattle.files.specs.Forward.{definition-whole}
 use Rattle.reader.specs.declared.places.Span.the-variants.{Between, Nowhere}
 use Rattle.reader.specs.Places.{definitionHere, placeAfter, placePast, spanAt, bytesAt}

@@ -10,8 +10,7 @@ use Rattle.words.specs.Parts.{region}
 use Rattle.files.specs.declared.file.Checked.{Checked}
 use Rattle.files.specs.declared.file.Checked.the-variants.{Accepted, Refused}
 use Rattle.format.specs.Definition.{Definition}
-use Rattle.format.specs.Reader.{definitionBy}
-use Rattle.format.specs.HeaderLaws.{fileWidth}
+use Rattle.format.specs.Reader.{definitionBy, fileWidth}
 use Rattle.files.specs.File.{firstPlace}
 use Rattle.format.specs.Read.{Read, onRead}
 use Rattle.reader.specs.declared.places.Span.{Span}

@@ -12,8 +12,8 @@ use Rattle.faults.specs.declared.Fault.the-variants.{BytesLeft}
 use Rattle.reader.specs.declared.places.Span.the-variants.{Between, Nowhere}
 use Rattle.format.specs.Read.{Read, got, bad, andThen, repeat}
 use Rattle.format.specs.Definition.{Definition}
-use Rattle.format.specs.Reader.{fits, readDefinitions, readHeader, readFile}
-use Rattle.format.specs.HeaderLaws.{fileWidth, header-got}
+use Rattle.format.specs.Reader.{fits, readDefinitions, readHeader, readFile, fileWidth}
+use Rattle.format.specs.HeaderLaws.{header-got}
 use Rattle.format.specs.RepeatLaws.{went-on}
 use Rattle.files.specs.Forward.{definition-whole}
 use Rattle.files.specs.File.{verdict, firstPlace}

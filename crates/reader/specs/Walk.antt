@@ -10,8 +10,7 @@ use Rattle.words.specs.Bytes.{AreBytes}
 use Rattle.format.specs.Read.{got}
 use Rattle.format.specs.Definition.{Definition}
 use Rattle.format.specs.declared.Width.{Width}
-use Rattle.format.specs.Reader.{definitionBy, readFile}
-use Rattle.format.specs.HeaderLaws.{fileWidth}
+use Rattle.format.specs.Reader.{definitionBy, readFile, fileWidth}
 use Rattle.files.specs.File.{verdict, firstPlace}
 use Rattle.reader.specs.declared.places.Span.{Span}
 use Rattle.reader.specs.declared.reader.Reader.{Reader}

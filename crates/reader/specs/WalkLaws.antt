@@ -9,12 +9,12 @@ use lib.Seq.{drop-drop}
 use borrow.Author.Tests.{le-leb, lt-leb, leb-false}
 use denote.Ref.{RefT, now}
 use Rattle.words.specs.Bytes.{AreBytes}
-use Rattle.words.specs.Parts.{region, region-length}
+use Rattle.words.specs.Parts.{region}
+use Rattle.words.specs.PartsLaws.{region-length}
 use Rattle.faults.specs.declared.Fault.{Fault}
 use Rattle.format.specs.Read.{Read, got, bad, andThen, onRead}
 use Rattle.format.specs.Definition.{Definition}
-use Rattle.format.specs.Reader.{fits, readDefinitions, readFile}
-use Rattle.format.specs.HeaderLaws.{fileWidth}
+use Rattle.format.specs.Reader.{fits, readDefinitions, readFile, fileWidth}
 use Rattle.files.specs.File.{firstPlace}
 use Rattle.format.specs.RepeatLaws.{went-on}
 use Rattle.files.specs.FileLaws.{fitting-got}

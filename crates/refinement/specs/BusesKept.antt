@@ -5,7 +5,8 @@ use mathlib.Core.Path.{_≡_, ap, _∙_}
 use mathlib.Core.List.{List}
 use native.Mathlib.Omega.{arith}
 use lib.ListN.{length, getD, replicate, length-set, length-replicate}
-use Rattle.words.specs.Parts.{region, put-length, region-length}
+use Rattle.words.specs.Parts.{region}
+use Rattle.words.specs.PartsLaws.{put-length, region-length}
 use Rattle.values.specs.Values.{pattern}
 use Rattle.model.specs.declared.BusCommand.{BusCommand}
 use Rattle.model.specs.declared.BusCommand.the-variants as buses

@@ -9,7 +9,8 @@ use native.Mathlib.Omega.{arith}
 use borrow.Author.Tests.{ltb-true, ltb-false, eqb-false, eq-eqb, ne-eqb, not-true}
 use lib.ListN.{length, take, drop, drop-of-length-le}
 use lib.Dec.{ltb, leb, eqb}
-use Rattle.words.specs.Choice.{pick, either, both-true, either-false}
+use Rattle.words.specs.Choice.{pick, either}
+use Rattle.words.specs.ChoiceLaws.{both-true, either-false}
 use Rattle.words.specs.Parts.{region}
 use Rattle.format.specs.Definition.{Definition}
 use Rattle.format.specs.Names.{Covered}

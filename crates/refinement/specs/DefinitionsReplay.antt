@@ -9,7 +9,8 @@ use native.Mathlib.Omega.{arith}
 use borrow.Author.Tests.{not-true, ltb-false, leb-false, eq-eqb}
 use lib.ListN.{length, drop}
 use lib.Dec.{leb, eqb}
-use Rattle.words.specs.Choice.{pick, both, either, both-true}
+use Rattle.words.specs.Choice.{pick, both, either}
+use Rattle.words.specs.ChoiceLaws.{both-true}
 use Rattle.format.specs.Definition.{Definition}
 use Rattle.format.specs.Reader.{sameName, among, sizeLimit}
 use Rattle.format.specs.Writer.{writeDefinition}

@@ -8,7 +8,8 @@ use native.Mathlib.Omega.{arith}
 use borrow.Author.Tests.{ltb-true, ltb-false, not-true}
 use lib.ListN.{length}
 use lib.Dec.{ltb, eqb}
-use Rattle.words.specs.Choice.{pick, both-true}
+use Rattle.words.specs.Choice.{pick}
+use Rattle.words.specs.ChoiceLaws.{both-true}
 use Rattle.nodes.specs.declared.Node.{Node}
 use Rattle.nodes.specs.Place.{isGroup, lives}
 use Rattle.nodes.specs.Forest.{Forest, none as noTree, node, flatten, mapForest}
@@ -17,7 +18,8 @@ use Rattle.treerefinement.specs.Leaves.{Leaves}
 use Rattle.values.specs.declared.NodeArgument.{NodeArgument}
 use Rattle.values.specs.declared.Target.{Target}
 use Rattle.values.specs.declared.Target.the-variants.{Latest, Reserved}
-use Rattle.values.specs.Targets.{named, targetOf, signed-high, target-number, target-reserved}
+use Rattle.values.specs.Targets.{named, targetOf}
+use Rattle.values.specs.TargetsLaws.{signed-high, target-number, target-reserved}
 use Rattle.model.specs.Engine.{Slot, Engine, definitionOf, controlsOf, residents}
 use Rattle.model.specs.View.{group, synth, PlainNode, Row, isGroupKind, kindIn, viewOf, viewRows}
 use Rattle.model.specs.Meaning.{meantBy, knownBy, meant, known}

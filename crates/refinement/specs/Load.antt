@@ -9,7 +9,8 @@ use native.Mathlib.Omega.{arith}
 use lib.ListN.{length, set, length-append}
 use lib.Seq.{getD-set-other}
 use lib.Dec.{leb}
-use Rattle.words.specs.Choice.{pick, both, both-true, either, either-false}
+use Rattle.words.specs.Choice.{pick, both, either}
+use Rattle.words.specs.ChoiceLaws.{both-true, either-false}
 use Rattle.words.specs.Bytes.{AreBytes}
 use Rattle.format.specs.Read.{Read, got}
 use Rattle.format.specs.Definition.{Definition}

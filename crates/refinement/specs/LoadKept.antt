@@ -8,7 +8,8 @@ use native.Mathlib.Omega.{arith}
 use lib.ListN.{length}
 use lib.Dec.{leb}
 use borrow.Author.Tests.{leb-true, ltb-false, eq-eqb}
-use Rattle.words.specs.Choice.{either, both-true}
+use Rattle.words.specs.Choice.{either}
+use Rattle.words.specs.ChoiceLaws.{both-true}
 use Rattle.words.specs.Bytes.{AreBytes}
 use Rattle.format.specs.Read.{Read}
 use Rattle.format.specs.Definition.{Definition}

@@ -9,7 +9,8 @@ use lib.ListN.{length, take, drop, getD, length-append, length-drop, take-append
 use lib.Seq.{length-take-le, getD-append-add, getD-take, getD-drop}
 use lib.Dec.{ltb, leb}
 use borrow.Author.Tests.{ltb-true, ltb-false, le-leb, leb-true}
-use Rattle.words.specs.Choice.{pick, both, both-true}
+use Rattle.words.specs.Choice.{pick, both}
+use Rattle.words.specs.ChoiceLaws.{both-true}
 use Rattle.format.specs.Bounds.{every}
 use Rattle.format.specs.Names.{Covered}
 use Rattle.nodes.specs.declared.Node.{Node}

@@ -9,7 +9,8 @@ use native.Mathlib.Omega.{arith}
 use lib.ListN.{length}
 use lib.Dec.{eqb, leb·suc-suc}
 use borrow.Author.Tests.{lt-ltb, eq-eqb, eqb-true}
-use Rattle.words.specs.Choice.{pick, both, both-true}
+use Rattle.words.specs.Choice.{pick, both}
+use Rattle.words.specs.ChoiceLaws.{both-true}
 use Rattle.format.specs.Definition.{Definition}
 use Rattle.format.specs.Reader.{sameName}
 use Rattle.model.specs.Engine.{Slot, nameIn, definitionIn, residentFrom, residentOf}

@@ -8,8 +8,9 @@ use native.Mathlib.Omega.{arith}
 use borrow.Author.Tests.{lt-ltb, le-ltb, le-leb, ltb-false, leb-true, leb-false, eqb-false, ne-eqb, not-false}
 use lib.ListN.{length, take, drop, set, replicate, length-drop}
 use lib.Dec.{ltb, leb, eqb}
-use Rattle.words.specs.Choice.{pick, both, either, both-true, either-false}
-use Rattle.words.specs.Parts.{region-length}
+use Rattle.words.specs.Choice.{pick, both, either}
+use Rattle.words.specs.ChoiceLaws.{both-true, either-false}
+use Rattle.words.specs.PartsLaws.{region-length}
 use Rattle.words.specs.Bytes.{AreBytes}
 use Rattle.format.specs.Read.{Read}
 use Rattle.format.specs.Definition.{Definition}

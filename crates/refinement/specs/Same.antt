@@ -8,7 +8,8 @@ use native.Mathlib.Omega.{arith}
 use borrow.Author.Tests.{leb-true, eqb-true, ne-eqb, not-false}
 use lib.ListN.{length, drop, getD}
 use lib.Dec.{eqb}
-use Rattle.words.specs.Choice.{pick, either, either-false}
+use Rattle.words.specs.Choice.{pick, either}
+use Rattle.words.specs.ChoiceLaws.{either-false}
 use Rattle.format.specs.Definition.{Definition}
 use Rattle.format.specs.Names.{Covered}
 use Rattle.nodes.specs.declared.Node.{Node}

@@ -6,7 +6,8 @@ use mathlib.Core.List.{List, [], _∷_}
 use native.Mathlib.Omega.{arith}
 use lib.ListN.{length, set}
 use borrow.Author.Tests.{not-true}
-use Rattle.words.specs.Choice.{pick, both, either, both-true, either-false}
+use Rattle.words.specs.Choice.{pick, both, either}
+use Rattle.words.specs.ChoiceLaws.{both-true, either-false}
 use Rattle.format.specs.Reader.{readDefinition, sameName, among}
 use Rattle.model.specs.Engine.{Slot, noDefinition, valueOr, nameIn, slotAt}
 use Rattle.model.specs.Effects.{retired}

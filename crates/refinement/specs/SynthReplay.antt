@@ -10,7 +10,8 @@ use borrow.Author.Tests.{not-false, ltb-true, eqb-true, eqb-false, eq-eqb}
 use lib.ListN.{length, take, drop}
 use lib.Dec.{ltb, leb, eqb}
 use lib.Seq.{drop-at, length-take-le}
-use Rattle.words.specs.Choice.{pick, both, either, both-true, either-false}
+use Rattle.words.specs.Choice.{pick, both, either}
+use Rattle.words.specs.ChoiceLaws.{both-true, either-false}
 use Rattle.format.specs.Definition.{Definition}
 use Rattle.nodes.specs.declared.Node.{Node}
 use Rattle.nodes.specs.Place.{groupSlot, isGroup, lives}

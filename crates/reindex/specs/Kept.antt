@@ -10,7 +10,8 @@ use lib.Seq.{getD-set-same, getD-set-other, getD-at, drop-cons}
 use lib.Dec.{ltb, leb, eqb}
 use Rattle.words.specs.Choice.{pick}
 use Rattle.nodes.specs.declared.Node.{Node}
-use Rattle.nodes.specs.Table.{width, nodeFrom, rows, rows-length, rows-end, row-from}
+use Rattle.nodes.specs.Table.{width, nodeFrom, rows}
+use Rattle.nodes.specs.TableLaws.{rows-length, rows-end, row-from}
 use Rattle.nodes.specs.Place.{isGroup}
 use Rattle.nodes.specs.Edit.{onlyGroups}
 use Rattle.index.specs.Index.{numbers, numberAt}

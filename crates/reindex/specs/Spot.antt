@@ -10,7 +10,8 @@ use lib.ListN.{length, take, drop, getD, set, length-drop}
 use lib.Seq.{getD-take, length-take-le, take-take, take-add, drop-at, set-split, length-paste, paste}
 use lib.Dec.{ltb, eqb}
 use Rattle.words.specs.Choice.{pick}
-use Rattle.nodes.specs.Table.{width, rows, gap-over}
+use Rattle.nodes.specs.Table.{width, rows}
+use Rattle.nodes.specs.TableLaws.{gap-over}
 use Rattle.index.specs.Index.{numbers, numberAt, putIn}
 use Rattle.index.specs.Words.{number-word}
 

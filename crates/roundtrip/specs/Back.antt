@@ -8,7 +8,7 @@ use lib.ListN.{length}
 use lib.Dec.{leb, eqb}
 use borrow.Author.Tests.{leb-true, le-ltb, not-true}
 use Rattle.words.specs.Bytes.{bytes32}
-use Rattle.words.specs.Choice.{both-true}
+use Rattle.words.specs.ChoiceLaws.{both-true}
 use Rattle.faults.specs.declared.Fault.the-variants.{NotSynthDef, BadVersion}
 use Rattle.format.specs.Read.{Read, got, andThen, checked}
 use Rattle.format.specs.Definition.{Definition}

@@ -6,7 +6,7 @@ use mathlib.Core.List.{List, [], _∷_, _++_}
 use native.Mathlib.Nat.{add-zero}
 use native.Mathlib.Omega.{arith}
 use lib.ListN.{length, length-append}
-use Rattle.words.specs.Choice.{both-true}
+use Rattle.words.specs.ChoiceLaws.{both-true}
 use Rattle.faults.specs.declared.Fault.{Fault}
 use Rattle.format.specs.Read.{Read, got, andThen, checked, repeat}
 use Rattle.format.specs.Writer.{writeAll}

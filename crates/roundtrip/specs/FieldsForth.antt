@@ -9,8 +9,10 @@ use lib.ListN.{length, getD}
 use lib.Seq.{drop-cons}
 use lib.Dec.{ltb, leb}
 use borrow.Author.Tests.{lt-ltb, le-leb, leb-true, leb-false, ltb-true}
-use Rattle.words.specs.Choice.{pick, both, both-true}
-use Rattle.words.specs.Parts.{region, region-length}
+use Rattle.words.specs.Choice.{pick, both}
+use Rattle.words.specs.ChoiceLaws.{both-true}
+use Rattle.words.specs.Parts.{region}
+use Rattle.words.specs.PartsLaws.{region-length}
 use Rattle.faults.specs.declared.Fault.the-variants.{Truncated, BadCount, BadName, BadRate, BadIndex}
 use Rattle.format.specs.declared.Width.{Width}
 use Rattle.format.specs.declared.Width.the-variants.{Short, Long}

@@ -16,8 +16,8 @@ use Rattle.format.specs.declared.Width.{Width}
 use Rattle.format.specs.declared.Width.the-variants.{Short, Long}
 use Rattle.format.specs.Read.{Read, got, bad, andThen}
 use Rattle.format.specs.Definition.{Definition}
-use Rattle.format.specs.Reader.{mostDefinitions, sizeLimit, among, fits, isVersion, widthOf, Header, frontBy, definitionBy, readDefinitions, readHeader, readFile}
-use Rattle.format.specs.HeaderLaws.{versionIn, fileWidth, header-got}
+use Rattle.format.specs.Reader.{mostDefinitions, sizeLimit, among, fits, isVersion, widthOf, Header, frontBy, definitionBy, readDefinitions, readHeader, readFile, versionIn, fileWidth}
+use Rattle.format.specs.HeaderLaws.{header-got}
 use Rattle.format.specs.Writer.{fileType, firstVersion, fileVersion, versionOf, writeAll, writeDefinitionBy, writeDefinition, writeHeader, writeFileBy, writeFile}
 use Rattle.format.specs.Bounds.{isDefinitionBy, isDefinition, areDefinitions, isFile}
 use Rattle.roundtrip.specs.Wider.{wider}

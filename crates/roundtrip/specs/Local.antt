@@ -6,7 +6,7 @@ use native.Mathlib.Nat.{zero-add}
 use lib.ListN.{length, take, drop}
 use native.Mathlib.Omega.{arith}
 use Rattle.words.specs.Bytes.{AreBytes}
-use Rattle.words.specs.Parts.{region-length}
+use Rattle.words.specs.PartsLaws.{region-length}
 use Rattle.format.specs.Read.{got}
 use Rattle.format.specs.Definition.{Definition}
 use Rattle.format.specs.declared.Width.{Width}

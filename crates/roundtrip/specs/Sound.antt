@@ -9,7 +9,8 @@ use lib.ListN.{length, take, drop}
 use lib.Seq.{drop-drop, take-add}
 use Rattle.words.specs.Bytes.{AreBytes}
 use Rattle.words.specs.Choice.{pick}
-use Rattle.words.specs.Parts.{region, region-length}
+use Rattle.words.specs.Parts.{region}
+use Rattle.words.specs.PartsLaws.{region-length}
 use Rattle.faults.specs.declared.Fault.{Fault}
 use Rattle.format.specs.Read.{Read, got, bad, andThen, checked, repeat}
 use Rattle.format.specs.Writer.{writeAll}

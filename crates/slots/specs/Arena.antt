@@ -10,7 +10,8 @@ use lib.ListN.{length, take, drop, getD, set, length-take, length-drop, length-a
 use lib.Seq.{drop-at, drop-drop, take-take, length-take-le, drop-append-add, take-append-add}
 use lib.Dec.{eqb}
 use Rattle.words.specs.Choice.{pick}
-use Rattle.words.specs.Parts.{region, put, put-length, region-put, past-put, before-put}
+use Rattle.words.specs.Parts.{region, put}
+use Rattle.words.specs.PartsLaws.{put-length, region-put, past-put, before-put}
 use Rattle.format.specs.Reader.{sizeLimit}
 use Rattle.model.specs.Layout.{startOf, slotIn}
 use Rattle.model.specs.Engine.{Slot, slotsFrom, slotAt}

@@ -7,7 +7,8 @@ use mathlib.Core.List.{List}
 use native.Mathlib.Omega.{arith}
 use lib.Dec.{ltb, eqb}
 use borrow.Author.Tests.{ltb-true, leb-true, not-false}
-use Rattle.words.specs.Choice.{pick, both, both-true, either}
+use Rattle.words.specs.Choice.{pick, both, either}
+use Rattle.words.specs.ChoiceLaws.{both-true}
 use Rattle.format.specs.Read.{Read, got, bad}
 use Rattle.format.specs.Definition.{Definition}
 use Rattle.format.specs.Reader.{readFile}

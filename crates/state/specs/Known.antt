@@ -6,9 +6,9 @@ use mathlib.Core.List.{List}
 use lib.ListN.{length}
 use lib.Dec.{leb, eqb}
 use borrow.Author.Tests.{leb-true, eqb-true}
-use Rattle.words.specs.Choice.{both-true}
+use Rattle.words.specs.ChoiceLaws.{both-true}
 use Rattle.nodes.specs.declared.Node.{Node}
-use Rattle.nodes.specs.Table.{rows-length}
+use Rattle.nodes.specs.TableLaws.{rows-length}
 use Rattle.nodes.specs.Order.{order}
 use Rattle.nodes.specs.Formed.{mostNodes, countFormed, rooted, apart, allFormed, rowsApart, nextFormed, latestFormed}
 use Rattle.nodes.specs.Formed as nodes

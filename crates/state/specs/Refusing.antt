@@ -6,7 +6,8 @@ use mathlib.Core.Path.{_≡_, refl}
 use mathlib.Core.List.{List, [], _∷_}
 use native.Mathlib.Omega.{arith}
 use lib.Dec.{eqb}
-use Rattle.words.specs.Choice.{pick, both-true, either}
+use Rattle.words.specs.Choice.{pick, either}
+use Rattle.words.specs.ChoiceLaws.{both-true}
 use Rattle.refusals.specs.Refusals.{numberOf}
 use Rattle.format.specs.Read.{Read, got, bad}
 use Rattle.format.specs.Definition.{Definition}

@@ -5,7 +5,8 @@ use mathlib.Core.List.{List, [], _∷_}
 use native.Mathlib.Omega.{arith}
 use lib.ListN.{length, take, drop, getD, length-drop}
 use lib.Seq.{drop-drop, take-take, getD-take}
-use Rattle.words.specs.Parts.{region, put, put-length, past-put, before-put}
+use Rattle.words.specs.Parts.{region, put}
+use Rattle.words.specs.PartsLaws.{put-length, past-put, before-put}
 use Rattle.model.specs.Layout.{putHeader}
 
 -- a part lies in the front that holds it

@@ -7,8 +7,10 @@ use native.Mathlib.Omega.{arith}
 use lib.ListN.{length, take}
 use lib.Dec.{leb}
 use borrow.Author.Tests.{leb-true, eq-eqb, ne-eqb, le-leb, lt-leb}
-use Rattle.words.specs.Choice.{both, both-true}
-use Rattle.words.specs.Parts.{region, region-length}
+use Rattle.words.specs.Choice.{both}
+use Rattle.words.specs.ChoiceLaws.{both-true}
+use Rattle.words.specs.Parts.{region}
+use Rattle.words.specs.PartsLaws.{region-length}
 use Rattle.nodes.specs.declared.Node.{Node}
 use Rattle.nodes.specs.Table.{rows}
 use Rattle.nodes.specs.Formed.{mostNodes}

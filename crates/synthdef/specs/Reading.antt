@@ -15,8 +15,8 @@ use Rattle.format.specs.declared.Width.{Width}
 use Rattle.format.specs.declared.Width.the-variants.{Long}
 use Rattle.format.specs.Read.{Read, got, bad, andThen, onRead}
 use Rattle.format.specs.Definition.{Definition}
-use Rattle.format.specs.HeaderLaws.{versionIn, fileWidth, header-got}
-use Rattle.format.specs.Reader.{sizeLimit, among, fits, isVersion, widthOf, definitionBy, readDefinitions, readHeader, readFile}
+use Rattle.format.specs.HeaderLaws.{header-got}
+use Rattle.format.specs.Reader.{versionIn, fileWidth, sizeLimit, among, fits, isVersion, widthOf, definitionBy, readDefinitions, readHeader, readFile}
 use Rattle.format.specs.RepeatLaws.{went-on, got-value, got-place}
 use Rattle.format.specs.Writer.{firstVersion, fileVersion, versionOf, writeAll, writeDefinition, writeHeader, writeFile}
 use Rattle.osc.specs.Over.{over, over-over, over-length, over-first}

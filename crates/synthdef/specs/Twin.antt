@@ -7,8 +7,7 @@ use lib.Dec.{leb}
 use Rattle.words.specs.Choice.{pick}
 use Rattle.format.specs.Read.{Read, got, bad, onRead}
 use Rattle.format.specs.Definition.{Definition}
-use Rattle.format.specs.HeaderLaws.{versionIn}
-use Rattle.format.specs.Reader.{readFile}
+use Rattle.format.specs.Reader.{versionIn, readFile}
 use Rattle.format.specs.Writer.{writeFile}
 
 -- the definitions of an accepted file

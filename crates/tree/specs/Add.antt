@@ -7,7 +7,7 @@ use native.Mathlib.Nat.{zero-add}
 use lib.ListN.{length}
 use Rattle.nodes.specs.declared.Node.{Node}
 use Rattle.nodes.specs.Table.{width, rows}
-use Rattle.nodes.specs.Place.{end-most}
+use Rattle.nodes.specs.PlaceLaws.{end-most}
 use Rattle.nodes.specs.Sizes.{depthAt, endAt}
 use Rattle.nodes.specs.Edit.{level, lift, editAt}
 use Rattle.nodes.specs.Split.{addHead-at, addTail-at, addBefore-at, addAfter-at}

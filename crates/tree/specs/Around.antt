@@ -10,8 +10,10 @@ use lib.Dec.{ltb, eqb}
 use borrow.Author.Tests.{lt-ltb, le-ltb, eq-eqb, ne-eqb}
 use Rattle.words.specs.Choice.{pick}
 use Rattle.nodes.specs.declared.Node.{Node}
-use Rattle.nodes.specs.Table.{width, nodeFrom, rows, rows-take, rows-end, row-from}
-use Rattle.nodes.specs.Place.{place, search-at, deeper}
+use Rattle.nodes.specs.Table.{width, nodeFrom, rows}
+use Rattle.nodes.specs.TableLaws.{rows-take, rows-end, row-from}
+use Rattle.nodes.specs.Place.{place, deeper}
+use Rattle.nodes.specs.PlaceLaws.{search-at}
 use Rattle.nodes.specs.Edit.{sink, dropDeeper}
 use Rattle.nodes.specs.Split.{dropDeeper-at, runOf-at}
 use Rattle.nodes.specs.Structure.{noNode, atDepth, childrenOf, depthOf, lastAbove, parentOf, lastBeside, previousOf, firstBeside, nextOf}

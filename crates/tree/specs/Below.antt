@@ -7,10 +7,13 @@ use native.Mathlib.Omega.{arith}
 use lib.ListN.{length, take, drop, length-drop}
 use lib.Dec.{ltb, eqb, leb·suc-suc}
 use borrow.Author.Tests.{ltb-true, ltb-false, lt-ltb, le-ltb, le-leb, lt-leb, eqb-true}
-use Rattle.words.specs.Choice.{pick, either-false}
+use Rattle.words.specs.Choice.{pick}
+use Rattle.words.specs.ChoiceLaws.{either-false}
 use Rattle.nodes.specs.declared.Node.{Node}
-use Rattle.nodes.specs.Table.{width, nodeFrom, rows, rows-length, row-from}
-use Rattle.nodes.specs.Place.{lives, place, deeper, end-most}
+use Rattle.nodes.specs.Table.{width, nodeFrom, rows}
+use Rattle.nodes.specs.TableLaws.{rows-length, row-from}
+use Rattle.nodes.specs.Place.{lives, place, deeper}
+use Rattle.nodes.specs.PlaceLaws.{end-most}
 use Rattle.nodes.specs.Edit.{sink, isBelow}
 use Rattle.nodes.specs.Split.{runOf-at}
 use Rattle.nodes.specs.Formed.{apart}

@@ -5,7 +5,8 @@ use mathlib.Core.List.{List, _++_, append-assoc}
 use native.Mathlib.Omega.{arith}
 use lib.ListN.{length, take, drop, length-append, length-take}
 use Rattle.nodes.specs.declared.Node.{Node}
-use Rattle.nodes.specs.Table.{width, rows, rows-length, rows-take, encode, encode-rows, encode-length, encode-append, rows-encode, fill}
+use Rattle.nodes.specs.Table.{width, rows, encode, fill}
+use Rattle.nodes.specs.TableLaws.{rows-length, rows-take, encode-rows, encode-length, encode-append, rows-encode}
 use Rattle.nodes.specs.Sizes.{depthAt, endAt}
 use Rattle.nodes.specs.Edit.{onlyGroups, editAt, deepFreeHere}
 use Rattle.nodes.specs.Split.{takeDeeper-at, deepFree-at}

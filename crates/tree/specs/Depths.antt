@@ -6,7 +6,8 @@ use native.Mathlib.Omega.{arith}
 use lib.ListN.{length, take, drop, getD, set, take-append-drop, length-append, length-drop}
 use lib.Seq.{getD-append-add, getD-drop, drop-drop, set-at, length-take-le}
 use Rattle.nodes.specs.declared.Node.{Node}
-use Rattle.nodes.specs.Table.{width, rows, nodeAt, nodeFrom, wordsOf, encode, rows-length, rows-take, rows-end, row-from, node-from, encode-length, encode-append, encode-one, depthField}
+use Rattle.nodes.specs.Table.{width, rows, nodeAt, nodeFrom, wordsOf, encode, depthField}
+use Rattle.nodes.specs.TableLaws.{rows-length, rows-take, rows-end, row-from, node-from, encode-length, encode-append, encode-one}
 use Rattle.nodes.specs.Edit.{level, lift, sink}
 use Rattle.tree.specs.Words.{whole}
 

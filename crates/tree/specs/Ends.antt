@@ -10,8 +10,10 @@ use lib.Dec.{ltb, leb}
 use borrow.Author.Tests.{ltb-true, ltb-false, le-leb, leb-true, leb-false, lt-ltb}
 use Rattle.words.specs.Choice.{pick, both}
 use Rattle.nodes.specs.declared.Node.{Node}
-use Rattle.nodes.specs.Table.{width, nodeFrom, rows, row-from}
-use Rattle.nodes.specs.Place.{deeper, nested, end-most}
+use Rattle.nodes.specs.Table.{width, nodeFrom, rows}
+use Rattle.nodes.specs.TableLaws.{row-from}
+use Rattle.nodes.specs.Place.{deeper}
+use Rattle.nodes.specs.PlaceLaws.{nested, end-most}
 use Rattle.nodes.specs.Sizes.{depthAt, endAt}
 use Rattle.tree.specs.declared.action.Position.{Position}
 use Rattle.tree.specs.declared.action.Position.the-variants.{Head, Tail, Before, After}

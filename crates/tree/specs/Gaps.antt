@@ -6,8 +6,9 @@ use native.Mathlib.Omega.{arith}
 use lib.ListN.{length, take, drop, length-append, length-take, length-drop}
 use lib.Seq.{drop-at, length-take-le, take-take, take-append-le}
 use Rattle.nodes.specs.declared.Node.{Node}
-use Rattle.nodes.specs.Table.{width, rows, wordsOf, over, fill, fill-length, rows-length}
-use Rattle.nodes.specs.Place.{end-most}
+use Rattle.nodes.specs.Table.{width, rows, wordsOf, over, fill}
+use Rattle.nodes.specs.TableLaws.{fill-length, rows-length}
+use Rattle.nodes.specs.PlaceLaws.{end-most}
 use Rattle.nodes.specs.Sizes.{depthAt, endAt}
 use Rattle.nodes.specs.Edit.{level, editAt}
 use Rattle.nodes.specs.Split.{addOver-at}

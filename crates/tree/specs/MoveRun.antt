@@ -8,7 +8,8 @@ use lib.Seq.{take-at, drop-at, length-take-le}
 use lib.Dec.{leb}
 use Rattle.words.specs.Choice.{pick}
 use Rattle.nodes.specs.declared.Node.{Node}
-use Rattle.nodes.specs.Table.{width, rows, encode, fill, rows-length, rows-take, rows-drop, encode-length, encode-append, depthField}
+use Rattle.nodes.specs.Table.{width, rows, encode, fill, depthField}
+use Rattle.nodes.specs.TableLaws.{rows-length, rows-take, rows-drop, encode-length, encode-append}
 use Rattle.nodes.specs.Sizes.{depthAt, endAt}
 use Rattle.tree.specs.declared.add.Place.{Place}
 use Rattle.tree.specs.Words.{whole, take-words, drop-words}

@@ -10,8 +10,10 @@ use lib.Dec.{ltb, leb}
 use borrow.Author.Tests.{ltb-true, ltb-false, le-leb, lt-leb}
 use Rattle.words.specs.Choice.{pick}
 use Rattle.nodes.specs.declared.Node.{Node}
-use Rattle.nodes.specs.Table.{width, nodeFrom, rows, fill, rows-length, rows-fill, row-from}
-use Rattle.nodes.specs.Place.{place, deeper, end-most}
+use Rattle.nodes.specs.Table.{width, nodeFrom, rows, fill}
+use Rattle.nodes.specs.TableLaws.{rows-length, rows-fill, row-from}
+use Rattle.nodes.specs.Place.{place, deeper}
+use Rattle.nodes.specs.PlaceLaws.{end-most}
 use Rattle.nodes.specs.Edit.{lift, sink, runOf, editRows, freeHere, cut}
 use Rattle.nodes.specs.Split.{edit-first, cut-at, runOf-at}
 use Rattle.nodes.specs.Sizes.{depthAt, endAt}

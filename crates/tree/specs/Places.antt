@@ -10,7 +10,8 @@ use lib.Dec.{ltb, leb, eqb}
 use borrow.Author.Tests.{ltb-true, ltb-false, le-leb, lt-leb}
 use Rattle.words.specs.Choice.{pick}
 use Rattle.nodes.specs.declared.Node.{Node}
-use Rattle.nodes.specs.Place.{place, deeper, nested}
+use Rattle.nodes.specs.Place.{place, deeper}
+use Rattle.nodes.specs.PlaceLaws.{nested}
 
 -- the place of a number that stands in the front
 pub place-front : (n k : ℕ) (l z : List Node) → place n l < k → k ≤ length l → place n (take k l ++ z) ≡ place n l

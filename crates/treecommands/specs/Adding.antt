@@ -8,7 +8,8 @@ use lib.ListN.{length}
 use lib.Dec.{leb, eqb}
 use borrow.Author.Tests.{leb-false}
 use Rattle.nodes.specs.declared.Node.{Node}
-use Rattle.nodes.specs.Table.{width, rows-length}
+use Rattle.nodes.specs.Table.{width}
+use Rattle.nodes.specs.TableLaws.{rows-length}
 use Rattle.nodes.specs.Place.{isGroup}
 use Rattle.nodes.specs.Formed.{mostNodes}
 use Rattle.values.specs.declared.NodeArgument.{NodeArgument}

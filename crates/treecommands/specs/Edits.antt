@@ -10,8 +10,10 @@ use lib.Seq.{take-take, take-append-le, drop-append-le, take-append-add, drop-ap
 use lib.Dec.{leb}
 use Rattle.words.specs.Choice.{pick}
 use Rattle.nodes.specs.declared.Node.{Node}
-use Rattle.nodes.specs.Table.{width, nodeFrom, rows, rows-length, row-from}
-use Rattle.nodes.specs.Place.{lives, deeper, end-most}
+use Rattle.nodes.specs.Table.{width, nodeFrom, rows}
+use Rattle.nodes.specs.TableLaws.{rows-length, row-from}
+use Rattle.nodes.specs.Place.{lives, deeper}
+use Rattle.nodes.specs.PlaceLaws.{end-most}
 use Rattle.nodes.specs.Sizes.{depthAt, endAt}
 use Rattle.nodes.specs.Edit.{lift, sink, onlyGroups, editAt, freeHere, freeAllHere, deepFreeHere}
 use Rattle.nodes.specs.Split.{cut-at, cutBelow-at, deepFree-at, addOver-at}

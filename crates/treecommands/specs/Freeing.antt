@@ -11,7 +11,8 @@ use Rattle.words.specs.Choice.{pick}
 use Rattle.words.specs.Parts.{put}
 use Rattle.refusals.specs.declared.Refusal.the-variants.{BadFlag, NoNode, WrongKind}
 use Rattle.nodes.specs.declared.Node.{Node}
-use Rattle.nodes.specs.Table.{rows, rows-length, fill}
+use Rattle.nodes.specs.Table.{rows, fill}
+use Rattle.nodes.specs.TableLaws.{rows-length}
 use Rattle.nodes.specs.Edit.{withRun, editRows, editAt, freeHere, setRunHere, cut, setRun}
 use Rattle.nodes.specs.Formed.{mostNodes}
 use Rattle.treerefinement.specs.Tally.{cut-within}

@@ -4,8 +4,10 @@ use mathlib.Core.Path.{_≡_, refl, sym, ap, ap₂, _∙_}
 use mathlib.Core.List.{List, _++_}
 use native.Mathlib.Omega.{arith}
 use lib.ListN.{length, take, drop}
-use Rattle.words.specs.Parts.{put, region-length, region-put, put-put}
-use Rattle.nodes.specs.Table.{rows, rows-length}
+use Rattle.words.specs.Parts.{put}
+use Rattle.words.specs.PartsLaws.{region-length, region-put, put-put}
+use Rattle.nodes.specs.Table.{rows}
+use Rattle.nodes.specs.TableLaws.{rows-length}
 use Rattle.nodes.specs.Formed.{mostNodes}
 use Rattle.index.specs.Index.{numbers, putIn, indexOf}
 use Rattle.reindex.specs.declared.edit.Edit.{Edit}

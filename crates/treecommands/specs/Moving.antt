@@ -8,8 +8,10 @@ use native.Mathlib.Omega.{arith}
 use lib.ListN.{length}
 use Rattle.words.specs.Parts.{put}
 use Rattle.nodes.specs.declared.Node.{Node}
-use Rattle.nodes.specs.Table.{rows-length, fill}
-use Rattle.nodes.specs.Place.{lives, found}
+use Rattle.nodes.specs.Table.{fill}
+use Rattle.nodes.specs.TableLaws.{rows-length}
+use Rattle.nodes.specs.Place.{lives}
+use Rattle.nodes.specs.PlaceLaws.{found}
 use Rattle.nodes.specs.Sizes.{endAt}
 use Rattle.nodes.specs.Edit.{runOf, editRows, cut}
 use Rattle.nodes.specs.Formed.{mostNodes}

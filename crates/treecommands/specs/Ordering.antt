@@ -3,7 +3,8 @@ use Prim.Native.Nat.{ℕ, _≤_}
 use mathlib.Core.Path.{_≡_, _∙_}
 use mathlib.Core.List.{List}
 use native.Mathlib.Omega.{arith}
-use Rattle.nodes.specs.Table.{rows, rows-length}
+use Rattle.nodes.specs.Table.{rows}
+use Rattle.nodes.specs.TableLaws.{rows-length}
 use Rattle.nodes.specs.Order.{order}
 use Rattle.model.specs.Layout.{orderWords, orderRegion}
 use Rattle.order.specs.declared.Order.{Order}

@@ -8,9 +8,11 @@ use lib.ListN.{length, take, drop, getD, set, take-append-drop}
 use lib.Seq.{take-at, length-take-le}
 use lib.Dec.{eqb}
 use Rattle.words.specs.Choice.{both}
-use Rattle.words.specs.Parts.{region, put, region-length, region-put}
+use Rattle.words.specs.Parts.{region, put}
+use Rattle.words.specs.PartsLaws.{region-length, region-put}
 use Rattle.nodes.specs.declared.Node.{Node}
-use Rattle.nodes.specs.Table.{rows, fill, rows-length, fill-length, rows-fill}
+use Rattle.nodes.specs.Table.{rows, fill}
+use Rattle.nodes.specs.TableLaws.{rows-length, fill-length, rows-fill}
 use Rattle.nodes.specs.Order.{order}
 use Rattle.nodes.specs.Formed.{mostNodes, apart}
 use Rattle.index.specs.Index.{numbers, rises, indexed, indexOf}

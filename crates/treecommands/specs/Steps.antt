@@ -7,7 +7,8 @@ use native.Mathlib.Omega.{arith}
 use lib.ListN.{length}
 use Rattle.words.specs.Parts.{put}
 use Rattle.nodes.specs.declared.Node.{Node}
-use Rattle.nodes.specs.Table.{rows, rows-length}
+use Rattle.nodes.specs.Table.{rows}
+use Rattle.nodes.specs.TableLaws.{rows-length}
 use Rattle.nodes.specs.Place.{lives}
 use Rattle.nodes.specs.Edit.{editRows, editAt}
 use Rattle.nodes.specs.Split.{edit-first}

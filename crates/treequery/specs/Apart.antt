@@ -5,7 +5,8 @@ use mathlib.Core.List.{List, _++_, append-assoc}
 use native.Mathlib.Omega.{arith}
 use lib.ListN.{length, take, drop, length-append, take-append-drop}
 use lib.Seq.{drop-at, take-add, take-append-le, drop-append-le, take-take, length-take-le}
-use Rattle.words.specs.Parts.{region, region-length}
+use Rattle.words.specs.Parts.{region}
+use Rattle.words.specs.PartsLaws.{region-length}
 use Rattle.osc.specs.Over.{over, over-over}
 
 -- a piece before another is one piece

@@ -11,7 +11,7 @@ use borrow.Author.Tests.{eqb-true, eqb-false, ltb-true, ltb-false, lt-ltb, le-lt
 use Rattle.words.specs.Choice.{pick}
 use Rattle.words.specs.Parts.{region}
 use Rattle.nodes.specs.declared.Node.{Node}
-use Rattle.nodes.specs.Table.{row-from, rows-end}
+use Rattle.nodes.specs.TableLaws.{row-from, rows-end}
 use Rattle.model.specs.Layout.{nodesPlace, nodesWords, controlsIn}
 use Rattle.model.specs.Engine.{decode}
 use Rattle.model.specs.View.{viewOf, viewRows}

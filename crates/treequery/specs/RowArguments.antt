@@ -8,11 +8,13 @@ use lib.ListN.{length, drop, getD}
 use lib.Seq.{getD-drop}
 use lib.Dec.{leb}
 use borrow.Author.Tests.{leb-true}
-use Rattle.words.specs.Choice.{pick, both-true}
+use Rattle.words.specs.Choice.{pick}
+use Rattle.words.specs.ChoiceLaws.{both-true}
 use Rattle.words.specs.Parts.{region}
 use Rattle.format.specs.Definition.{ParameterName, Definition}
 use Rattle.nodes.specs.declared.Node.{Node}
-use Rattle.nodes.specs.Table.{rows, row-from, rows-end}
+use Rattle.nodes.specs.Table.{rows}
+use Rattle.nodes.specs.TableLaws.{row-from, rows-end}
 use Rattle.nodes.specs.Place.{isGroup}
 use Rattle.nodes.specs.Structure.{noNode}
 use Rattle.osc.specs.Message.{Argument, int, text}

@@ -12,8 +12,10 @@ use Rattle.words.specs.Choice.{pick}
 use Rattle.words.specs.Parts.{region}
 use Rattle.refusals.specs.declared.Refusal.the-variants.{NoNode, WrongKind}
 use Rattle.nodes.specs.declared.Node.{Node}
-use Rattle.nodes.specs.Table.{width, rows, rows-length, rows-take, depthField}
-use Rattle.nodes.specs.Place.{deeper, deeper-most, isGroup}
+use Rattle.nodes.specs.Table.{width, rows, depthField}
+use Rattle.nodes.specs.TableLaws.{rows-length, rows-take}
+use Rattle.nodes.specs.Place.{deeper, isGroup}
+use Rattle.nodes.specs.PlaceLaws.{deeper-most}
 use Rattle.nodes.specs.Structure.{childCount}
 use Rattle.nodes.specs.Sizes.{endAt}
 use Rattle.osc.specs.Message.{int, message}

@@ -17,7 +17,8 @@ use Rattle.nodes.specs.Formed.{rooted, apart}
 use Rattle.treerefinement.specs.Flatten.{key, lives-has, run-tree}
 use Rattle.treerefinement.specs.Leaves.{Leaves}
 use Rattle.treerefinement.specs.Edits.{below-tree}
-use Rattle.treerefinement.specs.Shape.{Tree, build, build-flatten, build-tree}
+use Rattle.treerefinement.specs.Build.{build}
+use Rattle.treerefinement.specs.Shape.{Tree, build-flatten, build-tree}
 use Rattle.treerefinement.specs.Rooted.{tree-leaves}
 use Rattle.treerefinement.specs.Tally.{one, tally, tally-append}
 use Rattle.treerefinement.specs.Keep.{numbered, lives-some, apart-few}

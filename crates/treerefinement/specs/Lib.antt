@@ -1,6 +1,7 @@
 pub mod Flatten
 pub mod Leaves
 pub mod Edits
+pub mod Build
 pub mod Shape
 pub mod Rooted
 pub mod Tally

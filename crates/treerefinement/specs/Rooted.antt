@@ -7,7 +7,8 @@ use mathlib.Core.List.{List, [], _∷_, _++_, append-assoc, append-nil}
 use native.Mathlib.Omega.{arith}
 use lib.Dec.{eqb}
 use borrow.Author.Tests.{eqb-true, eqb-false, ne-eqb, eq-eqb}
-use Rattle.words.specs.Choice.{pick, either-false}
+use Rattle.words.specs.Choice.{pick}
+use Rattle.words.specs.ChoiceLaws.{either-false}
 use Rattle.nodes.specs.declared.Node.{Node}
 use Rattle.nodes.specs.Place.{isGroup}
 use Rattle.nodes.specs.Edit.{level, withRun, cut, cutBelow, deepFree, setRun, addHead, addTail, addBefore, addAfter, addOver, moveBefore, moveAfter, moveHead, moveTail}
@@ -16,7 +17,8 @@ use Rattle.nodes.specs.Formed.{rooted, synthLives}
 use Rattle.treerefinement.specs.Flatten.{key}
 use Rattle.treerefinement.specs.Leaves.{Leaves, NoSynth, leaves-subtree, nosynth-free, leaves-free, leaves-freeBelow, leaves-freeDeep, leaves-run, leaves-putHead, leaves-putTail, leaves-putBefore, leaves-putAfter, leaves-putOver}
 use Rattle.treerefinement.specs.Edits.{cut-tree, cutBelow-tree, deepFree-tree, setRun-tree, addHead-tree, addTail-tree, addBefore-tree, addAfter-tree, addOver-tree, moveBefore-tree, moveAfter-tree, moveHead-tree, moveTail-tree}
-use Rattle.treerefinement.specs.Shape.{Tree, build, build-flatten, build-tree, flatten-rooted}
+use Rattle.treerefinement.specs.Build.{build}
+use Rattle.treerefinement.specs.Shape.{Tree, build-flatten, build-tree, flatten-rooted}
 
 pub tree-leaves : (f : Forest Node) → Tree f → Leaves f
 unfolding Leaves

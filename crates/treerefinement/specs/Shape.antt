@@ -14,20 +14,7 @@ use Rattle.nodes.specs.Edit.{level}
 use Rattle.nodes.specs.Forest.{Forest, none, node, flatten, items}
 use Rattle.nodes.specs.Formed.{reach, steps, rooted}
 use Rattle.treerefinement.specs.Leaves.{Leaves}
-
--- the first nodes of a list that are deeper than d, by the depths in their records, and what follows them
-unfoldable pub topsDeeper : ℕ → Forest Node → Forest Node
-topsDeeper d none = none
-topsDeeper d (node x b a) = pick (ltb d (x .depth)) (node x b (topsDeeper d a)) none
-
-unfoldable pub topsPast : ℕ → Forest Node → Forest Node
-topsPast d none = none
-topsPast d (node x b a) = pick (ltb d (x .depth)) (topsPast d a) (node x b a)
-
--- the tree of a table: a record has below it the deeper nodes that follow
-unfoldable pub build : List Node → Forest Node
-build [] = none
-build (r ∷ l) = node r (topsDeeper (r .depth) (build l)) (topsPast (r .depth) (build l))
+use Rattle.treerefinement.specs.Build.{topsDeeper, topsPast, build}
 
 items-tops : (d : ℕ) (f : Forest Node) → items (topsDeeper d f) ++ items (topsPast d f) ≡ items f
 unfolding items topsDeeper topsPast

@@ -16,7 +16,8 @@ use Rattle.nodes.specs.Formed.{rooted, apart, synthLives}
 use Rattle.treerefinement.specs.Flatten.{key, lives-has, neither}
 use Rattle.treerefinement.specs.Leaves.{Leaves, NoSynth}
 use Rattle.treerefinement.specs.Edits.{below-tree, cut-tree, cutBelow-tree, deepFree-tree, setRun-tree, addHead-tree, addTail-tree, addBefore-tree, addAfter-tree, addOver-tree, moveBefore-tree, moveAfter-tree, moveHead-tree, moveTail-tree}
-use Rattle.treerefinement.specs.Shape.{build, build-flatten, build-tree}
+use Rattle.treerefinement.specs.Build.{build}
+use Rattle.treerefinement.specs.Shape.{build-flatten, build-tree}
 use Rattle.treerefinement.specs.Rooted.{tree-leaves, nosynth-tree}
 use Rattle.treerefinement.specs.Parent.{parent-tree}
 use Rattle.treerefinement.specs.Outside.{Stays, stays-free, stays-freeBelow, stays-freeBelow-self, stays-freeDeep, stays-run, stays-putHead, stays-putTail, stays-putBefore, stays-putAfter, stays-putOver, stays-placeHead, stays-placeTail, stays-placeBefore, stays-placeAfter}

@@ -13,7 +13,8 @@ use lib.Ieee.Back.{round-whole}
 use lib.Ieee.Bits.{toBits-lt}
 use lib.Ieee.Fits.{ofInt-fits}
 use Rattle.words.specs.Choice.{pick}
-use Rattle.values.specs.Targets.{signed, signed-low, signed-high}
+use Rattle.values.specs.Targets.{signed}
+use Rattle.values.specs.TargetsLaws.{signed-low, signed-high}
 use Rattle.values.specs.Values.{equalFloat, inBounds, pattern, patternOf}
 use Rattle.values.specs.declared.Value.{Value}
 use Rattle.values.specs.declared.Value.the-variants.{Integer}

@@ -8,7 +8,8 @@ use native.Mathlib.Omega.{arith}
 use lib.ListN.{length}
 use lib.Dec.{eqb}
 use borrow.Author.Tests.{eqb-true, eq-eqb}
-use Rattle.words.specs.Choice.{pick, both, both-true, either}
+use Rattle.words.specs.Choice.{pick, both, either}
+use Rattle.words.specs.ChoiceLaws.{both-true}
 use Rattle.nodes.specs.Forest.{Forest, node}
 use Rattle.nodes.specs.Forest as forest
 use Rattle.nodes.specs.Order.{orderTree}

@@ -4,7 +4,7 @@ use mathlib.Core.List.{List}
 use Rattle.words.specs.Choice.{pick}
 use Rattle.refusals.specs.declared.Refusal.the-variants.{BadState}
 use Rattle.nodes.specs.Forest.{Forest, mapForest}
-use Rattle.treerefinement.specs.Shape.{build}
+use Rattle.treerefinement.specs.Build.{build}
 use Rattle.model.specs.Engine.{Engine, decode}
 use Rattle.model.specs.View.{PlainNode, viewOf}
 use Rattle.model.specs.Formed.{formed}

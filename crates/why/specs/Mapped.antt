@@ -13,7 +13,7 @@ use Rattle.nodes.specs.Forest as forest
 use Rattle.nodes.specs.Order.{isOn, orderTree}
 use Rattle.treerefinement.specs.Tally.{one}
 use Rattle.treerefinement.specs.Flatten.{key}
-use Rattle.treerefinement.specs.Shape.{build}
+use Rattle.treerefinement.specs.Build.{build}
 use Rattle.treerefinement.specs.MapForest.{map-has, map-order}
 use Rattle.model.specs.Layout.{latestIn, nodesIn}
 use Rattle.model.specs.Engine.{Slot, decode, definitionOf, controlsOf}

@@ -8,7 +8,7 @@ use borrow.Author.Tests.{lt-ltb, le-ltb}
 use Rattle.nodes.specs.declared.Node.{Node}
 use Rattle.nodes.specs.Edit.{level}
 use Rattle.nodes.specs.Forest.{Forest, none, node, flatten, mapForest, beside}
-use Rattle.treerefinement.specs.Shape.{topsDeeper, topsPast, build}
+use Rattle.treerefinement.specs.Build.{topsDeeper, topsPast, build}
 
 -- each record at the depth where it lies
 unfoldable laidAt : ℕ → Forest Node → Forest Node

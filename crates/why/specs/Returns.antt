@@ -9,10 +9,13 @@ use lib.Seq.{getD-take, getD-drop}
 use lib.Dec.{leb, eqb}
 use borrow.Author.Tests.{eq-eqb, ne-eqb, le-leb, lt-leb}
 use Rattle.words.specs.Choice.{pick}
-use Rattle.words.specs.Parts.{region, region-length}
-use Rattle.nodes.specs.Table.{width, nodeFrom, rows-length, depthField, runField, slotField}
+use Rattle.words.specs.Parts.{region}
+use Rattle.words.specs.PartsLaws.{region-length}
+use Rattle.nodes.specs.Table.{width, nodeFrom, depthField, runField, slotField}
+use Rattle.nodes.specs.TableLaws.{rows-length}
 use Rattle.nodes.specs.Sizes.{TableFits}
-use Rattle.nodes.specs.Place.{groupSlot, isGroup, place, place-most}
+use Rattle.nodes.specs.Place.{groupSlot, isGroup, place}
+use Rattle.nodes.specs.PlaceLaws.{place-most}
 use Rattle.nodes.specs.Order.{isOn}
 use Rattle.model.specs.Layout.{wordsLength, nodesPlace, nodesWords, countIn, latestIn, nodesIn}
 use Rattle.model.specs.Plain.{minusOne}

@@ -8,7 +8,8 @@ use lib.ListN.{drop}
 use lib.Dec.{eqb}
 use Rattle.words.specs.Choice.{pick}
 use Rattle.nodes.specs.declared.Node.{Node}
-use Rattle.nodes.specs.Place.{place, search-at}
+use Rattle.nodes.specs.Place.{place}
+use Rattle.nodes.specs.PlaceLaws.{search-at}
 use Rattle.nodes.specs.Structure.{depthOf}
 use Rattle.nodes.specs.Forest.{Forest, node, items, has}
 use Rattle.nodes.specs.Forest as forest

@@ -8,7 +8,8 @@ use lib.ListN.{length, length-append, take-append-drop}
 use lib.Dec.{leb}
 use borrow.Author.Tests.{le-leb, lt-leb, eq-eqb, ne-eqb}
 use Rattle.nodes.specs.declared.Node.{Node}
-use Rattle.nodes.specs.Table.{width, nodeFrom, rows, rows-take, rows-end, row-from}
+use Rattle.nodes.specs.Table.{width, nodeFrom, rows}
+use Rattle.nodes.specs.TableLaws.{rows-take, rows-end, row-from}
 use Rattle.nodes.specs.Place.{groupSlot}
 use Rattle.nodes.specs.Order.{orderFrom}
 use Rattle.why.specs.declared.sight.Sight.{Sight}

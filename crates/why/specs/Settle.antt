@@ -11,8 +11,10 @@ use borrow.Author.Tests.{leb-true, leb-false, le-leb}
 use Rattle.words.specs.Choice.{pick}
 use Rattle.words.specs.Parts.{region}
 use Rattle.nodes.specs.declared.Node.{Node}
-use Rattle.nodes.specs.Table.{width, nodeFrom, rows, row-from, rows-take}
-use Rattle.nodes.specs.Place.{isGroup, place, lives, found, not-found}
+use Rattle.nodes.specs.Table.{width, nodeFrom, rows}
+use Rattle.nodes.specs.TableLaws.{row-from, rows-take}
+use Rattle.nodes.specs.Place.{isGroup, place, lives}
+use Rattle.nodes.specs.PlaceLaws.{found, not-found}
 use Rattle.nodes.specs.Structure.{depthOf}
 use Rattle.nodes.specs.Forest.{Forest, node, flatten, items, has}
 use Rattle.nodes.specs.Forest as forest
@@ -23,7 +25,8 @@ use Rattle.treerefinement.specs.Tally.{one, tally, tally-append}
 use Rattle.treerefinement.specs.Keep.{numbered, apart-few}
 use Rattle.treerefinement.specs.Parent.{depthIn, depth-flatten}
 use Rattle.treerefinement.specs.Order.{order-tree}
-use Rattle.treerefinement.specs.Shape.{build, items-build, build-flatten}
+use Rattle.treerefinement.specs.Build.{build}
+use Rattle.treerefinement.specs.Shape.{items-build, build-flatten}
 use Rattle.model.specs.Layout.{nodesPlace, nodesWords, countIn, latestIn, nodesIn}
 use Rattle.model.specs.Plain.{minusOne}
 use Rattle.why.specs.declared.Reason.the-variants.{NoNode, Group, Off, AncestorOff, Running}

@@ -7,7 +7,7 @@ use Rattle.nodes.specs.declared.Node.{Node}
 use Rattle.nodes.specs.Place.{isGroup}
 use Rattle.nodes.specs.Order.{isOn}
 use Rattle.treerefinement.specs.Flatten.{key}
-use Rattle.treerefinement.specs.Shape.{build}
+use Rattle.treerefinement.specs.Build.{build}
 use Rattle.model.specs.Plain.{minusOne}
 use Rattle.why.specs.declared.Reason.{Reason}
 use Rattle.why.specs.declared.Reason.the-variants.{NoNode}

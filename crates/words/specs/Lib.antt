@@ -1,4 +1,6 @@
 pub mod Choice
+pub mod ChoiceLaws
 pub mod Parts
+pub mod PartsLaws
 pub mod Bytes
 pub mod Zeros

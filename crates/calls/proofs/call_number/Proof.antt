@@ -4,7 +4,7 @@ use mathlib.Core.Path.{sym, ap, _∙_}
 use native.Mathlib.Omega.{arith}
 use native.Mathlib.Nat.{zero-add}
 use borrow.Author.Needs.{needs}
-use Rattle.faults.specs.Faults.{fault-high}
+use Rattle.faults.specs.FaultsLaws.{fault-high}
 use Rattle.calls.specs.Numbers.{room, callNumber}
 use Rattle.calls.proofs.call_number.Statement.{statement}
 use Rattle.calls.proofs.call_number.Tie as tie

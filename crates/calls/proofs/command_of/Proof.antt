@@ -2,7 +2,8 @@
 use mathlib.Core.Path.{_∙_}
 use borrow.Author.Needs.{needs}
 use Rattle.calls.specs.Ops as ops
-use Rattle.calls.specs.Ops.{op-is, op-past, past, Others}
+use Rattle.calls.specs.Ops.{Others}
+use Rattle.calls.specs.OpsLaws.{op-is, op-past, past}
 use Rattle.calls.proofs.command_of.Statement.{statement}
 use Rattle.calls.proofs.command_of.Tie as tie
 

@@ -1,5 +1,6 @@
 -- `calls::fill_buses` meets its contract.
-use Rattle.calls.specs.Ops.{busFilling, float-valued, integer-valued, none-valued}
+use Rattle.calls.specs.Ops.{busFilling}
+use Rattle.calls.specs.OpsLaws.{float-valued, integer-valued, none-valued}
 use Rattle.calls.proofs.fill_buses.Statement.{statement}
 use Rattle.calls.proofs.fill_buses.Tie as tie
 

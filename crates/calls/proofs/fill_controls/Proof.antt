@@ -1,5 +1,6 @@
 -- `calls::fill_controls` meets its contract.
-use Rattle.calls.specs.Ops.{filling, float-valued, integer-valued, none-valued}
+use Rattle.calls.specs.Ops.{filling}
+use Rattle.calls.specs.OpsLaws.{float-valued, integer-valued, none-valued}
 use Rattle.calls.proofs.fill_controls.Statement.{statement}
 use Rattle.calls.proofs.fill_controls.Tie as tie
 

@@ -1,5 +1,6 @@
 -- `calls::set_bus` meets its contract.
-use Rattle.calls.specs.Ops.{busSetting, float-valued, integer-valued, none-valued}
+use Rattle.calls.specs.Ops.{busSetting}
+use Rattle.calls.specs.OpsLaws.{float-valued, integer-valued, none-valued}
 use Rattle.calls.proofs.set_bus.Statement.{statement}
 use Rattle.calls.proofs.set_bus.Tie as tie
 

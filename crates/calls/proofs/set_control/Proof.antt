@@ -1,5 +1,6 @@
 -- `calls::set_control` meets its contract.
-use Rattle.calls.specs.Ops.{setting, float-valued, integer-valued, none-valued}
+use Rattle.calls.specs.Ops.{setting}
+use Rattle.calls.specs.OpsLaws.{float-valued, integer-valued, none-valued}
 use Rattle.calls.proofs.set_control.Statement.{statement}
 use Rattle.calls.proofs.set_control.Tie as tie
 

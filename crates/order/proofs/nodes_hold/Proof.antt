@@ -4,7 +4,8 @@ use mathlib.Core.Path.{_≡_, sym, _∙_}
 use native.Mathlib.Omega.{arith}
 use borrow.Author.Needs.{needs}
 use borrow.Author.Tests.{le-leb, lt-leb, eq-eqb, ne-eqb, not-true, not-false}
-use Rattle.nodes.specs.Table.{rows, rows-length}
+use Rattle.nodes.specs.Table.{rows}
+use Rattle.nodes.specs.TableLaws.{rows-length}
 use Rattle.nodes.specs.Formed.{rooted, allFormed, noneLeft, firstGiven}
 use Rattle.order.specs.Marks.{rowsHold}
 use Rattle.order.specs.Checks.{hold-none, hold-many, hold-some}

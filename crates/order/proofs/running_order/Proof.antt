@@ -4,7 +4,8 @@ use mathlib.Core.Path.{_∙_}
 use mathlib.Core.Logic.{⊎-elim}
 use native.Mathlib.Omega.{arith}
 use borrow.Author.Needs.{needs}
-use Rattle.nodes.specs.Table.{rows, rows-end}
+use Rattle.nodes.specs.Table.{rows}
+use Rattle.nodes.specs.TableLaws.{rows-end}
 use Rattle.order.specs.Order.{OrderSoFar, so-none, so-all, so-same, so-unmarked, so-group, so-more, so-full}
 use lib.ListN.{length, drop}
 use Rattle.order.proofs.running_order.Statement.{statement}

@@ -3,7 +3,8 @@ use Prim.Native.Nat.{_+_, _-_, _≤_}
 use mathlib.Core.Path.{_∙_}
 use mathlib.Core.Logic.{⊎-elim}
 use native.Mathlib.Omega.{arith}
-use Rattle.nodes.specs.Table.{rows, rows-end, rows-length}
+use Rattle.nodes.specs.Table.{rows}
+use Rattle.nodes.specs.TableLaws.{rows-end, rows-length}
 use Rattle.order.specs.Visits.{Walked, walked-none, walked-all, walked-under, walked-off, walked-on, walked-same}
 use lib.ListN.{drop}
 use Rattle.order.proofs.visit.Statement.{statement}

@@ -1,7 +1,7 @@
 use Prim.Native.Nat.{_<_}
 use mathlib.Core.Path.{sym}
 use native.Mathlib.Omega.{arith}
-use Rattle.values.specs.Targets.{target-number, target-latest, target-reserved}
+use Rattle.values.specs.TargetsLaws.{target-number, target-latest, target-reserved}
 use Rattle.values.proofs.target_of.Statement.{statement}
 use Rattle.values.proofs.target_of.Tie as tie
 

@@ -3,7 +3,7 @@ use mathlib.Core.Path.{_≡_, sym, ap, ap₂, _∙_}
 use mathlib.Core.List.{List}
 use native.Mathlib.Omega.{arith}
 use lib.ListN.{length}
-use Rattle.words.specs.Parts.{region-length}
+use Rattle.words.specs.PartsLaws.{region-length}
 use Rattle.model.specs.Layout.{controlsPlace, controlsWords, controlsIn, putControls}
 use Rattle.model.specs.Effects.{changeRow}
 use Rattle.controls.specs.Change.{changeOf}

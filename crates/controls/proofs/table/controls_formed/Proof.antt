@@ -14,7 +14,7 @@ use Rattle.model.specs.Engine.{decode}
 use Rattle.model.specs.Formed.{mappingsFormed, controlsFormed}
 use Rattle.controls.specs.Formed.{nodeFormed, formed-turn, formed-end, synth-here}
 use Rattle.controls.specs.Ready.{nodeIn}
-use Rattle.words.specs.Parts.{region-length}
+use Rattle.words.specs.PartsLaws.{region-length}
 use Rattle.controls.specs.Noted.{noted-none, noted-more}
 use Rattle.controls.specs.Cover.{unknown, controlsOn, Counted}
 use Rattle.controls.proofs.table.controls_formed.Statement.{statement}

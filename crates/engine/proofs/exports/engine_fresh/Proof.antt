@@ -4,7 +4,7 @@ use native.Mathlib.Omega.{arith}
 use borrow.Author.Needs.{needs}
 use Rattle.model.specs.Apply.{freshAnswer}
 use Rattle.calls.specs.Numbers.{callNumber}
-use Rattle.engine.specs.Calls.{fresh-small}
+use Rattle.engine.specs.CallsLaws.{fresh-small}
 use Rattle.engine.proofs.exports.engine_fresh.Statement.{statement}
 use Rattle.engine.proofs.exports.engine_fresh.Tie as tie
 

@@ -2,7 +2,7 @@
 use mathlib.Core.Path.{refl, sym, ap, _∙_}
 use native.Mathlib.Omega.{arith}
 use Prim.Native.Nat.{_+_}
-use Rattle.nodes.specs.Place.{end-most}
+use Rattle.nodes.specs.PlaceLaws.{end-most}
 use Rattle.nodes.specs.Sizes.{depthAt}
 use Rattle.nodes.specs.Split.{cut-at}
 use Rattle.nodes.specs.Formed.{freeRow}

@@ -1,5 +1,6 @@
 -- `messageread::first_op` meets its contract: the arm of each key, and the keys past the last.
-use Rattle.calls.specs.Ops.{past, Others}
+use Rattle.calls.specs.Ops.{Others}
+use Rattle.calls.specs.OpsLaws.{past}
 use Rattle.messageread.specs.FindLaws.{op-at, op-past}
 use Rattle.messageread.proofs.address.first_op.Statement.{statement}
 use Rattle.messageread.proofs.address.first_op.Tie as tie

@@ -1,7 +1,8 @@
 -- `messages::entry_of` meets its contract: the arm of each op, and the ops past the last.
 use borrow.Author.Needs.{needs}
 use Rattle.calls.specs.Ops as ops
-use Rattle.calls.specs.Ops.{past, Others}
+use Rattle.calls.specs.Ops.{Others}
+use Rattle.calls.specs.OpsLaws.{past}
 use Rattle.messages.specs.Write.{rowFrom}
 use Rattle.messages.specs.Rows.{packed, slotsOf, addressOf}
 use Rattle.messages.specs.Entries.{entry-is, entry-past}

@@ -2,7 +2,8 @@
 use Prim.Native.Nat.{ℕ, _/_, _%_}
 use mathlib.Core.Path.{ap, _∙_}
 use borrow.Author.Needs.{needs}
-use Rattle.calls.specs.Ops.{past, Others}
+use Rattle.calls.specs.Ops.{Others}
+use Rattle.calls.specs.OpsLaws.{past}
 use Rattle.messages.specs.Rows.{slotsOf}
 use Rattle.messages.specs.Entries.{digit-0, digit-1, digit-2, digit-3, slot-none}
 use Rattle.messages.proofs.table.slot_code.Statement.{statement}

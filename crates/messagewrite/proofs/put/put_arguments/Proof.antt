@@ -5,7 +5,7 @@ use mathlib.Core.List.{List, _++_}
 use native.Mathlib.Omega.{arith}
 use borrow.Author.Needs.{needs}
 use lib.ListN.{length, take, drop, length-append}
-use Rattle.words.specs.Choice.{either-false}
+use Rattle.words.specs.ChoiceLaws.{either-false}
 use Rattle.osc.specs.Message.{arguments, argumentBytes, Argument}
 use Rattle.osc.specs.Over.{over, over-length}
 use Rattle.replies.specs.Words.{over-none}

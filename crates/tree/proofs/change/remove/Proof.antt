@@ -4,7 +4,8 @@ use Prim.Native.Nat.{_*_, _-_}
 use mathlib.Core.Path.{_∙_}
 use native.Mathlib.Omega.{arith}
 use borrow.Author.Needs.{needs}
-use Rattle.nodes.specs.Table.{width, rows-length, remove-words}
+use Rattle.nodes.specs.Table.{width}
+use Rattle.nodes.specs.TableLaws.{rows-length, remove-words}
 use Rattle.tree.proofs.change.remove.Statement.{statement}
 use Rattle.tree.proofs.change.remove.Tie as tie
 

@@ -4,7 +4,7 @@ use Prim.Native.Nat.{ℕ, _+_}
 use native.Mathlib.Omega.{arith}
 use borrow.Author.Needs.{needs}
 use Rattle.nodes.specs.Table.{rows, fill}
-use Rattle.nodes.specs.Place.{end-most}
+use Rattle.nodes.specs.PlaceLaws.{end-most}
 use Rattle.nodes.specs.Sizes.{depthAt}
 use Rattle.tree.specs.MoveRun.{movedRun, placeWithout, move-run-words}
 use Rattle.tree.specs.Ends.{placeWithout-fits, run-least}

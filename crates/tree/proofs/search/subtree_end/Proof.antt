@@ -6,7 +6,8 @@ use borrow.Author.Needs.{needs}
 use borrow.Author.Tests.{not-true, not-false}
 use lib.ListN.{drop, getD}
 use Rattle.nodes.specs.Table.{width, rows, depthField}
-use Rattle.nodes.specs.Place.{deeper, deeper-turn, deeper-end}
+use Rattle.nodes.specs.Place.{deeper}
+use Rattle.nodes.specs.PlaceLaws.{deeper-turn, deeper-end}
 use Rattle.tree.proofs.search.subtree_end.Statement.{statement}
 use Rattle.tree.proofs.search.subtree_end.Tie as tie
 

@@ -2,7 +2,7 @@
 use borrow.Author.Needs.{needs}
 use native.Mathlib.Omega.{arith}
 use mathlib.Core.Path.{_∙_}
-use Rattle.nodes.specs.Place.{found, not-found}
+use Rattle.nodes.specs.PlaceLaws.{found, not-found}
 use Rattle.model.specs.Layout.{latestIn}
 use Rattle.treecommands.specs.Ready.{nodeWords}
 use Rattle.treecommands.specs.Settle.{sorted-keeps}

@@ -1,5 +1,6 @@
 use Rattle.format.specs.declared.Width.the-variants.{Long}
-use Rattle.words.specs.Parts.{region, region-length}
+use Rattle.words.specs.Parts.{region}
+use Rattle.words.specs.PartsLaws.{region-length}
 use Rattle.words.specs.Bytes.{AreBytes}
 use Rattle.roundtrip.specs.Forth.{definition-forth}
 use Rattle.widening.specs.Encoded.{Encodable, encoded}

@@ -1,4 +1,4 @@
-use Rattle.words.specs.Parts.{region-length}
+use Rattle.words.specs.PartsLaws.{region-length}
 use Prim.Native.Nat.{_+_, _-_}
 use mathlib.Core.Path.{_≡_, refl}
 use native.Mathlib.Omega.{arith}
