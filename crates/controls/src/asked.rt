@@ -38,7 +38,8 @@ fn negative_key(key: Key) -> bool
     }
 }
 
-// The tests of refusals 21 and 28 on the node at a place, by one lookup. 21: a negative index or count always; on a synth, controls that it lacks; on a group no more.
+// The tests of refusals 21 and 28 on the node at a place, by one lookup. 21: a negative index or count always; on a synth, controls that it lacks;
+// on a group no more.
 // 28: on a synth more controls than the key covers.
 pub fn controls_asked(
     words: &[u32],

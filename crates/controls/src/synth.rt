@@ -61,7 +61,8 @@ fn still_formed(formed: bool, word: u32) -> bool
     formed
 }
 
-// The mapping words of a row's first controls, so many: each at most 4,096. It goes to the end whatever it meets, so that several are looked at at once.
+// The mapping words of a row's first controls, so many: each at most 4,096. It goes to the end whatever it meets, so that several are looked at at
+// once.
 pub(crate) fn row_formed(controls: &[u32], row: u32, many: u32) -> bool
     requires { ⌜ rowWords * row + 2 * many ≤ length (now controls) ⌝ }
     ensures { λ r. ⌜ r ≡ mappingsFormed many (drop (rowWords * row) (now (controls .entry))) ⌝ }

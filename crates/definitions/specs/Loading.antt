@@ -59,7 +59,8 @@ pub record Loading (table₀ arena₀ file : List ℕ) (tests : List Bool) (at :
   pub arenaNow : arena ≡ arenaOf slots arena₀
   pub sized : SlotsFit table arena
 
--- the slots after a load: "A load first retires residents whose names are in the file, then puts the new ones in the lowest free slots, in file order."
+-- the slots after a load: "A load first retires residents whose names are in the file, then puts the new ones in the lowest free slots, in file
+-- order."
 abbrev pub loadedOn : List ℕ → List ℕ → List Bool → List ℕ → List Slot
 loadedOn table arena tests file = loaded (definitionsOn file) (retired (namesOf (definitionsOn file)) (slotsOn table arena)) (holders tests)
 

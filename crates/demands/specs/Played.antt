@@ -1,4 +1,5 @@
--- The tables of examples are of calls: calls in a row from a fresh engine, with a script's room for each reply, answer as the script is played, and a query behind them writes the script's reply.
+-- The tables of examples are of calls: calls in a row from a fresh engine, with a script's room for each reply, answer as the script is played, and
+-- a query behind them writes the script's reply.
 use Prim.{Unit}
 use Prim.Native.Nat.{ℕ}
 use mathlib.Core.Bool.{Bool, true, false}

@@ -1,5 +1,7 @@
--- Calls of every kind in a row, commands, messages, lists and questions why in any mixture, and what the demands say of them: paper 02, 1/14, 5/14 and 7/14. A message that is a command stands
--- for that command; one that is refused with 26 or 27 stands for none. A list "stands for the commands it tried, in order, or for none where it is refused with 34". A question why stands for none.
+-- Calls of every kind in a row, commands, messages, lists and questions why in any mixture, and what the demands say of them: paper 02, 1/14, 5/14
+-- and 7/14. A message that is a command stands
+-- for that command; one that is refused with 26 or 27 stands for none. A list "stands for the commands it tried, in order, or for none where it is
+-- refused with 34". A question why stands for none.
 use Prim.{Unit}
 use Prim.Native.Nat.{ℕ}
 use mathlib.Core.Bool.{Bool, true, false}
@@ -187,7 +189,8 @@ unfoldable pub DefinitionsStay : List Call → Type 0
 DefinitionsStay [] = Unit {0}
 DefinitionsStay (c ∷ cs) = (both (isAccepted (c .answer)) (isOfDefinitions (c .command)) ≡ false) × DefinitionsStay cs
 
--- calls that load a file, by a command, by a message or inside a list: the first command that they stand for is that load, and the ones behind it leave the definitions as they are
+-- calls that load a file, by a command, by a message or inside a list: the first command that they stand for is that load, and the ones behind it
+-- leave the definitions as they are
 pub record Loads (file : List ℕ) (ms : List Made) (s : State) : Type 0 where
   pub load : Call
   pub later : List Call
@@ -203,7 +206,8 @@ pub record ReloadsByCalls (c : Call) (s : State) : Type 0 where
   pub loads : (t : State) → Fresh t → (ms : List Made) → Session ms t → (l : Loads file ms t)
       → (l .load .answer ≡ Done) × ((name : List ℕ) → definitionNamed name (engineIn (leftAfter ms t)) ≡ definitionNamed name (engineIn s))
 
--- Demand 2, of calls of every kind: what they loaded into a fresh engine is exported, in version 2, and a version 2 file byte for byte; and what is exported behind any calls, loaded by calls of any
+-- Demand 2, of calls of every kind: what they loaded into a fresh engine is exported, in version 2, and a version 2 file byte for byte; and what is
+-- exported behind any calls, loaded by calls of any
 -- kind into a fresh engine, gives the same definitions. An export is a call of a command: it has no address, and no list takes it
 pub record Demand2OfCalls : Type 0 where
   pub exported : (s : State) → Fresh s → (ms : List Made) → Session ms s → (file : List ℕ) (l : Loads file ms s) → l .load .answer ≡ Done
@@ -212,7 +216,8 @@ pub record Demand2OfCalls : Type 0 where
       → (next : Call) → next .command ≡ export → Applied next (leftAfter ms s) → Exports file next
   pub loaded : (s : State) → Fresh s → (ms : List Made) → Session ms s → (c : Call) → c .command ≡ export → Applied c (leftAfter ms s) → ReloadsByCalls c (leftAfter ms s)
 
--- Demand 3, of calls of every kind in a row in a fresh state: that of the commands that they stand for, which leave the same state. It is claimed of all:
+-- Demand 3, of calls of every kind in a row in a fresh state: that of the commands that they stand for, which leave the same state. It is claimed
+-- of all:
 -- `(s : State) → Fresh s → (ms : List Made) → Session ms s → Demand3OfCalls ms s`
 pub record Demand3OfCalls (ms : List Made) (s : State) : Type 0 where
   pub each : AllHold ms s

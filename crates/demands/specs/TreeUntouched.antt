@@ -1,4 +1,5 @@
--- An accepted command of the tree kind: nodes outside the subtrees that it adds, moves, frees or turns on or off keep their records and their parents.
+-- An accepted command of the tree kind: nodes outside the subtrees that it adds, moves, frees or turns on or off keep their records and their
+-- parents.
 use Prim.Native.Nat.{ℕ, zero, suc}
 use mathlib.Core.Bool.{Bool, true, false}
 use mathlib.Core.Path.{_≡_, refl, sym, ap, _∙_}

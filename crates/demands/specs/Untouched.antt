@@ -1,4 +1,5 @@
--- Demand 3, of one accepted command: a node outside the subtrees that it adds, moves, sets, maps, turns on or off, or frees keeps its kind, parent, definition, run flag and controls.
+-- Demand 3, of one accepted command: a node outside the subtrees that it adds, moves, sets, maps, turns on or off, or frees keeps its kind, parent,
+-- definition, run flag and controls.
 use Prim.Native.Nat.{ℕ}
 use mathlib.Core.Bool.{Bool, true, false}
 use mathlib.Core.Path.{_≡_, refl, subst}

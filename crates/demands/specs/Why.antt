@@ -1,4 +1,5 @@
--- Why a node is silent, of calls: paper 02, 7/14. "The reason given must be the true one": a question after any calls in a row from a fresh engine is told the plain tree's reason, of the tree
+-- Why a node is silent, of calls: paper 02, 7/14. "The reason given must be the true one": a question after any calls in a row from a fresh engine
+-- is told the plain tree's reason, of the tree
 -- that was fed the same commands.
 use Prim.Native.Nat.{ℕ, _≤_}
 use mathlib.Core.Bool.{true, not}
@@ -50,7 +51,8 @@ once : (e : Engine) (p : Plain) → Kept e p → apart (e .nodes) ≡ true → (
 once e p k h m =
     rw (k .tree, map-times (viewOf (e .slots) (e .controls)) key numberIn (λ x. refl) m (k .forest)) (times-once m (k .forest) (ap apart (sym (k .laid)) ∙ h))
 
--- of a state and the plain tree that was fed the same: what is told of every number is the plain tree's reason; of every node's own number exactly one reason holds, and it is that
+-- of a state and the plain tree that was fed the same: what is told of every number is the plain tree's reason; of every node's own number exactly
+-- one reason holds, and it is that
 pub record Answers (s : State) (p : Plain) : Type 0 where
   pub told : (number : ℕ) → whyTold number (s .words) (s .arena) ≡ Because (plainWhy number p)
   pub facts : (n : ℕ) → Facts numberIn isGroupNode isOnNode n (p .tree)
@@ -82,7 +84,8 @@ why-of-commands s f cs a p h =
 pub why-of-sessions : (s : State) → Fresh s → (ms : List Made) → Session ms s → (p : Plain) → replay (commandsOf ms s) atFirst ≡ some p → Answers (leftAfter ms s) p
 why-of-sessions s f ms c p h = subst (λ (x : State). Answers x p) (same-left ms s c) (why-of-commands s f (commandsOf ms s) (chained ms s c) p h)
 
--- of a question that was asked in a state, and the plain tree that was fed the same, which was never at a loss: it was told that tree's reason, and the state is as it was
+-- of a question that was asked in a state, and the plain tree that was fed the same, which was never at a loss: it was told that tree's reason, and
+-- the state is as it was
 pub record ToldTrue (m : Asked) (s : State) (replayed : Option Plain) : Type 0 where
   pub plain : Plain
   pub fed : replayed ≡ some plain

@@ -1,4 +1,5 @@
-// The engine: `fresh`, `apply`, which every command goes through, `message`, which takes it as bytes, and what other languages call, `engine_list` among them, which is `lists::list`. Nothing here asks anything of what it is lent.
+// The engine: `fresh`, `apply`, which every command goes through, `message`, which takes it as bytes, and what other languages call, `engine_list`
+// among them, which is `lists::list`. Nothing here asks anything of what it is lent.
 mod commands;
 mod exports;
 mod sent;

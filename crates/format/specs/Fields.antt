@@ -72,7 +72,8 @@ highestOf Long = highest32
 abbrev pub minusOne : ℕ
 minusOne = 4294967295
 
--- Paper 02, 4/14: "int16 for K, P, N, U, the parameter index, I, O and both input indices": the field of a count or an index takes two bytes in version 1 and four in version 2
+-- Paper 02, 4/14: "int16 for K, P, N, U, the parameter index, I, O and both input indices": the field of a count or an index takes two bytes in
+-- version 1 and four in version 2
 abbrev pub sizeOf : Width → ℕ
 sizeOf Short = 2
 sizeOf Long = 4
@@ -100,7 +101,8 @@ countBy w s at = countToBy w highest32 s at
 abbrev pub shortCountTo : ℕ → List ℕ → ℕ → Read ℕ
 shortCountTo most s at = checked BadCount (λ n. leb n most) at (int16 s at)
 
--- the calculation rates: scalar, control and audio as document 001 numbers them, and demand. Paper 02, 2/14: "the server also has demand rate, numbered 3, and units and
+-- the calculation rates: scalar, control and audio as document 001 numbers them, and demand. Paper 02, 2/14: "the server also has demand rate,
+-- numbered 3, and units and
 -- outputs carry it. Allow 0 to 3 in both places; 7 is for the rest."
 abbrev pub scalarRate : ℕ
 scalarRate = 0

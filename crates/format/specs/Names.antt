@@ -17,7 +17,8 @@ pub record Covered : Type 0 where
   pub index : ℕ
   pub width : ℕ
 
--- "up to the next larger index that has a name, else up to P": the lowest of `end` and the entries' indices that are larger than i, wherever they stand
+-- "up to the next larger index that has a name, else up to P": the lowest of `end` and the entries' indices that are larger than i, wherever they
+-- stand
 unfoldable pub nextIndex : ℕ → ℕ → List ParameterName → ℕ
 nextIndex i end [] = end
 nextIndex i end (q ∷ more) = nextIndex i (pick (both (ltb i (q .index)) (ltb (q .index) end)) (q .index) end) more

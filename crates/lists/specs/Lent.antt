@@ -1,4 +1,5 @@
--- How a list of commands is lent, and what is judged of it as a whole: paper 02, 5/14, "a call with a list of up to 512 commands, none of a kind that replies".
+-- How a list of commands is lent, and what is judged of it as a whole: paper 02, 5/14, "a call with a list of up to 512 commands, none of a kind
+-- that replies".
 use Prim.Native.Nat.{ℕ, zero, suc, _+_, _/_, _%_}
 use mathlib.Core.Bool.{Bool, true, false}
 use mathlib.Core.List.{List, [], _∷_, _++_}
@@ -69,7 +70,8 @@ unfoldable pub zeros : List ℕ → Bool
 zeros [] = true
 zeros (n ∷ l) = both (eqb n 0) (zeros l)
 
--- the words that are kept for later are 0, and the part lies within so many lent bytes, whether or not its op takes bytes: an empty one starts at their end at the latest
+-- the words that are kept for later are 0, and the part lies within so many lent bytes, whether or not its op takes bytes: an empty one starts at
+-- their end at the latest
 abbrev pub isLaid : ℕ → Item → Bool
 isLaid room i = both (zeros (i .later)) (leb (i .start + i .size) room)
 

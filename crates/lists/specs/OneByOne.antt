@@ -1,4 +1,5 @@
--- What a list does, for every input: paper 02, 5/14, "It equals sending them one by one and stops at the first refusal, giving its number and how many were accepted before it; those
+-- What a list does, for every input: paper 02, 5/14, "It equals sending them one by one and stops at the first refusal, giving its number and how
+-- many were accepted before it; those
 -- stay done."
 use Prim.Native.Nat.{ℕ, suc, _+_, _*_, _%_}
 use mathlib.Core.Bool.{Bool}
@@ -61,7 +62,8 @@ unfoldable pub acceptedIn : List Call → ℕ
 acceptedIn [] = 0
 acceptedIn (c ∷ cs) = pick (isAccepted (c .answer)) (suc (acceptedIn cs)) 0
 
--- the calls that a list stands for: "the commands it tried, in order, or .. none where it is refused with 34"; and none where it is refused with 1, since "State check 1 is made once, at
+-- the calls that a list stands for: "the commands it tried, in order, or .. none where it is refused with 34"; and none where it is refused with 1,
+-- since "State check 1 is made once, at
 -- the start"
 abbrev pub callsBy : Verdict → List Line → State → List Call
 callsBy verdict.NoList ls s = []
@@ -83,7 +85,8 @@ outcomeOf us bytes s = outcomeBy (lent.verdict us bytes) (lent.linesOf us bytes)
 abbrev pub lentState : List ℕ → List ℕ → State
 lentState ws bs = record { words = ws; arena = bs }
 
--- a call of a list on the lent words and arena: what it ends in, and the words and the arena that its calls one by one leave, each of them a call as `engine::apply` promises it. What is
+-- a call of a list on the lent words and arena: what it ends in, and the words and the arena that its calls one by one leave, each of them a call
+-- as `engine::apply` promises it. What is
 -- lent as bytes is bytes
 pub record Lists (us bytes ws bs : List ℕ) (r : Outcome) (ws′ bs′ : List ℕ) : Type 0 where
   pub ends : r ≡ outcomeOf us bytes (lentState ws bs)
@@ -106,7 +109,8 @@ placeIn (Replied n) = 0
 placeIn (Refused r) = 0
 placeIn (RefusedAt r at) = at
 
--- as one number: the refusal's (0 where all are accepted), plus 256 times how many were accepted before it, plus 2^24 times the place (refusals 2 to 11); 255 where it is no list
+-- as one number: the refusal's (0 where all are accepted), plus 256 times how many were accepted before it, plus 2^24 times the place (refusals 2
+-- to 11); 255 where it is no list
 abbrev pub listNumber : Outcome → ℕ
 listNumber NoList = noCommand
 listNumber (Ended a n) = refusalIn a + 256 * (n % countRoom) + 16777216 * (placeIn a % placeRoom)

@@ -67,7 +67,8 @@ fn run(items: &[u32], bytes: &[u8], words: &mut [u32], arena: &mut [u8]) -> Outc
     Outcome::Ended(Answer::Done, count)
 }
 
-// A list in any state at all: what is none; then refusal 1 where the state is not well formed, the one state check; then 34; and otherwise its commands up to the first that is refused.
+// A list in any state at all: what is none; then refusal 1 where the state is not well formed, the one state check; then 34; and otherwise its
+// commands up to the first that is refused.
 pub fn list(items: &[u32], bytes: &[u8], words: &mut [u32], arena: &mut [u8]) -> Outcome
     ensures { λ r. ⌜ Lists (now (items .entry)) (now (bytes .entry)) (now (words .entry)) (now (arena .entry)) r (now (words .exit)) (now (arena .exit)) ⌝ }
 {

@@ -1,5 +1,6 @@
 -- The laws of messages: paper 02, 1/14, "Also write each command that has an address as a message; reading it gives the command back."
--- They are of calls: `Writes` is what `messagewrite::write` promises of every input, and `message_write` by it; `Reads` what `messageread::read` promises, and `Sends` what `engine::message` does.
+-- They are of calls: `Writes` is what `messagewrite::write` promises of every input, and `message_write` by it; `Reads` what `messageread::read`
+-- promises, and `Sends` what `engine::message` does.
 use Prim.Native.Nat.{ℕ, _-_, _≤_}
 use mathlib.Core.Path.{_≡_, refl, sym, ap, _∙_, subst}
 use mathlib.Core.List.{List, _++_}
@@ -30,7 +31,8 @@ use Rattle.messagelaws.specs.Every.{callOf, Called, every-called}
 use Rattle.messagelaws.specs.Back.{partOf, back}
 use Rattle.messagelaws.specs.Standing.{looked-command, Unfound, Standing, no-row, in-row, standing}
 
--- a message that is read as the command of a call, with the name or the file that the command takes: by the reader, and by the engine, which does that command
+-- a message that is read as the command of a call, with the name or the file that the command takes: by the reader, and by the engine, which does
+-- that command
 pub record ReadBack (s : List ℕ) (g : Given) (c : Command) : Type 0 where
   pub row : Row
   pub known : rowOf (g .numbers .op) ≡ some row
@@ -105,7 +107,8 @@ meant-back s b c part e = by c part (rw e at (standing s))
     by : (d : Command) (bytes : List ℕ) → Standing s (means d bytes) → WrittenBack s d bytes
     by d bytes (in-row m end g x r l h) = looked-back s b m end r g l d h
 
--- Writing what was read gives the message back: of every message that the reader hands on as a command, and of every one that the engine takes for one
+-- Writing what was read gives the message back: of every message that the reader hands on as a command, and of every one that the engine takes for
+-- one
 pub write-read : (s : List ℕ) (c : Command) (start end : ℕ) → Reads s (received.Command c start end) → WrittenBack s c (region start (end - start) s)
 write-read s c start end r = meant-back s (r .lentMessage) c (region start (end - start) s) (r .stands)
 

@@ -1,4 +1,5 @@
--- The form of a message: paper 02, 1/14, with the types and the padding of document 004. A reading is of the message's bytes, from a place on; a fault of form has no place.
+-- The form of a message: paper 02, 1/14, with the types and the padding of document 004. A reading is of the message's bytes, from a place on; a
+-- fault of form has no place.
 use Prim.Native.Nat.{ℕ, suc, _+_, _-_, _%_}
 use mathlib.Core.Bool.{Bool, true}
 use mathlib.Core.List.{List, [], _∷_}

@@ -1,4 +1,5 @@
--- The table of addresses and tags, which the reader and the writer both go by: a row for each op of a call that has an address (`calls` `Ops`), from the first on.
+-- The table of addresses and tags, which the reader and the writer both go by: a row for each op of a call that has an address (`calls` `Ops`),
+-- from the first on.
 use Prim.Native.Nat.{ℕ, _<_}
 use mathlib.Core.Bool.{Bool, true, false}
 use mathlib.Core.List.{List, [], _∷_}

@@ -59,7 +59,8 @@ writeChecks (some r) g room = check Malformed (anyUnfit (g .bytes) (r .slots)) �
 unfoldable pub writeAnswer : Given → ℕ → Answer
 writeAnswer g room = firstOf (writeChecks (rowOf (g .numbers .op)) g room) (Replied (length (messageOf g)))
 
--- a call written into a lent buffer, from its first byte; bytes past it stay, and a refusal changes none. Its numbers have 32 bits, and what is lent as bytes is bytes
+-- a call written into a lent buffer, from its first byte; bytes past it stay, and a refusal changes none. Its numbers have 32 bits, and what is
+-- lent as bytes is bytes
 pub record Writes (g : Given) (out : List ℕ) (a : Answer) (out′ : List ℕ) : Type 0 where
   pub answers : a ≡ writeAnswer g (length out)
   pub left : out′ ≡ written (writeAnswer g (length out)) (messageOf g) out

@@ -75,7 +75,8 @@ rootEnd = nodesPlace + width
 abbrev pub behindRoot : ℕ
 behindRoot = wordsLength - rootEnd
 
--- a fresh engine's words: the root alone, -8 next, no latest, and zeros, so that the one entry of the index is place 0: `fresh` writes every word and byte
+-- a fresh engine's words: the root alone, -8 next, no latest, and zeros, so that the one entry of the index is place 0: `fresh` writes every word
+-- and byte
 abbrev pub freshState : List ℕ
 freshState =
     1 ∷ (0 ∷ (firstGiven ∷ (0 ∷ (replicate (slotCount + slotCount) 0 ++ (encode (root ∷ []) ++ replicate behindRoot 0)))))

@@ -58,7 +58,8 @@ replyOf (command.Controls c) bytes e = []
 replyOf (command.Buses c) bytes e = []
 replyOf (command.Query q) bytes e = reply q bytes e
 
--- a call of a command with its bytes on the lent words, arena and reply buffer: it answers a and leaves the words, the arena and the buffer so; "change no lent byte" where refused.
+-- a call of a command with its bytes on the lent words, arena and reply buffer: it answers a and leaves the words, the arena and the buffer so;
+-- "change no lent byte" where refused.
 -- What is lent as bytes is bytes
 pub record Does (c : Command) (bytes ws bs out : List ℕ) (a : Answer) (ws′ bs′ out′ : List ℕ) : Type 0 where
   pub answers : a ≡ answer c bytes ws bs out

@@ -1,4 +1,5 @@
--- Calls in a row, as the functions promise them: a fresh engine by `start::fresh`, then each call by `engine::apply`, on the words and the arena that the one before left.
+-- Calls in a row, as the functions promise them: a fresh engine by `start::fresh`, then each call by `engine::apply`, on the words and the arena
+-- that the one before left.
 use Prim.{Unit}
 use Prim.Native.Nat.{ℕ}
 use mathlib.Core.List.{List, [], _∷_}

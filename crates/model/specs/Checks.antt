@@ -82,7 +82,8 @@ isRoot n = eqb n 0
 abbrev pub notGroup : NodeArgument → Engine → Bool
 notGroup a e = not (isGroup (node a e))
 
--- "group or synth needed and it isn't; or the root, where it can't be .. replaced or given a sibling": 0 and 1 go into a group, 2 to 4 beside or over a node
+-- "group or synth needed and it isn't; or the root, where it can't be .. replaced or given a sibling": 0 and 1 go into a group, 2 to 4 beside or
+-- over a node
 abbrev pub badTarget : ℕ → NodeArgument → Engine → Bool
 badTarget action target e = pick (ltb action 2) (notGroup target e) (isRoot (meant target e))
 
@@ -96,7 +97,8 @@ noControls key count bytes target e =
     either (either (negativeKey key) (isNegative count))
     (pick (isGroup (node target e)) false (not (hasControls (coverOf key bytes (definitionOf (e .slots) (node target e))) count (definitionOf (e .slots) (node target e)))))
 
--- paper 02, 6/14: "`/n_fill` by name past that width on a synth is refused with 28, after 21": by index 21 comes first, and nothing more is asked; nor is it on a group
+-- paper 02, 6/14: "`/n_fill` by name past that width on a synth is refused with 28, after 21": by index 21 comes first, and nothing more is asked;
+-- nor is it on a group
 abbrev pub pastName : Key → ℕ → List ℕ → NodeArgument → Engine → Bool
 pastName key count bytes target e =
     pick (isGroup (node target e)) false (pastWidth (coverOf key bytes (definitionOf (e .slots) (node target e))) count)

@@ -56,7 +56,8 @@ refusalIn (Replied n) = 0
 refusalIn (Refused r) = numberOf r
 refusalIn (RefusedAt r at) = faultNumber r
 
--- of a call in a state: any bytes and any command, in any lent state, end in the effect asked for or in one numbered refusal, by the table's order of checks. A refusal
+-- of a call in a state: any bytes and any command, in any lent state, end in the effect asked for or in one numbered refusal, by the table's order
+-- of checks. A refusal
 -- changes nothing in the state or the reply buffer. A command that is accepted was given in a well-formed state, and leaves one.
 pub record Ends (c : Call) (s : State) : Type 0 where
   pub table : c .answer ≡ answer (c .command) (c .bytes) (s .words) (s .arena) (c .out)
@@ -92,7 +93,8 @@ pub record SameLoads (a b : Call) : Type 0 where
   pub number : refusalIn (a .answer) ≡ refusalIn (b .answer)
   pub left : a .left ≡ b .left
 
--- a file whose definitions can be read one after the other, up to a place, though it may be refused for its limit, its names or the bytes that are left over
+-- a file whose definitions can be read one after the other, up to a place, though it may be refused for its limit, its names or the bytes that are
+-- left over
 pub record Written (file : List ℕ) (ds : List Definition) (end : ℕ) : Type 0 where
   pub head : Header
   pub first : ℕ
@@ -104,7 +106,8 @@ pub record Written (file : List ℕ) (ds : List Definition) (end : ℕ) : Type 0
 abbrev pub twin : List ℕ → List Definition → ℕ → List ℕ
 twin file ds end = writeFile ds ++ drop end file
 
--- Demand 2: what a fresh engine accepts is exported, in version 2, and "byte equality is asked of version 2 files only; a version 1 file must load as its widened twin
+-- Demand 2: what a fresh engine accepts is exported, in version 2, and "byte equality is asked of version 2 files only; a version 1 file must load
+-- as its widened twin
 -- does" (paper 02, 4/14); an export, from every well-formed state, loaded into a fresh engine gives the same definitions
 pub record Demand2 : Type 0 where
   pub exported : (s : State) → Fresh s → (load next : Call) → load .command ≡ receive → next .command ≡ export → Chain (load ∷ (next ∷ [])) s
@@ -174,8 +177,10 @@ pub record TreeHolds (t : List Node) : Type 0 where
 abbrev pub latestSynth : ℕ → Option ℕ
 latestSynth latest = pick (eqb latest 0) none (some latest)
 
--- of the state after a sequence and the plain tree that was fed the same: everything equals paper 01's plain tree, the kept running order equals the one worked
--- out afresh. "All that the plain tree holds is compared: definitions, each synth's and each name's, as read, not by slot; controls by own float and mapping; every float by its bits."
+-- of the state after a sequence and the plain tree that was fed the same: everything equals paper 01's plain tree, the kept running order equals
+-- the one worked
+-- out afresh. "All that the plain tree holds is compared: definitions, each synth's and each name's, as read, not by slot; controls by own float
+-- and mapping; every float by its bits."
 -- "One reply for all queries breaks it by the replay model": each reply but export's is the plain tree's own.
 pub record Same (e : Engine) (p : Plain) : Type 0 where
   pub nodes : view e ≡ plainRows 0 (p .tree)
@@ -198,8 +203,10 @@ replyIn (command.Controls c) bytes e p = []
 replyIn (command.Buses c) bytes e p = []
 replyIn (command.Query q) bytes e p = pick (isExport q) (reply q bytes e) (ifSome (plainReply q bytes p) (λ l. l) [])
 
--- of one call in a state, with the plain tree fed what came before: never refusal 1, each answer as the table says, the reply buffer with the plain tree's reply; what a
--- command doesn't touch stays as it was: nodes that it neither adds, moves nor frees keep their order among themselves; a node outside the subtrees that it adds, moves,
+-- of one call in a state, with the plain tree fed what came before: never refusal 1, each answer as the table says, the reply buffer with the plain
+-- tree's reply; what a
+-- command doesn't touch stays as it was: nodes that it neither adds, moves nor frees keep their order among themselves; a node outside the subtrees
+-- that it adds, moves,
 -- sets, maps, turns on or off, or frees keeps its kind, parent, definition, run flag and controls
 pub record StepHolds (c : Call) (s : State) (p : Plain) : Type 0 where
   pub sound : refusalIn (c .answer) ≡ 1 → ⊥

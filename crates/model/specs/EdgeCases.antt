@@ -197,7 +197,8 @@ filesAndReplies e =
     ∷ example (verdict (readFile (narrowInput 255 255))) (0 ∷ 1 ∷ [])
     ∷ example (verdict (readFile (narrowInput 255 254))) (8 ∷ 33 ∷ [])
     ∷ example (verdict (readFile (take 15 narrowPing ++ (255 ∷ 255 ∷ []) ++ drop 17 narrowPing))) (5 ∷ 15 ∷ [])
-    -- "The 2,048 limit is measured on the version 2 encoding": 337 names make 2,046 bytes there and 338 make 2,052, though in version 1 they are far fewer
+    -- "The 2,048 limit is measured on the version 2 encoding": 337 names make 2,046 bytes there and 338 make 2,052, though in version 1 they are
+    -- far fewer
     ∷ example (verdict (readFile (narrowNames 1 81 337))) (0 ∷ 1 ∷ [])
     ∷ example (verdict (readFile (narrowNames 1 82 338))) (9 ∷ 10 ∷ [])
     -- "export always writes version 2 .. a version 1 file must load as its widened twin does"

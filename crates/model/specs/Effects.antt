@@ -136,7 +136,8 @@ changeWords f (suc n) us = controlWords (f (controlAt (getD us 0 0) (getD us 1 0
 abbrev pub changeRow : (ControlValue → ControlValue) → ℕ → ℕ → ℕ → List ℕ → List ℕ
 changeRow f row start many cs = take (rowWords * row + 2 * start) cs ++ changeWords f many (drop (rowWords * row + 2 * start) cs)
 
--- the controls of one row that are covered, count of them or as many as there are; paper 02, 6/14: "on a group that synth is filled to the width only"
+-- the controls of one row that are covered, count of them or as many as there are; paper 02, 6/14: "on a group that synth is filled to the width
+-- only"
 abbrev pub changeCovered : (ControlValue → ControlValue) → Option Covered → ℕ → ℕ → List ℕ → List ℕ
 changeCovered f none row count cs = cs
 changeCovered f (some c) row count cs = changeRow f row (c .index) (min count (c .width)) cs

@@ -1,5 +1,7 @@
--- The well-formed state: what refusal 1 asks. "a state buffer has the wrong size, or a rule above on slots, nodes, controls or running order doesn't hold; or a taken
--- slot holds no readable definition, two residents share a name, a live generated number wasn't yet given, or the latest synth isn't a live synth or none."
+-- The well-formed state: what refusal 1 asks. "a state buffer has the wrong size, or a rule above on slots, nodes, controls or running order
+-- doesn't hold; or a taken
+-- slot holds no readable definition, two residents share a name, a live generated number wasn't yet given, or the latest synth isn't a live synth
+-- or none."
 use Prim.Native.Nat.{ℕ, zero, suc, _+_, _*_}
 use mathlib.Core.Bool.{Bool, true, false, not}
 use mathlib.Core.List.{List, [], _∷_}
@@ -65,7 +67,8 @@ sameNumbers a b = sameName a b
 abbrev pub orderFormed : List ℕ → List Node → Bool
 orderFormed ws t = both (leb (orderLengthIn ws) orderWords) (sameNumbers (orderIn ws) (order t))
 
--- "If the new way needs a rule on the state, that rule joins the well formed state, and 1 tests it" (3/14): the index of the nodes, behind their own rules
+-- "If the new way needs a rule on the state, that rule joins the well formed state, and 1 tests it" (3/14): the index of the nodes, behind their
+-- own rules
 unfoldable pub formed : List ℕ → List ℕ → Bool
 formed ws arena =
     both (eqb (length ws) wordsLength)

@@ -31,7 +31,8 @@ firstNegative = 2147483648
 abbrev pub isNegative : ℕ → Bool
 isNegative n = leb firstNegative n
 
--- "Where a command names an existing node, -1 means the latest synth made by `/s_new` while that very synth lives, else refusal 17 .. Below -1 no command can name a node (17)."
+-- "Where a command names an existing node, -1 means the latest synth made by `/s_new` while that very synth lives, else refusal 17 .. Below -1 no
+-- command can name a node (17)."
 abbrev pub meantBy : Target → ℕ → ℕ
 meantBy Latest latest = latest
 meantBy (Number n) latest = n

@@ -38,7 +38,8 @@ pub record Named : Type 0 where
   pub name : List ℕ
   pub definition : Definition
 
--- "It holds the nodes with number and run flag, each group's children from head to tail, each synth's definition and controls, the definition each name means, the next
+-- "It holds the nodes with number and run flag, each group's children from head to tail, each synth's definition and controls, the definition each
+-- name means, the next
 -- generated number, the latest synth or none, and each bus's float": numbers and floats by their patterns
 pub record Plain : Type 0 where
   pub tree : Forest PlainNode

@@ -1,4 +1,5 @@
--- The replies, of what the plain tree holds: paper 01, "Replies". All but export's, since the plain tree has no slots. Only how an address and arguments become a
+-- The replies, of what the plain tree holds: paper 01, "Replies". All but export's, since the plain tree has no slots. Only how an address and
+-- arguments become a
 -- message is shared with the engine: it is the format's (`osc` `Message`).
 use Prim.Native.Nat.{ℕ, zero, suc, _+_}
 use Prim.Native.Char.{code}
@@ -29,7 +30,8 @@ unfoldable pub bytesOf : String → List ℕ
 bytesOf end = []
 bytesOf (c then s) = code c ∷ bytesOf s
 
--- "`/n_query` gives `/n_info`: number, parent (-1 for the root), previous, next, 1 for a group or 0, and for a group its head and tail; -1 where none."
+-- "`/n_query` gives `/n_info`: number, parent (-1 for the root), previous, next, 1 for a group or 0, and for a group its head and tail; -1 where
+-- none."
 abbrev pub groupInfo : Forest PlainNode → ℕ → Kind → List Argument
 groupInfo f n group = int 1 ∷ (int (head numberIn n f) ∷ (int (tail numberIn n f) ∷ []))
 groupInfo f n (synth d cs) = int 0 ∷ []
@@ -87,7 +89,8 @@ abbrev pub included : ℕ → List Argument → List Argument
 included zero args = []
 included (suc flag) args = args
 
--- "number of child nodes contained within this node. If -1 this is a synth, if >=0 it's a group .. the SynthDef name for this node. .. numControls for this synth (M)"
+-- "number of child nodes contained within this node. If -1 this is a synth, if >=0 it's a group .. the SynthDef name for this node. .. numControls
+-- for this synth (M)"
 abbrev pub kindShown : ℕ → ℕ → Kind → List Argument
 kindShown flag children group = int children ∷ []
 kindShown flag children (synth d cs) = int minusOne ∷ (text (d .front .name) ∷ included flag (int (length cs) ∷ controlsShown 0 (d .front .names) cs))

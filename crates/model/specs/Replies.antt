@@ -1,4 +1,5 @@
--- The replies: paper 01, "Replies". Each but export's is a function of what the plain tree holds: the nodes as it knows them, the buses, and how many names mean a definition.
+-- The replies: paper 01, "Replies". Each but export's is a function of what the plain tree holds: the nodes as it knows them, the buses, and how
+-- many names mean a definition.
 use Prim.Native.Nat.{ℕ, suc, _+_}
 use mathlib.Core.Bool.{Bool, true, false, not}
 use mathlib.Core.List.{List, [], _∷_, _++_}
@@ -53,7 +54,8 @@ unfoldable pub plainNamed : ℕ → List Row → PlainNode
 plainNamed n [] = noPlainNode
 plainNamed n (r ∷ l) = pick (eqb (r .node .number) n) (r .node) (plainNamed n l)
 
--- "`/n_query` gives `/n_info`: number, parent (-1 for the root), previous, next, 1 for a group or 0, and for a group its head and tail; -1 where none."
+-- "`/n_query` gives `/n_info`: number, parent (-1 for the root), previous, next, 1 for a group or 0, and for a group its head and tail; -1 where
+-- none."
 abbrev pub infoKind : ℕ → List Row → Bool → List Argument
 infoKind n rows true = int 1 ∷ (int (headOf n (shape rows)) ∷ (int (tailOf n (shape rows)) ∷ []))
 infoKind n rows false = int 0 ∷ []
@@ -107,8 +109,10 @@ controlArguments i names [] = []
 controlArguments i names (c ∷ cs) =
     labelArgument (firstName i names) i ∷ (mappingArgument (c .mapping) (c .own) ∷ controlArguments (i + 1) names cs)
 
--- "`/g_queryTree` as in 000": "node ID .. number of child nodes contained within this node. If -1 this is a synth, if >=0 it's a group .. then, if this node is a synth: .. the
--- SynthDef name for this node. .. then, if flag (see above) is true: .. numControls for this synth (M)", and for each control its name or index and its value or mapping
+-- "`/g_queryTree` as in 000": "node ID .. number of child nodes contained within this node. If -1 this is a synth, if >=0 it's a group .. then, if
+-- this node is a synth: .. the
+-- SynthDef name for this node. .. then, if flag (see above) is true: .. numControls for this synth (M)", and for each control its name or index and
+-- its value or mapping
 abbrev pub flagged : Bool → Definition → List ControlValue → List Argument
 flagged true d cs = int (length cs) ∷ controlArguments 0 (d .front .names) cs
 flagged false d cs = []
@@ -136,7 +140,8 @@ unfoldable pub subtreeRows : ℕ → List Row → List Row
 subtreeRows n [] = []
 subtreeRows n (r ∷ l) = pick (eqb (r .node .number) n) (rowsBelow (r .depth) l) (subtreeRows n l)
 
--- "flag: if synth control values are included 1, else 0 .. node ID of the requested group .. number of child nodes contained within the requested group"; "Any nonzero flag is 1."
+-- "flag: if synth control values are included 1, else 0 .. node ID of the requested group .. number of child nodes contained within the requested
+-- group"; "Any nonzero flag is 1."
 abbrev pub flagNumber : Bool → ℕ
 flagNumber true = 1
 flagNumber false = 0

@@ -1,4 +1,5 @@
--- Edits by places: what each edit is, in terms of the record's place and of the end of its run, and that it is the edit at the node whose place it is.
+-- Edits by places: what each edit is, in terms of the record's place and of the end of its run, and that it is the edit at the node whose place it
+-- is.
 use Prim.Native.Nat.{ℕ, zero, suc, _+_, _*_, _<_}
 use mathlib.Core.Bool.{Bool, true, false}
 use mathlib.Core.Path.{_≡_, refl, sym, ap, ap₂, _∙_}

@@ -1,4 +1,5 @@
--- An OSC message: paper 01, "Replies": "Whole OSC messages from the buffer's first byte: padded address, padded tag string, arguments; strings end in one to four zeros."
+-- An OSC message: paper 01, "Replies": "Whole OSC messages from the buffer's first byte: padded address, padded tag string, arguments; strings end
+-- in one to four zeros."
 use Prim.Native.Nat.{ℕ, _+_, _-_, _/_, _%_}
 use mathlib.Core.List.{List, [], _∷_, _++_}
 use lib.ListN.{length, replicate}
@@ -24,7 +25,8 @@ tagOf (blob s) = 98
 abbrev pub padded : List ℕ → List ℕ
 padded s = s ++ replicate (4 - length s % 4) 0
 
--- a blob's bytes behind their number, and none to three zeros: "preceeded by a 32 bit length field and padded to a multiple of 4 bytes" (document 004)
+-- a blob's bytes behind their number, and none to three zeros: "preceeded by a 32 bit length field and padded to a multiple of 4 bytes" (document
+-- 004)
 abbrev pub paddedBlob : List ℕ → List ℕ
 paddedBlob s = bytes32 (length s) ++ (s ++ replicate ((4 - length s % 4) % 4) 0)
 

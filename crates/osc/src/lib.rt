@@ -79,7 +79,8 @@ fn put_four(out: &mut [u8], at: usize, a: u8, b: u8, c: u8, d: u8)
     out[at + 3] = d;
 }
 
-// A string and the zeros that end it, four bytes at a time: for strings as short as names are, the compiler would make calls of loops over single bytes.
+// A string and the zeros that end it, four bytes at a time: for strings as short as names are, the compiler would make calls of loops over single
+// bytes.
 pub fn put_padded(out: &mut [u8], at: usize, bytes: &[u8])
     requires { ⌜ at + length (padded (now bytes)) ≤ length (now out) ⌝ }
     ensures { λ r. ⌜ now (out .exit) ≡ over at (padded (now (bytes .entry))) (now (out .entry)) ⌝ }

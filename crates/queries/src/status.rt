@@ -28,7 +28,8 @@ struct Sums {
     groups: u32,
 }
 
-// The nodes are counted by their slots' words in four parts of the table at once, each with counts of its own, since neighbours often hold one slot and a count would wait for the one before it.
+// The nodes are counted by their slots' words in four parts of the table at once, each with counts of its own, since neighbours often hold one slot
+// and a count would wait for the one before it.
 // Then each slot that a synth holds is looked up once, up to the last one that is held.
 fn totals(words: &[u32], arena: &[u8]) -> Sums
     requires { ⌜ Known (now words) (now arena) ⌝ }

@@ -1,7 +1,7 @@
 -- A `Reader` that was passed by value is taken apart, for the call of a function of the file and the place.
 --     B                the struct's type, over the signature's lifetimes
 --     Says             what a contract says of a slice, a number and a result
---     asked, Asked     the signature and the contract of a function of a slice and a number, over the result's place R in a signature and what it says
+-- asked, Asked     the signature and the contract of a function of a slice and a number, over the result's place R in a signature and what it says
 --     asking           the signature of a method with `self`, over its result's place
 --     passed, to       what the function is passed, and what its contract is taken at
 --     lent             what the struct owns gives what the file owns, and is kept: the struct is Copy, so what it owns is had twice.

@@ -1,4 +1,5 @@
--- Slots after a command of definitions against those before it: each stays, maybe retired, or has a new definition. Such slots can be put in, and keep the rule on slots.
+-- Slots after a command of definitions against those before it: each stays, maybe retired, or has a new definition. Such slots can be put in, and
+-- keep the rule on slots.
 use Prim.{Unit, tt}
 use Prim.Native.Nat.{ℕ, zero, suc, _+_, _*_, _≤_}
 use mathlib.Core.Bool.{Bool, true, false, not}

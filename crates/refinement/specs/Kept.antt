@@ -1,4 +1,5 @@
--- What is kept along a sequence: the state is well formed, and its nodes, laid out as a tree and seen as the plain tree sees them, are the plain tree.
+-- What is kept along a sequence: the state is well formed, and its nodes, laid out as a tree and seen as the plain tree sees them, are the plain
+-- tree.
 use Prim.Native.Nat.{ℕ, _+_, _≤_}
 use mathlib.Core.Bool.{Bool, true, false, not}
 use mathlib.Core.Path.{_≡_, refl, sym, ap, ap₂, _∙_}

@@ -1,4 +1,5 @@
--- The slots after an accepted command of definitions: each follows the one before it, residents' names differ, and the slots that synths hold have the bytes that they had.
+-- The slots after an accepted command of definitions: each follows the one before it, residents' names differ, and the slots that synths hold have
+-- the bytes that they had.
 use Prim.{Unit, tt}
 use Prim.Native.Nat.{ℕ, _+_, _-_, _≤_}
 use mathlib.Core.Bool.{Bool, true, false, not}

@@ -34,7 +34,8 @@ numberOf BadValue = 23
 numberOf NoRoom = 24
 -- "no number left for a new -1"
 numberOf NoNumber = 25
--- paper 02, 1/14: "malformed (also an address without its "/" or tags without their comma), with a tag other than these, padding not zero or bytes left over"
+-- paper 02, 1/14: "malformed (also an address without its "/" or tags without their comma), with a tag other than these, padding not zero or bytes
+-- left over"
 numberOf Malformed = 26
 -- "unknown address, or tags that don't fit it"
 numberOf UnknownMessage = 27

@@ -1,5 +1,7 @@
--- Paper 02, 4/14: "a version 1 file must load as its widened twin does". The widening is over the reading: a file whose definitions can be read, one after the
--- other, has a twin, which is their writing in version 2 and then the bytes that are left over. A file with a fault in a field, or one that is cut, has none.
+-- Paper 02, 4/14: "a version 1 file must load as its widened twin does". The widening is over the reading: a file whose definitions can be read,
+-- one after the
+-- other, has a twin, which is their writing in version 2 and then the bytes that are left over. A file with a fault in a field, or one that is cut,
+-- has none.
 use Prim.Native.Nat.{ℕ, zero, suc, _+_, _-_, _≤_}
 use mathlib.Core.Path.{_≡_, refl, sym, ap, _∙_}
 use mathlib.Core.Bool.{Bool, true, false}

@@ -1,4 +1,5 @@
-// The slots of definitions: the bytes of the definition in a slot, which lie in the arena where only this crate and a load know, and how many are resident.
+// The slots of definitions: the bytes of the definition in a slot, which lie in the arena where only this crate and a load know, and how many are
+// resident.
 use format::SIZE_LIMIT;
 use layout::LENGTHS;
 use layout::RESIDENT_END;

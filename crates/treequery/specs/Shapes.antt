@@ -1,4 +1,5 @@
--- What a reply needs of the definitions, looked up once: 33 words for each slot, P + 1 (0 before the slot was looked up) and for each control the place of its label.
+-- What a reply needs of the definitions, looked up once: 33 words for each slot, P + 1 (0 before the slot was looked up) and for each control the
+-- place of its label.
 use Prim.Native.Nat.{ℕ, _+_, _*_, _≤_, _<_}
 use mathlib.Core.Bool.{false}
 use mathlib.Core.Path.{_≡_}

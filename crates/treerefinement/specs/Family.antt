@@ -1,4 +1,5 @@
--- Every node descends from the root by one parent: children of the table are children of the plain tree, and a node's parent is the one group that has it.
+-- Every node descends from the root by one parent: children of the table are children of the plain tree, and a node's parent is the one group that
+-- has it.
 use Prim.{Unit, tt}
 use Prim.Native.Nat.{ℕ, _+_, _≤_, _<_}
 use mathlib.Core.Bool.{Bool, true, false}

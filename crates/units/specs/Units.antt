@@ -145,8 +145,10 @@ unfolding unitsBy
 skip-units w k s n outs at =
     ending-fact countsOf (unitBy w k outs s at) _ _ (λ u next. ending-keeps (unitsBy w k s n (outs ++ (length (u .outputs) ∷ [])) next) (λ us. u ∷ us))
 
--- The outputs of the last so many units are remembered while a definition is read. In version 2 a unit takes at least 12 bytes, and a definition 20 besides: a name of
--- one byte, four counts of four bytes and one of two. So a definition within the size limit has fewer units than this (`units-remembered` of `files`).
+-- The outputs of the last so many units are remembered while a definition is read. In version 2 a unit takes at least 12 bytes, and a definition 20
+-- besides: a name of
+-- one byte, four counts of four bytes and one of two. So a definition within the size limit has fewer units than this (`units-remembered` of
+-- `files`).
 abbrev pub remembered : ℕ
 remembered = 256
 
@@ -193,7 +195,8 @@ stood-first w s start outs stride marks h p none = record {
   };
 }
 
--- What a run of units leaves, from one number to another: behind them the units are remembered, and what is left to read, however much, reads as it does with the run; or the run is bad.
+-- What a run of units leaves, from one number to another: behind them the units are remembered, and what is left to read, however much, reads as it
+-- does with the run; or the run is bad.
 unfoldable pub Ran : (w : Width) (k : ℕ) (s : List ℕ) (start from to at stride : ℕ) (marks outs : List ℕ) → Read ℕ → Type 0
 Ran w k s start from to at stride marks outs (got fields next) =
     UnitsRead w s start outs stride marks next to fields × ((n : ℕ) → ending (unitsBy w k s n (outsFrom w s start to) next) ≡ ending (unitsBy w k s ((to - from) + n) (outsFrom w s start from) at))
@@ -276,7 +279,8 @@ unfolding Ran
 run-sized w k s start from to at stride marks outs (got fields next) h = h .0 .sized
 run-sized w k s start from to at stride marks outs (bad q place) h = h .0
 
--- The turns of a loop that reads units run by run, behind i of them: what is left to read, from the present place, reads as the whole does from the first.
+-- The turns of a loop that reads units run by run, behind i of them: what is left to read, from the present place, reads as the whole does from the
+-- first.
 pub record Standing (w : Width) (k : ℕ) (s : List ℕ) (start count : ℕ) (outs : List ℕ) (stride : ℕ) (marks : List ℕ) (known at i fields : ℕ) : Type 0 where
   pub most : i ≤ count
   pub room : known ≤ length marks

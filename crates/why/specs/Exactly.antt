@@ -39,7 +39,8 @@ pub record NearestRoot {A : Type 0} (key : A → ℕ) (on : A → Bool) (number 
   pub aboveOn : allOn key on above ≡ true
 
 module _ {A : Type 0} (key : A → ℕ) (group on : A → Bool) where
-  -- "no such node; it is a group; off by its own flag; its own flag is on and the ancestor nearest the root that is off is this one; or running, and its place in the running order, from 1"
+  -- "no such node; it is a group; off by its own flag; its own flag is on and the ancestor nearest the root that is off is this one; or running,
+  -- and its place in the running order, from 1"
   abbrev pub Holds : Reason → ℕ → Forest A → Type 0
   Holds NoNode n f = nodeOf key n f ≡ none
   Holds Group n f = (x : A) × (nodeOf key n f ≡ some x) × (group x ≡ true)

@@ -1,4 +1,5 @@
--- What `why` tells, of any words and any arena: refusal 1 where they are no well-formed state, and otherwise the reason in the plain tree that the state holds.
+-- What `why` tells, of any words and any arena: refusal 1 where they are no well-formed state, and otherwise the reason in the plain tree that the
+-- state holds.
 use Prim.Native.Nat.{ℕ}
 use mathlib.Core.List.{List}
 use Rattle.words.specs.Choice.{pick}

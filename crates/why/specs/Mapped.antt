@@ -1,4 +1,5 @@
--- A reason looks at a node's number, its kind and its run flag alone: it is the same in the tree of the table and in that tree as the plain tree knows it.
+-- A reason looks at a node's number, its kind and its run flag alone: it is the same in the tree of the table and in that tree as the plain tree
+-- knows it.
 use Prim.Native.Nat.{ℕ, _+_}
 use mathlib.Core.Bool.{Bool, true, false}
 use mathlib.Core.Path.{_≡_, refl, sym, ap, ap₂, _∙_}

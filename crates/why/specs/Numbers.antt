@@ -1,4 +1,5 @@
--- What is told as one number: the low byte is the refusal's number or 0, the second byte the reason, 1 to 5 in the paper's order; from bit 16 on, 32 bits: the ancestor's number, or the place, else 0.
+-- What is told as one number: the low byte is the refusal's number or 0, the second byte the reason, 1 to 5 in the paper's order; from bit 16 on,
+-- 32 bits: the ancestor's number, or the place, else 0.
 use Prim.Native.Nat.{ℕ, _+_, _*_}
 use Rattle.refusals.specs.Refusals.{numberOf}
 use Rattle.why.specs.declared.Reason.{Reason}

@@ -1,4 +1,5 @@
--- Why a node is silent, as facts about the plain tree: paper 02, 7/14. "An operator points at a number and asks. Answer the first of these that is true: no such node; it is a group; off by its
+-- Why a node is silent, as facts about the plain tree: paper 02, 7/14. "An operator points at a number and asks. Answer the first of these that is
+-- true: no such node; it is a group; off by its
 -- own flag; its own flag is on and the ancestor nearest the root that is off is this one; or running, and its place in the running order, from 1."
 use Prim.Native.Nat.{ℕ, suc}
 use mathlib.Core.Bool.{Bool}
@@ -54,7 +55,8 @@ module _ {A : Type 0} (key : A → ℕ) (group on : A → Bool) where
 abbrev pub plainReason : ℕ → Forest PlainNode → Reason
 plainReason n f = reason numberIn isGroupNode isOnNode n f
 
--- "a reason must be given for every number, -1 and below included. -1 means what it means in a command" (01: "the latest synth made by `/s_new` while that very synth lives", and none otherwise);
+-- "a reason must be given for every number, -1 and below included. -1 means what it means in a command" (01: "the latest synth made by `/s_new`
+-- while that very synth lives", and none otherwise);
 -- "a live number below -1 gets its own node's reason, since this question is no command."
 abbrev pub reasonFor : ℕ → Option ℕ → Forest PlainNode → Reason
 reasonFor number latest f = pick (eqb number minusOne) (ifSome latest (λ n. plainReason n f) NoNode) (plainReason number f)

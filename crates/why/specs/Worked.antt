@@ -21,7 +21,8 @@ grouped n flag = record { number = n; run = flag; kind = group }
 abbrev voiced : ℕ → ℕ → PlainNode
 voiced n flag = record { number = n; run = flag; kind = synth noDefinition [] }
 
--- the root's flag; in the root synth 1000, group 1, which is off, with synth 1001 and group 2, which is off too, with 1002 and 1003, whose own flag is off; then group 3 with 1004, which is off,
+-- the root's flag; in the root synth 1000, group 1, which is off, with synth 1001 and group 2, which is off too, with 1002 and 1003, whose own flag
+-- is off; then group 3 with 1004, which is off,
 -- 1005, and group 4, which is off, with group 5 with -8; then 1006. The latest is -8.
 abbrev sample : ℕ → Plain
 sample flag = record {

@@ -1,4 +1,5 @@
--- `order::running_order` meets its contract. The invariant: the numbers found so far with those that the marks give of the rest are the order (`OrderSoFar`).
+-- `order::running_order` meets its contract. The invariant: the numbers found so far with those that the marks give of the rest are the order
+-- (`OrderSoFar`).
 use Prim.Native.Nat.{_+_, _-_, _≤_, _<_}
 use mathlib.Core.Path.{_∙_}
 use mathlib.Core.Logic.{⊎-elim}

@@ -1,4 +1,5 @@
--- `controls::control::change_one` meets its contract: both words of a control that is set, and of one that is mapped the second, since its own float is the word that was read.
+-- `controls::control::change_one` meets its contract: both words of a control that is set, and of one that is mapped the second, since its own
+-- float is the word that was read.
 use Prim.Native.Nat.{ℕ, _+_}
 use mathlib.Core.Path.{_≡_, ap, ap₂, _∙_}
 use native.Mathlib.Omega.{arith}

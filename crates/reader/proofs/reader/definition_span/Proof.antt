@@ -1,4 +1,5 @@
--- `definition_span` meets its contract: a walk of its MIR, by hand. `open` is called on the file, the reader is taken out of what it answers, `skip` is called on the reader and the count, and `span` on the reader that comes back.
+-- `definition_span` meets its contract: a walk of its MIR, by hand. `open` is called on the file, the reader is taken out of what it answers,
+-- `skip` is called on the reader and the count, and `span` on the reader that comes back.
 -- All that the proof knows of the three is that each meets its contract. What the count owns is made anew from its facts.
 -- Assumes nothing.
 use mathlib.Core.Path.{_≡_, refl, ap, _∙_}

@@ -1,5 +1,7 @@
--- `open` meets its contract: a walk of its MIR, by hand. `check_file` is called on the file, `start_of` on the file and what that answered, and a struct is made of the reader, which is made of the file and the number, and the answer.
--- A `&[u8]` is Copy, so what it owns is had once for each call, once for the exit, and once inside the result. What the answer and the number own is made anew from their facts.
+-- `open` meets its contract: a walk of its MIR, by hand. `check_file` is called on the file, `start_of` on the file and what that answered, and a
+-- struct is made of the reader, which is made of the file and the number, and the answer.
+-- A `&[u8]` is Copy, so what it owns is had once for each call, once for the exit, and once inside the result. What the answer and the number own
+-- is made anew from their facts.
 -- Assumes nothing.
 use mathlib.Core.Path.{_≡_, refl, ap, subst, _∙_}
 use Prim.Native.Nat.{ℕ, _<_, _^_}

@@ -1,4 +1,5 @@
--- `tree::deep::sweep` meets its contract: a cycle of one, whose measure is the number of nodes still allowed. The invariant: a sweep of the rest, from the present places and words, leaves what the whole sweep leaves.
+-- `tree::deep::sweep` meets its contract: a cycle of one, whose measure is the number of nodes still allowed. The invariant: a sweep of the rest,
+-- from the present places and words, leaves what the whole sweep leaves.
 use Prim.Native.Nat.{ℕ, _+_, _*_, _-_, _≤_, _<_}
 use mathlib.Core.Path.{_≡_, refl}
 use mathlib.Core.List.{List}

@@ -1,4 +1,5 @@
--- `treecommands::finish::renew_without` meets its contract: the words settled with the next number as it is, and the latest synth unless it was freed.
+-- `treecommands::finish::renew_without` meets its contract: the words settled with the next number as it is, and the latest synth unless it was
+-- freed.
 use mathlib.Core.Path.{sym, _∙_}
 use borrow.Author.Needs.{needs}
 use Rattle.treecommands.specs.Staying.{settled-latest}

@@ -1,4 +1,5 @@
--- `treecommands::free::free_node` meets its contract: each refusal by the check that fires, the rest by the law of the edit. Where one node alone is freed, the latest synth is told by its number.
+-- `treecommands::free::free_node` meets its contract: each refusal by the check that fires, the rest by the law of the edit. Where one node alone
+-- is freed, the latest synth is told by its number.
 use Prim.Native.Nat.{_+_, _*_}
 use native.Mathlib.Omega.{arith}
 use borrow.Author.Needs.{needs}

@@ -1,5 +1,7 @@
--- `Reader::skip` meets its contract: a walk of its MIR, by hand. The struct is taken apart, `place_past` is called on the file, the place and the count, and a struct is made anew of the file and the number that comes back.
--- The struct is Copy: what it owns is had three times over, for the call, for the exit, and for the result, where the number's facts take the place of the old place's.
+-- `Reader::skip` meets its contract: a walk of its MIR, by hand. The struct is taken apart, `place_past` is called on the file, the place and the
+-- count, and a struct is made anew of the file and the number that comes back.
+-- The struct is Copy: what it owns is had three times over, for the call, for the exit, and for the result, where the number's facts take the place
+-- of the old place's.
 -- Assumes nothing.
 use mathlib.Core.Path.{_≡_, refl, ap}
 use Prim.Native.Nat.{ℕ, _<_, _^_}
