@@ -5,7 +5,6 @@ use Rattle.refusals.specs.Refusals.{numberOf}
 use Rattle.model.specs.declared.Answer.{Answer}
 use Rattle.model.specs.declared.Answer.the-variants.{Done, Replied, Refused, RefusedAt}
 
-
 -- what the 64 bits leave for a place or a length: 2^56
 abbrev pub room : ℕ
 room = 72057594037927936

@@ -9,7 +9,6 @@ use Rattle.model.specs.declared.Answer.the-variants.{Done, Refused}
 use Rattle.model.specs.Apply.{sized, freshAnswer}
 use Rattle.calls.specs.Numbers.{callNumber}
 
-
 -- a fresh engine's number is 0 or 1
 pub fresh-small : (ws bs : List ℕ) → callNumber (freshAnswer ws bs) ≤ 1
 unfolding freshAnswer

@@ -12,9 +12,6 @@ use Rattle.index.specs.declared.step.Known.{Known}
 use Rattle.index.specs.declared.step.Known.the-variants.{Between, Found}
 use Rattle.index.specs.Index.{numbers, numberAt}
 
-
-
-
 -- settled: found, or no entry is left
 abbrev pub settled : Known → Bool
 settled (Between low high) = leb high low

@@ -6,8 +6,6 @@ use lib.Dec.{ltb, eqb}
 use Rattle.words.specs.Choice.{pick}
 use Rattle.nodes.specs.declared.Node.{Node}
 
-
-
 -- the slot word of a group
 abbrev pub groupSlot : ℕ
 groupSlot = 32

@@ -3,7 +3,6 @@ use Prim.Native.Nat.{ℕ}
 use mathlib.Core.List.{List, _++_}
 use lib.ListN.{take, drop}
 
-
 module _ {A : Type 0} where
   -- the k items of a run from its place a on
   abbrev pub region : ℕ → ℕ → List A → List A
