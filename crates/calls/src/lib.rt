@@ -11,6 +11,7 @@ use refusals::refusal_number;
 use values::Key;
 use values::NodeArgument;
 use values::Value;
+use values::by_number;
 ghost use mathlib.Core.Path.{_≡_};
 ghost use Prim.Native.Nat.{_<_, _+_, _*_, _%_};
 ghost use Rattle.values.specs.declared.Key.{Key};
@@ -117,9 +118,9 @@ pub fn command_of(op: u32, a: u32, b: u32, c: u32, d: u32, e: u32) -> Parsed
     ensures { λ r. ⌜ r ≡ commandOf op a b c d e ⌝ }
 {
     // The nodes that the first three numbers name, where they name nodes.
-    let first = NodeArgument { number: a };
-    let second = NodeArgument { number: b };
-    let third = NodeArgument { number: c };
+    let first = by_number(a);
+    let second = by_number(b);
+    let third = by_number(c);
     match op {
         ops::NONE => Parsed::Nothing,
         ops::D_RECV => Parsed::Call(Command::Definitions(DefinitionCommand::Receive)),

@@ -9,7 +9,7 @@ use lib.Dec.{eqb}
 use Rattle.words.specs.Choice.{pick, either}
 use Rattle.words.specs.Parts.{region}
 use Rattle.refusals.specs.declared.Refusal.{Refusal}
-use Rattle.refusals.specs.declared.Refusal.the-variants.{NoNode, NoControl, NoBus, BadValue, PastWidth}
+use Rattle.refusals.specs.declared.Refusal.the-variants.{NoControl, NoBus, BadValue, PastWidth}
 use Rattle.nodes.specs.declared.Node.{Node}
 use Rattle.nodes.specs.PlaceLaws.{end-most}
 use Rattle.values.specs.declared.Key.{Key}
@@ -26,15 +26,15 @@ use Rattle.model.specs.declared.Answer.{Answer}
 use Rattle.model.specs.declared.Answer.the-variants.{Done, Refused}
 use Rattle.model.specs.Layout.{nodesPlace, nodesWords, countIn, nodesIn, controlsIn, putControls}
 use Rattle.model.specs.Engine.{Engine, decode}
-use Rattle.model.specs.Meaning.{minusOne, isBus, meant, known, node, mappingTo}
-use Rattle.model.specs.Checks.{check, firstOf, noControls, pastName}
+use Rattle.model.specs.Meaning.{minusOne, isBus, meant, node, mappingTo}
+use Rattle.model.specs.Checks.{Check, check, firstOf, nodeCheck, noControls, pastName}
 use Rattle.model.specs.Effects.{effect, controlEffect, changeAll, changed}
 use Rattle.model.specs.After.{wordsAfter}
 use Rattle.model.specs.Apply.{answerIn, isAccepted}
 use Rattle.state.specs.Does.{WordsStep}
 use Rattle.nodes.specs.Sizes.{depthAt, endAt}
-use Rattle.names.specs.Named.{Named, named-known, named-unknown, named-place}
-use Rattle.names.specs.Here.{named-here}
+use Rattle.names.specs.Judged.{NodeFound, NodeRefused, found-place}
+use Rattle.names.specs.Here.{node-here}
 use Rattle.controls.specs.declared.control.Change.{Change}
 use Rattle.controls.specs.declared.control.Change.the-variants as change
 use Rattle.controls.specs.Change.{changeOf}
@@ -89,13 +89,13 @@ after : (c : ControlCommand) (bytes ws bs : List ℕ) → wordsAfter (command.Co
 unfolding wordsAfter effect
 after c bytes ws bs = refl
 
--- four checks, by what is known of them
-unfoldable pub fourChecks : Refusal → Bool → Refusal → Bool → Bool → Bool → Answer
-fourChecks r a q b c d = firstOf (check r a ∷ (check q b ∷ (check NoControl c ∷ (check PastWidth d ∷ [])))) Done
+-- four checks: of the node, of what is asked of it, and of its controls
+unfoldable pub fourChecks : Check → Refusal → Bool → Bool → Bool → Answer
+fourChecks n q b c d = firstOf (n ∷ (check q b ∷ (check NoControl c ∷ (check PastWidth d ∷ [])))) Done
 
-last-two : (r : Refusal) (a : Bool) (q : Refusal) (b c d : Bool) → a ≡ false → b ≡ false → fourChecks r a q b c d ≡ answerTo (askedBy c d)
+last-two : (n : Check) (q : Refusal) (b c d : Bool) → n .fires ≡ false → b ≡ false → fourChecks n q b c d ≡ answerTo (askedBy c d)
 unfolding fourChecks firstOf
-last-two r a q b c d h g = rw (h, g) (go c d)
+last-two n q b c d h g = rw (h, g) (go c d)
   where
     go : (c d : Bool) → pick c (Refused NoControl) (pick d (Refused PastWidth) Done) ≡ answerTo (askedBy c d)
     go true d = refl
@@ -103,45 +103,43 @@ last-two r a q b c d h g = rw (h, g) (go c d)
     go false false = refl
 
 -- three of them, where the fourth fires only behind the third
-three-checks : (r : Refusal) (a : Bool) (q : Refusal) (b c d : Bool) → (c ≡ false → d ≡ false) → firstOf (check r a ∷ (check q b ∷ (check NoControl c ∷ []))) Done ≡ fourChecks r a q b c d
+three-checks : (n : Check) (q : Refusal) (b c d : Bool) → (c ≡ false → d ≡ false) → firstOf (n ∷ (check q b ∷ (check NoControl c ∷ []))) Done ≡ fourChecks n q b c d
 unfolding fourChecks firstOf
-three-checks r true q b c d h = refl
-three-checks r false q true c d h = refl
-three-checks r false q false true d h = refl
-three-checks r false q false false d h = sym (rw (h refl))
+three-checks n q b true d h = refl
+three-checks n q b false d h = sym (rw (h refl))
 
--- the node that an argument names, at its place
-module _ (n : NodeArgument) (ws bs : List ℕ) (at : ℕ) (named : Named n ws at) where
-  pub no-node : (c : ControlCommand) (bytes : List ℕ) (q : Refusal) (b d e : Bool) → answerIn (command.Controls c) bytes (decode ws bs) 0 ≡ fourChecks NoNode (not (known n (decode ws bs))) q b d e
-      → countIn ws ≤ at → Steps c bytes ws bs (Refused NoNode) ws
+-- the node that an argument means
+module _ (n : NodeArgument) (ws bs : List ℕ) where
+  pub no-node : (c : ControlCommand) (bytes : List ℕ) (q : Refusal) (b d e : Bool) → answerIn (command.Controls c) bytes (decode ws bs) 0 ≡ fourChecks (nodeCheck n (decode ws bs)) q b d e
+      → (r : Refusal) → NodeRefused n ws r → Steps c bytes ws bs (Refused r) ws
   unfolding fourChecks firstOf
-  no-node c bytes q b d e row h = record { answers = sym (row ∙ rw (named-unknown n ws bs at named h)); words = refl }
+  no-node c bytes q b d e row r u = record { answers = sym (row ∙ rw (u .fires bs) (u .answer bs)); words = refl }
 
-  module _ (live : at < countIn ws) where
-    pub second : (c : ControlCommand) (bytes : List ℕ) (q : Refusal) (b d e : Bool) → answerIn (command.Controls c) bytes (decode ws bs) 0 ≡ fourChecks NoNode (not (known n (decode ws bs))) q b d e
+  module _ (at : ℕ) (found : NodeFound n ws at) where
+    pub second : (c : ControlCommand) (bytes : List ℕ) (q : Refusal) (b d e : Bool) → answerIn (command.Controls c) bytes (decode ws bs) 0 ≡ fourChecks (nodeCheck n (decode ws bs)) q b d e
         → b ≡ true → Steps c bytes ws bs (Refused q) ws
     unfolding fourChecks firstOf
-    second c bytes q b d e row h = record { answers = sym (row ∙ rw (named-known n ws bs at named live, h)); words = refl }
+    second c bytes q b d e row h = record { answers = sym (row ∙ rw (found .passes bs, h)); words = refl }
 
     asked-here : (key : Key) (count : ℕ) (bytes : List ℕ)
         → askedBy (noControls key count bytes n (decode ws bs)) (pastName key count bytes n (decode ws bs)) ≡ controlsAsked key count bytes (decode ws bs .slots) (nodeIn ws at)
-    asked-here key count bytes = ap (λ (r : Node). controlsAsked key count bytes (decode ws bs .slots) r) (named-here n ws bs at named live)
+    asked-here key count bytes = ap (λ (r : Node). controlsAsked key count bytes (decode ws bs .slots) r) (node-here n ws at found bs)
 
     reached : (f : ControlValue → ControlValue) (key : Key) (count : ℕ) (bytes : List ℕ) → runChanged f key count bytes at ws bs ≡ changed f n key count bytes (decode ws bs) .controls
     unfolding decode
     reached f key count bytes =
-        sym (all-run f key bytes count (decode ws bs .slots) (countIn ws) (region nodesPlace nodesWords ws) (meant n (decode ws bs)) at (named-place n ws bs at named live) live
+        sym (all-run f key bytes count (decode ws bs .slots) (countIn ws) (region nodesPlace nodesWords ws) (meant n (decode ws bs)) at (found-place n ws bs at found) (found .live)
         (depthAt (region nodesPlace nodesWords ws) at) (runEnd ws at) refl refl (controlsIn ws))
 
     pub ran : (c : ControlCommand) (h : Change) (f : ControlValue → ControlValue) (key : Key) (count : ℕ) (bytes : List ℕ) (q : Refusal) (b : Bool) (a : Answer) (ws′ : List ℕ)
-        → answerIn (command.Controls c) bytes (decode ws bs) 0 ≡ fourChecks NoNode (not (known n (decode ws bs))) q b (noControls key count bytes n (decode ws bs)) (pastName key count bytes n (decode ws bs))
+        → answerIn (command.Controls c) bytes (decode ws bs) 0 ≡ fourChecks (nodeCheck n (decode ws bs)) q b (noControls key count bytes n (decode ws bs)) (pastName key count bytes n (decode ws bs))
         → controlEffect c bytes (decode ws bs) ≡ changed f n key count bytes (decode ws bs)
         → changeOf h ≡ f → b ≡ false → Changed h key count bytes at ws bs a ws′ → Steps c bytes ws bs a ws′
     ran c h f key count bytes q b a ws′ e does same fine changes = record {
       answers =
           changes .answers
           ∙ sym (ap answerTo (asked-here key count bytes))
-          ∙ sym (last-two NoNode (not (known n (decode ws bs))) q b (noControls key count bytes n (decode ws bs)) (pastName key count bytes n (decode ws bs)) (ap not (named-known n ws bs at named live)) fine)
+          ∙ sym (last-two (nodeCheck n (decode ws bs)) q b (noControls key count bytes n (decode ws bs)) (pastName key count bytes n (decode ws bs)) (found .passes bs) fine)
           ∙ sym e;
       words =
           changes .words
@@ -156,7 +154,7 @@ module _ (n : NodeArgument) (ws bs : List ℕ) (at : ℕ) (named : Named n ws at
 module _ (n : NodeArgument) (key : Key) (bytes ws bs : List ℕ) where
   pub fill-row : (count : ℕ) (value : Value)
       → answerIn (command.Controls (controls.Fill n key count value)) bytes (decode ws bs) 0
-      ≡ fourChecks NoNode (not (known n (decode ws bs))) BadValue (not (inBounds value)) (noControls key count bytes n (decode ws bs)) (pastName key count bytes n (decode ws bs))
+      ≡ fourChecks (nodeCheck n (decode ws bs)) BadValue (not (inBounds value)) (noControls key count bytes n (decode ws bs)) (pastName key count bytes n (decode ws bs))
   unfolding answerIn fourChecks
   fill-row count value = refl
 
@@ -164,16 +162,16 @@ module _ (n : NodeArgument) (key : Key) (bytes ws bs : List ℕ) where
       → answerIn (command.Controls (controls.Set n key value)) bytes (decode ws bs) 0 ≡ answerIn (command.Controls (controls.Fill n key 1 value)) bytes (decode ws bs) 0
   unfolding answerIn
   set-row value =
-      three-checks NoNode (not (known n (decode ws bs))) BadValue (not (inBounds value)) (noControls key 1 bytes n (decode ws bs)) (pastName key 1 bytes n (decode ws bs))
+      three-checks (nodeCheck n (decode ws bs)) BadValue (not (inBounds value)) (noControls key 1 bytes n (decode ws bs)) (pastName key 1 bytes n (decode ws bs))
       (one-there key bytes (decode ws bs .slots) (node n (decode ws bs)))
       ∙ sym (fill-row 1 value)
 
   pub map-row : (bus : ℕ)
       → answerIn (command.Controls (controls.Map n key bus)) bytes (decode ws bs) 0
-      ≡ fourChecks NoNode (not (known n (decode ws bs))) NoBus (not (either (eqb bus minusOne) (isBus bus))) (noControls key 1 bytes n (decode ws bs)) (pastName key 1 bytes n (decode ws bs))
+      ≡ fourChecks (nodeCheck n (decode ws bs)) NoBus (not (either (eqb bus minusOne) (isBus bus))) (noControls key 1 bytes n (decode ws bs)) (pastName key 1 bytes n (decode ws bs))
   unfolding answerIn
   map-row bus =
-      three-checks NoNode (not (known n (decode ws bs))) NoBus (not (either (eqb bus minusOne) (isBus bus))) (noControls key 1 bytes n (decode ws bs)) (pastName key 1 bytes n (decode ws bs))
+      three-checks (nodeCheck n (decode ws bs)) NoBus (not (either (eqb bus minusOne) (isBus bus))) (noControls key 1 bytes n (decode ws bs)) (pastName key 1 bytes n (decode ws bs))
       (one-there key bytes (decode ws bs .slots) (node n (decode ws bs)))
 
 -- `/n_set` is `/n_fill` with a count of one
@@ -183,14 +181,14 @@ unfolding wordsAfter effect
 set-filled n key value bytes ws bs a ws′ s = record { answers = s .answers ∙ sym (set-row n key bytes ws bs value); words = s .words }
 
 -- what each command comes to once its node is found and its value or bus is one
-module _ (n : NodeArgument) (key : Key) (bytes ws bs : List ℕ) (at : ℕ) (named : Named n ws at) (live : at < countIn ws) (a : Answer) (ws′ : List ℕ) where
+module _ (n : NodeArgument) (key : Key) (bytes ws bs : List ℕ) (at : ℕ) (found : NodeFound n ws at) (a : Answer) (ws′ : List ℕ) where
   pub fill-ran : (count : ℕ) (value : Value) (p : ℕ) → patternOf value ≡ Pattern p → Changed (change.Set p) key count bytes at ws bs a ws′ → Steps (controls.Fill n key count value) bytes ws bs a ws′
   fill-ran count value p fact changes =
       let t = pattern-fact value p fact in
-      ran n ws bs at named live (controls.Fill n key count value) (change.Set p) (setTo (pattern value)) key count bytes BadValue (not (inBounds value)) a ws′
+      ran n ws bs at found (controls.Fill n key count value) (change.Set p) (setTo (pattern value)) key count bytes BadValue (not (inBounds value)) a ws′
       (fill-row n key bytes ws bs count value) refl (ap setTo (sym (t .1))) (ap not (t .0)) changes
 
   pub map-ran : (bus : ℕ) → either (eqb bus minusOne) (isBus bus) ≡ true → Changed (change.Map (mappingTo bus)) key 1 bytes at ws bs a ws′ → Steps (controls.Map n key bus) bytes ws bs a ws′
   map-ran bus fine changes =
-      ran n ws bs at named live (controls.Map n key bus) (change.Map (mappingTo bus)) (mapTo (mappingTo bus)) key 1 bytes NoBus (not (either (eqb bus minusOne) (isBus bus))) a ws′
+      ran n ws bs at found (controls.Map n key bus) (change.Map (mappingTo bus)) (mapTo (mappingTo bus)) key 1 bytes NoBus (not (either (eqb bus minusOne) (isBus bus))) a ws′
       (map-row n key bytes ws bs bus) refl refl (ap not fine) changes

@@ -17,6 +17,7 @@ use layout::NODES;
 use layout::NODES_END;
 use model::Answer;
 use model::ControlCommand;
+use names::NodePlace;
 use names::node_place;
 use refusals::Refusal;
 use tree::subtree_end;
@@ -133,10 +134,12 @@ fn fill_controls(
     requires { ⌜ Known (now words) (now arena) ⌝ }
     ensures { λ r. ⌜ Steps (ControlCommand.Fill node key count value) (now (bytes .entry)) (now (words .entry)) (now (arena .entry)) r (now (words .exit)) ⌝ }
 {
-    let at = node_place(words, node);
-    if wide(words[COUNT]) <= at {
-        return Answer::Refused(Refusal::NoNode);
-    }
+    let at = match node_place(words, node) {
+        NodePlace::At(at) => at,
+        NodePlace::Refused(refusal) => {
+            return Answer::Refused(refusal);
+        }
+    };
     match value_pattern(value) {
         ValuePattern::Pattern(pattern) => {
             let change = Change::Set(pattern);
@@ -178,10 +181,12 @@ fn map_control(
     requires { ⌜ Known (now words) (now arena) ⌝ }
     ensures { λ r. ⌜ Steps (ControlCommand.Map node key bus) (now (bytes .entry)) (now (words .entry)) (now (arena .entry)) r (now (words .exit)) ⌝ }
 {
-    let at = node_place(words, node);
-    if wide(words[COUNT]) <= at {
-        return Answer::Refused(Refusal::NoNode);
-    }
+    let at = match node_place(words, node) {
+        NodePlace::At(at) => at,
+        NodePlace::Refused(refusal) => {
+            return Answer::Refused(refusal);
+        }
+    };
     if !can_map(bus) {
         return Answer::Refused(Refusal::NoBus);
     }

@@ -3,12 +3,11 @@ use Prim.Native.Nat.{ℕ, _≤_, _<_}
 use mathlib.Core.Bool.{Bool, true, false, not}
 use mathlib.Core.Path.{_≡_, sym, ap₂, _∙_}
 use mathlib.Core.List.{List}
-use native.Mathlib.Omega.{arith}
 use lib.Dec.{ltb, leb, eqb}
 use borrow.Author.Tests.{le-ltb, le-leb, lt-leb}
 use Rattle.words.specs.Choice.{both}
 use Rattle.refusals.specs.declared.Refusal.{Refusal}
-use Rattle.refusals.specs.declared.Refusal.the-variants.{BadNumber, NumberLive, NoDefinition, NoNode, WrongKind, NodesFull, NoNumber}
+use Rattle.refusals.specs.declared.Refusal.the-variants.{BadNumber, NumberLive, NoDefinition, WrongKind, NodesFull, NoNumber}
 use Rattle.nodes.specs.TableLaws.{rows-length}
 use Rattle.nodes.specs.Place.{lives, place}
 use Rattle.nodes.specs.PlaceLaws.{lives-place}
@@ -27,8 +26,7 @@ use Rattle.tree.specs.Add.{Room}
 use Rattle.treecommands.specs.declared.group.Spot.{Spot}
 use Rattle.treecommands.specs.declared.group.Spot.the-variants as spot
 use Rattle.treecommands.specs.Ready.{Ready, nodeWords}
-use Rattle.names.specs.Named.{Named}
-use Rattle.treecommands.specs.Finding.{NodeFound, found, missing}
+use Rattle.names.specs.Judged.{NodeFound, NodeRefused}
 use Rattle.treecommands.specs.Adding.{badAt, fullAt, bad-target, is-full, room}
 
 -- "new number below -1", "number live", "no number left for a new -1"
@@ -86,38 +84,35 @@ module _ (number : ℕ) (action : Action) (target : NodeArgument) (slot : ℕ) (
       unfolding firstOf decode
       synth-absent h bytes bs m = rw (low, good, new, absent slot bytes ws bs m ∙ le-leb slotCount slot h)
 
-      module _ (there : slot < slotCount) (k : Ready ws) (count : ℕ) (same : count ≡ countIn ws) (at : ℕ) (fact : Named target ws at) where
+      module _ (there : slot < slotCount) where
         resident : (bytes bs : List ℕ) → Meant slot bytes ws bs → noResident bytes (decode ws bs) ≡ false
         resident bytes bs m = absent slot bytes ws bs m ∙ lt-leb slotCount slot there
 
-        pub synth-unknown : count ≤ at → Answers NoNode
+        pub synth-unknown : (r : Refusal) → NodeRefused target ws r → Answers r
         unfolding firstOf decode
-        synth-unknown h bytes bs m = rw (low, good, new, resident bytes bs m, missing target ws at fact (omega arith))
+        synth-unknown r n bytes bs m = rw (low, good, new, resident bytes bs m, n .fires bs) (n .answer bs)
 
-        module _ (live : at < count) where
-          f : NodeFound target ws at
-          f = found target ws at fact (omega arith)
-
+        module _ (k : Ready ws) (count : ℕ) (same : count ≡ countIn ws) (at : ℕ) (f : NodeFound target ws at) where
           pub synth-kind : badAt action ws at ≡ true → Answers WrongKind
           unfolding firstOf decode
-          synth-kind h bytes bs m = rw (low, good, new, resident bytes bs m, f .known, bad-target target ws k at f bs action ∙ h)
+          synth-kind h bytes bs m = rw (low, good, new, resident bytes bs m, f .passes bs, bad-target target ws k at f bs action ∙ h)
 
           module _ (kind : badAt action ws at ≡ false) where
             pub synth-spent : spent number (nextIn ws) ≡ true → Answers NoNumber
             unfolding firstOf decode
             synth-spent h bytes bs m =
-                rw (low, good, new, resident bytes bs m, f .known, bad-target target ws k at f bs action ∙ kind, h)
+                rw (low, good, new, resident bytes bs m, f .passes bs, bad-target target ws k at f bs action ∙ kind, h)
 
             module _ (left : spent number (nextIn ws) ≡ false) where
               pub synth-full : fullAt action count ≡ true → Answers NodesFull
               unfolding firstOf decode
               synth-full h bytes bs m =
-                  rw (low, good, new, resident bytes bs m, f .known, bad-target target ws k at f bs action ∙ kind, left, is-full ws count same bs action ∙ h)
+                  rw (low, good, new, resident bytes bs m, f .passes bs, bad-target target ws k at f bs action ∙ kind, left, is-full ws count same bs action ∙ h)
 
               synth-passes : fullAt action count ≡ false → (bytes bs : List ℕ) → Meant slot bytes ws bs → firstOf (treeChecks (tree.NewSynth number (numberOf action) target) bytes (decode ws bs)) Done ≡ Done
               unfolding firstOf decode
               synth-passes h bytes bs m =
-                  rw (low, good, new, resident bytes bs m, f .known, bad-target target ws k at f bs action ∙ kind, left, is-full ws count same bs action ∙ h)
+                  rw (low, good, new, resident bytes bs m, f .passes bs, bad-target target ws k at f bs action ∙ kind, left, is-full ws count same bs action ∙ h)
 
               pub synth-clear : fullAt action count ≡ false → Clear number action target slot ws at
               synth-clear h = record { passed = synth-passes h; there = there; spot = f; room = room action ws k at (f .live) (rw same at h) }

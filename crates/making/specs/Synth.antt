@@ -54,7 +54,7 @@ use Rattle.definitions.specs.Lent.{tableIn, formed-lent}
 use Rattle.controls.specs.Encoded.{frontIn, front-read}
 use Rattle.treecommands.specs.Ready.{ready, nodeWords, words-long}
 use Rattle.treecommands.specs.Edits.{editBy, add-does}
-use Rattle.treecommands.specs.Finding.{meantIn}
+use Rattle.names.specs.Judged.{meantIn}
 use Rattle.treecommands.specs.Settle.{Changed, settled, settled-tree, order-size, index-size, nodes-size, changed-left}
 use Rattle.treecommands.specs.Adding.{after-few}
 use Rattle.making.specs.Checks.{Meant, Clear, Answers}

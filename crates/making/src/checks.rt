@@ -5,6 +5,7 @@ use crate::numbers::is_spent;
 use layout::COUNT;
 use layout::GROUP;
 use layout::NEXT;
+use names::NodePlace;
 use names::node_place;
 use refusals::Refusal;
 use tree::Action;
@@ -37,10 +38,12 @@ pub fn synth_spot(
         return Spot::Refused(Refusal::NoDefinition);
     }
     let count = wide(words[COUNT]);
-    let at = node_place(words, target);
-    if count <= at {
-        return Spot::Refused(Refusal::NoNode);
-    }
+    let at = match node_place(words, target) {
+        NodePlace::At(at) => at,
+        NodePlace::Refused(refusal) => {
+            return Spot::Refused(refusal);
+        }
+    };
     if bad_target(action, at, words) {
         return Spot::Refused(Refusal::WrongKind);
     }

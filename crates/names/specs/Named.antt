@@ -20,7 +20,7 @@ use Rattle.values.specs.declared.Target.the-variants.{Latest, Number, Reserved}
 use Rattle.values.specs.Targets.{targetOf}
 use Rattle.model.specs.Layout.{wordsLength, countIn, latestIn, nodesIn, indexIn, nodesPlace, nodesWords, indexPlace, indexWords}
 use Rattle.model.specs.Engine.{decode}
-use Rattle.model.specs.Meaning.{meantBy, knownBy, meant, known}
+use Rattle.model.specs.Meaning.{meantBy, knownBy, known}
 use Rattle.state.specs.Known.{Known}
 
 -- what finding a node asks: the sizes, and the index's rule
@@ -59,10 +59,6 @@ module _ (argument : NodeArgument) (ws bs : List ℕ) (at : ℕ) (n : Named argu
   pub named-unknown : countIn ws ≤ at → known argument (decode ws bs) ≡ false
   unfolding decode
   named-unknown h = n .live ∙ le-ltb at (countIn ws) h
-
-  pub named-place : at < countIn ws → at ≡ place (meant argument (decode ws bs)) (nodesIn ws)
-  unfolding decode
-  named-place h = n .here h
 
 -- by what an argument is
 module _ (argument : NodeArgument) (ws : List ℕ) where

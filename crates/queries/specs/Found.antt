@@ -11,7 +11,6 @@ use Rattle.nodes.specs.declared.Node.{Node}
 use Rattle.nodes.specs.Place.{place}
 use Rattle.model.specs.Engine.{Slot}
 use Rattle.model.specs.View.{viewOf, viewRows}
-use Rattle.model.specs.Meaning.{nodeNamed}
 use Rattle.model.specs.Replies.{plainNamed, rowsBelow, subtreeRows}
 
 pub number-found : (n : ℕ) (t : List Node) (r : Node) (rest : List Node) → drop (place n t) t ≡ r ∷ rest → r .number ≡ n
@@ -22,15 +21,6 @@ number-found n (x ∷ t) r rest e = go (number-found n t r rest) (eqb (x .number
     go : (drop (place n t) t ≡ r ∷ rest → r .number ≡ n) → (b : Bool) → eqb (x .number) n ≡ b → drop (pick b 0 (suc (place n t))) (x ∷ t) ≡ r ∷ rest → r .number ≡ n
     go ih true q f = ap (λ (y : Node). y .number) (sym (head-eq-of-cons-eq f)) ∙ eqb-true (x .number) n q
     go ih false q f = ih f
-
-pub node-found : (n : ℕ) (t : List Node) (r : Node) (rest : List Node) → drop (place n t) t ≡ r ∷ rest → nodeNamed n t ≡ r
-unfolding place nodeNamed
-node-found n [] r rest e = absurd (nil≢cons e)
-node-found n (x ∷ t) r rest e = go (node-found n t r rest) (eqb (x .number) n) e
-  where
-    go : (drop (place n t) t ≡ r ∷ rest → nodeNamed n t ≡ r) → (b : Bool) → drop (pick b 0 (suc (place n t))) (x ∷ t) ≡ r ∷ rest → pick b x (nodeNamed n t) ≡ r
-    go ih true f = head-eq-of-cons-eq f
-    go ih false f = ih f
 
 module _ (slots : List Slot) (controls : List ℕ) where
   pub plain-found : (n : ℕ) (t : List Node) (r : Node) (rest : List Node) → drop (place n t) t ≡ r ∷ rest → plainNamed n (viewRows slots controls t) ≡ viewOf slots controls r

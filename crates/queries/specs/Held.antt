@@ -10,6 +10,7 @@ use lib.Dec.{leb}
 use Rattle.words.specs.Choice.{both}
 use Rattle.words.specs.ChoiceLaws.{both-true}
 use Rattle.words.specs.Parts.{region}
+use Rattle.words.specs.PartsLaws.{region-length}
 use Rattle.readable.specs.declared.found.Found.the-variants as found
 use Rattle.format.specs.Read.{Read, got, bad}
 use Rattle.format.specs.Definition.{Definition}
@@ -25,6 +26,7 @@ use Rattle.model.specs.Layout.{slotCount, nodesPlace, nodesWords, countIn, leng
 use Rattle.model.specs.Engine.{Slot, decode, noDefinition, valueOr, definitionIn, slotAt, definitionOf, slotTaken}
 use Rattle.model.specs.Formed.{isWhole, slotFormed}
 use Rattle.state.specs.Known.{Known}
+use Rattle.tree.specs.Sizes.{Placed}
 use Rattle.controls.specs.Encoded.{frontIn}
 use Rattle.slots.specs.Slots.{slotBytes, slot-bytes, decoded-many}
 use Rattle.controls.specs.Ready.{Ready, nodeIn, held-at, slot-formed, either-true, synth-ready}
@@ -41,6 +43,12 @@ ready ws bs k = record { size = k .size; arenaSize = k .arenaSize; few = k .few;
 
 pub bounds : (ws bs : List ℕ) (i : ℕ) → At ws bs i → Bounds ws bs i
 bounds ws bs i a = bounds-ready ws bs (ready ws bs (a .state)) i (a .live)
+
+-- its place in the table's words
+pub at-placed : (ws bs : List ℕ) (i : ℕ) → At ws bs i → (count : ℕ) → count ≡ countIn ws → Placed (region nodesPlace nodesWords ws) count i
+at-placed ws bs i a count same =
+    let size : length (region nodesPlace nodesWords ws) ≡ nodesWords = region-length nodesPlace nodesWords ws (omega (arith, a .state .size)) in
+    record { room = omega (arith, size, a .state .few); few = omega (arith, a .state .few); live = omega (arith, a .live) }
 
 -- a record and what follows it
 pub node-there : (ws bs : List ℕ) (i : ℕ) → At ws bs i → drop i (nodesIn ws) ≡ nodeIn ws i ∷ drop (i + 1) (nodesIn ws)

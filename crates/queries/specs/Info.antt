@@ -1,10 +1,10 @@
 -- /n_query's reply.
-use Prim.Native.Nat.{ℕ, _+_, _≤_, _<_}
+use Prim.Native.Nat.{ℕ, _+_}
 use mathlib.Core.Bool.{Bool, true, false}
 use mathlib.Core.Path.{_≡_, sym, ap, _∙_}
 use mathlib.Core.List.{List, [], _∷_}
 use lib.ListN.{drop}
-use Rattle.refusals.specs.declared.Refusal.the-variants.{NoNode}
+use Rattle.refusals.specs.declared.Refusal.{Refusal}
 use Rattle.nodes.specs.declared.Node.{Node}
 use Rattle.nodes.specs.Place.{place, isGroup}
 use Rattle.nodes.specs.Structure.{headOf, tailOf, parentOf, previousOf, nextOf}
@@ -13,19 +13,19 @@ use Rattle.values.specs.declared.NodeArgument.{NodeArgument}
 use Rattle.model.specs.declared.Query.the-variants as query
 use Rattle.model.specs.declared.Answer.{Answer}
 use Rattle.model.specs.declared.Answer.the-variants.{Refused}
-use Rattle.model.specs.Layout.{countIn, nodesIn, controlsIn}
+use Rattle.model.specs.Layout.{nodesIn, controlsIn}
 use Rattle.model.specs.Engine.{decode}
 use Rattle.model.specs.View.{PlainNode, isGroupKind, view}
-use Rattle.model.specs.Meaning.{meant, node}
+use Rattle.model.specs.Meaning.{meant}
 use Rattle.model.specs.Checks.{firstOf, queryChecks}
 use Rattle.model.specs.Replies.{reply, replyTo, infoAddress, infoKind, infoReply, plainNamed}
 use Rattle.replies.specs.Words.{wordBytes}
 use Rattle.replies.specs.Sent.{wordMessage}
-use Rattle.names.specs.Named.{Named, named-known, named-unknown, named-place}
+use Rattle.names.specs.Judged.{NodeFound, NodeRefused, found-place}
 use Rattle.controls.specs.Ready.{nodeIn}
 use Rattle.queries.specs.Held.{At, node-there}
 use Rattle.queries.specs.Shape.{parent-same, previous-same, next-same, head-same, tail-same}
-use Rattle.queries.specs.Found.{number-found, node-found, plain-found}
+use Rattle.queries.specs.Found.{number-found, plain-found}
 use Rattle.queries.specs.Status.{viewFrom, view-from, kind-group}
 
 abbrev pub groupTags : List ℕ
@@ -35,19 +35,15 @@ abbrev pub synthTags : List ℕ
 synthTags = 44 ∷ (105 ∷ (105 ∷ (105 ∷ (105 ∷ (105 ∷ [])))))
 
 -- the node that a query names, at its place
-module _ (argument : NodeArgument) (ws bs : List ℕ) (at : ℕ) (n : Named argument ws at) (a : At ws bs at) where
+module _ (argument : NodeArgument) (ws bs : List ℕ) (at : ℕ) (n : NodeFound argument ws at) (a : At ws bs at) where
   pub here : drop (place (meant argument (decode ws bs)) (nodesIn ws)) (nodesIn ws) ≡ nodeIn ws at ∷ drop (at + 1) (nodesIn ws)
-  here = ap (λ (k : ℕ). drop k (nodesIn ws)) (sym (named-place argument ws bs at n (a .live))) ∙ node-there ws bs at a
+  here = ap (λ (k : ℕ). drop k (nodesIn ws)) (sym (found-place argument ws bs at n)) ∙ node-there ws bs at a
 
   pub number-here : nodeIn ws at .number ≡ meant argument (decode ws bs)
   number-here = number-found (meant argument (decode ws bs)) (nodesIn ws) (nodeIn ws at) (drop (at + 1) (nodesIn ws)) here
 
-  pub node-here : node argument (decode ws bs) ≡ nodeIn ws at
-  unfolding decode
-  node-here = node-found (meant argument (decode ws bs)) (nodesIn ws) (nodeIn ws at) (drop (at + 1) (nodesIn ws)) here
-
   pub here-number : at ≡ place (nodeIn ws at .number) (nodesIn ws)
-  here-number = named-place argument ws bs at n (a .live) ∙ ap (λ (k : ℕ). place k (nodesIn ws)) (sym number-here)
+  here-number = found-place argument ws bs at n ∙ ap (λ (k : ℕ). place k (nodesIn ws)) (sym number-here)
 
   pub plain-kind : isGroupKind (plainNamed (meant argument (decode ws bs)) (viewFrom ws bs 0) .kind) ≡ isGroup (nodeIn ws at)
   plain-kind =
@@ -68,7 +64,7 @@ info-from n ws bs b parent previous next w e =
     ap (infoReply n) (view-from ws bs)
     ∙ rw (e, parent-same slots cs n (nodesIn ws), previous-same slots cs n (nodesIn ws), next-same slots cs n (nodesIn ws), w .isParent, w .isPrevious, w .isNext)
 
-pub group-info : (argument : NodeArgument) (bytes ws bs : List ℕ) (at : ℕ) → Named argument ws at → At ws bs at → isGroup (nodeIn ws at) ≡ true
+pub group-info : (argument : NodeArgument) (bytes ws bs : List ℕ) (at : ℕ) → NodeFound argument ws at → At ws bs at → isGroup (nodeIn ws at) ≡ true
     → (parent previous next head tail : ℕ) → Around (nodeIn ws at .number) (nodesIn ws) parent previous next → head ≡ headOf (nodeIn ws at .number) (nodesIn ws) → tail ≡ tailOf (nodeIn ws at .number) (nodesIn ws)
     → wordMessage infoAddress groupTags (nodeIn ws at .number ∷ (parent ∷ (previous ∷ (next ∷ (1 ∷ (head ∷ (tail ∷ []))))))) ≡ reply (query.Node argument) bytes (decode ws bs)
 unfolding wordBytes tags arguments replyTo
@@ -81,7 +77,7 @@ group-info argument bytes ws bs at n a isGroup parent previous next head tail w 
     ∙ info-from m ws bs true parent previous next w kind
     ∙ rw (head-same (decode ws bs .slots) (controlsIn ws) m (nodesIn ws), tail-same (decode ws bs .slots) (controlsIn ws) m (nodesIn ws), sym h, sym t))
 
-pub synth-info : (argument : NodeArgument) (bytes ws bs : List ℕ) (at : ℕ) → Named argument ws at → At ws bs at → isGroup (nodeIn ws at) ≡ false
+pub synth-info : (argument : NodeArgument) (bytes ws bs : List ℕ) (at : ℕ) → NodeFound argument ws at → At ws bs at → isGroup (nodeIn ws at) ≡ false
     → (parent previous next : ℕ) → Around (nodeIn ws at .number) (nodesIn ws) parent previous next
     → wordMessage infoAddress synthTags (nodeIn ws at .number ∷ (parent ∷ (previous ∷ (next ∷ (0 ∷ []))))) ≡ reply (query.Node argument) bytes (decode ws bs)
 unfolding wordBytes tags arguments replyTo
@@ -92,10 +88,10 @@ synth-info argument bytes ws bs at n a single parent previous next w =
     ap (λ (k : ℕ). isGroupKind (plainNamed k (viewFrom ws bs 0) .kind)) same ∙ plain-kind argument ws bs at n a ∙ single in
     sym (ap (λ (k : ℕ). infoReply k (view (decode ws bs))) (sym same) ∙ info-from m ws bs false parent previous next w kind)
 
-pub node-fires : (argument : NodeArgument) (bytes ws bs : List ℕ) (at : ℕ) → Named argument ws at → countIn ws ≤ at → (b : Answer) → firstOf (queryChecks (query.Node argument) bytes (decode ws bs)) b ≡ Refused NoNode
+pub node-fires : (argument : NodeArgument) (bytes ws bs : List ℕ) (r : Refusal) → NodeRefused argument ws r → (b : Answer) → firstOf (queryChecks (query.Node argument) bytes (decode ws bs)) b ≡ Refused r
 unfolding firstOf
-node-fires argument bytes ws bs at n h b = rw (named-unknown argument ws bs at n h)
+node-fires argument bytes ws bs r n b = rw (n .fires bs) (n .answer bs)
 
-pub node-passes : (argument : NodeArgument) (bytes ws bs : List ℕ) (at : ℕ) → Named argument ws at → at < countIn ws → (b : Answer) → firstOf (queryChecks (query.Node argument) bytes (decode ws bs)) b ≡ b
+pub node-passes : (argument : NodeArgument) (bytes ws bs : List ℕ) (at : ℕ) → NodeFound argument ws at → (b : Answer) → firstOf (queryChecks (query.Node argument) bytes (decode ws bs)) b ≡ b
 unfolding firstOf
-node-passes argument bytes ws bs at n h b = rw (named-known argument ws bs at n h)
+node-passes argument bytes ws bs at n b = rw (n .passes bs)

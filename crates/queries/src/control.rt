@@ -2,17 +2,16 @@
 use controls::controls_missing;
 use controls::node_is_group;
 use controls::read_key;
-use layout::COUNT;
 use layout::NODES;
 use layout::RECORD;
 use model::Answer;
+use names::NodePlace;
 use names::node_place;
 use refusals::Refusal;
 use replies::send_named;
 use replies::send_words;
 use values::Key;
 use values::NodeArgument;
-use words::wide;
 ghost use mathlib.Core.List.{[], _∷_};
 ghost use Rattle.osc.specs.Message.{int, float, message};
 ghost use Rattle.model.specs.declared.Query.the-variants as query;
@@ -51,11 +50,12 @@ pub fn control_query(
     requires { ⌜ Known (now words) (now arena) ⌝ }
     ensures { λ r. ⌜ Reply (query.Control node key) (now (bytes .entry)) (now (words .entry)) (now (arena .entry)) (now (out .entry)) r (now (out .exit)) ⌝ }
 {
-    let at = node_place(words, node);
-    let count = wide(words[COUNT]);
-    if count <= at {
-        return Answer::Refused(Refusal::NoNode);
-    }
+    let at = match node_place(words, node) {
+        NodePlace::At(at) => at,
+        NodePlace::Refused(refusal) => {
+            return Answer::Refused(refusal);
+        }
+    };
     if node_is_group(words, at) {
         return Answer::Refused(Refusal::WrongKind);
     }

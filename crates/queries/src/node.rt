@@ -6,8 +6,8 @@ use layout::NODES_END;
 use layout::RECORD;
 use layout::SLOT;
 use model::Answer;
+use names::NodePlace;
 use names::node_place;
-use refusals::Refusal;
 use replies::send_words;
 use tree::head_of;
 use tree::next_of;
@@ -31,11 +31,13 @@ pub fn node_query(
     requires { ⌜ Known (now words) (now arena) ⌝ }
     ensures { λ r. ⌜ Reply (query.Node node) (now (bytes .entry)) (now (words .entry)) (now (arena .entry)) (now (out .entry)) r (now (out .exit)) ⌝ }
 {
-    let at = node_place(words, node);
+    let at = match node_place(words, node) {
+        NodePlace::At(at) => at,
+        NodePlace::Refused(refusal) => {
+            return Answer::Refused(refusal);
+        }
+    };
     let count = wide(words[COUNT]);
-    if count <= at {
-        return Answer::Refused(Refusal::NoNode);
-    }
     let nodes = &words[NODES..NODES_END];
     let number = nodes[RECORD * at];
     let parent = parent_of(nodes, at);

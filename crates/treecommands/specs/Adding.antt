@@ -7,7 +7,6 @@ use native.Mathlib.Omega.{arith}
 use lib.ListN.{length}
 use lib.Dec.{leb, eqb}
 use borrow.Author.Tests.{leb-false}
-use Rattle.nodes.specs.declared.Node.{Node}
 use Rattle.nodes.specs.Table.{width}
 use Rattle.nodes.specs.TableLaws.{rows-length}
 use Rattle.nodes.specs.Place.{isGroup}
@@ -16,10 +15,9 @@ use Rattle.values.specs.declared.NodeArgument.{NodeArgument}
 use Rattle.model.specs.declared.TreeCommand.{TreeCommand}
 use Rattle.model.specs.declared.Command.the-variants as command
 use Rattle.model.specs.declared.Answer.the-variants.{Done}
-use Rattle.model.specs.Layout.{nodesWords, countIn, nodesIn}
+use Rattle.model.specs.Layout.{nodesWords, countIn}
 use Rattle.model.specs.Engine.{decode}
-use Rattle.model.specs.Meaning.{meant}
-use Rattle.model.specs.Checks.{isRoot, notGroup, badTarget, full}
+use Rattle.model.specs.Checks.{badTarget, full}
 use Rattle.model.specs.Effects.{treeEffect, effect}
 use Rattle.model.specs.After.{wordsAfter}
 use Rattle.model.specs.Apply.{answerIn, isAccepted}
@@ -33,7 +31,8 @@ use Rattle.tree.specs.Action.{numberOf}
 use Rattle.tree.specs.Add.{grows, Room}
 use Rattle.tree.specs.Shallow.{addable}
 use Rattle.treecommands.specs.Ready.{Ready, nodeWords, nodeIn, words-long}
-use Rattle.treecommands.specs.Finding.{meantIn, NodeFound, root-first, named-here}
+use Rattle.names.specs.Judged.{NodeFound}
+use Rattle.treecommands.specs.Finding.{root-there, group-there}
 
 -- 18 and 20 by the target's place and the count of nodes
 abbrev pub badAt : Action → List ℕ → ℕ → Bool
@@ -48,20 +47,12 @@ fullAt (Put p) count = leb mostNodes count
 fullAt Replace count = false
 
 module _ (target : NodeArgument) (ws : List ℕ) (k : Ready ws) (at : ℕ) (f : NodeFound target ws at) (bs : List ℕ) where
-  group-there : notGroup target (decode ws bs) ≡ not (isGroup (nodeIn ws at))
-  unfolding decode
-  group-there = ap (λ (r : Node). not (isGroup r)) (named-here target ws at f)
-
-  root-there : isRoot (meant target (decode ws bs)) ≡ eqb at 0
-  unfolding decode
-  root-there = root-first (meantIn target ws) (nodesIn ws) (k .tree .root) ∙ ap (λ (i : ℕ). eqb i 0) (sym (f .here))
-
   pub bad-target : (action : Action) → badTarget (numberOf action) target (decode ws bs) ≡ badAt action ws at
-  bad-target (Put Head) = group-there
-  bad-target (Put Tail) = group-there
-  bad-target (Put Before) = root-there
-  bad-target (Put After) = root-there
-  bad-target Replace = root-there
+  bad-target (Put Head) = group-there target ws k at f bs
+  bad-target (Put Tail) = group-there target ws k at f bs
+  bad-target (Put Before) = root-there target ws k at f bs
+  bad-target (Put After) = root-there target ws k at f bs
+  bad-target Replace = root-there target ws k at f bs
 
 -- the count of nodes, by the words
 module _ (ws : List ℕ) (count : ℕ) (same : count ≡ countIn ws) (bs : List ℕ) where

@@ -3,10 +3,10 @@ use Prim.Native.Nat.{ℕ, _+_, _-_, _≤_, _<_}
 use mathlib.Core.Bool.{true, false, not}
 use mathlib.Core.Path.{_≡_}
 use mathlib.Core.List.{List, [], _∷_}
-use native.Mathlib.Omega.{arith}
 use lib.ListN.{length}
 use Rattle.words.specs.Parts.{put}
-use Rattle.refusals.specs.declared.Refusal.the-variants.{NoNode, WrongKind}
+use Rattle.refusals.specs.declared.Refusal.{Refusal}
+use Rattle.refusals.specs.declared.Refusal.the-variants.{WrongKind}
 use Rattle.nodes.specs.Table.{rows}
 use Rattle.nodes.specs.Place.{isGroup}
 use Rattle.nodes.specs.Sizes.{endAt}
@@ -22,48 +22,47 @@ use Rattle.model.specs.declared.Answer.{Answer}
 use Rattle.model.specs.declared.Answer.the-variants.{Done, Refused}
 use Rattle.model.specs.Layout.{nodesPlace, nodesWords, countIn, nodesIn}
 use Rattle.model.specs.Engine.{decode}
-use Rattle.model.specs.Meaning.{known}
-use Rattle.model.specs.Checks.{check, firstOf, notGroup}
+use Rattle.model.specs.Checks.{check, firstOf, nodeCheck, notGroup}
 use Rattle.model.specs.Effects.{effect}
 use Rattle.model.specs.After.{wordsAfter}
 use Rattle.model.specs.Apply.{answerIn}
 use Rattle.state.specs.Does.{step-refused, step-done}
 use Rattle.tree.specs.Sizes.{Leaves}
-use Rattle.names.specs.Named.{Named}
+use Rattle.names.specs.Judged.{meantIn, NodeFound, NodeRefused}
 use Rattle.treecommands.specs.Ready.{Ready, nodeWords, nodeIn}
-use Rattle.treecommands.specs.Finding.{meantIn, NodeFound, found, missing, named-here}
+use Rattle.treecommands.specs.Finding.{group-there}
 use Rattle.treecommands.specs.Edits.{cutBelow-does, deep-sifts}
 use Rattle.treecommands.specs.Settle.{Changed, Sifted, renewed}
 use Rattle.treecommands.specs.Steps.{Steps, left-few, edited-ready, edited-sifts, edited-left}
 
-module _ (g : NodeArgument) (ws : List ℕ) (k : Ready ws) (count : ℕ) (same : count ≡ countIn ws) (at : ℕ) (fact : Named g ws at) where
+module _ (g : NodeArgument) (ws : List ℕ) where
   -- the answer by their checks, which are the same
   abbrev groupAnswer : List ℕ → Answer
-  groupAnswer bs = firstOf (check NoNode (not (known g (decode ws bs))) ∷ (check WrongKind (notGroup g (decode ws bs)) ∷ [])) Done
+  groupAnswer bs = firstOf (nodeCheck g (decode ws bs) ∷ (check WrongKind (notGroup g (decode ws bs)) ∷ [])) Done
 
-  group-unknown : count ≤ at → (bs : List ℕ) → groupAnswer bs ≡ Refused NoNode
-  unfolding firstOf decode
-  group-unknown h bs = rw (missing g ws at fact (omega arith))
+  group-unknown : (r : Refusal) → NodeRefused g ws r → (bs : List ℕ) → groupAnswer bs ≡ Refused r
+  unfolding firstOf
+  group-unknown r n bs = rw (n .fires bs) (n .answer bs)
 
-  pub all-unknown : count ≤ at → Steps (tree.FreeAll g) ws (Refused NoNode) ws
+  pub all-unknown : (r : Refusal) → NodeRefused g ws r → Steps (tree.FreeAll g) ws (Refused r) ws
   unfolding answerIn
-  all-unknown h bytes bs = step-refused (command.Tree (tree.FreeAll g)) bytes ws bs NoNode (group-unknown h bs)
+  all-unknown r n bytes bs = step-refused (command.Tree (tree.FreeAll g)) bytes ws bs r (group-unknown r n bs)
 
-  pub deep-unknown : count ≤ at → Steps (tree.DeepFree g) ws (Refused NoNode) ws
+  pub deep-unknown : (r : Refusal) → NodeRefused g ws r → Steps (tree.DeepFree g) ws (Refused r) ws
   unfolding answerIn
-  deep-unknown h bytes bs = step-refused (command.Tree (tree.DeepFree g)) bytes ws bs NoNode (group-unknown h bs)
+  deep-unknown r n bytes bs = step-refused (command.Tree (tree.DeepFree g)) bytes ws bs r (group-unknown r n bs)
 
-  module _ (live : at < count) where
-    group-at : NodeFound g ws at
-    group-at = found g ws at fact (omega arith)
+  module _ (k : Ready ws) (count : ℕ) (same : count ≡ countIn ws) (at : ℕ) (group-at : NodeFound g ws at) where
+    live : at < count
+    live = rw same (group-at .live)
 
     group-wrong : not (isGroup (nodeIn ws at)) ≡ true → (bs : List ℕ) → groupAnswer bs ≡ Refused WrongKind
-    unfolding firstOf decode
-    group-wrong b bs = rw (group-at .known, named-here g ws at group-at, b)
+    unfolding firstOf
+    group-wrong b bs = rw (group-at .passes bs, group-there g ws k at group-at bs, b)
 
     group-right : not (isGroup (nodeIn ws at)) ≡ false → (bs : List ℕ) → groupAnswer bs ≡ Done
-    unfolding firstOf decode
-    group-right b bs = rw (group-at .known, named-here g ws at group-at, b)
+    unfolding firstOf
+    group-right b bs = rw (group-at .passes bs, group-there g ws k at group-at bs, b)
 
     pub all-wrong : not (isGroup (nodeIn ws at)) ≡ true → Steps (tree.FreeAll g) ws (Refused WrongKind) ws
     unfolding answerIn

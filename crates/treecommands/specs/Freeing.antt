@@ -6,10 +6,11 @@ use mathlib.Core.List.{List, [], _∷_}
 use native.Mathlib.Omega.{arith}
 use lib.ListN.{length}
 use lib.Dec.{eqb}
-use borrow.Author.Tests.{lt-ltb, le-ltb}
+use borrow.Author.Tests.{lt-ltb, le-ltb, eq-eqb, ne-eqb}
 use Rattle.words.specs.Choice.{pick}
 use Rattle.words.specs.Parts.{put}
-use Rattle.refusals.specs.declared.Refusal.the-variants.{BadFlag, NoNode, WrongKind}
+use Rattle.refusals.specs.declared.Refusal.{Refusal}
+use Rattle.refusals.specs.declared.Refusal.the-variants.{BadFlag, WrongKind}
 use Rattle.nodes.specs.declared.Node.{Node}
 use Rattle.nodes.specs.Table.{rows, fill}
 use Rattle.nodes.specs.TableLaws.{rows-length}
@@ -25,7 +26,6 @@ use Rattle.index.specs.Index.{numbers}
 use Rattle.reindex.specs.declared.edit.Edit.the-variants as edit
 use Rattle.model.specs.Layout.{nodesPlace, nodesWords, countIn, latestIn, nodesIn}
 use Rattle.model.specs.Engine.{decode}
-use Rattle.model.specs.Meaning.{known}
 use Rattle.model.specs.Checks.{firstOf}
 use Rattle.model.specs.Effects.{effect}
 use Rattle.model.specs.After.{wordsAfter}
@@ -33,9 +33,9 @@ use Rattle.model.specs.Apply.{answerIn}
 use Rattle.state.specs.Does.{step-refused, step-done}
 use Rattle.tree.specs.Sizes.{Leaves}
 use Rattle.tree.specs.Words.{run-leaves}
-use Rattle.names.specs.Named.{Named}
+use Rattle.names.specs.Judged.{meantIn, NodeFound, NodeRefused}
 use Rattle.treecommands.specs.Ready.{Ready, nodeWords, nodeIn}
-use Rattle.treecommands.specs.Finding.{meantIn, NodeFound, found, missing, is-root, not-root}
+use Rattle.treecommands.specs.Finding.{root-there}
 use Rattle.treecommands.specs.Edits.{cut-does, cut-one}
 use Rattle.treecommands.specs.Settle.{Sorted, Changed, renewed}
 use Rattle.treecommands.specs.Staying.{Stays, Freed}
@@ -57,14 +57,15 @@ module _ (n : NodeArgument) (flag : ℕ) (ws : List ℕ) where
   unfolding answerIn firstOf
   run-flag h bytes bs = step-refused (command.Tree (tree.Run n flag)) bytes ws bs BadFlag (rw (lt-ltb 1 flag h))
 
-  module _ (k : Ready ws) (count : ℕ) (same : count ≡ countIn ws) (at : ℕ) (fact : Named n ws at) (low : flag ≤ 1) where
-    pub run-unknown : count ≤ at → Steps (tree.Run n flag) ws (Refused NoNode) ws
-    unfolding answerIn firstOf decode
-    run-unknown h bytes bs = step-refused (command.Tree (tree.Run n flag)) bytes ws bs NoNode (rw (le-ltb 1 flag low, missing n ws at fact (omega arith)))
+  module _ (low : flag ≤ 1) where
+    pub run-unknown : (r : Refusal) → NodeRefused n ws r → Steps (tree.Run n flag) ws (Refused r) ws
+    unfolding answerIn firstOf
+    run-unknown r u bytes bs = step-refused (command.Tree (tree.Run n flag)) bytes ws bs r (rw (le-ltb 1 flag low, u .fires bs) (u .answer bs))
 
-    module _ (us : List ℕ) (live : at < count) (does : us ≡ fill (nodeWords ws) (editAt at (setRunHere flag) (rows count (nodeWords ws)))) where
-      run-at : NodeFound n ws at
-      run-at = found n ws at fact (omega arith)
+    module _ (k : Ready ws) (count : ℕ) (same : count ≡ countIn ws) (at : ℕ) (run-at : NodeFound n ws at) (us : List ℕ)
+        (does : us ≡ fill (nodeWords ws) (editAt at (setRunHere flag) (rows count (nodeWords ws)))) where
+      run-live : at < count
+      run-live = rw same (run-at .live)
 
       run-few : length (setRun (meantIn n ws) flag (nodesIn ws)) ≤ mostNodes
       run-few = omega (arith, setRun-length (meantIn n ws) flag (nodesIn ws), rows-length (countIn ws) (nodeWords ws), k .few)
@@ -72,7 +73,7 @@ module _ (n : NodeArgument) (flag : ℕ) (ws : List ℕ) where
       -- every node is where it was
       pub run-sorted : Sorted count (put nodesPlace nodesWords us ws) × Stays count (put nodesPlace nodesWords us ws)
       run-sorted =
-          let left = run-leaves (nodeWords ws) count at flag live us does in (
+          let left = run-leaves (nodeWords ws) count at flag run-live us does in (
             edited-in-place n ws k count same at run-at (setRunHere flag) us count left (setRun-length (meantIn n ws) flag (nodesIn ws)) (setRun-numbers (meantIn n ws) flag (nodesIn ws)),
             edited-stays n ws k count same at run-at (setRunHere flag) us count left run-few (λ e. setRun-lives (meantIn n ws) flag (nodesIn ws) (latestIn ws) ∙ e),
           )
@@ -80,21 +81,21 @@ module _ (n : NodeArgument) (flag : ℕ) (ws : List ℕ) where
       pub run-done : (out : List ℕ) → out ≡ renewed count (put nodesPlace nodesWords us ws) → Steps (tree.Run n flag) ws Done out
       unfolding answerIn firstOf decode wordsAfter effect
       run-done out o bytes bs =
-          step-done (command.Tree (tree.Run n flag)) bytes ws bs out (rw (le-ltb 1 flag low, run-at .known)) (edited-left n ws k count same at run-at (setRunHere flag) us count (run-leaves (nodeWords ws) count at flag live us does) run-few out o bs)
+          step-done (command.Tree (tree.Run n flag)) bytes ws bs out (rw (le-ltb 1 flag low, run-at .passes bs)) (edited-left n ws k count same at run-at (setRunHere flag) us count (run-leaves (nodeWords ws) count at flag run-live us does) run-few out o bs)
 
 -- /n_free
-module _ (n : NodeArgument) (ws : List ℕ) (k : Ready ws) (count : ℕ) (same : count ≡ countIn ws) (at : ℕ) (fact : Named n ws at) where
-  pub free-unknown : count ≤ at → Steps (tree.Free n) ws (Refused NoNode) ws
-  unfolding answerIn firstOf decode
-  free-unknown h bytes bs = step-refused (command.Tree (tree.Free n)) bytes ws bs NoNode (rw (missing n ws at fact (omega arith)))
+module _ (n : NodeArgument) (ws : List ℕ) where
+  pub free-unknown : (r : Refusal) → NodeRefused n ws r → Steps (tree.Free n) ws (Refused r) ws
+  unfolding answerIn firstOf
+  free-unknown r u bytes bs = step-refused (command.Tree (tree.Free n)) bytes ws bs r (rw (u .fires bs) (u .answer bs))
 
-  module _ (live : at < count) where
-    free-at : NodeFound n ws at
-    free-at = found n ws at fact (omega arith)
+  module _ (k : Ready ws) (count : ℕ) (same : count ≡ countIn ws) (at : ℕ) (free-at : NodeFound n ws at) where
+    live : at < count
+    live = rw same (free-at .live)
 
     pub free-root : at ≡ 0 → Steps (tree.Free n) ws (Refused WrongKind) ws
-    unfolding answerIn firstOf decode
-    free-root z bytes bs = step-refused (command.Tree (tree.Free n)) bytes ws bs WrongKind (rw (free-at .known, is-root n ws at free-at k z))
+    unfolding answerIn firstOf
+    free-root z bytes bs = step-refused (command.Tree (tree.Free n)) bytes ws bs WrongKind (rw (free-at .passes bs, root-there n ws k at free-at bs, eq-eqb at 0 z))
 
     module _ (us : List ℕ) (many : ℕ) (does : Leaves (nodeWords ws) (editAt at freeHere (rows count (nodeWords ws))) us many) where
       free-few : length (cut (meantIn n ws) (nodesIn ws)) ≤ mostNodes
@@ -113,4 +114,4 @@ module _ (n : NodeArgument) (ws : List ℕ) (k : Ready ws) (count : ℕ) (same :
       pub free-done : (out : List ℕ) → (at ≡ 0 → ⊥) → out ≡ renewed many (put nodesPlace nodesWords us ws) → Steps (tree.Free n) ws Done out
       unfolding answerIn firstOf decode wordsAfter effect
       free-done out z o bytes bs =
-          step-done (command.Tree (tree.Free n)) bytes ws bs out (rw (free-at .known, not-root n ws at free-at k z)) (edited-left n ws k count same at free-at freeHere us many does free-few out o bs)
+          step-done (command.Tree (tree.Free n)) bytes ws bs out (rw (free-at .passes bs, root-there n ws k at free-at bs, ne-eqb at 0 z)) (edited-left n ws k count same at free-at freeHere us many does free-few out o bs)

@@ -10,7 +10,7 @@ use borrow.Author.Tests.{lt-ltb, le-ltb, le-leb, lt-leb}
 use Rattle.words.specs.Choice.{either}
 use Rattle.words.specs.Parts.{put}
 use Rattle.refusals.specs.declared.Refusal.{Refusal}
-use Rattle.refusals.specs.declared.Refusal.the-variants.{BadFlag, BadNumber, NumberLive, NoNode, WrongKind, NodesFull}
+use Rattle.refusals.specs.declared.Refusal.the-variants.{BadFlag, BadNumber, NumberLive, WrongKind, NodesFull}
 use Rattle.nodes.specs.declared.Node.{Node}
 use Rattle.nodes.specs.Table.{rows}
 use Rattle.nodes.specs.Place.{lives, place}
@@ -44,9 +44,8 @@ use Rattle.tree.specs.Gaps.{gapBy, inGap, gap-leaves}
 use Rattle.reindex.specs.declared.edit.Edit.the-variants as edit
 use Rattle.treecommands.specs.declared.group.Spot.{Spot}
 use Rattle.treecommands.specs.declared.group.Spot.the-variants as spot
-use Rattle.names.specs.Named.{Named}
+use Rattle.names.specs.Judged.{meantIn, NodeFound, NodeRefused}
 use Rattle.treecommands.specs.Ready.{Ready, nodeWords}
-use Rattle.treecommands.specs.Finding.{meantIn, NodeFound, found, missing}
 use Rattle.treecommands.specs.Edits.{editBy, add-does}
 use Rattle.treecommands.specs.Settle.{Changed, renewed}
 use Rattle.treecommands.specs.Steps.{Steps, edited-ready, edited-stays, edited-left}
@@ -82,33 +81,30 @@ module _ (number : ℕ) (action : Action) (target : NodeArgument) (ws : List ℕ
         let here : lives number (nodesIn ws) ≡ true = nodes.found (countIn ws) (nodeWords ws) number (omega arith) in
         rw (low, lt-leb firstNegative number positive, here)
 
-    module _ (new : count ≤ seen) (at : ℕ) (at-target : Named target ws at) where
+    module _ (new : count ≤ seen) where
       fresh : lives number (nodesIn ws) ≡ false
       fresh = nodes.not-found (countIn ws) (nodeWords ws) number (omega arith)
 
-      pub group-unknown : count ≤ at → Answers NoNode
+      pub group-unknown : (r : Refusal) → NodeRefused target ws r → Answers r
       unfolding firstOf decode
-      group-unknown h bytes bs = rw (low, lt-leb firstNegative number positive, fresh, missing target ws at at-target (omega arith))
+      group-unknown r n bytes bs = rw (low, lt-leb firstNegative number positive, fresh, n .fires bs) (n .answer bs)
 
-      module _ (live : at < count) where
-        f : NodeFound target ws at
-        f = found target ws at at-target (omega arith)
-
+      module _ (at : ℕ) (f : NodeFound target ws at) where
         pub group-kind : badAt action ws at ≡ true → Answers WrongKind
         unfolding firstOf decode
         group-kind h bytes bs =
-            rw (low, lt-leb firstNegative number positive, fresh, f .known, bad-target target ws k at f bs action ∙ h)
+            rw (low, lt-leb firstNegative number positive, fresh, f .passes bs, bad-target target ws k at f bs action ∙ h)
 
         module _ (kind : badAt action ws at ≡ false) where
           pub group-full : fullAt action count ≡ true → Answers NodesFull
           unfolding firstOf decode
           group-full h bytes bs =
-              rw (low, lt-leb firstNegative number positive, fresh, f .known, bad-target target ws k at f bs action ∙ kind, is-full ws count same bs action ∙ h)
+              rw (low, lt-leb firstNegative number positive, fresh, f .passes bs, bad-target target ws k at f bs action ∙ kind, is-full ws count same bs action ∙ h)
 
           group-passes : fullAt action count ≡ false → (bytes bs : List ℕ) → firstOf (treeChecks (tree.NewGroup number (numberOf action) target) bytes (decode ws bs)) Done ≡ Done
           unfolding firstOf decode
           group-passes h bytes bs =
-              rw (low, lt-leb firstNegative number positive, fresh, f .known, bad-target target ws k at f bs action ∙ kind, is-full ws count same bs action ∙ h)
+              rw (low, lt-leb firstNegative number positive, fresh, f .passes bs, bad-target target ws k at f bs action ∙ kind, is-full ws count same bs action ∙ h)
 
           pub group-ground : fullAt action count ≡ false → GroupGround number action target ws at
           group-ground h = record { passed = group-passes h; spot = f; room = room action ws k at (f .live) (rw same at h) }

@@ -9,7 +9,6 @@ pub mod Steps
 pub mod Freeing
 pub mod Emptying
 pub mod Sighting
-pub mod SightingInto
 pub mod Moving
 pub mod Adding
 pub mod Grouping

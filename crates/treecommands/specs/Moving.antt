@@ -29,7 +29,7 @@ use Rattle.model.specs.Layout.{nodesPlace, nodesWords, countIn, latestIn, nodes
 use Rattle.model.specs.Engine.{Engine, decode}
 use Rattle.model.specs.Effects.{withNodes, effect}
 use Rattle.model.specs.After.{putTree, wordsAfter}
-use Rattle.model.specs.Checks.{Check, firstOf}
+use Rattle.model.specs.Checks.{Check, firstOf, besideChecks, intoChecks}
 use Rattle.model.specs.Apply.{answerIn}
 use Rattle.state.specs.Does.{WordsStep, step-refused, step-done}
 use Rattle.preservation.specs.TreeSteps.{still-lives}
@@ -45,12 +45,12 @@ use Rattle.tree.specs.Moved.{move-first}
 use Rattle.treecommands.specs.declared.moves.Pair.{Pair}
 use Rattle.treecommands.specs.declared.moves.Pair.the-variants as pair
 use Rattle.treecommands.specs.Ready.{Ready, nodeWords}
-use Rattle.treecommands.specs.Finding.{meantIn}
+use Rattle.names.specs.Judged.{meantIn}
 use Rattle.treecommands.specs.Edits.{moveEdit, move-does}
 use Rattle.treecommands.specs.Settle.{renewed, changed-left, renewed-left}
 use Rattle.treecommands.specs.Staying.{Staying, stays-left}
 use Rattle.treecommands.specs.Steps.{Steps}
-use Rattle.treecommands.specs.Sighting.{besideChecks, intoChecks, Clear, PairFound}
+use Rattle.treecommands.specs.Sighting.{Clear, PairFound}
 
 same-length : {after before : List Node} → Same after before → length after ≡ length before
 same-length {after} {before} s = sym (tally-length after) ∙ s .sum (λ r. true) (λ d r. refl) ∙ tally-length before

@@ -31,7 +31,7 @@ use Rattle.model.specs.After.{putTree}
 use Rattle.state.specs.Does.{WordsStep}
 use Rattle.tree.specs.Sizes.{Leaves, leaves-first}
 use Rattle.treecommands.specs.Ready.{Ready, nodeWords}
-use Rattle.treecommands.specs.Finding.{meantIn, NodeFound}
+use Rattle.names.specs.Judged.{meantIn, NodeFound}
 use Rattle.treecommands.specs.Staying.{Stays, Freed, stays-left, freed-left}
 use Rattle.treecommands.specs.Settle.{Sorted, Changed, Sifted, renewed, changed-left, sifted-left, sorted-left, renewed-left}
 

@@ -9,6 +9,7 @@ use layout::NODES;
 use layout::NODES_END;
 use layout::RECORD;
 use model::Answer;
+use names::NodePlace;
 use names::node_place;
 use refusals::Refusal;
 use reindex::Edit;
@@ -29,10 +30,12 @@ pub fn run_node(node: NodeArgument, flag: u32, words: &mut [u32]) -> Answer
         return Answer::Refused(Refusal::BadFlag);
     }
     let count = wide(words[COUNT]);
-    let at = node_place(words, node);
-    if count <= at {
-        return Answer::Refused(Refusal::NoNode);
-    }
+    let at = match node_place(words, node) {
+        NodePlace::At(at) => at,
+        NodePlace::Refused(refusal) => {
+            return Answer::Refused(refusal);
+        }
+    };
     tree::set_run(&mut words[NODES..NODES_END], count, at, flag);
     renew_in_place(words, count);
     Answer::Done
@@ -44,10 +47,12 @@ pub fn free_node(node: NodeArgument, words: &mut [u32]) -> Answer
     ensures { λ r. ⌜ Steps (TreeCommand.Free node) (now (words .entry)) r (now (words .exit)) ⌝ }
 {
     let count = wide(words[COUNT]);
-    let at = node_place(words, node);
-    if count <= at {
-        return Answer::Refused(Refusal::NoNode);
-    }
+    let at = match node_place(words, node) {
+        NodePlace::At(at) => at,
+        NodePlace::Refused(refusal) => {
+            return Answer::Refused(refusal);
+        }
+    };
     if at == 0 {
         return Answer::Refused(Refusal::WrongKind);
     }
@@ -68,10 +73,12 @@ pub fn free_all(group: NodeArgument, words: &mut [u32]) -> Answer
     ensures { λ r. ⌜ Steps (TreeCommand.FreeAll group) (now (words .entry)) r (now (words .exit)) ⌝ }
 {
     let count = wide(words[COUNT]);
-    let at = node_place(words, group);
-    if count <= at {
-        return Answer::Refused(Refusal::NoNode);
-    }
+    let at = match node_place(words, group) {
+        NodePlace::At(at) => at,
+        NodePlace::Refused(refusal) => {
+            return Answer::Refused(refusal);
+        }
+    };
     if is_synth(words, at) {
         return Answer::Refused(Refusal::WrongKind);
     }
@@ -88,10 +95,12 @@ pub fn deep_free(group: NodeArgument, words: &mut [u32]) -> Answer
     ensures { λ r. ⌜ Steps (TreeCommand.DeepFree group) (now (words .entry)) r (now (words .exit)) ⌝ }
 {
     let count = wide(words[COUNT]);
-    let at = node_place(words, group);
-    if count <= at {
-        return Answer::Refused(Refusal::NoNode);
-    }
+    let at = match node_place(words, group) {
+        NodePlace::At(at) => at,
+        NodePlace::Refused(refusal) => {
+            return Answer::Refused(refusal);
+        }
+    };
     if is_synth(words, at) {
         return Answer::Refused(Refusal::WrongKind);
     }

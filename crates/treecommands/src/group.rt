@@ -8,6 +8,7 @@ use layout::GROUP;
 use layout::NODES;
 use layout::NODES_END;
 use model::Answer;
+use names::NodePlace;
 use names::node_place;
 use names::place_of;
 use nodes::Node;
@@ -46,10 +47,12 @@ fn group_spot(number: u32, action: Action, target: NodeArgument, words: &[u32]) 
     if place_of(words, number) < count {
         return Spot::Refused(Refusal::NumberLive);
     }
-    let at = node_place(words, target);
-    if count <= at {
-        return Spot::Refused(Refusal::NoNode);
-    }
+    let at = match node_place(words, target) {
+        NodePlace::At(at) => at,
+        NodePlace::Refused(refusal) => {
+            return Spot::Refused(refusal);
+        }
+    };
     if bad_target(action, at, words) {
         return Spot::Refused(Refusal::WrongKind);
     }

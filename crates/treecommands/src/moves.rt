@@ -6,6 +6,7 @@ use layout::COUNT;
 use layout::NODES;
 use layout::NODES_END;
 use model::Answer;
+use names::NodePlace;
 use names::node_place;
 use refusals::Refusal;
 use tree::Position;
@@ -17,65 +18,80 @@ use words::wide;
 ghost use Rattle.model.specs.declared.TreeCommand.{TreeCommand};
 ghost use Rattle.treecommands.specs.Ready.{Ready};
 ghost use Rattle.treecommands.specs.Steps.{Steps};
-ghost use Rattle.treecommands.specs.Sighting.{PairFound, besideChecks, intoChecks};
+ghost use Rattle.model.specs.Checks.{besideChecks, intoChecks};
+ghost use Rattle.treecommands.specs.Sighting.{PairJudged, PairFound};
 ghost use Rattle.treecommands.specs.Moving.{Movable, Goes};
 
-// The places of the node that is moved and of the node that it goes to, or the first refusal.
+// The places of two nodes, or the first refusal.
 pub enum Pair {
     At(usize, usize),
     Refused(Refusal),
 }
 
-// The checks of /n_before and /n_after.
+// "17 .. by argument order": the places of the nodes that two arguments mean.
+fn pair_of(first: NodeArgument, second: NodeArgument, words: &[u32]) -> Pair
+    requires { ⌜ Ready (now words) ⌝ }
+    ensures { λ r. ⌜ PairJudged first second (now (words .entry)) r ⌝ }
+{
+    let a = match node_place(words, first) {
+        NodePlace::At(at) => at,
+        NodePlace::Refused(refusal) => {
+            return Pair::Refused(refusal);
+        }
+    };
+    let b = match node_place(words, second) {
+        NodePlace::At(at) => at,
+        NodePlace::Refused(refusal) => {
+            return Pair::Refused(refusal);
+        }
+    };
+    Pair::At(a, b)
+}
+
+// The checks of /n_before and /n_after: the places of the node that is moved and of the node that it goes beside.
 fn beside(node: NodeArgument, place: NodeArgument, words: &[u32]) -> Pair
     requires { ⌜ Ready (now words) ⌝ }
     ensures { λ r. ⌜ PairFound (besideChecks node place) node place (now (words .entry)) r ⌝ }
 {
-    let count = wide(words[COUNT]);
-    let a = node_place(words, node);
-    if count <= a {
-        return Pair::Refused(Refusal::NoNode);
+    match pair_of(node, place, words) {
+        Pair::At(a, b) => {
+            if a == 0 {
+                return Pair::Refused(Refusal::WrongKind);
+            }
+            if b == 0 {
+                return Pair::Refused(Refusal::WrongKind);
+            }
+            let count = wide(words[COUNT]);
+            if tree::lies_below(&words[NODES..NODES_END], count, b, a) {
+                return Pair::Refused(Refusal::InsideItself);
+            }
+            Pair::At(a, b)
+        }
+        Pair::Refused(refusal) => Pair::Refused(refusal),
     }
-    let b = node_place(words, place);
-    if count <= b {
-        return Pair::Refused(Refusal::NoNode);
-    }
-    if a == 0 {
-        return Pair::Refused(Refusal::WrongKind);
-    }
-    if b == 0 {
-        return Pair::Refused(Refusal::WrongKind);
-    }
-    if tree::lies_below(&words[NODES..NODES_END], count, b, a) {
-        return Pair::Refused(Refusal::InsideItself);
-    }
-    Pair::At(a, b)
 }
 
-// The checks of /g_head and /g_tail.
+// The checks of /g_head and /g_tail: the places of the node that is moved and of the group that it goes into.
 fn into(group: NodeArgument, node: NodeArgument, words: &[u32]) -> Pair
     requires { ⌜ Ready (now words) ⌝ }
     ensures { λ r. ⌜ PairFound (intoChecks group node) node group (now (words .entry)) r ⌝ }
 {
-    let count = wide(words[COUNT]);
-    let b = node_place(words, group);
-    if count <= b {
-        return Pair::Refused(Refusal::NoNode);
+    match pair_of(group, node, words) {
+        Pair::At(b, a) => {
+            if is_synth(words, b) {
+                return Pair::Refused(Refusal::WrongKind);
+            }
+            if a == 0 {
+                return Pair::Refused(Refusal::WrongKind);
+            }
+            let count = wide(words[COUNT]);
+            if tree::lies_below(&words[NODES..NODES_END], count, b, a) {
+                return Pair::Refused(Refusal::InsideItself);
+            }
+            Pair::At(a, b)
+        }
+        Pair::Refused(refusal) => Pair::Refused(refusal),
     }
-    let a = node_place(words, node);
-    if count <= a {
-        return Pair::Refused(Refusal::NoNode);
-    }
-    if is_synth(words, b) {
-        return Pair::Refused(Refusal::WrongKind);
-    }
-    if a == 0 {
-        return Pair::Refused(Refusal::WrongKind);
-    }
-    if tree::lies_below(&words[NODES..NODES_END], count, b, a) {
-        return Pair::Refused(Refusal::InsideItself);
-    }
-    Pair::At(a, b)
 }
 
 // What every move does once its checks have answered.

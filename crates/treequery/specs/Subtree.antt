@@ -10,7 +10,8 @@ use lib.Dec.{ltb, eqb}
 use borrow.Author.Tests.{eqb-true, eqb-false, ltb-true, eq-eqb, ne-eqb}
 use Rattle.words.specs.Choice.{pick}
 use Rattle.words.specs.Parts.{region}
-use Rattle.refusals.specs.declared.Refusal.the-variants.{NoNode, WrongKind}
+use Rattle.refusals.specs.declared.Refusal.{Refusal}
+use Rattle.refusals.specs.declared.Refusal.the-variants.{WrongKind}
 use Rattle.nodes.specs.declared.Node.{Node}
 use Rattle.nodes.specs.Table.{width, rows, depthField}
 use Rattle.nodes.specs.TableLaws.{rows-length, rows-take}
@@ -30,12 +31,13 @@ use Rattle.model.specs.Meaning.{meant}
 use Rattle.model.specs.Checks.{firstOf, queryChecks}
 use Rattle.model.specs.Replies.{reply, replyTo, treeReply, treeAddress, flagNumber, treeArguments, subtreeRows, rowsBelow, rowsAt}
 use Rattle.tree.specs.Around.{childNumbers, childrenOf-at}
-use Rattle.names.specs.Named.{Named, named-known, named-unknown}
+use Rattle.names.specs.Judged.{NodeFound, NodeRefused}
+use Rattle.names.specs.Here.{node-here}
 use Rattle.controls.specs.Ready.{nodeIn}
 use Rattle.queries.specs.Held.{At}
 use Rattle.queries.specs.Shape.{count-same}
 use Rattle.queries.specs.Found.{subtree-found}
-use Rattle.queries.specs.Info.{here, number-here, node-here, here-number}
+use Rattle.queries.specs.Info.{here, number-here, here-number}
 use Rattle.queries.specs.Status.{viewFrom, view-from}
 use Rattle.treequery.specs.RowArguments.{viewTo, childrenAt}
 use Rattle.treequery.specs.Rows.{treeMessage}
@@ -95,58 +97,58 @@ end-most n at us h =
     let size : length (drop (at + 1) (rows n us)) ≡ n - (at + 1) = length-drop (at + 1) (rows n us) ∙ ap (λ (k : ℕ). k - (at + 1)) (rows-length n us) in
     omega arith
 
-module _ (argument : NodeArgument) (bytes ws bs : List ℕ) (at : ℕ) (n : Named argument ws at) where
-  pub tree-unknown : (flag : ℕ) → countIn ws ≤ at → (b : Answer) → firstOf (queryChecks (query.Tree argument flag) bytes (decode ws bs)) b ≡ Refused NoNode
+pub tree-unknown : (argument : NodeArgument) (bytes ws bs : List ℕ) (flag : ℕ) (r : Refusal) → NodeRefused argument ws r
+    → (b : Answer) → firstOf (queryChecks (query.Tree argument flag) bytes (decode ws bs)) b ≡ Refused r
+unfolding firstOf
+tree-unknown argument bytes ws bs flag r n b = rw (n .fires bs) (n .answer bs)
+
+module _ (argument : NodeArgument) (bytes ws bs : List ℕ) (at : ℕ) (n : NodeFound argument ws at) (a : At ws bs at) where
+  pub tree-synth : (flag : ℕ) → isGroup (nodeIn ws at) ≡ false → (b : Answer) → firstOf (queryChecks (query.Tree argument flag) bytes (decode ws bs)) b ≡ Refused WrongKind
   unfolding firstOf
-  tree-unknown flag h b = rw (named-unknown argument ws bs at n h)
+  tree-synth flag h b = rw (n .passes bs, node-here argument ws at n bs, h)
 
-  module _ (a : At ws bs at) where
-    pub tree-synth : (flag : ℕ) → isGroup (nodeIn ws at) ≡ false → (b : Answer) → firstOf (queryChecks (query.Tree argument flag) bytes (decode ws bs)) b ≡ Refused WrongKind
-    unfolding firstOf
-    tree-synth flag h b = rw (named-known argument ws bs at n (a .live), node-here argument ws bs at n a, h)
+  pub tree-passes : (flag : ℕ) → isGroup (nodeIn ws at) ≡ true → (b : Answer) → firstOf (queryChecks (query.Tree argument flag) bytes (decode ws bs)) b ≡ b
+  unfolding firstOf
+  tree-passes flag h b = rw (n .passes bs, node-here argument ws at n bs, h)
 
-    pub tree-passes : (flag : ℕ) → isGroup (nodeIn ws at) ≡ true → (b : Answer) → firstOf (queryChecks (query.Tree argument flag) bytes (decode ws bs)) b ≡ b
-    unfolding firstOf
-    tree-passes flag h b = rw (named-known argument ws bs at n (a .live), node-here argument ws bs at n a, h)
+  abbrev run : List Node
+  run = drop (at + 1) (nodesIn ws)
 
-    abbrev run : List Node
-    run = drop (at + 1) (nodesIn ws)
+  abbrev slots : List Slot
+  slots = decode ws bs .slots
 
-    abbrev slots : List Slot
-    slots = decode ws bs .slots
+  -- the rows below the group
+  run-rows : (end : ℕ) → end ≡ endAt (countIn ws) (region nodesPlace nodesWords ws) at → rowsBelow (nodeIn ws at .depth) (viewRows slots (controlsIn ws) run) ≡ viewTo ws bs end (at + 1)
+  run-rows end e =
+      let us = region nodesPlace nodesWords ws in
+      let d = nodeIn ws at .depth in
+      let fits : at + 1 + deeper d run ≤ countIn ws = end-most (countIn ws) at us (a .live) in
+      below-rows slots (controlsIn ws) d run
+      ∙ ap (viewRows slots (controlsIn ws)) (run-part (countIn ws) (at + 1) (deeper d run) us fits)
+      ∙ ap (λ (k : ℕ). viewRows slots (controlsIn ws) (drop (at + 1) (rows k us))) (sym e)
 
-    -- the rows below the group
-    run-rows : (end : ℕ) → end ≡ endAt (countIn ws) (region nodesPlace nodesWords ws) at → rowsBelow (nodeIn ws at .depth) (viewRows slots (controlsIn ws) run) ≡ viewTo ws bs end (at + 1)
-    run-rows end e =
-        let us = region nodesPlace nodesWords ws in
-        let d = nodeIn ws at .depth in
-        let fits : at + 1 + deeper d run ≤ countIn ws = end-most (countIn ws) at us (a .live) in
-        below-rows slots (controlsIn ws) d run
-        ∙ ap (viewRows slots (controlsIn ws)) (run-part (countIn ws) (at + 1) (deeper d run) us fits)
-        ∙ ap (λ (k : ℕ). viewRows slots (controlsIn ws) (drop (at + 1) (rows k us))) (sym e)
+  subtree-rows : (end : ℕ) → end ≡ endAt (countIn ws) (region nodesPlace nodesWords ws) at → subtreeRows (meant argument (decode ws bs)) (viewFrom ws bs 0) ≡ viewTo ws bs end (at + 1)
+  subtree-rows end e =
+      subtree-found slots (controlsIn ws) (meant argument (decode ws bs)) (nodesIn ws) (nodeIn ws at) run (here argument ws bs at n a) ∙ run-rows end e
 
-    subtree-rows : (end : ℕ) → end ≡ endAt (countIn ws) (region nodesPlace nodesWords ws) at → subtreeRows (meant argument (decode ws bs)) (viewFrom ws bs 0) ≡ viewTo ws bs end (at + 1)
-    subtree-rows end e =
-        subtree-found slots (controlsIn ws) (meant argument (decode ws bs)) (nodesIn ws) (nodeIn ws at) run (here argument ws bs at n a) ∙ run-rows end e
+  -- its children
+  group-children : (end : ℕ) → end ≡ endAt (countIn ws) (region nodesPlace nodesWords ws) at → childrenAt ws bs end at ≡ childCount (nodeIn ws at .number) (nodesIn ws)
+  group-children end e =
+      let us = region nodesPlace nodesWords ws in
+      let d = nodeIn ws at .depth in
+      ap (λ (l : List Row). rowsAt (d + 1) (rowsBelow d l)) (sym (run-rows end e))
+      ∙ ap (rowsAt (d + 1)) (below-twice d (viewRows slots (controlsIn ws) run))
+      ∙ child-rows slots (controlsIn ws) d run
+      ∙ ap (length {A = ℕ}) (sym (childrenOf-at (countIn ws) us (nodeIn ws at .number) at (here-number argument ws bs at n a) (a .live)))
 
-    -- its children
-    group-children : (end : ℕ) → end ≡ endAt (countIn ws) (region nodesPlace nodesWords ws) at → childrenAt ws bs end at ≡ childCount (nodeIn ws at .number) (nodesIn ws)
-    group-children end e =
-        let us = region nodesPlace nodesWords ws in
-        let d = nodeIn ws at .depth in
-        ap (λ (l : List Row). rowsAt (d + 1) (rowsBelow d l)) (sym (run-rows end e))
-        ∙ ap (rowsAt (d + 1)) (below-twice d (viewRows slots (controlsIn ws) run))
-        ∙ child-rows slots (controlsIn ws) d run
-        ∙ ap (length {A = ℕ}) (sym (childrenOf-at (countIn ws) us (nodeIn ws at .number) at (here-number argument ws bs at n a) (a .live)))
-
-    pub tree-reply : (flag end : ℕ) (shown : Bool) → shown ≡ not (eqb flag 0) → end ≡ endAt (countIn ws) (region nodesPlace nodesWords ws) at
-        → treeMessage shown ws bs end at ≡ reply (query.Tree argument flag) bytes (decode ws bs)
-    unfolding replyTo
-    tree-reply flag end shown f e =
-        let m = nodeIn ws at .number in
-        let same : m ≡ meant argument (decode ws bs) = number-here argument ws bs at n a in
-        sym (ap (λ (k : ℕ). treeReply k (not (eqb flag 0)) (view (decode ws bs))) (sym same)
-        ∙ ap₂ (λ (b : Bool) (v : List Row). treeReply m b v) (sym f) (view-from ws bs)
-        ∙ ap₂ (λ (k : ℕ) (v : List Row). message treeAddress (int (flagNumber shown) ∷ (int m ∷ (int k ∷ treeArguments shown v))))
-        (count-same slots (controlsIn ws) m (nodesIn ws) ∙ sym (group-children end e))
-        (ap (λ (k : ℕ). subtreeRows k (viewFrom ws bs 0)) same ∙ subtree-rows end e))
+  pub tree-reply : (flag end : ℕ) (shown : Bool) → shown ≡ not (eqb flag 0) → end ≡ endAt (countIn ws) (region nodesPlace nodesWords ws) at
+      → treeMessage shown ws bs end at ≡ reply (query.Tree argument flag) bytes (decode ws bs)
+  unfolding replyTo
+  tree-reply flag end shown f e =
+      let m = nodeIn ws at .number in
+      let same : m ≡ meant argument (decode ws bs) = number-here argument ws bs at n a in
+      sym (ap (λ (k : ℕ). treeReply k (not (eqb flag 0)) (view (decode ws bs))) (sym same)
+      ∙ ap₂ (λ (b : Bool) (v : List Row). treeReply m b v) (sym f) (view-from ws bs)
+      ∙ ap₂ (λ (k : ℕ) (v : List Row). message treeAddress (int (flagNumber shown) ∷ (int m ∷ (int k ∷ treeArguments shown v))))
+      (count-same slots (controlsIn ws) m (nodesIn ws) ∙ sym (group-children end e))
+      (ap (λ (k : ℕ). subtreeRows k (viewFrom ws bs 0)) same ∙ subtree-rows end e))

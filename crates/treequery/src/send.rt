@@ -11,6 +11,7 @@ use layout::NODES;
 use layout::NODES_END;
 use layout::RECORD;
 use model::Answer;
+use names::NodePlace;
 use names::node_place;
 use osc::padded_length;
 use osc::put_bytes;
@@ -118,14 +119,16 @@ pub fn tree_query(
     requires { ⌜ Known (now words) (now arena) ⌝ }
     ensures { λ r. ⌜ Reply (query.Tree group flag) (now (bytes .entry)) (now (words .entry)) (now (arena .entry)) (now (out .entry)) r (now (out .exit)) ⌝ }
 {
-    let at = node_place(words, group);
-    let count = wide(words[COUNT]);
-    if count <= at {
-        return Answer::Refused(Refusal::NoNode);
-    }
+    let at = match node_place(words, group) {
+        NodePlace::At(at) => at,
+        NodePlace::Refused(refusal) => {
+            return Answer::Refused(refusal);
+        }
+    };
     if !node_is_group(words, at) {
         return Answer::Refused(Refusal::WrongKind);
     }
+    let count = wide(words[COUNT]);
     let end = subtree_end(&words[NODES..NODES_END], count, at);
     send_tree(out, words, arena, is_shown(flag), at, end)
 }

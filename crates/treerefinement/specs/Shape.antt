@@ -7,7 +7,8 @@ use mathlib.Core.List.{List, [], _∷_, _++_, append-assoc}
 use native.Mathlib.Omega.{arith}
 use lib.Dec.{ltb, leb, eqb}
 use borrow.Author.Tests.{lt-ltb, le-ltb, le-leb, eq-eqb, ltb-true, ltb-false, leb-true, eqb-true}
-use Rattle.words.specs.Choice.{pick, both, both-true}
+use Rattle.words.specs.Choice.{pick, both}
+use Rattle.words.specs.ChoiceLaws.{both-true}
 use Rattle.nodes.specs.declared.Node.{Node}
 use Rattle.nodes.specs.Place.{isGroup}
 use Rattle.nodes.specs.Edit.{level}

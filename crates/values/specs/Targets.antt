@@ -7,7 +7,7 @@ use Rattle.values.specs.declared.NodeArgument.{NodeArgument}
 use Rattle.values.specs.declared.Target.{Target}
 use Rattle.values.specs.declared.Target.the-variants.{Latest, Number, Reserved}
 
--- the argument of a number
+-- the argument that names a node by its number
 abbrev pub argument : ℕ → NodeArgument
 argument n = record { number = n }
 

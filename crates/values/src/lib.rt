@@ -2,7 +2,7 @@
 use words::wide;
 ghost use mathlib.Core.Path.{_≡_};
 ghost use Rattle.values.specs.Controls.{Holds, controlAt, seen, mappingOf, mappingWord, setTo, mapTo, shownBy, busAt};
-ghost use Rattle.values.specs.Targets.{targetOf};
+ghost use Rattle.values.specs.Targets.{argument, targetOf};
 ghost use Rattle.values.specs.Values.{patternOf};
 
 // "an enum Unmapped or Bus(number), matched when read and when shown"
@@ -158,6 +158,13 @@ impl Control {
             Mapping::Bus(bus) => bus_at(buses, bus),
         }
     }
+}
+
+// The argument that names a node by its number.
+pub fn by_number(number: u32) -> NodeArgument
+    ensures { λ r. ⌜ r ≡ argument number ⌝ }
+{
+    NodeArgument { number: number }
 }
 
 // What a node argument names, by its number.

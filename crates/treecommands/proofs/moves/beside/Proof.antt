@@ -1,49 +1,74 @@
 -- `treecommands::moves::beside` meets its contract: each refusal by the check that fires.
-use native.Mathlib.Omega.{arith}
 use borrow.Author.Needs.{needs}
-use Rattle.treecommands.specs.Sighting.{beside-first, beside-second, beside-root, beside-root-2, beside-inside, beside-clear}
+use mathlib.Core.Path.{sym, _∙_}
+use borrow.Author.Tests.{eq-eqb, ne-eqb}
+use Rattle.model.specs.Checks.{besideChecks}
+use Rattle.names.specs.Judged.{NodeFound}
+use Rattle.treecommands.specs.declared.moves.Pair.the-variants as pair
+use Rattle.treecommands.specs.Sighting.{PairJudged, beside-row, two-places, clear}
 use Rattle.treecommands.proofs.moves.beside.Statement.{statement}
 use Rattle.treecommands.proofs.moves.beside.Tie as tie
 
 returns : tie.Need-returns
 returns c =
-    let s = c .before .before .before .before .before in
+    let s = c .before .before .before .before .before .before in
     let a = s .args in
-    beside-first (a .node) (a .place) (a .words .now) (s .pre) (c .before .before .wide .result) (c .before .before .wide .ensures) (c .before .node-place .result) (c .before .node-place .ensures) (c .if1 .taken)
+    let x = c .before .before .a .given .0 .0 in
+    let y = c .before .before .a .given .0 .1 .0 in
+    let found : NodeFound (a .node) (a .words .now) x × NodeFound (a .place) (a .words .now) y = rw (c .before .before .a .given .1) at (c .before .before .before .before .pair-of .ensures) in
+    λ bs. beside-row (a .node) (a .place) (a .words .now) (s .pre) x y (found .0) (found .1) bs ∙ rw (eq-eqb x 0 (c .if1 .taken))
 
 returns-2 : tie.Need-returns-2
 returns-2 c =
     let s = c .before .before .before .before .before .before .before in
     let a = s .args in
-    beside-second (a .node) (a .place) (a .words .now) (s .pre) (c .before .before .before .before .wide .result) (c .before .before .before .before .wide .ensures) (c .before .before .before .node-place .result) (c .before .before .before .node-place .ensures) (omega arith) (c .before .node-place2 .result) (c .before .node-place2 .ensures) (c .if2 .taken)
+    let x = c .before .before .before .a .given .0 .0 in
+    let y = c .before .before .before .a .given .0 .1 .0 in
+    let found : NodeFound (a .node) (a .words .now) x × NodeFound (a .place) (a .words .now) y = rw (c .before .before .before .a .given .1) at (c .before .before .before .before .before .pair-of .ensures) in
+    λ bs. beside-row (a .node) (a .place) (a .words .now) (s .pre) x y (found .0) (found .1) bs ∙ rw (ne-eqb x 0 (c .before .if1 .left), eq-eqb y 0 (c .if2 .taken))
+
+lies-below-requires : tie.Need-lies-below-requires
+lies-below-requires c κs =
+    let s = c .before .before .before .before .before .before .before .before .before .before in
+    let a = s .args in
+    let count = c .before .wide in
+    let x = c .before .before .before .before .before .before .a .given .0 .0 in
+    let y = c .before .before .before .before .before .before .a .given .0 .1 .0 in
+    let found : NodeFound (a .node) (a .words .now) x × NodeFound (a .place) (a .words .now) y = rw (c .before .before .before .before .before .before .a .given .1) at (c .before .before .before .before .before .before .before .before .pair-of .ensures) in
+    two-places (a .node) (a .place) (a .words .now) (s .pre) x y (found .0) (found .1) (count .result) (count .ensures)
 
 returns-3 : tie.Need-returns-3
 returns-3 c =
-    let s = c .before .before .before .before .before .before .before .before in
+    let s = c .before .before .before .before .before .before .before .before .before .before .before .before in
     let a = s .args in
-    beside-root (a .node) (a .place) (a .words .now) (s .pre) (c .before .before .before .before .before .wide .result) (c .before .before .before .before .before .wide .ensures) (c .before .before .before .before .node-place .result) (c .before .before .before .before .node-place .ensures) (omega arith) (c .before .before .node-place2 .result) (c .before .before .node-place2 .ensures) (omega arith) (c .if3 .taken)
+    let count = c .before .before .before .wide in
+    let below = c .before .lies-below in
+    let x = c .before .before .before .before .before .before .before .before .a .given .0 .0 in
+    let y = c .before .before .before .before .before .before .before .before .a .given .0 .1 .0 in
+    let found : NodeFound (a .node) (a .words .now) x × NodeFound (a .place) (a .words .now) y = rw (c .before .before .before .before .before .before .before .before .a .given .1) at (c .before .before .before .before .before .before .before .before .before .before .pair-of .ensures) in
+    λ bs. beside-row (a .node) (a .place) (a .words .now) (s .pre) x y (found .0) (found .1) bs ∙ rw (ne-eqb x 0 (c .before .before .before .before .before .before .if1 .left), ne-eqb y 0 (c .before .before .before .before .before .if2 .left), ((rw (count .ensures) at (sym (below .ensures))) ∙ c .if3 .taken))
 
 returns-4 : tie.Need-returns-4
 returns-4 c =
-    let s = c .before .before .before .before .before .before .before .before .before in
+    let s = c .before .before .before .before .before .before .before .before .before .before .before .before in
     let a = s .args in
-    beside-root-2 (a .node) (a .place) (a .words .now) (s .pre) (c .before .before .before .before .before .before .wide .result) (c .before .before .before .before .before .before .wide .ensures) (c .before .before .before .before .before .node-place .result) (c .before .before .before .before .before .node-place .ensures) (omega arith) (c .before .before .before .node-place2 .result) (c .before .before .before .node-place2 .ensures) (omega arith) (c .before .if3 .left) (c .if4 .taken)
+    let count = c .before .before .before .wide in
+    let below = c .before .lies-below in
+    let x = c .before .before .before .before .before .before .before .before .a .given .0 .0 in
+    let y = c .before .before .before .before .before .before .before .before .a .given .0 .1 .0 in
+    let found : NodeFound (a .node) (a .words .now) x × NodeFound (a .place) (a .words .now) y = rw (c .before .before .before .before .before .before .before .before .a .given .1) at (c .before .before .before .before .before .before .before .before .before .before .pair-of .ensures) in
+    clear (a .node) (a .place) (a .words .now) (s .pre) x y (found .0) (found .1) (besideChecks (a .node) (a .place)) ((rw (count .ensures) at (sym (below .ensures))) ∙ c .if3 .left) (λ bs. beside-row (a .node) (a .place) (a .words .now) (s .pre) x y (found .0) (found .1) bs ∙ rw (ne-eqb x 0 (c .before .before .before .before .before .before .if1 .left), ne-eqb y 0 (c .before .before .before .before .before .if2 .left), ((rw (count .ensures) at (sym (below .ensures))) ∙ c .if3 .left)))
 
 returns-5 : tie.Need-returns-5
 returns-5 c =
-    let s = c .before .before .before .before .before .before .before .before .before .before .before .before in
+    let s = c .before .before .before .before .before in
     let a = s .args in
-    beside-inside (a .node) (a .place) (a .words .now) (s .pre) (c .before .before .before .before .before .before .before .before .before .wide .result) (c .before .before .before .before .before .before .before .before .before .wide .ensures) (c .before .before .before .before .before .before .before .before .node-place .result) (c .before .before .before .before .before .before .before .before .node-place .ensures) (omega arith) (c .before .before .before .before .before .before .node-place2 .result) (c .before .before .before .before .before .before .node-place2 .ensures) (omega arith) (c .before .before .before .before .if3 .left) (c .before .before .before .if4 .left) (c .before .lies-below .result) (c .before .lies-below .ensures) (c .if5 .taken)
-
-returns-6 : tie.Need-returns-6
-returns-6 c =
-    let s = c .before .before .before .before .before .before .before .before .before .before .before .before in
-    let a = s .args in
-    beside-clear (a .node) (a .place) (a .words .now) (s .pre) (c .before .before .before .before .before .before .before .before .before .wide .result) (c .before .before .before .before .before .before .before .before .before .wide .ensures) (c .before .before .before .before .before .before .before .before .node-place .result) (c .before .before .before .before .before .before .before .before .node-place .ensures) (omega arith) (c .before .before .before .before .before .before .node-place2 .result) (c .before .before .before .before .before .before .node-place2 .ensures) (omega arith) (c .before .before .before .before .if3 .left) (c .before .before .before .if4 .left) (c .before .lies-below .result) (c .before .lies-below .ensures) (c .if5 .left)
+    let refused : PairJudged (a .node) (a .place) (a .words .now) (pair.Refused (c .before .refusal .given .0 .0)) = rw (c .before .refusal .given .1) at (c .before .before .before .pair-of .ensures) in
+    λ bs. refused bs _
 
 pub beside-spec : {M : Type 1} → statement M
 beside-spec =
     tie.close
-    (tie.spec (λ c. search needs) (λ c κs. search needs) (λ c κs. search needs) returns (λ c κs. search needs) returns-2
-    returns-3 returns-4 (λ c. search needs) (λ c. search needs) (λ c. search needs) (λ c κs. search needs) returns-5
-    returns-6)
+    (tie.spec (λ c κs. search needs) (λ c. search needs) returns returns-2 (λ c. search needs) (λ c κs. search needs)
+    (λ c. search needs) (λ c. search needs) (λ c. search needs) lies-below-requires returns-3 (λ c. search needs) returns-4
+    returns-5)
