@@ -3,7 +3,7 @@ use crate::query::query_step;
 use controlcommands::bus_step;
 use controlcommands::control_step;
 use definitioncommands::definition_step;
-use making::tree_step;
+use newsynth::tree_step;
 use model::Answer;
 use model::Command;
 ghost use mathlib.Core.Bool.{true};
