@@ -1,5 +1,5 @@
 -- "ten steps, each given one stored node number, always settle a lookup"
-use Prim.Native.Nat.{ℕ, zero, suc, _+_, _*_, _-_, _/_, _≤_, _<_}
+use Prim.Native.Nat.{ℕ, zero, suc, _+_, _-_, _/_}
 use mathlib.Core.Bool.{Bool, true}
 use mathlib.Core.Path.{_≡_}
 use mathlib.Core.List.{List}
@@ -64,25 +64,3 @@ pub record SettledBy (m n : ℕ) (ix : List ℕ) (t : List Node) (r : ℕ) : Typ
   pub settles : settled (lookup m n ix t) ≡ true
   pub answers : r ≡ answer (length t) (lookup m n ix t)
   pub right : r ≡ place n t
-
--- of how many entries so many steps leave one at most
-unfoldable pub twos : ℕ → ℕ
-twos zero = 1
-twos (suc m) = 2 * twos m
-
-module _ (n : ℕ) (ix ks : List ℕ) where
-  -- the place and the number that a step is given
-  abbrev pub stepAt : Known → Known
-  stepAt k = step n (getD ix (middle k) 0) (numberAt ks (getD ix (middle k) 0)) k
-
-  -- the entries are places below c, and the numbers there rise
-  abbrev pub Rises : ℕ → Type 0
-  Rises c = ((i : ℕ) → i < length ix → getD ix i 0 < c) × ((i j : ℕ) → i < j → j < length ix → numberAt ks (getD ix i 0) < numberAt ks (getD ix j 0))
-
-  -- what is known is true, of places below c
-  abbrev pub Sound : ℕ → Known → Type 0
-  Sound c (Between low high) =
-      (high ≤ length ix)
-      × ((i : ℕ) → i < low → i < length ix → numberAt ks (getD ix i 0) < n)
-      × ((i : ℕ) → high ≤ i → i < length ix → n < numberAt ks (getD ix i 0))
-  Sound c (Found p) = (p < c) × (numberAt ks p ≡ n)

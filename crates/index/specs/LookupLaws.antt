@@ -1,5 +1,5 @@
--- Laws of `Lookup`.
-use Prim.Native.Nat.{ℕ, zero, suc, _+_, _-_, _≤_, _<_}
+-- Laws of `Lookup`: ten steps settle every lookup.
+use Prim.Native.Nat.{ℕ, zero, suc, _+_, _*_, _-_, _≤_, _<_}
 use mathlib.Core.Bool.{Bool, true, false}
 use mathlib.Core.Path.{_≡_, refl, sym, ap, _∙_}
 use mathlib.Core.List.{List}
@@ -16,9 +16,18 @@ use Rattle.index.specs.Index.{numbers, numberAt, indexed}
 use Rattle.index.specs.Rising.{entry, higher}
 use Rattle.index.specs.Afresh.{Stands, all-stand, all-differ}
 use Rattle.index.specs.Nodes.{indexed-parts, lives-none, place-at}
-use Rattle.index.specs.Lookup.{settled, answer, half, halfway, step, afterSteps, lookup, mostSteps, SettledBy, twos, stepAt, Rises, Sound}
+use Rattle.index.specs.Lookup.{settled, answer, half, halfway, middle, step, afterSteps, lookup, mostSteps, SettledBy}
+
+-- of how many entries so many steps leave one at most
+unfoldable pub twos : ℕ → ℕ
+twos zero = 1
+twos (suc m) = 2 * twos m
 
 module _ (n : ℕ) (ix ks : List ℕ) where
+  -- the place and the number that a step is given
+  abbrev pub stepAt : Known → Known
+  stepAt k = step n (getD ix (middle k) 0) (numberAt ks (getD ix (middle k) 0)) k
+
   -- one step more
   pub one-more : (m : ℕ) (k : Known) → afterSteps (suc m) n ix ks k ≡ stepAt (afterSteps m n ix ks k)
   unfolding afterSteps
@@ -85,6 +94,18 @@ module _ (n : ℕ) (ix ks : List ℕ) where
       go false e false f ih =
           let more = leb-false high (low + 1) e in
           rw (step-down low high more (leb-false s n f)) (ih low (high - half low high) (omega arith))
+
+  -- the entries are places below c, and the numbers there rise
+  abbrev pub Rises : ℕ → Type 0
+  Rises c = ((i : ℕ) → i < length ix → getD ix i 0 < c) × ((i j : ℕ) → i < j → j < length ix → numberAt ks (getD ix i 0) < numberAt ks (getD ix j 0))
+
+  -- what is known is true, of places below c
+  abbrev pub Sound : ℕ → Known → Type 0
+  Sound c (Between low high) =
+      (high ≤ length ix)
+      × ((i : ℕ) → i < low → i < length ix → numberAt ks (getD ix i 0) < n)
+      × ((i : ℕ) → high ≤ i → i < length ix → n < numberAt ks (getD ix i 0))
+  Sound c (Found p) = (p < c) × (numberAt ks p ≡ n)
 
   step-sound : (c : ℕ) → Rises c → (k : Known) → Sound c k → Sound c (stepAt k)
   unfolding step

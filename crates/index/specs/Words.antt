@@ -15,8 +15,8 @@ use Rattle.index.specs.declared.step.Known.the-variants.{Between}
 use Rattle.index.specs.Index.{numbers, numberAt, indexed}
 use Rattle.index.specs.Rising.{entry, higher}
 use Rattle.index.specs.Nodes.{indexed-parts}
-use Rattle.index.specs.Lookup.{halfway, step, afterSteps, lookup, answer, settled, mostSteps, SettledBy, stepAt, Sound}
-use Rattle.index.specs.LookupLaws.{one-more, lookup-sound, steps-settle, settled-early}
+use Rattle.index.specs.Lookup.{halfway, step, afterSteps, lookup, answer, settled, mostSteps, SettledBy}
+use Rattle.index.specs.LookupLaws.{stepAt, Sound, one-more, lookup-sound, steps-settle, settled-early}
 
 -- words that hold so many records, and words that hold as many entries
 pub record IndexFits (us ws : List ℕ) (count : ℕ) : Type 0 where
