@@ -1,6 +1,6 @@
-use mathlib.Core.Path.{sym, ap, _∙_}
+use mathlib.Core.Path.{_≡_, sym, ap, _∙_}
 use native.Mathlib.Omega.{arith}
-use Prim.Native.Nat.{ℕ}
+use Prim.Native.Nat.{zero}
 use borrow.Author.Needs.{needs}
 use Rattle.format.specs.Reader.{definitionBy}
 use Rattle.format.specs.Read.{got, mapRead}
@@ -26,7 +26,7 @@ returns-2 : tie.Need-returns-2
 returns-2 c = λ d end h.
     let a = c .before .before .before .before .before .before .args in
     let z = rw (c .before .refusal .given .1) at (c .before .before .before .next-definition .ensures .0) ∙ ap (mapRead fieldsIn) h in
-    absurd (let y : _≡_ {A = ℕ} 0 1 = cc in omega arith)
+    absurd (let y : zero ≡ 1 = cc in omega arith)
 
 pub encoded-size-spec : {M : Type 1} → statement M
 encoded-size-spec =
