@@ -89,7 +89,7 @@ module _ (ws bs : List ℕ) (b : AreBytes bs) (h : formed ws bs ≡ true) where
   fine = rw same at (formed-fine (tableIn ws) bs b well)
 
   many : length (decode ws bs .slots) ≡ slotCount
-  many = sym (ap length same) ∙ slots-length slotCount (lengthsOn (tableIn ws)) (flagsOn (tableIn ws)) bs
+  many = sym (ap length same) ∙ slots-length 0 slotCount (lengthsOn (tableIn ws)) (flagsOn (tableIn ws)) bs
 
   file : isFile (definitionsIn (residents (decode ws bs .slots))) ≡ true
   file = residents-file (decode ws bs .slots) many fine (k .names)

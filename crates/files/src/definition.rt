@@ -1,4 +1,5 @@
 // A whole definition, of which only the end is kept.
+use encoding::encoded_length;
 use fields::Cursor;
 use fields::Number;
 use fields::Step;
@@ -13,11 +14,14 @@ use units::REMEMBERED;
 use units::Run;
 use units::read_units;
 use words::wide;
+ghost use Prim.Native.Nat.{ℕ};
 ghost use mathlib.Core.Path.{_≡_};
 ghost use Rattle.fields.specs.Answers.{stepOf};
-ghost use Rattle.format.specs.Read.{ending, mapRead, repeat};
+ghost use Rattle.format.specs.Definition.{Definition};
+ghost use Rattle.format.specs.Read.{got, ending, mapRead, repeat};
 ghost use lib.ListN.{length};
 ghost use Rattle.format.specs.Reader.{variant, definitionBy};
+ghost use Rattle.format.specs.Writer.{writeDefinition};
 ghost use Rattle.units.specs.Answers.{runOf};
 ghost use Rattle.units.specs.Units.{remembered};
 ghost use Rattle.encoding.specs.Encoding.{fieldsIn};
@@ -96,5 +100,16 @@ pub fn read_definition(s: &[u8], cursor: Cursor, width: Width) -> Step
     match next_definition(s, cursor, width, &mut outs) {
         Run::Next(fields, next) => Step::Next(next),
         Run::Bad(refusal, place) => Step::Bad(refusal, place),
+    }
+}
+
+// How long the encoding of the definition that starts at a place is.
+pub fn encoded_size(s: &[u8], at: usize, width: Width) -> usize
+    ensures { λ r. ⌜ ((d : Definition) (end : ℕ) → definitionBy width (now (s .entry)) at ≡ got d end → r ≡ length (writeDefinition d)) ⌝ }
+{
+    let mut outs = [0; REMEMBERED];
+    match next_definition(s, Cursor { at: at }, width, &mut outs) {
+        Run::Next(fields, next) => encoded_length(s, at, next.at, width, fields),
+        Run::Bad(refusal, place) => place,
     }
 }

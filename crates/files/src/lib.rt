@@ -2,6 +2,7 @@
 mod definition;
 mod file;
 
+pub use definition::encoded_size;
 pub use definition::read_definition;
 pub use file::Checked;
 pub use file::check_file;

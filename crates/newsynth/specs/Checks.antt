@@ -19,7 +19,7 @@ use Rattle.model.specs.Layout.{slotCount, countIn, nextIn, lengthsIn, flagsIn, 
 use Rattle.model.specs.Engine.{decode, residentOf}
 use Rattle.model.specs.Meaning.{minusOne, isNegative}
 use Rattle.model.specs.Checks.{firstOf, treeChecks, noResident}
-use Rattle.preservation.specs.TreeKept.{slots-many}
+use Rattle.slots.specs.Slots.{slots-length}
 use Rattle.tree.specs.declared.action.Action.{Action}
 use Rattle.tree.specs.Action.{numberOf, number-most}
 use Rattle.tree.specs.Add.{Room}
@@ -50,7 +50,7 @@ Meant slot bytes ws bs = slot ≡ residentOf bytes (decode ws bs .slots)
 
 absent : (slot : ℕ) (bytes ws bs : List ℕ) → Meant slot bytes ws bs → noResident bytes (decode ws bs) ≡ leb slotCount slot
 unfolding decode
-absent slot bytes ws bs h = ap₂ leb (slots-many slotCount (lengthsIn ws) (flagsIn ws) bs) (sym h)
+absent slot bytes ws bs h = ap₂ leb (slots-length 0 slotCount (lengthsIn ws) (flagsIn ws) bs) (sym h)
 
 -- no check fires, and the target stands at its place, with room
 pub record Clear (number : ℕ) (action : Action) (target : NodeArgument) (slot : ℕ) (ws : List ℕ) (at : ℕ) : Type 0 where

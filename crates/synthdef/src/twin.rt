@@ -1,10 +1,10 @@
 // An accepted file's twin: the file of version 2 with the same definitions.
+use files::encoded_size;
 use files::width_of;
 use format::FILE_TYPE;
 use format::FILE_VERSION;
 use format::FIRST_PLACE;
 use format::FIRST_VERSION;
-use format::SIZE_LIMIT;
 use format::Width;
 use osc::put_byte;
 use osc::put_int;
@@ -14,13 +14,9 @@ ghost use Prim.Native.Nat.{_≤_};
 ghost use mathlib.Core.Path.{_≡_};
 ghost use lib.ListN.{length};
 ghost use Rattle.format.specs.declared.Width.the-variants.{Long};
-ghost use Rattle.format.specs.Definition.{Definition};
-ghost use Rattle.format.specs.Read.{got};
-ghost use Rattle.format.specs.Reader.{definitionBy};
-ghost use Rattle.format.specs.Writer.{versionOf, writeDefinition, writeHeader};
+ghost use Rattle.format.specs.Writer.{versionOf, writeHeader};
 ghost use Rattle.osc.specs.Over.{over};
 ghost use Rattle.synthdef.specs.Twin.{Accepted, twin};
-ghost use Rattle.synthdef.specs.Reading.{Fitting};
 
 // The version whose fields are so wide.
 pub(crate) fn version_of(width: Width) -> u32
@@ -30,15 +26,6 @@ pub(crate) fn version_of(width: Width) -> u32
         Width::Short => FIRST_VERSION,
         Width::Long => FILE_VERSION,
     }
-}
-
-// How long the version 2 encoding of a definition is that is no longer than the limit.
-fn encoded_size(file: &[u8], at: usize, end: usize, width: Width) -> usize
-    requires { ⌜ Fitting width (now file) at end ⌝ }
-    ensures { λ r. ⌜ ((d : Definition) → definitionBy width (now (file .entry)) at ≡ got d end → r ≡ length (writeDefinition d)) ⌝ }
-{
-    let mut room = [0u8; SIZE_LIMIT];
-    widen(&mut room, 0, file, at, end, width)
 }
 
 // How long the twin of an accepted file of so many definitions is.
@@ -52,7 +39,7 @@ pub(crate) fn twin_size(file: &[u8], count: u32) -> usize
     let mut i = 0;
     while i < count {
         let next = place_after(file, at);
-        size += encoded_size(file, at, next, width);
+        size += encoded_size(file, at, width);
         at = next;
         i += 1;
     }

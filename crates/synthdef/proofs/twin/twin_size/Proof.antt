@@ -22,23 +22,20 @@ place-after-requires : tie.Need-place-after-requires Inv-loop μ-loop
 place-after-requires c κs = tt
 
 encoded-size-requires : tie.Need-encoded-size-requires Inv-loop μ-loop
-encoded-size-requires c κs =
-    let x = reading-next (c .before .before .loop .inv) (c .before .loop-test .taken) in
-    let end = c .place-after .ensures ∙ after-here (c .before .before .before .before .before .args .file .now) (c .before .before .loop .at) (x .here .read) in
-    rw (c .before .before .before .width-of .ensures, end) (x .here)
+encoded-size-requires c κs = tt
 
 add-size : tie.Need-add-size Inv-loop μ-loop
 add-size c =
     let x = reading-next (c .before .before .before .loop .inv) (c .before .before .loop-test .taken) in
     let end = c .before .place-after .ensures ∙ after-here (c .before .before .before .before .before .before .args .file .now) (c .before .before .before .loop .at) (x .here .read) in
-    let size = c .encoded-size .ensures (x .here .definition) (rw (c .before .before .before .before .width-of .ensures, end) (x .here .read)) in
+    let size = c .encoded-size .ensures (x .here .definition) (x .next) (rw (c .before .before .before .before .width-of .ensures) (x .here .read)) in
     omega (arith, x .behind .few, size)
 
 loop-again : tie.Need-loop-again Inv-loop μ-loop
 loop-again c =
     let x = reading-next (c .before .before .before .loop .inv) (c .before .before .loop-test .taken) in
     let end = c .before .place-after .ensures ∙ after-here (c .before .before .before .before .before .before .args .file .now) (c .before .before .before .loop .at) (x .here .read) in
-    let size = c .encoded-size .ensures (x .here .definition) (rw (c .before .before .before .before .width-of .ensures, end) (x .here .read)) in
+    let size = c .encoded-size .ensures (x .here .definition) (x .next) (rw (c .before .before .before .before .width-of .ensures) (x .here .read)) in
     rw (size, end) (x .behind)
 
 returns : tie.Need-returns Inv-loop μ-loop
