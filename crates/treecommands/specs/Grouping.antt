@@ -15,7 +15,7 @@ use Rattle.nodes.specs.declared.Node.{Node}
 use Rattle.nodes.specs.Table.{rows}
 use Rattle.nodes.specs.Place.{lives, place}
 use Rattle.nodes.specs.Edit.{editRows, editAt, addBy}
-use Rattle.nodes.specs.Place as nodes
+use Rattle.nodes.specs.PlaceLaws as nodes
 use Rattle.nodes.specs.Formed.{mostNodes}
 use Rattle.treerefinement.specs.Tally.{Grown, addHead-grown, addTail-grown, addBefore-grown, addAfter-grown}
 use Rattle.treerefinement.specs.Keep.{grown-lives}
