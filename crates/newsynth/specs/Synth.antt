@@ -27,7 +27,7 @@ use Rattle.values.specs.declared.NodeArgument.{NodeArgument}
 use Rattle.model.specs.declared.TreeCommand.the-variants as tree
 use Rattle.model.specs.declared.Command.the-variants as command
 use Rattle.model.specs.declared.Answer.the-variants.{Done, Refused}
-use Rattle.model.specs.Layout.{slotCount, rowWords, wordsLength, lengthsPlace, nodesPlace, nodesWords, controlsPlace, controlsWords, countIn, nextIn, lengthsIn, nodesIn, controlsIn, putHeader, putControls, putIndex, putOrder, putNodes}
+use Rattle.model.specs.Layout.{slotCount, rowWords, wordsLength, lengthsPlace, nodesPlace, nodesWords, controlsPlace, controlsWords, countIn, nextIn, lengthsIn, nodesIn, controlsIn, putHeader, putControls, putIndex, putOrder, putNodes, slotIn}
 use Rattle.model.specs.Engine.{Engine, decode, definitionIn, noDefinition, valueOr, definitionOf, residentOf, slotAt}
 use Rattle.model.specs.Meaning.{meant, known}
 use Rattle.model.specs.Checks.{firstOf, treeChecks}
