@@ -29,7 +29,7 @@ use Rattle.state.specs.Known.{Known, known}
 use Rattle.slots.specs.Slots.{lengthsOn, flagsOn, slotsOn, slots-length, slots-lent}
 use Rattle.definitions.specs.Slots.{Formed}
 use Rattle.definitions.specs.Lent.{tableIn, formed-lent}
-use Rattle.definitions.specs.Exported.{AllFine, formed-fine, residents-file, export-read, fresh-residents, fresh-export, meaningOf, meaning-residents}
+use Rattle.definitions.specs.Exported.{AllBounded, formed-fine, residents-file, export-read, fresh-residents, fresh-export, meaningOf, meaning-residents}
 use Rattle.demands.specs.FreshLoad.{fresh-many, fresh-out, fresh-idle, fresh-staying}
 use Rattle.demands.specs.Loaded.{freshLoaded, fresh-after}
 
@@ -85,7 +85,7 @@ module _ (ws bs : List ℕ) (b : AreBytes bs) (h : formed ws bs ≡ true) where
   same : slotsOn (tableIn ws) bs ≡ decode ws bs .slots
   same = slots-lent ws bs
 
-  fine : AllFine (decode ws bs .slots)
+  fine : AllBounded (decode ws bs .slots)
   fine = rw same at (formed-fine (tableIn ws) bs b well)
 
   many : length (decode ws bs .slots) ≡ slotCount
