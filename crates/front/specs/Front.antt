@@ -37,16 +37,21 @@ countedFloats w most s at =
     andThen (ending (repeat (float32 s) k p)) (λ t end.
     got (record { count = k; at = p }) end))
 
+-- from its count of parameters up to its first parameter name, behind a name that ends at a place and so many constants
+abbrev pub countsFromValues : Width → List ℕ → ℕ → ℕ → ℕ → Read Counts
+countsFromValues w s past constants at =
+    andThen (countedFloats w mostParameters s at) (λ v p3.
+    andThen (countBy w s p3) (λ many p4.
+    got (record { past = past; constants = constants; values = v .at; parameters = v .count; first = p4; names = many }) p4))
+
 -- the front up to its first parameter name
 abbrev pub readCounts : Width → List ℕ → ℕ → Read Counts
 readCounts w s at =
     andThen (definitionName s at) (λ n p1.
     andThen (countedFloats w highest32 s p1) (λ k p2.
-    andThen (countedFloats w mostParameters s p2) (λ v p3.
-    andThen (countBy w s p3) (λ many p4.
-    got (record { past = p1; constants = k .count; values = v .at; parameters = v .count; first = p4; names = many }) p4))))
+    countsFromValues w s p1 (k .count) p2))
 
--- and its parameter names, of which only the end is countsOf
+-- and its parameter names, of which only the end is kept
 abbrev pub readNames : Width → List ℕ → Counts → ℕ → Read Counts
 readNames w s c at = andThen (ending (repeat (parameterNameBy w (c .parameters) s) (c .names) at)) (λ t end. got c end)
 
@@ -60,7 +65,7 @@ valuesAt w at f = nameEnd at f + sizeOf w + 4 * length (f .constants) + sizeOf w
 abbrev pub namesAt : Width → ℕ → Front → ℕ
 namesAt w at f = valuesAt w at f + 4 * length (f .values) + sizeOf w
 
--- what is countsOf of a front: its counts and places
+-- what is kept of a front: its counts and places
 abbrev pub countsOf : Width → ℕ → Front → Counts
 countsOf w at f = record {
   past = nameEnd at f;

@@ -10,7 +10,7 @@ use format::Width;
 use words::wide;
 ghost use mathlib.Core.Path.{_≡_};
 ghost use Rattle.fields.specs.Answers.{stepOf};
-ghost use Rattle.front.specs.Front.{entryOf, floatsOf, countedFloats, frontOf, readCounts, countsOf};
+ghost use Rattle.front.specs.Front.{entryOf, floatsOf, countedFloats, frontOf, countsFromValues, readCounts, countsOf};
 ghost use Rattle.format.specs.Read.{mapRead, repeat, ending};
 ghost use Rattle.format.specs.Fields.{float32};
 ghost use Rattle.format.specs.Reader.{parameterNameBy, frontBy};
@@ -132,40 +132,48 @@ pub fn counted_floats(s: &[u8], cursor: Cursor, width: Width, most: u32) -> Floa
     }
 }
 
+// The front from its count of parameters up to its first parameter name, behind a name that ends at a place and so many constants.
+fn counts_from_values(
+    s: &[u8],
+    cursor: Cursor,
+    width: Width,
+    past: usize,
+    constants: u32,
+) -> FrontRead
+    ensures { λ r. ⌜ frontOf r ≡ countsFromValues width (now (s .entry)) past constants (cursor .at) ⌝ }
+{
+    match counted_floats(s, cursor, width, MOST_PARAMETERS) {
+        FloatsRead::Value(values, before_names) => {
+            match before_names.count_to(s, width, HIGHEST) {
+                Number::Value(names, first) => {
+                    let counts = Counts {
+                        past: past,
+                        constants: constants,
+                        values: values.at,
+                        parameters: values.count,
+                        first: first.at,
+                        names: names,
+                    };
+                    FrontRead::Value(counts, first)
+                }
+                Number::Bad(refusal, place) => FrontRead::Bad(refusal, place),
+            }
+        }
+        FloatsRead::Bad(refusal, place) => FrontRead::Bad(refusal, place),
+    }
+}
+
 // The front up to its first parameter name.
 pub fn read_counts(s: &[u8], cursor: Cursor, width: Width) -> FrontRead
     ensures { λ r. ⌜ frontOf r ≡ readCounts width (now (s .entry)) (cursor .at) ⌝ }
 {
     match cursor.definition_name(s) {
-        Text::Value(start, named) => {
-            let past = named.at;
-            match counted_floats(s, named, width, HIGHEST) {
-                FloatsRead::Value(constants, before_values) => {
-                    match counted_floats(s, before_values, width, MOST_PARAMETERS) {
-                        FloatsRead::Value(values, before_names) => {
-                            match before_names.count_to(s, width, HIGHEST) {
-                                Number::Value(names, first) => {
-                                    FrontRead::Value(
-                                        Counts {
-                                            past: past,
-                                            constants: constants.count,
-                                            values: values.at,
-                                            parameters: values.count,
-                                            first: first.at,
-                                            names: names,
-                                        },
-                                        first,
-                                    )
-                                }
-                                Number::Bad(refusal, place) => FrontRead::Bad(refusal, place),
-                            }
-                        }
-                        FloatsRead::Bad(refusal, place) => FrontRead::Bad(refusal, place),
-                    }
-                }
-                FloatsRead::Bad(refusal, place) => FrontRead::Bad(refusal, place),
+        Text::Value(start, named) => match counted_floats(s, named, width, HIGHEST) {
+            FloatsRead::Value(constants, before_values) => {
+                counts_from_values(s, before_values, width, named.at, constants.count)
             }
-        }
+            FloatsRead::Bad(refusal, place) => FrontRead::Bad(refusal, place),
+        },
         Text::Bad(refusal, place) => FrontRead::Bad(refusal, place),
     }
 }
