@@ -25,6 +25,7 @@ ghost use Rattle.format.specs.Writer.{writeDefinition};
 ghost use Rattle.units.specs.Answers.{runOf};
 ghost use Rattle.units.specs.Units.{remembered};
 ghost use Rattle.encoding.specs.Encoding.{fieldsIn};
+ghost use Rattle.files.specs.Skips.{countedUnits, countedVariants};
 
 // One variant, in a definition of so many parameters.
 pub fn read_variant(s: &[u8], cursor: Cursor, parameters: u32) -> Step
@@ -56,6 +57,33 @@ pub fn read_variants(s: &[u8], cursor: Cursor, parameters: u32, count: u32) -> S
     Step::Next(Cursor { at: at })
 }
 
+// A count of units and as many units: how many counts and indices these have, and the next cursor.
+fn counted_units(
+    s: &[u8],
+    cursor: Cursor,
+    width: Width,
+    constants: u32,
+    outs: &mut [u32; REMEMBERED],
+) -> Run
+    requires { ⌜ length (now outs) ≡ remembered ⌝ }
+    ensures { λ r. ⌜ (runOf r ≡ countedUnits width constants (now (s .entry)) (cursor .at)) × (length (now (outs .exit)) ≡ remembered) ⌝ }
+{
+    match cursor.count_to(s, width, HIGHEST) {
+        Number::Value(units, first) => read_units(s, first, width, constants, units, outs),
+        Number::Bad(refusal, place) => Run::Bad(refusal, place),
+    }
+}
+
+// A count of variants and as many variants.
+fn counted_variants(s: &[u8], cursor: Cursor, parameters: u32) -> Step
+    ensures { λ r. ⌜ stepOf r ≡ countedVariants parameters (now (s .entry)) (cursor .at) ⌝ }
+{
+    match cursor.short_count_to(s, HIGHEST_SHORT) {
+        Number::Value(variants, first) => read_variants(s, first, parameters, variants),
+        Number::Bad(refusal, place) => Step::Bad(refusal, place),
+    }
+}
+
 // The next definition: how many counts and indices it has, and the next cursor. What the lent ring holds before and after it says
 // nothing.
 pub(crate) fn next_definition(
@@ -68,25 +96,15 @@ pub(crate) fn next_definition(
     ensures { λ r. ⌜ (runOf r ≡ mapRead fieldsIn (definitionBy width (now (s .entry)) (cursor .at))) × (length (now (outs .exit)) ≡ remembered) ⌝ }
 {
     match read_front(s, cursor, width) {
-        FrontRead::Value(counts, p1) => match p1.count_to(s, width, HIGHEST) {
-            Number::Value(units, p2) => {
-                match read_units(s, p2, width, counts.constants, units, outs) {
-                    Run::Next(fields, p3) => match p3.short_count_to(s, HIGHEST_SHORT) {
-                        Number::Value(variants, p4) => {
-                            match read_variants(s, p4, counts.parameters, variants) {
-                                Step::Next(next) => {
-                                    let names = counts.names;
-                                    Run::Next(4 + wide(names) + fields, next)
-                                }
-                                Step::Bad(refusal, place) => Run::Bad(refusal, place),
-                            }
-                        }
-                        Number::Bad(refusal, place) => Run::Bad(refusal, place),
-                    },
-                    Run::Bad(refusal, place) => Run::Bad(refusal, place),
+        FrontRead::Value(counts, p1) => match counted_units(s, p1, width, counts.constants, outs) {
+            Run::Next(fields, p2) => match counted_variants(s, p2, counts.parameters) {
+                Step::Next(next) => {
+                    let names = counts.names;
+                    Run::Next(4 + wide(names) + fields, next)
                 }
-            }
-            Number::Bad(refusal, place) => Run::Bad(refusal, place),
+                Step::Bad(refusal, place) => Run::Bad(refusal, place),
+            },
+            Run::Bad(refusal, place) => Run::Bad(refusal, place),
         },
         FrontRead::Bad(refusal, place) => Run::Bad(refusal, place),
     }
