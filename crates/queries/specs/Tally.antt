@@ -17,7 +17,7 @@ use Rattle.nodes.specs.declared.Node.{Node}
 use Rattle.nodes.specs.TableLaws.{row-from, rows-end, rows-length}
 use Rattle.nodes.specs.Place.{groupSlot, isGroup}
 use Rattle.nodes.specs.Formed.{mostNodes}
-use Rattle.model.specs.Layout.{slotCount, countIn, nodesIn, nodesPlace, nodesWords, controlsIn}
+use Rattle.model.specs.Layout.{slotCount, countIn, nodesIn, nodesPlace, nodesWords, controlsIn, wordsLength}
 use Rattle.model.specs.Engine.{Slot, decode}
 use Rattle.model.specs.View.{kindIn, viewRows, isGroupKind}
 use Rattle.model.specs.Replies.{unitsOf, unitCount, groupCount}
@@ -43,11 +43,12 @@ Tallies ws a b c d = (k : ℕ) → k < slotWords → getD a k 0 + getD b k 0 + g
 
 -- a table whose slots' words are slots, or say that it is a group
 pub record Slotted (ws : List ℕ) : Type 0 where
+  pub size : length ws ≡ wordsLength
   pub few : countIn ws ≤ mostNodes
   pub low : (i : ℕ) → i < countIn ws → nodeIn ws i .slot < slotWords
 
 pub slotted : (ws bs : List ℕ) → Known ws bs → Slotted ws
-slotted ws bs k = record { few = k .few; low = λ i h. by i h (isGroup (nodeIn ws i)) refl }
+slotted ws bs k = record { size = k .size; few = k .few; low = λ i h. by i h (isGroup (nodeIn ws i)) refl }
   where
     by : (i : ℕ) → i < countIn ws → (b : Bool) → isGroup (nodeIn ws i) ≡ b → nodeIn ws i .slot < slotWords
     by i h true e = omega (arith, eqb-true (nodeIn ws i .slot) groupSlot e)
@@ -117,6 +118,17 @@ pub tallied-few : (ws : List ℕ) (from i : ℕ) → Slotted ws → (counts : Li
 tallied-few ws from i s counts t k h =
     omega
     (arith, t .same k h, tally-list k (drop from (nodesIn ws)), length-drop from (nodesIn ws), rows-length (countIn ws) (region nodesPlace nodesWords ws), s .few)
+
+-- of each of four parts side by side i were counted
+pub record PartsTallied (ws : List ℕ) (part i : ℕ) (a b c d : List ℕ) : Type 0 where
+  pub first : Tallied ws 0 i a
+  pub second : Tallied ws part i b
+  pub third : Tallied ws (2 * part) i c
+  pub fourth : Tallied ws (3 * part) i d
+
+pub parts-none : (ws : List ℕ) (part : ℕ) → PartsTallied ws part 0 (replicate slotWords 0) (replicate slotWords 0) (replicate slotWords 0) (replicate slotWords 0)
+parts-none ws part =
+    record { first = tallied-none ws 0; second = tallied-none ws part; third = tallied-none ws (2 * part); fourth = tallied-none ws (3 * part) }
 
 -- four parts side by side, of which the last goes on to the end
 pub tallied-all : (ws : List ℕ) (part i : ℕ) (a b c d : List ℕ)
