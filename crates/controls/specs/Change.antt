@@ -7,7 +7,7 @@ use native.Mathlib.Nat.{add-zero}
 use native.Mathlib.Numerals.{add-one}
 use lib.ListN.{length, take, drop, getD, length-append, length-take, length-drop, take-append-drop, set}
 use lib.Seq.{sets-eq, set-getD, take-at, drop-at, drop-drop, getD-drop}
-use Rattle.nodes.specs.Table.{over}
+use Rattle.words.specs.Parts.{over}
 use Rattle.values.specs.Controls.{ControlValue, controlAt, setTo, mapTo}
 use Rattle.model.specs.Effects.{controlWords, changeWords}
 use Rattle.controls.specs.declared.control.Change.{Change}

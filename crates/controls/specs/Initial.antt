@@ -19,7 +19,7 @@ use Rattle.format.specs.Definition.{Front}
 use Rattle.format.specs.Reader.{readFront}
 use Rattle.front.specs.Front.{valuesAt}
 use Rattle.front.specs.FrontLaws.{front-got}
-use Rattle.nodes.specs.Table.{over}
+use Rattle.words.specs.Parts.{over}
 use Rattle.model.specs.Engine.{valueOr}
 use Rattle.model.specs.Effects.{initialWords}
 use Rattle.controls.specs.Encoded.{noFront, frontIn}

@@ -6,7 +6,7 @@ use words::wide;
 ghost use Prim.Native.Nat.{_+_, _*_, _≤_};
 ghost use mathlib.Core.Path.{_≡_};
 ghost use lib.ListN.{length, getD};
-ghost use Rattle.nodes.specs.Table.{over};
+ghost use Rattle.words.specs.Parts.{over};
 ghost use Rattle.values.specs.Controls.{controlAt};
 ghost use Rattle.model.specs.Layout.{rowWords};
 ghost use Rattle.model.specs.Effects.{controlWords, changeRow};

@@ -10,7 +10,7 @@ ghost use Prim.Native.Nat.{_+_, _-_, _*_, _≤_};
 ghost use mathlib.Core.Option.{some};
 ghost use mathlib.Core.Path.{_≡_};
 ghost use lib.ListN.{length};
-ghost use Rattle.nodes.specs.Table.{over};
+ghost use Rattle.words.specs.Parts.{over};
 ghost use Rattle.format.specs.Fields.{float32};
 ghost use Rattle.readable.specs.Readable.{Readable};
 ghost use Rattle.model.specs.Layout.{rowWords};

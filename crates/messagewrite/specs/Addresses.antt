@@ -12,7 +12,8 @@ use Rattle.words.specs.Choice.{pick}
 use Rattle.words.specs.Bytes.{bytes32}
 use Rattle.format.specs.Fields.{word}
 use Rattle.osc.specs.Message.{padded}
-use Rattle.osc.specs.Over.{over, over-over}
+use Rattle.words.specs.Parts.{over}
+use Rattle.osc.specs.Over.{over-over}
 use Rattle.messages.specs.Table.{Row, table}
 use Rattle.messages.specs.Write.{rowFrom}
 use Rattle.messages.specs.Rows.{addressIn, addressOf}

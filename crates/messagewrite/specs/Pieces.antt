@@ -6,7 +6,8 @@ use mathlib.Core.List.{List, _++_, append-assoc}
 use native.Mathlib.Omega.{arith}
 use lib.ListN.{length, length-append}
 use Rattle.format.specs.Fields.{highest32}
-use Rattle.osc.specs.Over.{over, over-over}
+use Rattle.words.specs.Parts.{over}
+use Rattle.osc.specs.Over.{over-over}
 use Rattle.messages.specs.Write.{anyUnfit}
 use Rattle.messages.specs.Rows.{slotsOf, addressOf}
 use Rattle.messagewrite.specs.Codes.{sizeBy, unfitBy}

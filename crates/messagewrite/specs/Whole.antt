@@ -12,7 +12,8 @@ use Rattle.words.specs.Choice.{pick}
 use Rattle.words.specs.Bytes.{AreBytes}
 use Rattle.refusals.specs.declared.Refusal.the-variants.{NoRoom, Malformed, UnknownMessage}
 use Rattle.osc.specs.Message.{message, arguments}
-use Rattle.osc.specs.Over.{over, over-first}
+use Rattle.words.specs.Parts.{over}
+use Rattle.osc.specs.Over.{over-first}
 use Rattle.osc.specs.Lengths.{frontSize, message-size}
 use Rattle.model.specs.declared.Answer.{Answer}
 use Rattle.model.specs.declared.Answer.the-variants.{Replied, Refused}

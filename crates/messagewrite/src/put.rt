@@ -16,7 +16,7 @@ ghost use Prim.Native.Nat.{ℕ};
 ghost use mathlib.Core.List.{List, _∷_};
 ghost use mathlib.Core.Path.{_≡_};
 ghost use Rattle.osc.specs.Message.{padded, tags, arguments, message};
-ghost use Rattle.osc.specs.Over.{over};
+ghost use Rattle.words.specs.Parts.{over};
 ghost use Rattle.messages.specs.Rows.{slotsOf, addressOf};
 ghost use Rattle.messages.specs.Table.{giveAll};
 ghost use Rattle.messagewrite.specs.Codes.{given};

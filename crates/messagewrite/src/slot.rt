@@ -9,7 +9,7 @@ ghost use Prim.Native.Nat.{ℕ};
 ghost use mathlib.Core.List.{List};
 ghost use mathlib.Core.Path.{_≡_};
 ghost use Rattle.osc.specs.Message.{tagOf, argumentBytes, paddedBlob};
-ghost use Rattle.osc.specs.Over.{over};
+ghost use Rattle.words.specs.Parts.{over};
 ghost use Rattle.messagewrite.specs.Codes.{numberBy, isFloat, argumentBy, sizeBy, unfitBy, given, fitting};
 ghost use Rattle.messagewrite.specs.Pieces.{BlobRoom, ArgumentRoom};
 

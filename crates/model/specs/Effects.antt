@@ -6,13 +6,12 @@ use mathlib.Core.Option.{Option, none, some}
 use lib.ListN.{take, drop, getD, set, replicate}
 use lib.Dec.{eqb}
 use Rattle.words.specs.Choice.{pick, both}
-use Rattle.words.specs.Parts.{put}
+use Rattle.words.specs.Parts.{put, over}
 use Rattle.format.specs.Definition.{Definition}
 use Rattle.format.specs.Names.{Covered}
 use Rattle.format.specs.Reader.{readFile, among}
 use Rattle.format.specs.Writer.{writeDefinition}
 use Rattle.nodes.specs.declared.Node.{Node}
-use Rattle.nodes.specs.Table.{over}
 use Rattle.nodes.specs.Place.{groupSlot, isGroup, lives}
 use Rattle.nodes.specs.Edit.{runOf, cut, cutBelow, deepFree, setRun, addBy, moveBefore, moveAfter, moveHead, moveTail}
 use Rattle.nodes.specs.Order.{order}

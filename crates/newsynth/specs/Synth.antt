@@ -8,7 +8,7 @@ use lib.ListN.{length, getD, length-take}
 use lib.Dec.{leb}
 use borrow.Author.Tests.{lt-ltb, leb-true}
 use Rattle.words.specs.ChoiceLaws.{both-true}
-use Rattle.words.specs.Parts.{region, put}
+use Rattle.words.specs.Parts.{region, put, over}
 use Rattle.words.specs.PartsLaws.{region-length, put-put}
 use Rattle.refusals.specs.declared.Refusal.{Refusal}
 use Rattle.refusals.specs.declared.Refusal.the-variants.{BadFlag}
@@ -16,7 +16,7 @@ use Rattle.format.specs.Read.{Read}
 use Rattle.format.specs.Definition.{Front, Definition}
 use Rattle.readable.specs.Readable.{Readable, whole-readable}
 use Rattle.nodes.specs.declared.Node.{Node}
-use Rattle.nodes.specs.Table.{rows, over}
+use Rattle.nodes.specs.Table.{rows}
 use Rattle.nodes.specs.Place.{lives}
 use Rattle.nodes.specs.Edit.{editAt, addBy}
 use Rattle.nodes.specs.Split.{edit-first}

@@ -3,6 +3,7 @@ use Prim.Native.Nat.{ℕ, zero, suc, _+_, _*_}
 use mathlib.Core.List.{List, [], _∷_, _++_}
 use lib.ListN.{length, take, drop, getD}
 use Rattle.nodes.specs.declared.Node.{Node}
+use Rattle.words.specs.Parts.{over}
 
 -- the words of a record; its number is the first, and the other fields stand so far behind it
 abbrev pub width : ℕ
@@ -45,10 +46,6 @@ wordsOf r = r .number ∷ (r .depth ∷ (r .run ∷ (r .slot ∷ (r .row ∷ [])
 unfoldable pub encode : List Node → List ℕ
 encode [] = []
 encode (r ∷ l) = wordsOf r ++ encode l
-
--- words over a run, from a place on
-abbrev pub over : ℕ → List ℕ → List ℕ → List ℕ
-over at vs us = take at us ++ vs ++ drop (at + length vs) us
 
 -- records over a run: what is past them stays
 abbrev pub fill : List ℕ → List Node → List ℕ

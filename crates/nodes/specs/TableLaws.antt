@@ -7,7 +7,8 @@ use native.Mathlib.Nat.{sub-zero, add-zero}
 use lib.ListN.{length, take, drop, length-append, length-take, length-drop, drop-of-length-le}
 use lib.Seq.{drop-drop, getD-drop, drop-at, length-take-le, take-take, take-append-le, paste}
 use Rattle.nodes.specs.declared.Node.{Node}
-use Rattle.nodes.specs.Table.{width, nodeFrom, nodeAt, rows, wordsOf, encode, over, fill}
+use Rattle.words.specs.Parts.{over}
+use Rattle.nodes.specs.Table.{width, nodeFrom, nodeAt, rows, wordsOf, encode, fill}
 
 pub rows-length : (n : ℕ) (us : List ℕ) → length (rows n us) ≡ n
 unfolding rows

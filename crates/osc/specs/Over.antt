@@ -7,9 +7,7 @@ use lib.ListN.{length, take, drop, set, length-append, length-take, length-drop}
 use lib.Seq.{take-at, drop-at, drop-drop, length-take-le, sets-eq}
 use borrow.Author.Tests.{lt-ltb, le-ltb}
 use Rattle.osc.specs.Message.{decimal}
-
-abbrev pub over : ℕ → List ℕ → List ℕ → List ℕ
-over at vs us = take at us ++ vs ++ drop (at + length vs) us
+use Rattle.words.specs.Parts.{over}
 
 pub over-length : (at : ℕ) (vs us : List ℕ) → at + length vs ≤ length us → length (over at vs us) ≡ length us
 over-length at vs us h = simp (length-append, length-take, length-drop) (omega arith)

@@ -10,7 +10,8 @@ use lib.ListN.{length, take, drop, getD, replicate, getD-replicate, List·getD-a
 use lib.Seq.{take-add, take-length, length-take-le, drop-cons, getD-append-add}
 use Rattle.osc.specs.Message.{padded}
 use Rattle.osc.specs.Lengths.{padded-size}
-use Rattle.osc.specs.Over.{over, over-over}
+use Rattle.words.specs.Parts.{over}
+use Rattle.osc.specs.Over.{over-over}
 
 -- its bytes are the string's, and zeros behind
 padded-byte : (s : List ℕ) (k : ℕ) → k < length (padded s) → getD (padded s) k 0 ≡ getD s k 0

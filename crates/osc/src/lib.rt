@@ -5,7 +5,8 @@ ghost use mathlib.Core.List.{[], _∷_};
 ghost use lib.ListN.{length, getD, replicate};
 ghost use Rattle.words.specs.Bytes.{bytes32};
 ghost use Rattle.osc.specs.Message.{padded, decimal};
-ghost use Rattle.osc.specs.Over.{over, Decimal};
+ghost use Rattle.words.specs.Parts.{over};
+ghost use Rattle.osc.specs.Over.{Decimal};
 
 // One byte at a place.
 pub fn put_byte(out: &mut [u8], at: usize, byte: u8)

@@ -10,10 +10,9 @@ use lib.Dec.{ltb, leb, eqb}
 use borrow.Author.Tests.{ltb-true, ltb-false, eqb-false}
 use Rattle.words.specs.Choice.{pick, both}
 use Rattle.words.specs.ChoiceLaws.{both-true, either-false}
-use Rattle.words.specs.Parts.{region, put}
+use Rattle.words.specs.Parts.{region, put, over}
 use Rattle.format.specs.Bounds.{every}
 use Rattle.nodes.specs.declared.Node.{Node}
-use Rattle.nodes.specs.Table.{over}
 use Rattle.nodes.specs.Place.{groupSlot, isGroup}
 use Rattle.nodes.specs.Formed.{mostRows, numberFormed, rowFormed, fieldsFormed, allFormed, rowTaken}
 use Rattle.treerefinement.specs.Tally.{Grown}
@@ -24,6 +23,7 @@ use Rattle.model.specs.Effects.{initialWords}
 use Rattle.state.specs.Regions.{region-before, region-past, put-size}
 use Rattle.preservation.specs.Parameters.{few-parameters}
 use Rattle.preservation.specs.Every.{Fewer, every-fewer, every-grown}
+use Rattle.words.specs.PartsLaws.{over-put}
 
 -- what is asked of one node's controls
 abbrev pub mapped : List Slot → List ℕ → Node → Bool
@@ -65,9 +65,6 @@ initial-length : (vs : List ℕ) → length (initialWords vs) ≡ length vs + le
 unfolding initialWords
 initial-length [] = refl
 initial-length (v ∷ vs) = omega (arith, initial-length vs)
-
-pub over-put : (at : ℕ) (vs us : List ℕ) → over at vs us ≡ put at (length vs) vs us
-over-put at vs us = append-assoc (take at us) vs (drop (at + length vs) us) ∙ ap (λ (l : List ℕ). take at us ++ (vs ++ l)) (sym (drop-drop (length vs) at us))
 
 -- the values of a definition put in over a row
 module _ (slots : List Slot) (controls : List ℕ) (size : length controls ≡ controlsWords) (slot row : ℕ) (low : row < mostRows) where

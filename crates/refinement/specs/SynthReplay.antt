@@ -20,11 +20,12 @@ use Rattle.nodes.specs.Forest as forest
 use Rattle.nodes.specs.Formed.{mostRows, numberFormed, rowFormed, fieldsFormed, allFormed, rowTaken, freeRow}
 use Rattle.treerefinement.specs.Flatten.{key, lives-has}
 use Rattle.treerefinement.specs.MapForest.{Each, map-each}
-use Rattle.nodes.specs.Table.{over}
+use Rattle.words.specs.Parts.{over}
 use Rattle.nodes.specs.Edit.{level, addBy}
 use Rattle.treerefinement.specs.Tally.{one, tally, IgnoresDepth, tally-append, Grown}
 use Rattle.preservation.specs.Parameters.{few-parameters}
-use Rattle.preservation.specs.ControlRows.{other-row, over-put}
+use Rattle.words.specs.PartsLaws.{over-put}
+use Rattle.preservation.specs.ControlRows.{other-row}
 use Rattle.values.specs.Controls.{ControlValue, controlAt}
 use Rattle.model.specs.Layout.{rowWords, controlsWords}
 use Rattle.model.specs.Engine.{Engine, definitionIn, slotAt, definitionOf, controlsFrom, controlsOf}

@@ -8,7 +8,8 @@ use borrow.Author.Tests.{lt-ltb, le-ltb}
 use Rattle.refusals.specs.declared.Refusal.the-variants.{NoRoom}
 use Rattle.words.specs.Bytes.{bytes32}
 use Rattle.osc.specs.Message.{padded}
-use Rattle.osc.specs.Over.{over, over-first}
+use Rattle.words.specs.Parts.{over}
+use Rattle.osc.specs.Over.{over-first}
 use Rattle.model.specs.declared.Answer.{Answer}
 use Rattle.model.specs.declared.Answer.the-variants.{Replied, Refused}
 use Rattle.model.specs.Checks.{firstOf, roomCheck}

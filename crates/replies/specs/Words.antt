@@ -6,7 +6,8 @@ use native.Mathlib.Omega.{arith}
 use lib.ListN.{length, take, drop, getD, length-append, take-append-drop}
 use lib.Seq.{take-suc, length-take-le}
 use Rattle.words.specs.Bytes.{bytes32}
-use Rattle.osc.specs.Over.{over, over-over}
+use Rattle.words.specs.Parts.{over}
+use Rattle.osc.specs.Over.{over-over}
 
 -- nothing written
 pub over-none : (at : ℕ) (us : List ℕ) → over at [] us ≡ us

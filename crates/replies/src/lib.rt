@@ -7,7 +7,7 @@ use refusals::Refusal;
 ghost use Prim.Native.Nat.{_+_, _*_, _≤_};
 ghost use mathlib.Core.Path.{_≡_};
 ghost use lib.ListN.{length};
-ghost use Rattle.osc.specs.Over.{over};
+ghost use Rattle.words.specs.Parts.{over};
 ghost use Rattle.replies.specs.Words.{wordBytes};
 ghost use Rattle.replies.specs.Sent.{Sends, Short, Roomy, wordMessage, namedMessage};
 

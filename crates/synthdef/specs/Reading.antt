@@ -19,7 +19,8 @@ use Rattle.format.specs.HeaderLaws.{header-got}
 use Rattle.format.specs.Reader.{versionIn, fileWidth, sizeLimit, among, fits, isVersion, widthOf, definitionBy, readDefinitions, readHeader, readFile}
 use Rattle.format.specs.RepeatLaws.{went-on, got-value, got-place}
 use Rattle.format.specs.Writer.{firstVersion, fileVersion, versionOf, writeAll, writeDefinition, writeHeader, writeFile}
-use Rattle.osc.specs.Over.{over, over-over, over-length, over-first}
+use Rattle.words.specs.Parts.{over}
+use Rattle.osc.specs.Over.{over-over, over-length, over-first}
 use Rattle.files.specs.declared.file.Checked.the-variants as check
 use Rattle.files.specs.File.{firstPlace, verdict}
 use Rattle.widening.specs.Moved.{over-none}

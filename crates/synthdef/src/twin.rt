@@ -15,7 +15,7 @@ ghost use mathlib.Core.Path.{_≡_};
 ghost use lib.ListN.{length};
 ghost use Rattle.format.specs.declared.Width.the-variants.{Long};
 ghost use Rattle.format.specs.Writer.{versionOf, writeHeader};
-ghost use Rattle.osc.specs.Over.{over};
+ghost use Rattle.words.specs.Parts.{over};
 ghost use Rattle.synthdef.specs.Twin.{Accepted, twin};
 
 // The version whose fields are so wide.

@@ -6,7 +6,8 @@ use native.Mathlib.Omega.{arith}
 use lib.ListN.{length, take, drop, length-append, length-take, length-drop}
 use lib.Seq.{drop-at, length-take-le, take-take, take-append-le}
 use Rattle.nodes.specs.declared.Node.{Node}
-use Rattle.nodes.specs.Table.{width, rows, wordsOf, over, fill}
+use Rattle.words.specs.Parts.{over}
+use Rattle.nodes.specs.Table.{width, rows, wordsOf, fill}
 use Rattle.nodes.specs.TableLaws.{fill-length, rows-length}
 use Rattle.nodes.specs.PlaceLaws.{end-most}
 use Rattle.nodes.specs.Sizes.{depthAt, endAt}

@@ -6,7 +6,8 @@ use native.Mathlib.Omega.{arith}
 use native.Mathlib.Nat.{add-zero}
 use lib.ListN.{length, take, drop, length-append, length-take, length-drop, take-append-drop}
 use lib.Seq.{drop-drop, drop-at, take-at}
-use Rattle.nodes.specs.Table.{width, rows, over}
+use Rattle.words.specs.Parts.{over}
+use Rattle.nodes.specs.Table.{width, rows}
 use Rattle.nodes.specs.TableLaws.{rows-drop}
 
 module _ (at : ℕ) (vs us : List ℕ) (long : at + length vs ≤ length us) where

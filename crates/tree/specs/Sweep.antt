@@ -10,7 +10,8 @@ use lib.Dec.{ltb}
 use borrow.Author.Tests.{lt-ltb, le-ltb, ltb-true, eq-eqb, ne-eqb}
 use Rattle.words.specs.Choice.{pick}
 use Rattle.nodes.specs.declared.Node.{Node}
-use Rattle.nodes.specs.Table.{width, nodeFrom, wordsOf, rows, encode, over, depthField, slotField}
+use Rattle.words.specs.Parts.{over}
+use Rattle.nodes.specs.Table.{width, nodeFrom, wordsOf, rows, encode, depthField, slotField}
 use Rattle.nodes.specs.TableLaws.{row-from, rows-end, encode-length, encode-append}
 use Rattle.nodes.specs.Place.{isGroup, deeper}
 use Rattle.nodes.specs.PlaceLaws.{deeper-turn, deeper-end, nested, end-most}

@@ -6,7 +6,8 @@ use native.Mathlib.Omega.{arith}
 use lib.ListN.{length, take, drop, take-append-drop, length-append, length-take, length-drop}
 use lib.Seq.{take-at, drop-at, drop-drop, drop-append-add, length-take-le}
 use Rattle.nodes.specs.declared.Node.{Node}
-use Rattle.nodes.specs.Table.{width, rows, wordsOf, encode, over, fill}
+use Rattle.words.specs.Parts.{over}
+use Rattle.nodes.specs.Table.{width, rows, wordsOf, encode, fill}
 use Rattle.nodes.specs.TableLaws.{rows-length, rows-fill, encode-rows, encode-length, encode-append}
 use Rattle.nodes.specs.Edit.{setRunHere, editAt}
 use Rattle.nodes.specs.Split.{setRun-at}

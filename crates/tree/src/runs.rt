@@ -9,7 +9,8 @@ ghost use mathlib.Core.Path.{_≡_};
 ghost use Prim.Native.Nat.{_+_, _-_, _*_, _≤_, _<_};
 ghost use lib.ListN.{length, drop};
 ghost use lib.Seq.{paste};
-ghost use Rattle.nodes.specs.Table.{width, nodeFrom, wordsOf, over};
+ghost use Rattle.words.specs.Parts.{over};
+ghost use Rattle.nodes.specs.Table.{width, nodeFrom, wordsOf};
 
 // The record at a place.
 pub fn node_at(nodes: &[u32], at: usize) -> Node

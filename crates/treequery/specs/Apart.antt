@@ -5,9 +5,9 @@ use mathlib.Core.List.{List, _++_, append-assoc}
 use native.Mathlib.Omega.{arith}
 use lib.ListN.{length, take, drop, length-append, take-append-drop}
 use lib.Seq.{drop-at, take-add, take-append-le, drop-append-le, take-take, length-take-le}
-use Rattle.words.specs.Parts.{region}
+use Rattle.words.specs.Parts.{region, over}
 use Rattle.words.specs.PartsLaws.{region-length}
-use Rattle.osc.specs.Over.{over, over-over}
+use Rattle.osc.specs.Over.{over-over}
 
 -- a piece before another is one piece
 pub over-before : (at next : ℕ) (a b us : List ℕ) → next ≡ at + length a → next + length b ≤ length us → over at a (over next b us) ≡ over at (a ++ b) us

@@ -7,9 +7,9 @@ use native.Mathlib.Omega.{arith}
 use lib.ListN.{length, replicate, length-take, length-drop, length-replicate}
 use lib.Dec.{ltb}
 use Rattle.words.specs.Choice.{pick}
-use Rattle.words.specs.Parts.{region}
+use Rattle.words.specs.Parts.{region, over}
 use Rattle.osc.specs.Message.{Argument, int, float, text, argumentBytes, padded, decimal}
-use Rattle.osc.specs.Over.{over, over-over}
+use Rattle.osc.specs.Over.{over-over}
 use Rattle.osc.specs.Lengths.{padded-size}
 use Rattle.treequery.specs.declared.piece.Piece.{Piece}
 use Rattle.treequery.specs.declared.piece.Piece.the-variants.{Whole, Pattern, Part, Mapped}

@@ -5,7 +5,8 @@ use mathlib.Core.List.{List, [], _∷_, _++_, append-assoc}
 use native.Mathlib.Omega.{arith}
 use lib.ListN.{length, replicate, length-append, length-replicate}
 use Rattle.osc.specs.Message.{Argument, int, message, padded, tags, arguments}
-use Rattle.osc.specs.Over.{over, over-length, over-over}
+use Rattle.words.specs.Parts.{over}
+use Rattle.osc.specs.Over.{over-length, over-over}
 use Rattle.osc.specs.Lengths.{padded-size}
 use Rattle.model.specs.Replies.{treeAddress}
 use Rattle.replies.specs.Words.{wordBytes, word-bytes-size}

@@ -7,7 +7,8 @@ use native.Mathlib.Omega.{arith}
 use lib.ListN.{length, length-append}
 use Rattle.words.specs.Bytes.{bytes32}
 use Rattle.osc.specs.Message.{Argument, int, tagOf, tags, arguments}
-use Rattle.osc.specs.Over.{over, over-length, over-over}
+use Rattle.words.specs.Parts.{over}
+use Rattle.osc.specs.Over.{over-length, over-over}
 use Rattle.osc.specs.Lengths.{tags-size, tags-append, arguments-append}
 use Rattle.replies.specs.Words.{over-none}
 use Rattle.treequery.specs.declared.piece.Piece.{Piece}

@@ -12,7 +12,7 @@ ghost use mathlib.Core.List.{List};
 ghost use mathlib.Core.Path.{_≡_};
 ghost use lib.ListN.{length};
 ghost use Rattle.osc.specs.Message.{tagOf, padded};
-ghost use Rattle.osc.specs.Over.{over};
+ghost use Rattle.words.specs.Parts.{over};
 ghost use Rattle.treequery.specs.Pieces.{pieceArgument, pieceBytes, mappedText, mostBytes, PieceSize, Puts, MappedRoom};
 
 // An integer; a float; a name, a part of a definition's bytes; 'c' and the decimal bus.

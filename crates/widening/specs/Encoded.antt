@@ -4,14 +4,14 @@ use mathlib.Core.Path.{_≡_, sym, ap, _∙_}
 use mathlib.Core.List.{List, _++_, append-assoc}
 use lib.ListN.{length, take, drop}
 use lib.Seq.{drop-drop}
-use Rattle.words.specs.Parts.{put}
+use Rattle.words.specs.Parts.{put, over}
 use Rattle.format.specs.declared.Width.{Width}
 use Rattle.format.specs.Read.{got}
 use Rattle.format.specs.Definition.{Definition}
 use Rattle.format.specs.Reader.{definitionBy}
 use Rattle.format.specs.RepeatLaws.{got-value}
 use Rattle.format.specs.Writer.{writeDefinition}
-use Rattle.osc.specs.Over.{over}
+use Rattle.words.specs.PartsLaws.{over-put}
 
 -- a definition is read from one place to another
 pub record Readable (w : Width) (s : List ℕ) (at end : ℕ) : Type 0 where
@@ -27,12 +27,6 @@ pub record Encodable (w : Width) (s : List ℕ) (at end : ℕ) (out : List ℕ) 
 pub record Encoded (d : Definition) (place : ℕ) (before after : List ℕ) (past : ℕ) : Type 0 where
   pub bytes : after ≡ put place (length (writeDefinition d)) (writeDefinition d) before
   pub end : past ≡ place + length (writeDefinition d)
-
--- bytes over a run, as a part of it
-pub over-put : (at : ℕ) (vs us : List ℕ) → over at vs us ≡ put at (length vs) vs us
-over-put at vs us =
-    append-assoc (take at us) vs (drop (at + length vs) us)
-    ∙ ap (λ (l : List ℕ). take at us ++ (vs ++ l)) (sym (drop-drop (length vs) at us))
 
 module _ {w : Width} {s : List ℕ} {at end : ℕ} {out : List ℕ} {place : ℕ} (e : Encodable w s at end out place) where
   -- one definition is read there

@@ -5,7 +5,8 @@ use mathlib.Core.List.{List, [], _++_, append-nil}
 use native.Mathlib.Omega.{arith}
 use native.Mathlib.Nat.{add-zero, sub-zero}
 use lib.ListN.{length, take, length-append, take-append-drop}
-use Rattle.osc.specs.Over.{over, over-over, over-length}
+use Rattle.words.specs.Parts.{over}
+use Rattle.osc.specs.Over.{over-over, over-length}
 use Rattle.widening.specs.declared.places.Places.{Places}
 use Rattle.widening.specs.Walk.{Onward, pastAll, wideAll, past-up, past-turn, wide-turn, past-none, wide-none}
 

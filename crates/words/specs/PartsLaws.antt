@@ -1,11 +1,11 @@
 -- Laws of `Parts`.
 use Prim.Native.Nat.{ℕ, _+_, _-_, _≤_}
 use mathlib.Core.Path.{_≡_, sym, ap, ap₂, _∙_}
-use mathlib.Core.List.{List, _++_}
+use mathlib.Core.List.{List, _++_, append-assoc}
 use native.Mathlib.Omega.{arith}
 use lib.ListN.{length, take, drop, length-take, length-drop, length-append}
 use lib.Seq.{take-at, drop-at, drop-drop, length-take-le, take-append-le, take-take}
-use Rattle.words.specs.Parts.{region, put}
+use Rattle.words.specs.Parts.{region, put, over}
 
 module _ {A : Type 0} where
   pub region-length : (a k : ℕ) (ws : List A) → a + k ≤ length ws → length (region a k ws) ≡ k
@@ -13,6 +13,11 @@ module _ {A : Type 0} where
 
   pub put-length : (a k : ℕ) (ys ws : List A) → a + k ≤ length ws → length ys ≡ k → length (put a k ys ws) ≡ length ws
   put-length a k ys ws h e = simp (length-append, length-take, length-drop) (omega arith)
+
+  -- as many items over a run are a part of it
+  pub over-put : (a : ℕ) (ys ws : List A) → over a ys ws ≡ put a (length ys) ys ws
+  over-put a ys ws =
+      append-assoc (take a ws) ys (drop (a + length ys) ws) ∙ ap (λ (l : List A). take a ws ++ (ys ++ l)) (sym (drop-drop (length ys) a ws))
 
   -- what was put there is there
   pub region-put : (a k : ℕ) (ys ws : List A) → a ≤ length ws → length ys ≡ k → region a k (put a k ys ws) ≡ ys

@@ -6,7 +6,8 @@ use borrow.Author.Needs.{needs}
 use lib.ListN.{length, take}
 use lib.Seq.{paste-zero}
 use Rattle.osc.specs.Message.{padded}
-use Rattle.osc.specs.Over.{over, over-length}
+use Rattle.words.specs.Parts.{over}
+use Rattle.osc.specs.Over.{over-length}
 use Rattle.osc.specs.Lengths.{padded-size}
 use Rattle.osc.specs.Padding.{fourAt, over-four, over-last}
 use Rattle.osc.proofs.put_padded.Statement.{statement}

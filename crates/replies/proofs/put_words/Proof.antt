@@ -6,7 +6,8 @@ use borrow.Author.Needs.{needs}
 use lib.ListN.{length, take, getD}
 use lib.Seq.{take-length, length-take-le}
 use Rattle.words.specs.Bytes.{bytes32}
-use Rattle.osc.specs.Over.{over, over-length}
+use Rattle.words.specs.Parts.{over}
+use Rattle.osc.specs.Over.{over-length}
 use Rattle.replies.specs.Words.{wordBytes, over-none, word-bytes-none, word-bytes-size, next-word}
 use Rattle.replies.proofs.put_words.Statement.{statement}
 use Rattle.replies.proofs.put_words.Tie as tie

@@ -5,7 +5,7 @@ use native.Mathlib.Omega.{arith}
 use borrow.Author.Needs.{needs}
 use Rattle.readable.specs.declared.found.ValuesFound.the-variants as values
 use Rattle.readable.specs.Lookup.{valuesIn}
-use Rattle.nodes.specs.Table.{over}
+use Rattle.words.specs.Parts.{over}
 use Rattle.model.specs.Effects.{initialWords}
 use Rattle.controls.specs.Encoded.{frontIn, values-few}
 use Rattle.controls.specs.Initial.{floatsFrom, values-fact, values-none, nothing-written, empty}

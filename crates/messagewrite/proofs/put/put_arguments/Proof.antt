@@ -7,7 +7,8 @@ use borrow.Author.Needs.{needs}
 use lib.ListN.{length, take, drop, length-append}
 use Rattle.words.specs.ChoiceLaws.{either-false}
 use Rattle.osc.specs.Message.{arguments, argumentBytes, Argument}
-use Rattle.osc.specs.Over.{over, over-length}
+use Rattle.words.specs.Parts.{over}
+use Rattle.osc.specs.Over.{over-length}
 use Rattle.replies.specs.Words.{over-none}
 use Rattle.messages.specs.Table.{giveAll}
 use Rattle.messages.specs.Write.{anyUnfit}

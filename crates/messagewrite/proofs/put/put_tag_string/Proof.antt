@@ -5,7 +5,7 @@ use native.Mathlib.Omega.{arith}
 use borrow.Author.Needs.{needs}
 use lib.ListN.{length, replicate, length-replicate}
 use Rattle.osc.specs.Message.{tags}
-use Rattle.osc.specs.Over.{over}
+use Rattle.words.specs.Parts.{over}
 use Rattle.osc.specs.Lengths.{tags-size}
 use Rattle.messages.specs.Table.{giveAll}
 use Rattle.messages.specs.Rows.{slotsOf}

@@ -5,7 +5,8 @@ use native.Mathlib.Omega.{arith}
 use borrow.Author.Needs.{needs}
 use lib.ListN.{length, take}
 use Rattle.osc.specs.Message.{tagOf, tags, Argument}
-use Rattle.osc.specs.Over.{over, over-length}
+use Rattle.words.specs.Parts.{over}
+use Rattle.osc.specs.Over.{over-length}
 use Rattle.replies.specs.Words.{over-none}
 use Rattle.messages.specs.Table.{giveAll}
 use Rattle.messages.specs.Rows.{codeAt, slotsOf}

@@ -6,7 +6,7 @@ use borrow.Author.Needs.{needs}
 use lib.ListN.{length}
 use Rattle.words.specs.Bytes.{bytes32}
 use Rattle.osc.specs.Message.{argumentBytes, Argument}
-use Rattle.osc.specs.Over.{over}
+use Rattle.words.specs.Parts.{over}
 use Rattle.osc.specs.Lengths.{padded-size}
 use Rattle.messagewrite.specs.Codes.{given, argument-name, argument-file, number-bytes, file-fit, size-name, size-file, size-number}
 use Rattle.messagewrite.proofs.slot.put_argument.Statement.{statement}

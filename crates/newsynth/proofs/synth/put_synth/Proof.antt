@@ -5,9 +5,8 @@ use Prim.Native.Nat.{ℕ, _+_, _*_}
 use mathlib.Core.Path.{refl, sym, ap, _∙_, subst}
 use mathlib.Core.List.{List}
 use lib.ListN.{getD}
-use Rattle.words.specs.Parts.{region, put}
+use Rattle.words.specs.Parts.{region, put, over}
 use Rattle.readable.specs.Readable.{Readable}
-use Rattle.nodes.specs.Table.{over}
 use Rattle.model.specs.Layout.{controlsPlace, controlsWords, countIn}
 use Rattle.tree.specs.Gaps.{gap-fits}
 use Rattle.treecommands.specs.Ready.{nodeWords}

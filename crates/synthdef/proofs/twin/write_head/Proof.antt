@@ -1,7 +1,8 @@
 use Prim.Native.Nat.{_/_, _%_}
 use Rattle.format.specs.Writer.{fileType, fileVersion}
 use Rattle.words.specs.Bytes.{bytes32}
-use Rattle.osc.specs.Over.{over, over-over}
+use Rattle.words.specs.Parts.{over}
+use Rattle.osc.specs.Over.{over-over}
 use Prim.Native.Nat.{ℕ}
 use mathlib.Core.Path.{refl, ap, _∙_}
 use mathlib.Core.List.{List, [], _∷_, _++_}

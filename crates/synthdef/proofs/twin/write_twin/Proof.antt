@@ -1,6 +1,6 @@
 use Rattle.synthdef.specs.Reading.{reading-next, after-here, Writing, head-length-in, writing-first, writing-room, writing-next, writing-last}
 use Prim.{tt}
-use Rattle.widening.specs.Encoded.{over-put}
+use Rattle.words.specs.PartsLaws.{over-put}
 use Rattle.osc.specs.Over.{over-length}
 use Rattle.format.specs.declared.Width.the-variants.{Long}
 use Rattle.format.specs.Writer.{writeDefinition, writeHeader}

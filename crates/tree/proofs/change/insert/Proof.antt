@@ -5,7 +5,8 @@ use mathlib.Core.Path.{ap, _∙_}
 use mathlib.Core.List.{List}
 use native.Mathlib.Omega.{arith}
 use borrow.Author.Needs.{needs}
-use Rattle.nodes.specs.Table.{width, wordsOf, over}
+use Rattle.words.specs.Parts.{over}
+use Rattle.nodes.specs.Table.{width, wordsOf}
 use Rattle.nodes.specs.TableLaws.{rows-length, insert-words}
 use Rattle.tree.proofs.change.insert.Statement.{statement}
 use Rattle.tree.proofs.change.insert.Tie as tie

@@ -5,7 +5,8 @@ use mathlib.Core.List.{List}
 use native.Mathlib.Omega.{arith}
 use borrow.Author.Needs.{needs}
 use Rattle.nodes.specs.declared.Node.{Node}
-use Rattle.nodes.specs.Table.{width, fill, wordsOf, over, nodeFrom}
+use Rattle.words.specs.Parts.{over}
+use Rattle.nodes.specs.Table.{width, fill, wordsOf, nodeFrom}
 use Rattle.nodes.specs.Edit.{withRun}
 use Rattle.nodes.specs.Split.{setRun-at}
 use Rattle.tree.specs.Words.{put-words}

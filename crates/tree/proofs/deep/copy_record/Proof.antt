@@ -3,7 +3,8 @@ use Prim.Native.Nat.{_*_}
 use mathlib.Core.Path.{ap, _∙_}
 use borrow.Author.Needs.{needs}
 use Rattle.nodes.specs.declared.Node.{Node}
-use Rattle.nodes.specs.Table.{width, wordsOf, over}
+use Rattle.words.specs.Parts.{over}
+use Rattle.nodes.specs.Table.{width, wordsOf}
 use Rattle.tree.proofs.deep.copy_record.Statement.{statement}
 use Rattle.tree.proofs.deep.copy_record.Tie as tie
 

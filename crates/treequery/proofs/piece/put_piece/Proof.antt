@@ -6,7 +6,7 @@ use borrow.Author.Needs.{needs}
 use borrow.Author.Tests.{ltb-true}
 use lib.ListN.{length}
 use Rattle.osc.specs.Message.{padded}
-use Rattle.osc.specs.Over.{over}
+use Rattle.words.specs.Parts.{over}
 use Rattle.treequery.specs.Pieces.{pieceBytes, isSmall}
 use Rattle.treequery.proofs.piece.put_piece.Statement.{statement}
 use Rattle.treequery.proofs.piece.put_piece.Tie as tie

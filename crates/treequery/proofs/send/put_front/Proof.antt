@@ -2,7 +2,7 @@ use Prim.Native.Nat.{ℕ, _+_}
 use mathlib.Core.Path.{ap, _∙_}
 use mathlib.Core.List.{List, [], _∷_}
 use borrow.Author.Needs.{needs}
-use Rattle.osc.specs.Over.{over}
+use Rattle.words.specs.Parts.{over}
 use Rattle.replies.specs.Words.{wordBytes}
 use Rattle.treequery.specs.TreeMessage.{firstTags, tagZeros, treeFront}
 use Rattle.treequery.proofs.send.put_front.Statement.{statement}

@@ -8,7 +8,7 @@ use borrow.Author.Needs.{needs}
 use lib.ListN.{length, getD}
 use Rattle.refusals.specs.declared.Refusal.the-variants.{NoRoom}
 use Rattle.osc.specs.Message.{tags, arguments}
-use Rattle.osc.specs.Over.{over}
+use Rattle.words.specs.Parts.{over}
 use Rattle.osc.specs.Lengths.{tags-size}
 use Rattle.model.specs.declared.Answer.the-variants.{Refused, Replied}
 use Rattle.model.specs.Layout.{nodesPlace}

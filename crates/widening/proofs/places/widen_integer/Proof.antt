@@ -1,4 +1,4 @@
-use Rattle.osc.specs.Over.{over}
+use Rattle.words.specs.Parts.{over}
 use Rattle.words.specs.Bytes.{bytes32}
 use Prim.Native.Nat.{ℕ}
 use mathlib.Core.Path.{refl, ap, _∙_}
