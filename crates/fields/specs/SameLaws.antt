@@ -11,6 +11,7 @@ use lib.Seq.{drop-cons, drop-drop}
 use lib.Dec.{eqb}
 use Rattle.words.specs.Choice.{both}
 use Rattle.format.specs.Reader.{sameName}
+use Rattle.words.specs.ChoiceLaws.{both-assoc}
 
 both-no : (a b : Bool) → b ≡ false → both a b ≡ false
 both-no true b h = h
@@ -51,10 +52,6 @@ pub same-turn : (a b : List ℕ) (i : ℕ) → i < length a → i < length b
 unfolding sameName
 same-turn a b i h l = rw (add-one, drop-cons a i 0 h, drop-cons b i 0 l)
 
-grouped : (a b c : Bool) → both a (both b c) ≡ both (both a b) c
-grouped true b c = refl
-grouped false b c = refl
-
 -- the first k bytes, and the rest
 same-split : (k : ℕ) (a b : List ℕ) → k ≤ length a → k ≤ length b → sameName a b ≡ both (sameName (take k a) (take k b)) (sameName (drop k a) (drop k b))
 unfolding sameName
@@ -63,7 +60,7 @@ same-split (suc k) [] b h l = absurd (omega arith)
 same-split (suc k) (x ∷ a) [] h l = absurd (omega arith)
 same-split (suc k) (x ∷ a) (y ∷ b) h l =
     ap (λ (t : Bool). both (eqb x y) t) (same-split k a b (omega arith) (omega arith))
-    ∙ grouped (eqb x y) (sameName (take k a) (take k b)) (sameName (drop k a) (drop k b))
+    ∙ both-assoc (eqb x y) (sameName (take k a) (take k b)) (sameName (drop k a) (drop k b))
 
 -- names that are the same from a place on: what stands before it decides
 module _ (a b : List ℕ) (i : ℕ) (h : i ≤ length a) (l : i ≤ length b) where

@@ -13,6 +13,7 @@ use Rattle.lists.specs.declared.Kind.{Kind}
 use Rattle.lists.specs.declared.Kind.the-variants.{NoItem, Replies, Acts}
 use Rattle.lists.specs.Lent.{Item, itemWords, mostCommands, countIn, itemsOf, kindOf, isItem, acts, every, isList, verdict}
 use Rattle.lists.specs.Walk.{itemAt, itemsAt, items-first, items-next, items-last}
+use Rattle.words.specs.ChoiceLaws.{both-assoc}
 
 -- words left over are no item's
 pub not-whole : (us bytes : List ℕ) → (length us % itemWords ≡ 0 → ⊥) → NoList ≡ verdict us bytes
@@ -24,10 +25,6 @@ pub record Judging (us : List ℕ) (room i : ℕ) (fit : Bool) : Type 0 where
   pub near : i ≤ countIn us
   pub items : every isItem room (itemsOf us) ≡ every isItem room (itemsAt us i)
   pub fits : both (leb (countIn us) mostCommands) (every acts room (itemsOf us)) ≡ both fit (every acts room (itemsAt us i))
-
-both-assoc : (a b c : Bool) → both a (both b c) ≡ both (both a b) c
-both-assoc true b c = refl
-both-assoc false b c = refl
 
 pub both-none : (a : Bool) → false ≡ both a false
 both-none true = refl

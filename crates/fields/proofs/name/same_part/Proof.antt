@@ -10,10 +10,7 @@ use Rattle.format.specs.Reader.{sameName}
 use Rattle.fields.specs.SameLaws.{same-turn, same-end}
 use Rattle.fields.proofs.name.same_part.Statement.{statement}
 use Rattle.fields.proofs.name.same_part.Tie as tie
-
-grouped : (a b c : Bool) → both (both a b) c ≡ both a (both b c)
-grouped true b c = refl
-grouped false b c = refl
+use Rattle.words.specs.ChoiceLaws.{both-assoc}
 
 no-more : (same : Bool) → same ≡ both same true
 no-more true = refl
@@ -32,7 +29,7 @@ loop-again c =
     let test = eqb (getD (a .a .now) (l .i) 0) (getD (a .b .now) (l .i) 0) in
     let rest = sameName (drop (l .i + 1) (a .a .now)) (drop (l .i + 1) (a .b .now)) in
     let goes = ap (λ (t : Bool). both t rest) (c .still-same .ensures)
-    ∙ grouped (l .same) test rest
+    ∙ sym (both-assoc (l .same) test rest)
     ∙ ap (λ (t : Bool). both (l .same) t) (sym (same-turn (a .a .now) (a .b .now) (l .i) (omega arith) (omega arith)))
     ∙ l .inv .1 in
     (omega arith, goes)
