@@ -7,7 +7,8 @@ use Rattle.words.specs.Choice.{either}
 use Rattle.words.specs.Bytes.{AreBytes}
 use Rattle.nodes.specs.declared.Node.{Node}
 use Rattle.nodes.specs.Formed.{rooted, apart}
-use Rattle.treerefinement.specs.Left.{left, numbers, numbers-setRun}
+use Rattle.nodes.specs.Table.{numbers}
+use Rattle.treerefinement.specs.Left.{left, numbers-setRun}
 use Rattle.model.specs.declared.DefinitionCommand.{DefinitionCommand}
 use Rattle.model.specs.declared.DefinitionCommand.the-variants as definitions
 use Rattle.model.specs.declared.TreeCommand.{TreeCommand}

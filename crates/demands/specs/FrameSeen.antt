@@ -9,7 +9,8 @@ use Rattle.words.specs.Choice.{pick}
 use Rattle.nodes.specs.declared.Node.{Node}
 use Rattle.nodes.specs.Structure.{parentOf}
 use Rattle.treerefinement.specs.Tally.{one, tally}
-use Rattle.treerefinement.specs.Left.{left, numbers}
+use Rattle.nodes.specs.Table.{numbers}
+use Rattle.treerefinement.specs.Left.{left}
 use Rattle.treerefinement.specs.Untouched.{Untouched, entries, untouched-entries}
 use Rattle.treerefinement.specs.Untouched as bridge
 use Rattle.model.specs.Engine.{Slot}

@@ -12,13 +12,13 @@ use lib.Dec.{eqb}
 use Rattle.words.specs.Choice.{pick, both}
 use Rattle.format.specs.Definition.{Definition}
 use Rattle.format.specs.Reader.{sameName}
-use Rattle.nodes.specs.Table.{rows, encode}
+use Rattle.nodes.specs.Table.{rows, encode, numbers}
 use Rattle.nodes.specs.Place.{lives}
 use Rattle.nodes.specs.Forest.{single, flatten, mapForest}
 use Rattle.nodes.specs.Order.{orderFrom}
 use Rattle.nodes.specs.Formed.{steps, rooted, apart, allFormed, rowTaken, rowsApart, synthLives}
 use Rattle.nodes.specs.Formed as nodes
-use Rattle.index.specs.Index.{numbers, rises, indexed}
+use Rattle.index.specs.Index.{rises, indexed}
 use Rattle.treerefinement.specs.Leaves.{leaves-single}
 use Rattle.model.specs.Layout.{wordsLength, arenaLength, indexIn}
 use Rattle.model.specs.Engine.{slotsFrom, decode, held, residents}

@@ -7,9 +7,9 @@ use native.Mathlib.Numerals.{add-one}
 use borrow.Author.Tests.{lt-ltb, le-ltb, le-leb, lt-leb, eq-eqb}
 use lib.ListN.{take, drop, getD, drop-of-length-le}
 use lib.Seq.{getD-take, drop-cons, length-take-le}
-use Rattle.nodes.specs.Table.{width, rows}
+use Rattle.nodes.specs.Table.{width, rows, numbers}
 use Rattle.nodes.specs.TableLaws.{rows-length}
-use Rattle.index.specs.Index.{numbers, numberAt, rises, indexed}
+use Rattle.index.specs.Index.{numberAt, rises, indexed}
 use Rattle.index.specs.Words.{IndexFits, number-word}
 
 module _ (us ws : List ℕ) (count : ℕ) (fits : IndexFits us ws count) where

@@ -6,11 +6,7 @@ use lib.ListN.{length, getD}
 use lib.Dec.{ltb, leb, eqb}
 use Rattle.words.specs.Choice.{pick, both}
 use Rattle.nodes.specs.declared.Node.{Node}
-
--- the nodes' numbers, in the table's order
-unfoldable pub numbers : List Node → List ℕ
-numbers [] = []
-numbers (r ∷ l) = r .number ∷ numbers l
+use Rattle.nodes.specs.Table.{numbers}
 
 -- of the numbers ks, the one at a place
 abbrev pub numberAt : List ℕ → ℕ → ℕ

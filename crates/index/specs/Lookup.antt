@@ -10,7 +10,8 @@ use Rattle.nodes.specs.declared.Node.{Node}
 use Rattle.nodes.specs.Place.{place}
 use Rattle.index.specs.declared.step.Known.{Known}
 use Rattle.index.specs.declared.step.Known.the-variants.{Between, Found}
-use Rattle.index.specs.Index.{numbers, numberAt}
+use Rattle.nodes.specs.Table.{numbers}
+use Rattle.index.specs.Index.{numberAt}
 
 -- settled: found, or no entry is left
 abbrev pub settled : Known → Bool

@@ -12,7 +12,8 @@ use Rattle.nodes.specs.declared.Node.{Node}
 use Rattle.nodes.specs.Place.{place}
 use Rattle.index.specs.declared.step.Known.{Known}
 use Rattle.index.specs.declared.step.Known.the-variants.{Between, Found}
-use Rattle.index.specs.Index.{numbers, numberAt, indexed}
+use Rattle.nodes.specs.Table.{numbers}
+use Rattle.index.specs.Index.{numberAt, indexed}
 use Rattle.index.specs.Rising.{entry, higher}
 use Rattle.index.specs.Afresh.{Stands, all-stand, all-differ}
 use Rattle.index.specs.Nodes.{indexed-parts, lives-none, place-at}

@@ -12,7 +12,8 @@ use Rattle.words.specs.ChoiceLaws.{both-true}
 use Rattle.nodes.specs.declared.Node.{Node}
 use Rattle.nodes.specs.Place.{lives, place}
 use Rattle.nodes.specs.Formed.{apart}
-use Rattle.index.specs.Index.{numbers, numberAt, rises, indexed, indexOf}
+use Rattle.nodes.specs.Table.{numbers}
+use Rattle.index.specs.Index.{numberAt, rises, indexed, indexOf}
 use Rattle.index.specs.Rising.{Rising, rising, rising-rises}
 use Rattle.index.specs.Afresh.{Distinct, settled-by, afresh-length, afresh-rising, all-differ}
 

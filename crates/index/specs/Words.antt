@@ -8,11 +8,11 @@ use native.Mathlib.Numerals.{add-one}
 use lib.ListN.{length, take, drop, getD}
 use lib.Seq.{getD-drop, getD-take, length-take-le}
 use Rattle.nodes.specs.declared.Node.{Node}
-use Rattle.nodes.specs.Table.{width, rows}
+use Rattle.nodes.specs.Table.{width, rows, numbers}
 use Rattle.nodes.specs.TableLaws.{rows-length}
 use Rattle.index.specs.declared.step.Known.{Known}
 use Rattle.index.specs.declared.step.Known.the-variants.{Between}
-use Rattle.index.specs.Index.{numbers, numberAt, indexed}
+use Rattle.index.specs.Index.{numberAt, indexed}
 use Rattle.index.specs.Rising.{entry, higher}
 use Rattle.index.specs.Nodes.{indexed-parts}
 use Rattle.index.specs.Lookup.{halfway, step, afterSteps, lookup, answer, settled, mostSteps, SettledBy}

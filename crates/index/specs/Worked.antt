@@ -3,7 +3,8 @@ use mathlib.Core.Bool.{true, false}
 use mathlib.Core.Path.{_≡_, refl}
 use mathlib.Core.List.{List, [], _∷_}
 use Rattle.nodes.specs.declared.Node.{Node}
-use Rattle.index.specs.Index.{numbers, rises, indexed, putIn, byNumber, indexOf}
+use Rattle.nodes.specs.Table.{numbers}
+use Rattle.index.specs.Index.{rises, indexed, putIn, byNumber, indexOf}
 use Rattle.index.specs.declared.step.Known.the-variants.{Between, Found}
 use Rattle.index.specs.Lookup.{step, afterSteps, lookup}
 

@@ -47,6 +47,11 @@ unfoldable pub encode : List Node → List ℕ
 encode [] = []
 encode (r ∷ l) = wordsOf r ++ encode l
 
+-- the nodes' numbers, in the table's order
+unfoldable pub numbers : List Node → List ℕ
+numbers [] = []
+numbers (r ∷ l) = r .number ∷ numbers l
+
 -- records over a run: what is past them stays
 abbrev pub fill : List ℕ → List Node → List ℕ
 fill us l = encode l ++ drop (width * length l) us

@@ -11,7 +11,8 @@ use lib.Dec.{ltb}
 use Rattle.words.specs.Choice.{pick}
 use Rattle.nodes.specs.declared.Node.{Node}
 use Rattle.nodes.specs.Place.{lives}
-use Rattle.index.specs.Index.{numbers, numberAt}
+use Rattle.nodes.specs.Table.{numbers}
+use Rattle.index.specs.Index.{numberAt}
 use Rattle.reindex.specs.declared.edit.Edit.{Edit}
 use Rattle.reindex.specs.declared.edit.Edit.the-variants.{Cut, Put, Swap}
 use Rattle.reindex.specs.Numbers.{numbers-length}

@@ -10,7 +10,8 @@ use lib.Dec.{ltb, eqb}
 use Rattle.words.specs.Choice.{pick}
 use Rattle.nodes.specs.declared.Node.{Node}
 use Rattle.nodes.specs.Place.{lives}
-use Rattle.index.specs.Index.{numbers, numberAt, indexed, putIn}
+use Rattle.nodes.specs.Table.{numbers}
+use Rattle.index.specs.Index.{numberAt, indexed, putIn}
 use Rattle.index.specs.Rising.{Rising, done, next, rising-from, entry, higher}
 use Rattle.index.specs.Afresh.{without, Stands, many, all-stand, put-rising, put-new, put-kept}
 use Rattle.index.specs.Nodes.{lives-at, indexed-parts, parts-indexed}

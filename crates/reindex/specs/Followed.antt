@@ -9,11 +9,11 @@ use lib.ListN.{length, take, drop, getD, List·getD-append}
 use lib.Seq.{drop-append-add, drop-drop, getD-take, length-take-le}
 use lib.Dec.{ltb}
 use Rattle.nodes.specs.declared.Node.{Node}
-use Rattle.nodes.specs.Table.{width, rows}
+use Rattle.nodes.specs.Table.{width, rows, numbers}
 use Rattle.nodes.specs.TableLaws.{rows-length}
 use Rattle.nodes.specs.Place.{lives}
 use Rattle.nodes.specs.Formed.{apart}
-use Rattle.index.specs.Index.{numbers, numberAt, indexed, putIn, indexOf}
+use Rattle.index.specs.Index.{numberAt, indexed, putIn, indexOf}
 use Rattle.index.specs.Rising.{Rising, entry, higher}
 use Rattle.index.specs.Afresh.{put-length}
 use Rattle.index.specs.Nodes.{indexed-parts, indexed-apart, indexed-afresh}

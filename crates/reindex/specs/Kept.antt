@@ -10,11 +10,11 @@ use lib.Seq.{getD-set-same, getD-set-other, getD-at, drop-cons}
 use lib.Dec.{ltb, leb, eqb}
 use Rattle.words.specs.Choice.{pick}
 use Rattle.nodes.specs.declared.Node.{Node}
-use Rattle.nodes.specs.Table.{width, nodeFrom, rows}
+use Rattle.nodes.specs.Table.{width, nodeFrom, rows, numbers}
 use Rattle.nodes.specs.TableLaws.{rows-length, rows-end, row-from}
 use Rattle.nodes.specs.Place.{isGroup}
 use Rattle.nodes.specs.Edit.{onlyGroups}
-use Rattle.index.specs.Index.{numbers, numberAt}
+use Rattle.index.specs.Index.{numberAt}
 use Rattle.index.specs.Words.{number-word}
 use Rattle.reindex.specs.Numbers.{numbers-length, numbers-append}
 use Rattle.reindex.specs.Follow.{gone, Carries, PlaceOfNode}

@@ -4,7 +4,7 @@ use mathlib.Core.Path.{_≡_, refl, ap}
 use mathlib.Core.List.{List, [], _∷_, _++_}
 use lib.ListN.{length, take, drop}
 use Rattle.nodes.specs.declared.Node.{Node}
-use Rattle.index.specs.Index.{numbers}
+use Rattle.nodes.specs.Table.{numbers}
 
 pub numbers-length : (t : List Node) → length (numbers t) ≡ length t
 unfolding numbers

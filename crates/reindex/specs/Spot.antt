@@ -10,9 +10,9 @@ use lib.ListN.{length, take, drop, getD, set, length-drop}
 use lib.Seq.{getD-take, length-take-le, take-take, take-add, drop-at, set-split, length-paste, paste}
 use lib.Dec.{ltb, eqb}
 use Rattle.words.specs.Choice.{pick}
-use Rattle.nodes.specs.Table.{width, rows}
+use Rattle.nodes.specs.Table.{width, rows, numbers}
 use Rattle.nodes.specs.TableLaws.{gap-over}
-use Rattle.index.specs.Index.{numbers, numberAt, putIn}
+use Rattle.index.specs.Index.{numberAt, putIn}
 use Rattle.index.specs.Words.{number-word}
 
 -- how many entries stand before the first whose number is higher than k

@@ -6,8 +6,7 @@ ghost use mathlib.Core.List.{_∷_, _++_};
 ghost use Prim.Native.Nat.{_+_, _*_, _-_, _≤_, _<_};
 ghost use lib.ListN.{length, take, drop, getD};
 ghost use lib.Seq.{paste};
-ghost use Rattle.nodes.specs.Table.{width, rows};
-ghost use Rattle.index.specs.Index.{numbers};
+ghost use Rattle.nodes.specs.Table.{width, rows, numbers};
 ghost use Rattle.reindex.specs.Spot.{spot, Reads};
 
 // How many entries stand before the first whose number is higher than that of the node at a place; their numbers rise.

@@ -8,9 +8,9 @@ use lib.Seq.{take-at, take-take, length-take-le}
 use Rattle.words.specs.Parts.{region}
 use Rattle.words.specs.PartsLaws.{region-length, region-put}
 use Rattle.nodes.specs.declared.Node.{Node}
-use Rattle.nodes.specs.Table.{rows, fill}
+use Rattle.nodes.specs.Table.{rows, fill, numbers}
 use Rattle.nodes.specs.TableLaws.{fill-length, rows-fill}
-use Rattle.index.specs.Index.{numbers, indexOf}
+use Rattle.index.specs.Index.{indexOf}
 use Rattle.index.specs.Afresh.{afresh-length}
 use Rattle.model.specs.Layout.{wordsLength, nodesPlace, nodesWords, orderPlace, orderWords, controlsPlace, controlsWords, busesPlace, busCount, indexPlace, indexWords, lengthsPlace, residentPlace, slotCount, arenaLength, putResident, putNodes, orderRegion, putOrder, putIndex, putControls, putBuses, lengthsIn, flagsIn, nodesIn, orderIn, controlsIn, busesIn, indexIn}
 use Rattle.model.specs.Engine.{Slot, Engine, slotsFrom, decode}

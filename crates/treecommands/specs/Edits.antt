@@ -10,7 +10,7 @@ use lib.Seq.{take-take, take-append-le, drop-append-le, take-append-add, drop-ap
 use lib.Dec.{leb}
 use Rattle.words.specs.Choice.{pick}
 use Rattle.nodes.specs.declared.Node.{Node}
-use Rattle.nodes.specs.Table.{width, nodeFrom, rows}
+use Rattle.nodes.specs.Table.{width, nodeFrom, rows, numbers}
 use Rattle.nodes.specs.TableLaws.{rows-length, row-from}
 use Rattle.nodes.specs.Place.{lives, deeper}
 use Rattle.nodes.specs.PlaceLaws.{end-most}
@@ -18,7 +18,6 @@ use Rattle.nodes.specs.Sizes.{depthAt, endAt}
 use Rattle.nodes.specs.Edit.{lift, sink, onlyGroups, editAt, freeHere, freeAllHere, deepFreeHere}
 use Rattle.nodes.specs.Split.{cut-at, cutBelow-at, deepFree-at, addOver-at}
 use Rattle.treerefinement.specs.Tally.{tally, tally-append, Grown}
-use Rattle.index.specs.Index.{numbers}
 use Rattle.reindex.specs.declared.edit.Edit.{Edit}
 use Rattle.reindex.specs.declared.edit.Edit.the-variants as edit
 use Rattle.reindex.specs.Numbers.{numbers-length, numbers-append, numbers-take, numbers-drop}

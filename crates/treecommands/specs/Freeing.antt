@@ -12,7 +12,7 @@ use Rattle.words.specs.Parts.{put}
 use Rattle.refusals.specs.declared.Refusal.{Refusal}
 use Rattle.refusals.specs.declared.Refusal.the-variants.{BadFlag, WrongKind}
 use Rattle.nodes.specs.declared.Node.{Node}
-use Rattle.nodes.specs.Table.{rows, fill}
+use Rattle.nodes.specs.Table.{rows, fill, numbers}
 use Rattle.nodes.specs.TableLaws.{rows-length}
 use Rattle.nodes.specs.Edit.{withRun, editRows, editAt, freeHere, setRunHere, cut, setRun}
 use Rattle.nodes.specs.Formed.{mostNodes}
@@ -22,7 +22,6 @@ use Rattle.values.specs.declared.NodeArgument.{NodeArgument}
 use Rattle.model.specs.declared.TreeCommand.the-variants as tree
 use Rattle.model.specs.declared.Command.the-variants as command
 use Rattle.model.specs.declared.Answer.the-variants.{Done, Refused}
-use Rattle.index.specs.Index.{numbers}
 use Rattle.reindex.specs.declared.edit.Edit.the-variants as edit
 use Rattle.model.specs.Layout.{nodesPlace, nodesWords, countIn, latestIn, nodesIn}
 use Rattle.model.specs.Engine.{decode}

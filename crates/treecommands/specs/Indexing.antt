@@ -6,10 +6,10 @@ use native.Mathlib.Omega.{arith}
 use lib.ListN.{length, take, drop}
 use Rattle.words.specs.Parts.{put}
 use Rattle.words.specs.PartsLaws.{region-length, region-put, put-put}
-use Rattle.nodes.specs.Table.{rows}
+use Rattle.nodes.specs.Table.{rows, numbers}
 use Rattle.nodes.specs.TableLaws.{rows-length}
 use Rattle.nodes.specs.Formed.{mostNodes}
-use Rattle.index.specs.Index.{numbers, putIn, indexOf}
+use Rattle.index.specs.Index.{putIn, indexOf}
 use Rattle.reindex.specs.declared.edit.Edit.{Edit}
 use Rattle.reindex.specs.declared.edit.Edit.the-variants.{Cut, Put, Swap}
 use Rattle.reindex.specs.FollowWords.{Entries, Followed}

@@ -11,11 +11,11 @@ use Rattle.words.specs.Choice.{both}
 use Rattle.words.specs.Parts.{region, put}
 use Rattle.words.specs.PartsLaws.{region-length, region-put}
 use Rattle.nodes.specs.declared.Node.{Node}
-use Rattle.nodes.specs.Table.{rows, fill}
+use Rattle.nodes.specs.Table.{rows, fill, numbers}
 use Rattle.nodes.specs.TableLaws.{rows-length, fill-length, rows-fill}
 use Rattle.nodes.specs.Order.{order}
 use Rattle.nodes.specs.Formed.{mostNodes, apart}
-use Rattle.index.specs.Index.{numbers, rises, indexed, indexOf}
+use Rattle.index.specs.Index.{rises, indexed, indexOf}
 use Rattle.index.specs.Words.{Keeps}
 use Rattle.index.specs.Nodes.{indexed-afresh, afresh-indexed}
 use Rattle.reindex.specs.declared.edit.Edit.{Edit}

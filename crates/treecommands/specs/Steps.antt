@@ -7,7 +7,7 @@ use native.Mathlib.Omega.{arith}
 use lib.ListN.{length}
 use Rattle.words.specs.Parts.{put}
 use Rattle.nodes.specs.declared.Node.{Node}
-use Rattle.nodes.specs.Table.{rows}
+use Rattle.nodes.specs.Table.{rows, numbers}
 use Rattle.nodes.specs.TableLaws.{rows-length}
 use Rattle.nodes.specs.Place.{lives}
 use Rattle.nodes.specs.Edit.{editRows, editAt}
@@ -19,7 +19,6 @@ use Rattle.values.specs.declared.NodeArgument.{NodeArgument}
 use Rattle.model.specs.declared.TreeCommand.{TreeCommand}
 use Rattle.model.specs.declared.Command.the-variants as command
 use Rattle.model.specs.declared.Answer.{Answer}
-use Rattle.index.specs.Index.{numbers}
 use Rattle.reindex.specs.declared.edit.Edit.{Edit}
 use Rattle.reindex.specs.Follow.{Carries, PlaceOfNode}
 use Rattle.reindex.specs.Edits.{Does}

@@ -15,15 +15,12 @@ use Rattle.nodes.specs.Formed.{apart, synthLives}
 use Rattle.treerefinement.specs.Tally.{one, tally, tally-append}
 use Rattle.treerefinement.specs.Keep.{numbered, synthNumbered, lives-some, synthLives-some, apart-few}
 use Rattle.treerefinement.specs.Latest.{kinds}
+use Rattle.nodes.specs.Table.{numbers}
 
 -- the records whose numbers fail a test: the test says which nodes are touched
 unfoldable pub left : (ℕ → Bool) → List Node → List Node
 left test [] = []
 left test (r ∷ l) = pick (test (r .number)) (left test l) (r ∷ left test l)
-
-unfoldable pub numbers : List Node → List ℕ
-numbers [] = []
-numbers (r ∷ l) = r .number ∷ numbers l
 
 -- the record of a node that lives, what stands before it and what behind it
 pub record RecordFound (n : ℕ) (t : List Node) : Type 0 where

@@ -3,8 +3,8 @@ use Prim.Native.Nat.{_*_, _-_, _≤_, _<_}
 use mathlib.Core.Path.{_≡_}
 use native.Mathlib.Omega.{arith}
 use lib.ListN.{take, drop}
-use Rattle.nodes.specs.Table.{width, rows}
-use Rattle.index.specs.Index.{numbers, rises, indexed}
+use Rattle.nodes.specs.Table.{width, rows, numbers}
+use Rattle.index.specs.Index.{rises, indexed}
 use Rattle.index.specs.Words.{IndexFits}
 use Rattle.index.specs.Checks.{rises-first, rises-past, rises-low, rises-on, rises-end}
 use Rattle.index.proofs.search.index_formed.Statement.{statement}
