@@ -11,7 +11,7 @@ use Rattle.nodes.specs.declared.Node.{Node}
 use Rattle.nodes.specs.Forest.{Forest, mapForest}
 use Rattle.nodes.specs.Formed.{apart}
 use Rattle.treerefinement.specs.Flatten.{key}
-use Rattle.treerefinement.specs.Family.{stands}
+use Rattle.nodes.specs.Structure.{listed}
 use Rattle.treerefinement.specs.Build.{build}
 use Rattle.model.specs.Engine.{Engine}
 use Rattle.model.specs.View.{PlainNode, viewOf}
@@ -60,7 +60,7 @@ pub record Answers (s : State) (p : Plain) : Type 0 where
   pub running : (n k : ℕ) → plainReason n (p .tree) ≡ Running k → StandsAt k n (engineIn s .order)
   pub standing : (n k : ℕ) → StandsAt k n (engineIn s .order) → plainReason n (p .tree) ≡ Running k
   -- off exactly if it is of a live synth that is not in the kept order
-  pub silent : (n : ℕ) → isOff (plainReason n (p .tree)) ≡ both (isSynth numberIn isGroupNode isOnNode (nodeOf numberIn n (p .tree))) (not (stands n (engineIn s .order)))
+  pub silent : (n : ℕ) → isOff (plainReason n (p .tree)) ≡ both (isSynth numberIn isGroupNode isOnNode (nodeOf numberIn n (p .tree))) (not (listed n (engineIn s .order)))
 
 -- of commands in a row, and the plain tree that is fed them
 pub why-of-commands : (s : State) → Fresh s → (cs : List Call) → Chain cs s → (p : Plain) → replay cs atFirst ≡ some p → Answers (leftBy cs s) p
@@ -77,7 +77,7 @@ why-of-commands s f cs a p h =
       facts = all;
       running = λ n k h. subst (λ (l : List ℕ). StandsAt k n l) (sym order) (all n .running k h);
       standing = λ n k h. all n .standing k (subst (λ (l : List ℕ). StandsAt k n l) order h);
-      silent = λ n. all n .silent ∙ ap (λ (l : List ℕ). both (isSynth numberIn isGroupNode isOnNode (nodeOf numberIn n (p .tree))) (not (stands n l))) (sym order);
+      silent = λ n. all n .silent ∙ ap (λ (l : List ℕ). both (isSynth numberIn isGroupNode isOnNode (nodeOf numberIn n (p .tree))) (not (listed n l))) (sym order);
     }
 
 -- of calls of every kind in any mixture: the plain tree is fed the commands that they stand for

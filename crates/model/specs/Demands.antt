@@ -18,7 +18,7 @@ use Rattle.format.specs.Writer.{fileVersion, writeFile}
 use Rattle.nodes.specs.declared.Node.{Node}
 use Rattle.nodes.specs.Place.{isGroup, lives}
 use Rattle.nodes.specs.Edit.{isBelow}
-use Rattle.nodes.specs.Structure.{parentOf, childrenOf, parent, children}
+use Rattle.nodes.specs.Structure.{parentOf, childrenOf, parent, children, listed}
 use Rattle.nodes.specs.Formed.{apart}
 use Rattle.model.specs.declared.DefinitionCommand.the-variants as definitions
 use Rattle.model.specs.declared.TreeCommand.{TreeCommand}
@@ -161,17 +161,13 @@ unfoldable pub definitionOfSynth : ℕ → List Row → Option Definition
 definitionOfSynth n [] = none
 definitionOfSynth n (r ∷ l) = pick (eqb (r .node .number) n) (definitionOfKind (r .node .kind)) (definitionOfSynth n l)
 
-unfoldable pub holds : ℕ → List ℕ → Bool
-holds n [] = false
-holds n (m ∷ ms) = either (eqb m n) (holds n ms)
-
 -- of a tree: numbers are distinct, every node descends from the root by one parent
 pub record TreeHolds (t : List Node) : Type 0 where
   pub distinct : apart t ≡ true
   pub descends : (n : ℕ) → lives n t ≡ true → isBelow n 0 t ≡ true
   pub parentGroup : (n : ℕ) → lives n t ≡ true → (n ≡ 0 → ⊥)
-      → (lives (parentOf n t) t ≡ true) × ((isGroup (nodeNamed (parentOf n t) t) ≡ true) × (holds n (childrenOf (parentOf n t) t) ≡ true))
-  pub oneParent : (n g : ℕ) → lives n t ≡ true → holds n (childrenOf g t) ≡ true → g ≡ parentOf n t
+      → (lives (parentOf n t) t ≡ true) × ((isGroup (nodeNamed (parentOf n t) t) ≡ true) × (listed n (childrenOf (parentOf n t) t) ≡ true))
+  pub oneParent : (n g : ℕ) → lives n t ≡ true → listed n (childrenOf g t) ≡ true → g ≡ parentOf n t
 
 -- the latest synth or none: its number in the state, or 0
 abbrev pub latestSynth : ℕ → Option ℕ

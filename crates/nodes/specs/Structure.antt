@@ -1,10 +1,11 @@
 -- Who stands where: parent, previous, next, head, tail and children of a node, in the table and in the plain tree.
 -- "number, parent (-1 for the root), previous, next, 1 for a group or 0, and for a group its head and tail; -1 where none"
 use Prim.Native.Nat.{ℕ}
+use mathlib.Core.Bool.{Bool, false}
 use mathlib.Core.List.{List, [], _∷_}
 use lib.ListN.{length}
 use lib.Dec.{ltb, eqb}
-use Rattle.words.specs.Choice.{pick}
+use Rattle.words.specs.Choice.{pick, either}
 use Rattle.nodes.specs.declared.Node.{Node}
 use Rattle.nodes.specs.Edit.{dropDeeper, runOf}
 use Rattle.nodes.specs.Forest.{Forest, none, node, has, below}
@@ -26,6 +27,11 @@ lastOr d (n ∷ l) = lastOr n l
 unfoldable pub atDepth : ℕ → List Node → List ℕ
 atDepth d [] = []
 atDepth d (r ∷ l) = pick (eqb (r .depth) d) (r .number ∷ atDepth d l) (atDepth d l)
+
+-- a number is in a list of numbers
+unfoldable pub listed : ℕ → List ℕ → Bool
+listed n [] = false
+listed n (m ∷ ms) = either (eqb m n) (listed n ms)
 
 -- the children of n: what stands at depth 1 in its run
 abbrev pub childrenOf : ℕ → List Node → List ℕ

@@ -13,7 +13,7 @@ use Rattle.nodes.specs.declared.Node.{Node}
 use Rattle.nodes.specs.Place.{isGroup, lives}
 use Rattle.nodes.specs.Edit.{isBelow}
 use Rattle.nodes.specs.Forest.{Forest, none, node, flatten, has, subtree, below}
-use Rattle.nodes.specs.Structure.{noNode, atDepth, childrenOf, parentOf, parentIn, parent, tops, children}
+use Rattle.nodes.specs.Structure.{noNode, atDepth, childrenOf, parentOf, parentIn, parent, tops, children, listed}
 use Rattle.nodes.specs.Formed.{rooted, apart}
 use Rattle.treerefinement.specs.Flatten.{key, lives-has, run-tree}
 use Rattle.treerefinement.specs.Leaves.{Leaves}
@@ -64,11 +64,6 @@ children-subtree n (node x b a) = go (eqb (x .number) n) (has key n b) (children
 
 pub children-tree : (n : ℕ) (f : Forest Node) → childrenOf n (flatten 0 f) ≡ children key n f
 children-tree n f = ap (λ (l : List Node). atDepth 1 l) (run-tree n f) ∙ children-subtree n f
-
--- a number stands in a list of numbers
-unfoldable pub stands : ℕ → List ℕ → Bool
-stands n [] = false
-stands n (m ∷ ms) = either (eqb m n) (stands n ms)
 
 -- the first node n of a forest is a group
 unfoldable pub groupIn : ℕ → Forest Node → Bool
@@ -122,18 +117,18 @@ other k m f e u = ne-eqb k m (λ q. let z : has key m f ≡ false = ap (λ (j : 
     clash : has key m f ≡ true → has key m f ≡ false → ⊥
     clash t f = let z : _≡_ {A = ℕ} 0 1 = cc in omega arith
 
-tops-has : (n : ℕ) (f : Forest Node) → stands n (tops key f) ≡ true → has key n f ≡ true
-unfolding tops stands has
+tops-has : (n : ℕ) (f : Forest Node) → listed n (tops key f) ≡ true → has key n f ≡ true
+unfolding tops listed has
 tops-has n none h = h
 tops-has n (node x b a) h = go (eqb (x .number) n) (has key n b) h (tops-has n a)
   where
-    go : (p q : Bool) → either p (stands n (tops key a)) ≡ true → (stands n (tops key a) ≡ true → has key n a ≡ true) → pick p true (pick q true (has key n a)) ≡ true
+    go : (p q : Bool) → either p (listed n (tops key a)) ≡ true → (listed n (tops key a) ≡ true → has key n a ≡ true) → pick p true (pick q true (has key n a)) ≡ true
     go true q e ih = refl
     go false true e ih = refl
     go false false e ih = ih e
 
-children-has : (n g : ℕ) (f : Forest Node) → stands n (children key g f) ≡ true → has key n f ≡ true
-unfolding below has tops stands
+children-has : (n g : ℕ) (f : Forest Node) → listed n (children key g f) ≡ true → has key n f ≡ true
+unfolding below has tops listed
 children-has n g none h = h
 children-has n g (node x b a) h = go (eqb (x .number) g) (has key g b) (eqb (x .number) n) h (children-has n g b) (children-has n g a)
   where
@@ -141,8 +136,8 @@ children-has n g (node x b a) h = go (eqb (x .number) g) (has key g b) (eqb (x .
     right true = refl
     right false = refl
 
-    go : (p q i : Bool) → stands n (tops key (pick p b (pick q (below key g b) (below key g a)))) ≡ true
-        → (stands n (children key g b) ≡ true → has key n b ≡ true) → (stands n (children key g a) ≡ true → has key n a ≡ true)
+    go : (p q i : Bool) → listed n (tops key (pick p b (pick q (below key g b) (below key g a)))) ≡ true
+        → (listed n (children key g b) ≡ true → has key n b ≡ true) → (listed n (children key g a) ≡ true → has key n a ≡ true)
         → pick i true (pick (has key n b) true (has key n a)) ≡ true
     go p q true e ib ia = refl
     go true q false e ib ia = rw (tops-has n b e)
@@ -151,25 +146,25 @@ children-has n g (node x b a) h = go (eqb (x .number) g) (has key g b) (eqb (x .
 
 -- q, the parent of n: n stands on top of the forest, whose parent is p, or among the children of the group q in it
 data Above (p n q : ℕ) (f : Forest Node) : Type 0 where
-  top : stands n (tops key f) ≡ true → q ≡ p → Above p n q f
-  under : has key q f ≡ true → groupIn q f ≡ true → stands n (children key q f) ≡ true → Above p n q f
+  top : listed n (tops key f) ≡ true → q ≡ p → Above p n q f
+  under : has key q f ≡ true → groupIn q f ≡ true → listed n (children key q f) ≡ true → Above p n q f
 
 -- the group q in a forest: its first node, or below that, or after it
 module _ (p n : ℕ) (x : Node) (b a : Forest Node) where
-  under-self : isGroup x ≡ true → stands n (tops key b) ≡ true → Above p n (x .number) (node x b a)
+  under-self : isGroup x ≡ true → listed n (tops key b) ≡ true → Above p n (x .number) (node x b a)
   unfolding has groupIn below
   under-self g s = let e = eq-eqb (x .number) (x .number) refl in under (rw e) (rw e g) (rw e s)
 
-  under-below : (q : ℕ) → eqb (x .number) q ≡ false → has key q b ≡ true → groupIn q b ≡ true → stands n (children key q b) ≡ true → Above p n q (node x b a)
+  under-below : (q : ℕ) → eqb (x .number) q ≡ false → has key q b ≡ true → groupIn q b ≡ true → listed n (children key q b) ≡ true → Above p n q (node x b a)
   unfolding has groupIn below
   under-below q e u g s = under (rw (e, u)) (rw (e, u) g) (rw (e, u) s)
 
-  under-after : (q : ℕ) → eqb (x .number) q ≡ false → has key q b ≡ false → has key q a ≡ true → groupIn q a ≡ true → stands n (children key q a) ≡ true → Above p n q (node x b a)
+  under-after : (q : ℕ) → eqb (x .number) q ≡ false → has key q b ≡ false → has key q a ≡ true → groupIn q a ≡ true → listed n (children key q a) ≡ true → Above p n q (node x b a)
   unfolding has groupIn below
   under-after q e u k g s = under (rw (e, u) k) (rw (e, u) g) (rw (e, u) s)
 
 above : (p n : ℕ) (f : Forest Node) → Distinct f → Leaves f → has key n f ≡ true → Above p n (parentIn key p n f) f
-unfolding Distinct Leaves has parentIn tops stands
+unfolding Distinct Leaves has parentIn tops listed
 above p n none d l h = top (cc) (cc)
 above p n (node x b a) d l h =
     go (eqb (x .number) n) (has key n b) refl refl h
@@ -211,19 +206,19 @@ above p n (node x b a) d l h =
     go false false e u t ib ia = later (parentIn key p n a) (ia t)
 
 -- no other group has it
-top-parent : (p n : ℕ) (f : Forest Node) → Distinct f → stands n (tops key f) ≡ true → parentIn key p n f ≡ p
-unfolding Distinct parentIn tops stands
+top-parent : (p n : ℕ) (f : Forest Node) → Distinct f → listed n (tops key f) ≡ true → parentIn key p n f ≡ p
+unfolding Distinct parentIn tops listed
 top-parent p n none d h = cc
 top-parent p n (node x b a) d h = go (eqb (x .number) n) (has key n b) refl h (top-parent p n a (d .4))
   where
-    go : (i j : Bool) → has key n b ≡ j → either i (stands n (tops key a)) ≡ true → (stands n (tops key a) ≡ true → parentIn key p n a ≡ p)
+    go : (i j : Bool) → has key n b ≡ j → either i (listed n (tops key a)) ≡ true → (listed n (tops key a) ≡ true → parentIn key p n a ≡ p)
         → pick i p (pick j (parentIn key (x .number) n b) (parentIn key p n a)) ≡ p
     go true j e t ih = refl
     go false true e t ih = let u : has key n a ≡ true = tops-has n a t in let v : has key n a ≡ false = d .2 n e in cc
     go false false e t ih = ih t
 
-one-parent : (p n g : ℕ) (f : Forest Node) → Distinct f → stands n (children key g f) ≡ true → g ≡ parentIn key p n f
-unfolding Distinct parentIn below tops stands
+one-parent : (p n g : ℕ) (f : Forest Node) → Distinct f → listed n (children key g f) ≡ true → g ≡ parentIn key p n f
+unfolding Distinct parentIn below tops listed
 one-parent p n g none d h = cc
 one-parent p n g (node x b a) d h =
     go (eqb (x .number) g) (has key g b) refl h (one-parent (x .number) n g b (d .3)) (one-parent p n g a (d .4))
@@ -239,8 +234,8 @@ one-parent p n g (node x b a) d h =
     lies-after : has key n a ≡ true → parentIn key p n a ≡ pick (eqb (x .number) n) p (pick (has key n b) (parentIn key (x .number) n b) (parentIn key p n a))
     lies-after u = let e = other (x .number) n a (d .1) u in let v = away (has key n b) refl u in rw (e, v)
 
-    go : (i j : Bool) → eqb (x .number) g ≡ i → stands n (tops key (pick i b (pick j (below key g b) (below key g a)))) ≡ true
-        → (stands n (children key g b) ≡ true → g ≡ parentIn key (x .number) n b) → (stands n (children key g a) ≡ true → g ≡ parentIn key p n a)
+    go : (i j : Bool) → eqb (x .number) g ≡ i → listed n (tops key (pick i b (pick j (below key g b) (below key g a)))) ≡ true
+        → (listed n (children key g b) ≡ true → g ≡ parentIn key (x .number) n b) → (listed n (children key g a) ≡ true → g ≡ parentIn key p n a)
         → g ≡ pick (eqb (x .number) n) p (pick (has key n b) (parentIn key (x .number) n b) (parentIn key p n a))
     go true j e t ib ia = sym (eqb-true (x .number) g e) ∙ sym (top-parent (x .number) n b (d .3) t) ∙ lies-below (tops-has n b t)
     go false true e t ib ia = ib t ∙ lies-below (children-has n g b t)
@@ -280,20 +275,20 @@ module _ (t : List Node) (h : rooted t ≡ true) (d : apart t ≡ true) where
       ∙ e
 
   -- a node's parent lives, is a group, and has it among its children
-  pub parent-group : (n : ℕ) → lives n t ≡ true → (n ≡ 0 → ⊥) → (lives (parentOf n t) t ≡ true) × (groupNamed (parentOf n t) t ≡ true) × (stands n (childrenOf (parentOf n t) t) ≡ true)
-  unfolding tops stands
+  pub parent-group : (n : ℕ) → lives n t ≡ true → (n ≡ 0 → ⊥) → (lives (parentOf n t) t ≡ true) × (groupNamed (parentOf n t) t ≡ true) × (listed n (childrenOf (parentOf n t) t) ≡ true)
+  unfolding tops listed
   parent-group n e k =
-      subst (λ (q : ℕ). (lives q t ≡ true) × (groupNamed q t ≡ true) × (stands n (childrenOf q t) ≡ true)) (sym (parents n))
+      subst (λ (q : ℕ). (lives q t ≡ true) × (groupNamed q t ≡ true) × (listed n (childrenOf q t) ≡ true)) (sym (parents n))
       (go (parent key n (build t)) (above noNode n (build t) distinct (tree-leaves (build t) tree) (there n ∙ e)))
     where
       alone : (b : Bool) → eqb (tree .root .number) n ≡ b → either b false ≡ true → ⊥
       alone true q u = k (sym (eqb-true (tree .root .number) n q) ∙ tree .zero)
       alone false q u = let z : _≡_ {A = ℕ} 0 1 = cc in omega arith
 
-      go : (q : ℕ) → Above noNode n q (build t) → (lives q t ≡ true) × (groupNamed q t ≡ true) × (stands n (childrenOf q t) ≡ true)
-      go q (top s u) = absurd (alone (eqb (tree .root .number) n) refl (sym (ap (λ (f : Forest Node). stands n (tops key f)) (tree .top)) ∙ s))
-      go q (under u g s) = (sym (there q) ∙ u, groups q u ∙ g, ap (λ (l : List ℕ). stands n l) (childrens q) ∙ s)
+      go : (q : ℕ) → Above noNode n q (build t) → (lives q t ≡ true) × (groupNamed q t ≡ true) × (listed n (childrenOf q t) ≡ true)
+      go q (top s u) = absurd (alone (eqb (tree .root .number) n) refl (sym (ap (λ (f : Forest Node). listed n (tops key f)) (tree .top)) ∙ s))
+      go q (under u g s) = (sym (there q) ∙ u, groups q u ∙ g, ap (λ (l : List ℕ). listed n l) (childrens q) ∙ s)
 
   -- and no other has
-  pub one-parent-of : (n g : ℕ) → stands n (childrenOf g t) ≡ true → g ≡ parentOf n t
-  one-parent-of n g s = one-parent noNode n g (build t) distinct (ap (λ (l : List ℕ). stands n l) (sym (childrens g)) ∙ s) ∙ sym (parents n)
+  pub one-parent-of : (n g : ℕ) → listed n (childrenOf g t) ≡ true → g ≡ parentOf n t
+  one-parent-of n g s = one-parent noNode n g (build t) distinct (ap (λ (l : List ℕ). listed n l) (sym (childrens g)) ∙ s) ∙ sym (parents n)

@@ -14,7 +14,7 @@ use Rattle.nodes.specs.Forest.{Forest, node}
 use Rattle.nodes.specs.Forest as forest
 use Rattle.nodes.specs.Order.{orderTree}
 use Rattle.treerefinement.specs.Tally.{one}
-use Rattle.treerefinement.specs.Family.{stands}
+use Rattle.nodes.specs.Structure.{listed}
 use Rattle.model.specs.Plain.{ifSome}
 use Rattle.why.specs.declared.Reason.{Reason}
 use Rattle.why.specs.declared.Reason.the-variants.{NoNode, Group, Off, AncestorOff, Running}
@@ -49,12 +49,12 @@ module _ {A : Type 0} (key : A → ℕ) (group on : A → Bool) where
   Holds (Running k) n f = StandsAt k n (orderTree key group on f)
 
 -- a number that stands in a list stands at its place
-stands-split : (n : ℕ) (l : List ℕ) → stands n l ≡ true → StandsAt (placeFrom1 n l) n l
-unfolding stands placeFrom1
+stands-split : (n : ℕ) (l : List ℕ) → listed n l ≡ true → StandsAt (placeFrom1 n l) n l
+unfolding listed placeFrom1
 stands-split n [] h = absurd (let z : _≡_ {A = ℕ} 0 1 = cc in omega arith)
 stands-split n (m ∷ l) h = go (eqb m n) refl h (stands-split n l)
   where
-    go : (p : Bool) → eqb m n ≡ p → either p (stands n l) ≡ true → (stands n l ≡ true → StandsAt (placeFrom1 n l) n l) → StandsAt (pick p 1 (suc (placeFrom1 n l))) n (m ∷ l)
+    go : (p : Bool) → eqb m n ≡ p → either p (listed n l) ≡ true → (listed n l ≡ true → StandsAt (placeFrom1 n l) n l) → StandsAt (pick p 1 (suc (placeFrom1 n l))) n (m ∷ l)
     go true e t ih = record { front = []; back = l; split = ap (λ (k : ℕ). k ∷ l) (eqb-true m n e); counted = refl }
     go false e t ih =
         let w = ih t in
@@ -71,8 +71,8 @@ count-append n [] b = omega arith
 count-append n (m ∷ a) b = let ih = count-append n a b in omega arith
 
 -- where it stands once, there is one such place
-one-place : (n : ℕ) (front back : List ℕ) → count n (front ++ n ∷ back) ≤ 1 → (stands n (front ++ n ∷ back) ≡ true) × (placeFrom1 n (front ++ n ∷ back) ≡ length front + 1)
-unfolding count stands placeFrom1
+one-place : (n : ℕ) (front back : List ℕ) → count n (front ++ n ∷ back) ≤ 1 → (listed n (front ++ n ∷ back) ≡ true) × (placeFrom1 n (front ++ n ∷ back) ≡ length front + 1)
+unfolding count listed placeFrom1
 one-place n [] back h = (rw (eq-eqb n n refl), rw (eq-eqb n n refl))
 one-place n (m ∷ front) back h = go (eqb m n) h (one-place n front back)
   where
@@ -80,8 +80,8 @@ one-place n (m ∷ front) back h = go (eqb m n) h (one-place n front back)
     here = rw (eq-eqb n n refl)
 
     go : (p : Bool) → one p + count n (front ++ n ∷ back) ≤ 1
-        → (count n (front ++ n ∷ back) ≤ 1 → (stands n (front ++ n ∷ back) ≡ true) × (placeFrom1 n (front ++ n ∷ back) ≡ length front + 1))
-        → (either p (stands n (front ++ n ∷ back)) ≡ true) × (pick p 1 (suc (placeFrom1 n (front ++ n ∷ back))) ≡ suc (length front) + 1)
+        → (count n (front ++ n ∷ back) ≤ 1 → (listed n (front ++ n ∷ back) ≡ true) × (placeFrom1 n (front ++ n ∷ back) ≡ length front + 1))
+        → (either p (listed n (front ++ n ∷ back)) ≡ true) × (pick p 1 (suc (placeFrom1 n (front ++ n ∷ back))) ≡ suc (length front) + 1)
     go true k ih = let all = count-append n front (n ∷ back) in absurd (omega (arith, here, all))
     go false k ih = let w = ih (omega arith) in (w .0, (let e = w .1 in omega arith))
 
@@ -135,7 +135,7 @@ module _ {A : Type 0} (key : A → ℕ) (group on : A → Bool) (n : ℕ) where
     by-node : (y : Option A) → nodeOf key n f ≡ y → reason key group on n f ≡ firstTrue key group on y (firstOff key on (ancestors key n f)) (placeFrom1 n (orderOf f))
     by-node y e = ap (λ (z : Option A). firstTrue key group on z (firstOff key on (ancestors key n f)) (placeFrom1 n (orderOf f))) e
 
-    stands-runs : (x : A) → nodeOf key n f ≡ some x → group x ≡ false → on x ≡ true → stands n (orderOf f) ≡ allOn key on (ancestors key n f)
+    stands-runs : (x : A) → nodeOf key n f ≡ some x → group x ≡ false → on x ≡ true → listed n (orderOf f) ≡ allOn key on (ancestors key n f)
     stands-runs x e g o = order-runs key group on n f once ∙ ap (λ (y : Option A). runs key group on y (ancestors key n f)) e ∙ rw (g, o)
 
     -- the answer holds
@@ -180,7 +180,7 @@ module _ {A : Type 0} (key : A → ℕ) (group on : A → Bool) (n : ℕ) where
         place = ap (λ (l : List ℕ). placeFrom1 n l) (h .split) ∙ one-place n (h .front) (h .back) fair .1 ∙ sym (h .counted)
 
         standing : runs key group on (nodeOf key n f) (ancestors key n f) ≡ true
-        standing = sym (order-runs key group on n f once) ∙ ap (λ (l : List ℕ). stands n l) (h .split) ∙ one-place n (h .front) (h .back) fair .0
+        standing = sym (order-runs key group on n f once) ∙ ap (λ (l : List ℕ). listed n l) (h .split) ∙ one-place n (h .front) (h .back) fair .0
 
         voice : (x : A) → nodeOf key n f ≡ some x → (p o : Bool) → group x ≡ p → on x ≡ o → pick p false (both o (allOn key on (ancestors key n f))) ≡ true → Running k ≡ reason key group on n f
         voice x e true o g u t = absurd (let z : _≡_ {A = ℕ} 0 1 = cc in omega arith)

@@ -9,7 +9,7 @@ use borrow.Author.Tests.{eq-eqb}
 use Rattle.words.specs.Choice.{pick, both, either}
 use Rattle.nodes.specs.Forest.{Forest, has, below}
 use Rattle.nodes.specs.Order.{orderTree}
-use Rattle.treerefinement.specs.Family.{stands}
+use Rattle.nodes.specs.Structure.{listed}
 use Rattle.why.specs.declared.Reason.{Reason}
 use Rattle.why.specs.declared.Reason.the-variants.{NoNode, Group, Off, AncestorOff, Running}
 use Rattle.why.specs.Reasons.{nodeOf, ancestors, reason}
@@ -48,13 +48,13 @@ module _ {A : Type 0} (key : A → ℕ) (group on : A → Bool) where
     pub running : (k : ℕ) → reason key group on n f ≡ Running k → StandsAt k n (orderTree key group on f)
     pub standing : (k : ℕ) → StandsAt k n (orderTree key group on f) → reason key group on n f ≡ Running k
     -- off exactly if it is of a live synth that is not in the order
-    pub silent : isOff (reason key group on n f) ≡ both (isSynth (nodeOf key n f)) (not (stands n (orderTree key group on f)))
+    pub silent : isOff (reason key group on n f) ≡ both (isSynth (nodeOf key n f)) (not (listed n (orderTree key group on f)))
     -- the ancestor that is named is one, is off, and none above it is
     pub named : (m : ℕ) → reason key group on n f ≡ AncestorOff m → OffAbove m n f
 
 -- a number at a place stands in the list
-stands-there : (n : ℕ) (front back : List ℕ) → stands n (front ++ n ∷ back) ≡ true
-unfolding stands
+stands-there : (n : ℕ) (front back : List ℕ) → listed n (front ++ n ∷ back) ≡ true
+unfolding listed
 stands-there n [] back = rw (eq-eqb n n refl)
 stands-there n (m ∷ front) back = rw (stands-there n front back) (go (eqb m n))
   where
@@ -77,7 +77,7 @@ module _ {A : Type 0} (key : A → ℕ) (group on : A → Bool) (f : Forest A) (
   orderOf = orderTree key group on f
 
   -- it stands in the order exactly if it runs
-  stands-by : (y : Option A) → nodeOf key n f ≡ y → stands n (orderTree key group on f) ≡ runs key group on y (ancestors key n f)
+  stands-by : (y : Option A) → nodeOf key n f ≡ y → listed n (orderTree key group on f) ≡ runs key group on y (ancestors key n f)
   stands-by y e = order-runs key group on n f (once n) ∙ ap (λ (z : Option A). runs key group on z (ancestors key n f)) e
 
   synth-runs : (y : Option A) (l : List A) → runs key group on y l ≡ true → isSynth key group on y ≡ true
@@ -88,18 +88,18 @@ module _ {A : Type 0} (key : A → ℕ) (group on : A → Bool) (f : Forest A) (
       go true h = h
       go false h = refl
 
-  silent-by : (r : Reason) → Holds key group on r n f → isOff r ≡ both (isSynth key group on (nodeOf key n f)) (not (stands n (orderTree key group on f)))
+  silent-by : (r : Reason) → Holds key group on r n f → isOff r ≡ both (isSynth key group on (nodeOf key n f)) (not (listed n (orderTree key group on f)))
   silent-by NoNode h = rw h
   silent-by Group h = rw (h .1, h .2)
-  silent-by Off h = let out : stands n (orderTree key group on f) ≡ false = stands-by (some (h .0)) (h .1) ∙ rw (h .2, h .3) in rw (h .1, h .2, out)
+  silent-by Off h = let out : listed n (orderTree key group on f) ≡ false = stands-by (some (h .0)) (h .1) ∙ rw (h .2, h .3) in rw (h .1, h .2, out)
   silent-by (AncestorOff m) h =
       let w = h .4 in
-      let out : stands n (orderTree key group on f) ≡ false =
+      let out : listed n (orderTree key group on f) ≡ false =
       stands-by (some (h .0)) (h .1)
       ∙ rw (h .2, h .3) (ap (λ (l : List A). allOn key on l) (w .split) ∙ not-all key on (w .above) (w .ancestor) (w .under) (w .off)) in
       rw (h .1, h .2, out)
   silent-by (Running k) h =
-      let there : stands n (orderTree key group on f) ≡ true = ap (λ (l : List ℕ). stands n l) (h .split) ∙ stands-there n (h .front) (h .back) in
+      let there : listed n (orderTree key group on f) ≡ true = ap (λ (l : List ℕ). listed n l) (h .split) ∙ stands-there n (h .front) (h .back) in
       let voice : isSynth key group on (nodeOf key n f) ≡ true = synth-runs (nodeOf key n f) (ancestors key n f) (sym (stands-by (nodeOf key n f) refl) ∙ there) in
       rw (voice, there)
 

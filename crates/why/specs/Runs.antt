@@ -13,15 +13,15 @@ use Rattle.nodes.specs.Forest as forest
 use Rattle.nodes.specs.Order.{orderTree}
 use Rattle.treerefinement.specs.Tally.{one}
 use Rattle.treerefinement.specs.Flatten.{neither}
-use Rattle.treerefinement.specs.Family.{stands}
+use Rattle.nodes.specs.Structure.{listed}
 use Rattle.why.specs.Reasons.{nodeOf, ancestors, firstOff}
 
-stands-append : (n : ℕ) (a b : List ℕ) → stands n (a ++ b) ≡ either (stands n a) (stands n b)
-unfolding stands
+stands-append : (n : ℕ) (a b : List ℕ) → listed n (a ++ b) ≡ either (listed n a) (listed n b)
+unfolding listed
 stands-append n [] b = refl
 stands-append n (m ∷ a) b = ap (λ (q : Bool). either (eqb m n) q) (stands-append n a b) ∙ go (eqb m n)
   where
-    go : (p : Bool) → either p (either (stands n a) (stands n b)) ≡ either (either p (stands n a)) (stands n b)
+    go : (p : Bool) → either p (either (listed n a) (listed n b)) ≡ either (either p (listed n a)) (listed n b)
     go true = refl
     go false = refl
 
@@ -103,22 +103,22 @@ module _ {A : Type 0} (key : A → ℕ) (group on : A → Bool) where
   orderOf f = orderTree key group on f
 
   -- what no node has does not stand in the order
-  none-stands : (n : ℕ) (f : Forest A) → times key n f ≡ 0 → stands n (orderOf f) ≡ false
-  unfolding times orderTree stands
+  none-stands : (n : ℕ) (f : Forest A) → times key n f ≡ 0 → listed n (orderOf f) ≡ false
+  unfolding times orderTree listed
   none-stands n forest.none h = refl
   none-stands n (node x b a) h =
       stands-append n (pick (on x) (pick (group x) (orderOf b) (key x ∷ orderOf b)) []) (orderOf a)
       ∙ go (on x) (group x) (eqb (key x) n) refl h (λ e. none-stands n b e) (λ e. none-stands n a e)
     where
-      go : (o g p : Bool) → eqb (key x) n ≡ p → one p + (times key n b + times key n a) ≡ 0 → (times key n b ≡ 0 → stands n (orderOf b) ≡ false) → (times key n a ≡ 0 → stands n (orderOf a) ≡ false)
-          → either (stands n (pick o (pick g (orderOf b) (key x ∷ orderOf b)) [])) (stands n (orderOf a)) ≡ false
+      go : (o g p : Bool) → eqb (key x) n ≡ p → one p + (times key n b + times key n a) ≡ 0 → (times key n b ≡ 0 → listed n (orderOf b) ≡ false) → (times key n a ≡ 0 → listed n (orderOf a) ≡ false)
+          → either (listed n (pick o (pick g (orderOf b) (key x ∷ orderOf b)) [])) (listed n (orderOf a)) ≡ false
       go o g true e t i j = absurd (omega arith)
       go false g false e t i j = j (omega arith)
       go true true false e t i j = rw (i (omega arith), j (omega arith))
       go true false false e t i j = rw (e, i (omega arith), j (omega arith))
 
-  pub order-runs : (n : ℕ) (f : Forest A) → times key n f ≤ 1 → stands n (orderOf f) ≡ runs (nodeOf key n f) (ancestors key n f)
-  unfolding times orderTree stands nodeOf ancestors allOn
+  pub order-runs : (n : ℕ) (f : Forest A) → times key n f ≤ 1 → listed n (orderOf f) ≡ runs (nodeOf key n f) (ancestors key n f)
+  unfolding times orderTree listed nodeOf ancestors allOn
   order-runs n forest.none h = refl
   order-runs n (node x b a) h =
       stands-append n (pick (on x) (pick (group x) (orderOf b) (key x ∷ orderOf b)) []) (orderOf a)
@@ -140,17 +140,17 @@ module _ {A : Type 0} (key : A → ℕ) (group on : A → Bool) where
       right false = refl
 
       go : (o : Bool) → on x ≡ o → (g : Bool) → group x ≡ g → (p q : Bool) → eqb (key x) n ≡ p → has key n b ≡ q → one p + (times key n b + times key n a) ≤ 1
-          → (times key n b ≤ 1 → stands n (orderOf b) ≡ runs (nodeOf key n b) (ancestors key n b))
-          → (times key n a ≤ 1 → stands n (orderOf a) ≡ runs (nodeOf key n a) (ancestors key n a))
-          → either (stands n (pick o (pick g (orderOf b) (key x ∷ orderOf b)) [])) (stands n (orderOf a))
+          → (times key n b ≤ 1 → listed n (orderOf b) ≡ runs (nodeOf key n b) (ancestors key n b))
+          → (times key n a ≤ 1 → listed n (orderOf a) ≡ runs (nodeOf key n a) (ancestors key n a))
+          → either (listed n (pick o (pick g (orderOf b) (key x ∷ orderOf b)) [])) (listed n (orderOf a))
           ≡ runs (pick p (some x) (pick q (nodeOf key n b) (nodeOf key n a))) (pick p [] (pick q (x ∷ ancestors key n b) (ancestors key n a)))
       -- the node itself
       go o d g e true q k u t i j =
-          let outB : stands n (orderOf b) ≡ false = none-stands n b (omega arith) in
-          let outA : stands n (orderOf a) ≡ false = none-stands n a (omega arith) in
+          let outB : listed n (orderOf b) ≡ false = none-stands n b (omega arith) in
+          let outA : listed n (orderOf a) ≡ false = none-stands n a (omega arith) in
           rw (outA, d, e) (self o g k outB)
         where
-          self : (o g : Bool) → eqb (key x) n ≡ true → stands n (orderOf b) ≡ false → either (stands n (pick o (pick g (orderOf b) (key x ∷ orderOf b)) [])) false ≡ pick g false (both o true)
+          self : (o g : Bool) → eqb (key x) n ≡ true → listed n (orderOf b) ≡ false → either (listed n (pick o (pick g (orderOf b) (key x ∷ orderOf b)) [])) false ≡ pick g false (both o true)
           self true true k z = rw z
           self true false k z = rw k
           self false true k z = refl
@@ -158,22 +158,22 @@ module _ {A : Type 0} (key : A → ℕ) (group on : A → Bool) where
       -- below it
       go o d g e false true k u t i j =
           let some : 0 < times key n b = some-times key n b u in
-          let outA : stands n (orderOf a) ≡ false = none-stands n a (omega arith) in
-          rw outA (right (stands n (pick o (pick g (orderOf b) (key x ∷ orderOf b)) [])) ∙ below o g ∙ sym (inner (nodeOf key n b) (ancestors key n b) o d))
+          let outA : listed n (orderOf a) ≡ false = none-stands n a (omega arith) in
+          rw outA (right (listed n (pick o (pick g (orderOf b) (key x ∷ orderOf b)) [])) ∙ below o g ∙ sym (inner (nodeOf key n b) (ancestors key n b) o d))
         where
-          below : (o g : Bool) → stands n (pick o (pick g (orderOf b) (key x ∷ orderOf b)) []) ≡ pick o (runs (nodeOf key n b) (ancestors key n b)) false
+          below : (o g : Bool) → listed n (pick o (pick g (orderOf b) (key x ∷ orderOf b)) []) ≡ pick o (runs (nodeOf key n b) (ancestors key n b)) false
           below true true = i (omega arith)
           below true false = rw k (i (omega arith))
           below false g = refl
       -- after it
       go o d g e false false k u t i j =
-          let outB : stands n (orderOf b) ≡ false = none-stands n b (zero-times u) in
+          let outB : listed n (orderOf b) ≡ false = none-stands n b (zero-times u) in
           rw (first o g outB) (j (omega arith))
         where
           zero-times : has key n b ≡ false → times key n b ≡ 0
           zero-times w = let z : times key n b ≤ 0 = ltb-false 0 (times key n b) (sym (has-times key n b) ∙ w) in omega arith
 
-          first : (o g : Bool) → stands n (orderOf b) ≡ false → stands n (pick o (pick g (orderOf b) (key x ∷ orderOf b)) []) ≡ false
+          first : (o g : Bool) → listed n (orderOf b) ≡ false → listed n (pick o (pick g (orderOf b) (key x ∷ orderOf b)) []) ≡ false
           first true true z = z
           first true false z = rw (k, z)
           first false g z = refl

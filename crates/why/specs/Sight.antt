@@ -16,7 +16,7 @@ use Rattle.nodes.specs.Forest.{Forest, node, flatten, has}
 use Rattle.nodes.specs.Forest as forest
 use Rattle.nodes.specs.Order.{isOn, orderFrom}
 use Rattle.treerefinement.specs.Flatten.{key, neither}
-use Rattle.treerefinement.specs.Family.{stands}
+use Rattle.nodes.specs.Structure.{listed}
 use Rattle.treerefinement.specs.Parent.{depthIn, depth-least}
 use Rattle.why.specs.Reasons.{ancestors, firstOff, placeFrom1}
 use Rattle.why.specs.Rows.{see, sight}
@@ -183,32 +183,32 @@ order-on s (r ∷ a) b =
     go false o g i j k = k
 
 -- a number does not stand in the order of the rows before its own
-pub order-before : (n limit : ℕ) (l : List Node) → stands n (orderFrom limit (rowsBefore n l)) ≡ false
-unfolding rowsBefore orderFrom stands
+pub order-before : (n limit : ℕ) (l : List Node) → listed n (orderFrom limit (rowsBefore n l)) ≡ false
+unfolding rowsBefore orderFrom listed
 order-before n limit [] = refl
 order-before n limit (r ∷ l) = go (eqb (r .number) n) refl (order-before n (r .depth + 1) l) (order-before n (r .depth) l) (order-before n limit l)
   where
     before : List Node
     before = rowsBefore n l
 
-    inner : (q o g : Bool) → eqb (r .number) n ≡ false → stands n (orderFrom (r .depth + 1) before) ≡ false → stands n (orderFrom (r .depth) before) ≡ false → stands n (orderFrom limit before) ≡ false
-        → stands n (pick q (pick o (pick g (orderFrom (r .depth + 1) before) (r .number ∷ orderFrom (r .depth + 1) before)) (orderFrom (r .depth) before)) (orderFrom limit before)) ≡ false
+    inner : (q o g : Bool) → eqb (r .number) n ≡ false → listed n (orderFrom (r .depth + 1) before) ≡ false → listed n (orderFrom (r .depth) before) ≡ false → listed n (orderFrom limit before) ≡ false
+        → listed n (pick q (pick o (pick g (orderFrom (r .depth + 1) before) (r .number ∷ orderFrom (r .depth + 1) before)) (orderFrom (r .depth) before)) (orderFrom limit before)) ≡ false
     inner true true true e i j k = i
-    inner true true false e i j k = ap (λ (m : Bool). either m (stands n (orderFrom (r .depth + 1) before))) e ∙ i
+    inner true true false e i j k = ap (λ (m : Bool). either m (listed n (orderFrom (r .depth + 1) before))) e ∙ i
     inner true false g e i j k = j
     inner false o g e i j k = k
 
-    go : (p : Bool) → eqb (r .number) n ≡ p → stands n (orderFrom (r .depth + 1) before) ≡ false → stands n (orderFrom (r .depth) before) ≡ false → stands n (orderFrom limit before) ≡ false
-        → stands n (orderFrom limit (pick p [] (r ∷ before))) ≡ false
+    go : (p : Bool) → eqb (r .number) n ≡ p → listed n (orderFrom (r .depth + 1) before) ≡ false → listed n (orderFrom (r .depth) before) ≡ false → listed n (orderFrom limit before) ≡ false
+        → listed n (orderFrom limit (pick p [] (r ∷ before))) ≡ false
     go true e i j k = refl
     go false e i j k = inner (leb (r .depth) limit) (isOn r) (isGroup r) e i j k
 
 -- so its place is behind them
-pub place-behind : (n : ℕ) (a b : List ℕ) → stands n a ≡ false → placeFrom1 n (a ++ b) ≡ length a + placeFrom1 n b
-unfolding stands placeFrom1
+pub place-behind : (n : ℕ) (a b : List ℕ) → listed n a ≡ false → placeFrom1 n (a ++ b) ≡ length a + placeFrom1 n b
+unfolding listed placeFrom1
 place-behind n [] b h = omega arith
 place-behind n (m ∷ a) b h = go (eqb m n) h (place-behind n a b)
   where
-    go : (p : Bool) → either p (stands n a) ≡ false → (stands n a ≡ false → placeFrom1 n (a ++ b) ≡ length a + placeFrom1 n b) → pick p 1 (suc (placeFrom1 n (a ++ b))) ≡ suc (length a) + placeFrom1 n b
+    go : (p : Bool) → either p (listed n a) ≡ false → (listed n a ≡ false → placeFrom1 n (a ++ b) ≡ length a + placeFrom1 n b) → pick p 1 (suc (placeFrom1 n (a ++ b))) ≡ suc (length a) + placeFrom1 n b
     go true k ih = cc
     go false k ih = let e = ih k in omega arith
