@@ -14,9 +14,9 @@ use Rattle.format.specs.Reader.{readFile}
 use Rattle.nodes.specs.declared.Node.{Node}
 use Rattle.nodes.specs.Place.{isGroup}
 use Rattle.nodes.specs.Edit.{runOf, isBelow, cut}
-use Rattle.nodes.specs.Formed.{mostRows, rowFormed, allFormed, rowTaken, rowsApart}
+use Rattle.nodes.specs.Formed.{mostRows, rowFormed, allFormed, rowTaken, rowsApart, inRow}
 use Rattle.treerefinement.specs.Tally.{tally, tally-cut, Within, cut-within}
-use Rattle.treerefinement.specs.Keep.{inRow, rowTaken-some, rows-few, within-formed}
+use Rattle.treerefinement.specs.Keep.{rowTaken-some, rows-few, within-formed}
 use Rattle.treerefinement.specs.Left.{left, left-cut}
 use Rattle.values.specs.declared.Key.{Key}
 use Rattle.values.specs.declared.Key.the-variants.{Name}

@@ -67,10 +67,14 @@ unfoldable pub allFormed : ℕ → List Node → Bool
 allFormed next [] = true
 allFormed next (r ∷ l) = both (fieldsFormed next r) (allFormed next l)
 
+-- the record is a synth with the row k
+abbrev pub inRow : ℕ → Node → Bool
+inRow k r = pick (isGroup r) false (eqb (r .row) k)
+
 -- a synth of the table has the row k
 unfoldable pub rowTaken : ℕ → List Node → Bool
 rowTaken k [] = false
-rowTaken k (r ∷ l) = either (pick (isGroup r) false (eqb (r .row) k)) (rowTaken k l)
+rowTaken k (r ∷ l) = either (inRow k r) (rowTaken k l)
 
 -- the lowest row from k on that no synth of the table has, of n rows; and of all rows, 256 where there is none
 unfoldable pub freeRowFrom : ℕ → ℕ → List Node → ℕ

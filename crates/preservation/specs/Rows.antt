@@ -12,9 +12,9 @@ use Rattle.words.specs.ChoiceLaws.{both-true}
 use Rattle.nodes.specs.declared.Node.{Node}
 use Rattle.nodes.specs.Place.{isGroup}
 use Rattle.nodes.specs.Order.{isOn, orderFrom, order}
-use Rattle.nodes.specs.Formed.{mostNodes, mostRows, rooted, rowTaken, freeRowFrom, freeRow}
+use Rattle.nodes.specs.Formed.{mostNodes, mostRows, rooted, rowTaken, freeRowFrom, freeRow, inRow}
 use Rattle.treerefinement.specs.Tally.{one, tally}
-use Rattle.treerefinement.specs.Keep.{inRow, rowTaken-some}
+use Rattle.treerefinement.specs.Keep.{rowTaken-some}
 
 pub tally-most : (p : Node → Bool) (t : List Node) → tally p t ≤ length t
 unfolding tally

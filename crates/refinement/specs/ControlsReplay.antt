@@ -19,11 +19,11 @@ use Rattle.nodes.specs.Place.{groupSlot, isGroup, lives}
 use Rattle.nodes.specs.Edit.{level, runOf}
 use Rattle.nodes.specs.Forest.{Forest, node, flatten, mapForest, has, subtree, edit}
 use Rattle.nodes.specs.Forest as forest
-use Rattle.nodes.specs.Formed.{mostRows, numberFormed, rowFormed, fieldsFormed, allFormed, rowTaken, rowsApart}
+use Rattle.nodes.specs.Formed.{mostRows, numberFormed, rowFormed, fieldsFormed, allFormed, rowTaken, rowsApart, inRow}
 use Rattle.treerefinement.specs.Flatten.{key, lives-has, run-tree}
 use Rattle.treerefinement.specs.MapForest.{Each, map-each, map-map, map-has}
 use Rattle.treerefinement.specs.Tally.{one, tally, IgnoresDepth, tally-append}
-use Rattle.treerefinement.specs.Keep.{inRow, rows-few, few-rows}
+use Rattle.treerefinement.specs.Keep.{rows-few, few-rows}
 use Rattle.preservation.specs.Parameters.{few-parameters}
 use Rattle.values.specs.declared.Key.{Key}
 use Rattle.values.specs.Controls.{ControlValue}

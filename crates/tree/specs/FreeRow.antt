@@ -16,18 +16,14 @@ use Rattle.nodes.specs.declared.Node.{Node}
 use Rattle.nodes.specs.Table.{width, nodeFrom, rows}
 use Rattle.nodes.specs.TableLaws.{rows-take, rows-end, row-from}
 use Rattle.nodes.specs.Place.{isGroup}
-use Rattle.nodes.specs.Formed.{mostRows, rowTaken, freeRowFrom}
+use Rattle.nodes.specs.Formed.{mostRows, rowTaken, freeRowFrom, inRow}
 
 -- the record's row, or 256 for a group
 abbrev pub rowOr : Node → ℕ
 rowOr r = pick (isGroup r) mostRows (r .row)
 
--- the record is a synth with the row k
-abbrev pub rowIs : ℕ → Node → Bool
-rowIs k r = pick (isGroup r) false (eqb (r .row) k)
-
 module _ (n : ℕ) (us : List ℕ) (k i : ℕ) where
-  pub taken-turn : i < n → rowTaken k (drop i (rows n us)) ≡ either (rowIs k (nodeFrom us (width * i))) (rowTaken k (drop (i + 1) (rows n us)))
+  pub taken-turn : i < n → rowTaken k (drop i (rows n us)) ≡ either (inRow k (nodeFrom us (width * i))) (rowTaken k (drop (i + 1) (rows n us)))
   unfolding rowTaken
   taken-turn h = ap (λ (l : List Node). rowTaken k l) (row-from n us i h)
 
@@ -46,7 +42,7 @@ either-three false b c = refl
 taken-append : (k : ℕ) (s t : List Node) → rowTaken k (s ++ t) ≡ either (rowTaken k s) (rowTaken k t)
 unfolding rowTaken
 taken-append k [] t = refl
-taken-append k (r ∷ s) t = ap (λ (b : Bool). either (rowIs k r) b) (taken-append k s t) ∙ either-three (rowIs k r) (rowTaken k s) (rowTaken k t)
+taken-append k (r ∷ s) t = ap (λ (b : Bool). either (inRow k r) b) (taken-append k s t) ∙ either-three (inRow k r) (rowTaken k s) (rowTaken k t)
 
 -- the marks of the records before a place and from another on, one after the other
 pub taken-beside : (n : ℕ) (us : List ℕ) (from to k : ℕ) → from ≤ n → k < 256
@@ -62,7 +58,7 @@ pub marked-end : (marks : List Bool) (all : ℕ → Bool) (n : ℕ) (us : List �
 marked-end marks all n us i h is k s = sym (either-none (getD marks k false)) ∙ ap (λ (b : Bool). either (getD marks k false) b) (sym (taken-end n us k i h)) ∙ is k s
 
 -- the row of a record is one below 256 where the record is a synth that has it
-row-is : (r : Node) (k : ℕ) → k < mostRows → eqb (rowOr r) k ≡ rowIs k r
+row-is : (r : Node) (k : ℕ) → k < mostRows → eqb (rowOr r) k ≡ inRow k r
 row-is r k h = go (isGroup r)
   where
     go : (b : Bool) → eqb (pick b mostRows (r .row)) k ≡ pick b false (eqb (r .row) k)

@@ -12,15 +12,12 @@ use Rattle.words.specs.ChoiceLaws.{both-true}
 use Rattle.nodes.specs.declared.Node.{Node}
 use Rattle.nodes.specs.Place.{groupSlot, isGroup, lives}
 use Rattle.nodes.specs.Edit.{withRun, setRun}
-use Rattle.nodes.specs.Formed.{apart, firstGiven, lastGiven, numberFormed, rowFormed, fieldsFormed, allFormed, rowTaken, rowsApart, synthLives}
+use Rattle.nodes.specs.Formed.{apart, firstGiven, lastGiven, numberFormed, rowFormed, fieldsFormed, allFormed, rowTaken, rowsApart, synthLives, inRow}
 use Rattle.treerefinement.specs.Tally.{IgnoresDepth, one, tally, tally-length, tally-setRun, tally-setRun-same, Within, Same, Grown}
 
--- the tests: a record has the number n; it is a synth with the row k; a synth with the number n; its fields break a rule
+-- the tests: a record has the number n; it is a synth with the number n; its fields break a rule
 abbrev pub numbered : ℕ → Node → Bool
 numbered n r = eqb (r .number) n
-
-abbrev pub inRow : ℕ → Node → Bool
-inRow k r = pick (isGroup r) false (eqb (r .row) k)
 
 abbrev pub synthNumbered : ℕ → Node → Bool
 synthNumbered n r = pick (isGroup r) false (eqb (r .number) n)
