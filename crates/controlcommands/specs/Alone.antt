@@ -16,7 +16,7 @@ use Rattle.nodes.specs.Place.{isGroup, deeper}
 use Rattle.nodes.specs.Formed.{reach, steps, rooted}
 use Rattle.values.specs.declared.Key.{Key}
 use Rattle.model.specs.declared.Answer.the-variants.{Done}
-use Rattle.model.specs.Layout.{nodesPlace, nodesWords, countIn, nodesIn, controlsIn, putControls}
+use Rattle.model.specs.Layout.{nodesPlace, nodesWords, countIn, nodesIn, controlsIn, putControls, recordIn}
 use Rattle.model.specs.Engine.{decode}
 use Rattle.model.specs.Meaning.{coverOf}
 use Rattle.model.specs.Effects.{changeCovered, changeAll}
@@ -29,7 +29,7 @@ use Rattle.controls.specs.declared.definition.Asked.the-variants.{There}
 use Rattle.controls.specs.Change.{changeOf}
 use Rattle.controls.specs.Encoded.{frontOnly}
 use Rattle.controls.specs.Cover.{askedIn}
-use Rattle.controls.specs.Ready.{nodeIn, ready-known}
+use Rattle.controls.specs.Ready.{ready-known}
 use Rattle.controls.specs.Asked.{controlsAsked, cover-asked}
 use Rattle.controls.specs.All.{cover-alone}
 use Rattle.controlcommands.specs.Steps.{runEnd, answerTo, Changed}
@@ -65,24 +65,24 @@ leaf-rooted (x ∷ t) i r rest h e single = go i e
     go (suc j) g = leaf 1 t j r rest (both-true (isGroup x) (steps 1 t) group .1) g single
 
 -- the synth at a place
-module _ (ws bs : List ℕ) (known : Known ws bs) (at : ℕ) (live : at < countIn ws) (single : isGroup (nodeIn ws at) ≡ false) where
+module _ (ws bs : List ℕ) (known : Known ws bs) (at : ℕ) (live : at < countIn ws) (single : isGroup (recordIn ws at) ≡ false) where
   run-alone : runEnd ws at ≡ at + 1
   run-alone =
-      let none = leaf-rooted (nodesIn ws) at (nodeIn ws at) (drop (at + 1) (nodesIn ws)) (known .tree .root) (row-from (countIn ws) (region nodesPlace nodesWords ws) at live) single in
+      let none = leaf-rooted (nodesIn ws) at (recordIn ws at) (drop (at + 1) (nodesIn ws)) (known .tree .root) (row-from (countIn ws) (region nodesPlace nodesWords ws) at live) single in
       omega arith
 
   -- what a key covers, as it was looked up in the bytes of its definition
-  module _ (key : Key) (bytes : List ℕ) (count : ℕ) (s : List ℕ) (lent : s ≡ slotBytes ws bs (nodeIn ws at .slot)) (c : Cover) (said : coverAt c ≡ coverOf key bytes (frontOnly s)) where
-    covers : coverAt c ≡ coverOf key bytes (frontOnly (slotBytes ws bs (nodeIn ws at .slot)))
+  module _ (key : Key) (bytes : List ℕ) (count : ℕ) (s : List ℕ) (lent : s ≡ slotBytes ws bs (recordIn ws at .slot)) (c : Cover) (said : coverAt c ≡ coverOf key bytes (frontOnly s)) where
+    covers : coverAt c ≡ coverOf key bytes (frontOnly (slotBytes ws bs (recordIn ws at .slot)))
     covers = said ∙ ap (λ (l : List ℕ). coverOf key bytes (frontOnly l)) lent
 
-    pub asked-alone : askedIn (coverAt c) count (frontOnly s) ≡ controlsAsked key count bytes (decode ws bs .slots) (nodeIn ws at)
+    pub asked-alone : askedIn (coverAt c) count (frontOnly s) ≡ controlsAsked key count bytes (decode ws bs .slots) (recordIn ws at)
     asked-alone =
         ap (λ (l : List ℕ). askedIn (coverAt c) count (frontOnly l)) lent
         ∙ cover-asked ws bs (ready-known ws bs known) at live single key bytes c covers count
 
     pub changed-alone : (h : Change) (ws′ : List ℕ) → There ≡ askedIn (coverAt c) count (frontOnly s)
-        → ws′ ≡ putControls (changeCovered (changeOf h) (coverAt c) (nodeIn ws at .row) count (controlsIn ws)) ws → Changed h key count bytes at ws bs Done ws′
+        → ws′ ≡ putControls (changeCovered (changeOf h) (coverAt c) (recordIn ws at .row) count (controlsIn ws)) ws → Changed h key count bytes at ws bs Done ws′
     changed-alone h ws′ there o =
         record {
           answers = ap answerTo (there ∙ asked-alone);

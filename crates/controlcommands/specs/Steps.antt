@@ -24,7 +24,7 @@ use Rattle.model.specs.declared.ControlCommand.the-variants as controls
 use Rattle.model.specs.declared.Command.the-variants as command
 use Rattle.model.specs.declared.Answer.{Answer}
 use Rattle.model.specs.declared.Answer.the-variants.{Done, Refused}
-use Rattle.model.specs.Layout.{nodesPlace, nodesWords, countIn, nodesIn, controlsIn, putControls}
+use Rattle.model.specs.Layout.{nodesPlace, nodesWords, countIn, nodesIn, controlsIn, putControls, recordIn}
 use Rattle.model.specs.Engine.{Engine, decode}
 use Rattle.model.specs.Meaning.{minusOne, isBus, meant, node, mappingTo}
 use Rattle.model.specs.Checks.{Check, check, firstOf, nodeCheck, noControls, pastName}
@@ -38,7 +38,6 @@ use Rattle.names.specs.Here.{node-here}
 use Rattle.controls.specs.declared.control.Change.{Change}
 use Rattle.controls.specs.declared.control.Change.the-variants as change
 use Rattle.controls.specs.Change.{changeOf}
-use Rattle.controls.specs.Ready.{nodeIn}
 use Rattle.controls.specs.declared.definition.Asked.{Asked}
 use Rattle.controls.specs.declared.definition.Asked.the-variants as asked
 use Rattle.controls.specs.Cover.{askedBy}
@@ -69,11 +68,11 @@ answerTo asked.PastWidth = Refused PastWidth
 
 -- one of them, or the run of the node changed
 pub record Changed (c : Change) (key : Key) (count : ℕ) (bytes : List ℕ) (at : ℕ) (ws bs : List ℕ) (a : Answer) (ws′ : List ℕ) : Type 0 where
-  pub answers : a ≡ answerTo (controlsAsked key count bytes (decode ws bs .slots) (nodeIn ws at))
+  pub answers : a ≡ answerTo (controlsAsked key count bytes (decode ws bs .slots) (recordIn ws at))
   pub words : ws′ ≡ pick (isAccepted a) (putControls (runChanged (changeOf c) key count bytes at ws bs) ws) ws
 
 pub run-changed : (c : Change) (key : Key) (count : ℕ) (bytes : List ℕ) (at : ℕ) (ws bs : List ℕ) (many end : ℕ) (ws′ : List ℕ)
-    → asked.There ≡ controlsAsked key count bytes (decode ws bs .slots) (nodeIn ws at)
+    → asked.There ≡ controlsAsked key count bytes (decode ws bs .slots) (recordIn ws at)
     → many ≡ countIn ws → end ≡ endAt many (region nodesPlace nodesWords ws) at
     → ws′ ≡ putControls (changeAll (changeOf c) key bytes count (decode ws bs .slots) (take (end - at) (drop at (nodesIn ws))) (controlsIn ws)) ws
     → Changed c key count bytes at ws bs Done ws′
@@ -122,7 +121,7 @@ module _ (n : NodeArgument) (ws bs : List ℕ) where
     second c bytes q b d e row h = record { answers = sym (row ∙ rw (found .passes bs, h)); words = refl }
 
     asked-here : (key : Key) (count : ℕ) (bytes : List ℕ)
-        → askedBy (noControls key count bytes n (decode ws bs)) (pastName key count bytes n (decode ws bs)) ≡ controlsAsked key count bytes (decode ws bs .slots) (nodeIn ws at)
+        → askedBy (noControls key count bytes n (decode ws bs)) (pastName key count bytes n (decode ws bs)) ≡ controlsAsked key count bytes (decode ws bs .slots) (recordIn ws at)
     asked-here key count bytes = ap (λ (r : Node). controlsAsked key count bytes (decode ws bs .slots) r) (node-here n ws at found bs)
 
     reached : (f : ControlValue → ControlValue) (key : Key) (count : ℕ) (bytes : List ℕ) → runChanged f key count bytes at ws bs ≡ changed f n key count bytes (decode ws bs) .controls

@@ -35,10 +35,9 @@ ghost use lib.Dec.{eqb};
 ghost use Rattle.words.specs.Choice.{either};
 ghost use Rattle.nodes.specs.Place.{isGroup};
 ghost use Rattle.model.specs.declared.ControlCommand.{ControlCommand};
-ghost use Rattle.model.specs.Layout.{countIn};
+ghost use Rattle.model.specs.Layout.{countIn, recordIn};
 ghost use Rattle.model.specs.Meaning.{minusOne, isBus, mappingTo};
 ghost use Rattle.state.specs.Known.{Known};
-ghost use Rattle.controls.specs.Ready.{nodeIn};
 ghost use Rattle.controlcommands.specs.Steps.{Steps, answerTo, Changed};
 
 // Refusal 21, refusal 28, or the controls of the synths below the group at a place changed.
@@ -76,7 +75,7 @@ fn change_synth(
     count: u32,
     change: Change,
 ) -> Asked
-    requires { ⌜ Known (now words) (now arena) × (at < countIn (now words)) × (isGroup (nodeIn (now words) at) ≡ false) ⌝ }
+    requires { ⌜ Known (now words) (now arena) × (at < countIn (now words)) × (isGroup (recordIn (now words) at) ≡ false) ⌝ }
     ensures { λ r. ⌜ Changed change key count (now (bytes .entry)) at (now (words .entry)) (now (arena .entry)) (answerTo r) (now (words .exit)) ⌝ }
 {
     let definition = node_definition(words, arena, at);

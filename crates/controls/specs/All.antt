@@ -22,7 +22,7 @@ use Rattle.nodes.specs.Split.{runOf-at}
 use Rattle.nodes.specs.Formed.{mostNodes, mostRows}
 use Rattle.values.specs.declared.Key.{Key}
 use Rattle.values.specs.Controls.{ControlValue}
-use Rattle.model.specs.Layout.{slotCount, lengthsPlace, nodesPlace, nodesWords, controlsPlace, controlsWords, wordsLength, countIn, nodesIn, controlsIn, slotIn, putControls}
+use Rattle.model.specs.Layout.{slotCount, lengthsPlace, nodesPlace, nodesWords, controlsPlace, controlsWords, wordsLength, countIn, nodesIn, controlsIn, slotIn, putControls, recordIn}
 use Rattle.model.specs.Engine.{Slot, decode, definitionOf}
 use Rattle.model.specs.Meaning.{coverOf}
 use Rattle.model.specs.Effects.{changeCovered, changeAll}
@@ -30,7 +30,7 @@ use Rattle.state.specs.Regions.{region-before, word-before}
 use Rattle.state.specs.Decoded.{controls-size}
 use Rattle.controls.specs.Encoded.{frontIn, frontOnly, cover-front}
 use Rattle.slots.specs.Slots.{slotBytes}
-use Rattle.controls.specs.Ready.{Ready, nodeIn, synth-ready}
+use Rattle.controls.specs.Ready.{Ready, synth-ready}
 use Rattle.controls.specs.Synth.{changeSynth, changeNode, Bounds, same-controls}
 use Rattle.controls.specs.Cover.{coverOn}
 use Rattle.controls.specs.Asked.{synth-cover}
@@ -42,7 +42,7 @@ changeOne f key name count slots r cs =
 
 -- the words with other controls: their nodes and slots
 module _ (cs ws : List ℕ) (size : length ws ≡ wordsLength) (many : length cs ≡ controlsWords) where
-  node-kept : (i : ℕ) → nodeIn (putControls cs ws) i ≡ nodeIn ws i
+  node-kept : (i : ℕ) → recordIn (putControls cs ws) i ≡ recordIn ws i
   node-kept i =
       ap (λ (us : List ℕ). nodeFrom us (width * i))
       (region-before controlsPlace controlsWords cs ws (omega arith) many nodesPlace nodesWords (omega arith))
@@ -64,33 +64,33 @@ module _ (cs ws : List ℕ) (size : length ws ≡ wordsLength) (many : length cs
           row = λ e. subst (λ (r : Node). r .row < mostRows) (sym (node-kept i)) (synth-ready ws arena ready i few (ap isGroup (sym (node-kept i)) ∙ e) .row);
           readable = λ e.
               let s = synth-ready ws arena ready i few (ap isGroup (sym (node-kept i)) ∙ e) in
-              let same = ap (λ (r : Node). slotBytes (putControls cs ws) arena (r .slot)) (node-kept i) ∙ bytes-kept arena (nodeIn ws i .slot) (s .slot) in
-              subst Readable (sym same) (whole-readable (slotBytes ws arena (nodeIn ws i .slot)) (s .whole));
+              let same = ap (λ (r : Node). slotBytes (putControls cs ws) arena (r .slot)) (node-kept i) ∙ bytes-kept arena (recordIn ws i .slot) (s .slot) in
+              subst Readable (sym same) (whole-readable (slotBytes ws arena (recordIn ws i .slot)) (s .whole));
         }
 
     -- its change is the one that its definition gives
     pub change-kept : (f : ControlValue → ControlValue) (key : Key) (name : List ℕ) (count : ℕ) (xs : List ℕ)
-        → changeNode f key name count (putControls cs ws) arena i xs ≡ changeOne f key name count (decode ws arena .slots) (nodeIn ws i) xs
+        → changeNode f key name count (putControls cs ws) arena i xs ≡ changeOne f key name count (decode ws arena .slots) (recordIn ws i) xs
     change-kept f key name count xs =
         ap (λ (r : Node). pick (isGroup r) xs (changeSynth f key name count (r .row) (slotBytes (putControls cs ws) arena (r .slot)) xs)) (node-kept i)
-        ∙ go (isGroup (nodeIn ws i)) refl
+        ∙ go (isGroup (recordIn ws i)) refl
       where
-        go : (b : Bool) → isGroup (nodeIn ws i) ≡ b
-            → pick b xs (changeSynth f key name count (nodeIn ws i .row) (slotBytes (putControls cs ws) arena (nodeIn ws i .slot)) xs)
-            ≡ pick b xs (changeCovered f (coverOf key name (definitionOf (decode ws arena .slots) (nodeIn ws i))) (nodeIn ws i .row) count xs)
+        go : (b : Bool) → isGroup (recordIn ws i) ≡ b
+            → pick b xs (changeSynth f key name count (recordIn ws i .row) (slotBytes (putControls cs ws) arena (recordIn ws i .slot)) xs)
+            ≡ pick b xs (changeCovered f (coverOf key name (definitionOf (decode ws arena .slots) (recordIn ws i))) (recordIn ws i .row) count xs)
         go true e = refl
         go false e =
             let s = synth-ready ws arena ready i few e in
-            let d = definitionOf (decode ws arena .slots) (nodeIn ws i) in
-            let bytes = slotBytes (putControls cs ws) arena (nodeIn ws i .slot) in
-            let front : frontIn bytes ≡ d .front = ap frontIn (bytes-kept arena (nodeIn ws i .slot) (s .slot)) ∙ sym (s .front) in
-            ap (λ (o : Option Covered). changeCovered f o (nodeIn ws i .row) count xs) (cover-front key name (frontOnly bytes) d front)
+            let d = definitionOf (decode ws arena .slots) (recordIn ws i) in
+            let bytes = slotBytes (putControls cs ws) arena (recordIn ws i .slot) in
+            let front : frontIn bytes ≡ d .front = ap frontIn (bytes-kept arena (recordIn ws i .slot) (s .slot)) ∙ sym (s .front) in
+            ap (λ (o : Option Covered). changeCovered f o (recordIn ws i .row) count xs) (cover-front key name (frontOnly bytes) d front)
 
 -- a run of the table: one node more, and the end
 module _ (f : ControlValue → ControlValue) (key : Key) (name : List ℕ) (count : ℕ) (slots : List Slot) (ws : List ℕ) where
   pub all-turn : (to i : ℕ) (xs : List ℕ) → i < to → to ≤ countIn ws
       → changeAll f key name count slots (take (to - i) (drop i (nodesIn ws))) xs
-      ≡ changeAll f key name count slots (take (to - (i + 1)) (drop (i + 1) (nodesIn ws))) (changeOne f key name count slots (nodeIn ws i) xs)
+      ≡ changeAll f key name count slots (take (to - (i + 1)) (drop (i + 1) (nodesIn ws))) (changeOne f key name count slots (recordIn ws i) xs)
   unfolding changeAll
   all-turn to i xs h k =
       let more : to - i ≡ suc (to - (i + 1)) = omega arith in
@@ -101,11 +101,11 @@ module _ (f : ControlValue → ControlValue) (key : Key) (name : List ℕ) (coun
   all-none n l xs e = ap (λ (k : ℕ). changeAll f key name count slots (take k l) xs) e
 
   -- one synth alone
-  all-one : (i : ℕ) (xs : List ℕ) → i < countIn ws → isGroup (nodeIn ws i) ≡ false
-      → changeAll f key name count slots (take (i + 1 - i) (drop i (nodesIn ws))) xs ≡ changeCovered f (coverOf key name (definitionOf slots (nodeIn ws i))) (nodeIn ws i .row) count xs
+  all-one : (i : ℕ) (xs : List ℕ) → i < countIn ws → isGroup (recordIn ws i) ≡ false
+      → changeAll f key name count slots (take (i + 1 - i) (drop i (nodesIn ws))) xs ≡ changeCovered f (coverOf key name (definitionOf slots (recordIn ws i))) (recordIn ws i .row) count xs
   all-one i xs h single =
       all-turn (i + 1) i xs (omega arith) (omega arith)
-      ∙ all-none (i + 1 - (i + 1)) (drop (i + 1) (nodesIn ws)) (changeOne f key name count slots (nodeIn ws i) xs) (omega arith)
+      ∙ all-none (i + 1 - (i + 1)) (drop (i + 1) (nodesIn ws)) (changeOne f key name count slots (recordIn ws i) xs) (omega arith)
       ∙ rw single
 
 -- as many items were put in as were there
@@ -129,7 +129,7 @@ turned f key name count ws₀ arena to i ws ws′ ready h k size rest long fact 
     let many : length cs ≡ controlsWords = region-length controlsPlace controlsWords ws (omega arith) in
     let many′ : length next ≡ controlsWords = put-size controlsPlace controlsWords next ws (omega arith) (sym (ap length fact) ∙ long) in
     let here : controlsIn ws′ ≡ next = ap controlsIn fact ∙ region-put controlsPlace controlsWords next ws (omega arith) many′ in
-    let step : next ≡ changeOne f key name count (decode ws₀ arena .slots) (nodeIn ws₀ i) cs =
+    let step : next ≡ changeOne f key name count (decode ws₀ arena .slots) (recordIn ws₀ i) cs =
     ap (λ (w : List ℕ). changeNode f key name count w arena i cs) rest ∙ change-kept cs ws₀ (ready .size) many arena ready i (omega arith) f key name count cs in
     record {
       size = long ∙ size;
@@ -163,10 +163,10 @@ module _ (f : ControlValue → ControlValue) (key : Key) (name : List ℕ) (coun
 -- the synth at a place of words that differ from the first in their controls alone
 pub record Lent (ws₀ arena ws : List ℕ) (i : ℕ) : Type 0 where
   pub place : i < mostNodes
-  pub slot : nodeIn ws i .slot < slotCount
-  pub row : nodeIn ws i .row < mostRows
-  pub readable : Readable (slotBytes ws arena (nodeIn ws i .slot))
-  pub kept : slotBytes ws arena (nodeIn ws i .slot) ≡ slotBytes ws₀ arena (nodeIn ws i .slot)
+  pub slot : recordIn ws i .slot < slotCount
+  pub row : recordIn ws i .row < mostRows
+  pub readable : Readable (slotBytes ws arena (recordIn ws i .slot))
+  pub kept : slotBytes ws arena (recordIn ws i .slot) ≡ slotBytes ws₀ arena (recordIn ws i .slot)
 
 -- its place in the table
 pub bounds-lent : (ws₀ arena ws : List ℕ) (i : ℕ) → Ready ws₀ arena → length ws ≡ wordsLength → ws ≡ putControls (controlsIn ws) ws₀ → i < countIn ws₀ → Bounds ws arena i
@@ -175,7 +175,7 @@ bounds-lent ws₀ arena ws i ready size rest few =
     subst (λ (us : List ℕ). Bounds us arena i) (sym rest) (bounds-kept (controlsIn ws) ws₀ (ready .size) many arena ready i few)
 
 pub synth-lent : (ws₀ arena ws : List ℕ) (i : ℕ) → Ready ws₀ arena → length ws ≡ wordsLength → ws ≡ putControls (controlsIn ws) ws₀ → i < countIn ws₀
-    → isGroup (nodeIn ws i) ≡ false → Lent ws₀ arena ws i
+    → isGroup (recordIn ws i) ≡ false → Lent ws₀ arena ws i
 synth-lent ws₀ arena ws i ready size rest few single =
     let many = region-length controlsPlace controlsWords ws (omega arith) in
     let b = bounds-lent ws₀ arena ws i ready size rest few in
@@ -184,24 +184,24 @@ synth-lent ws₀ arena ws i ready size rest few single =
       slot = b .slot single;
       row = b .row single;
       readable = b .readable single;
-      kept = ap (λ (us : List ℕ). slotBytes us arena (nodeIn ws i .slot)) rest ∙ bytes-kept (controlsIn ws) ws₀ (ready .size) many arena (nodeIn ws i .slot) (b .slot single);
+      kept = ap (λ (us : List ℕ). slotBytes us arena (recordIn ws i .slot)) rest ∙ bytes-kept (controlsIn ws) ws₀ (ready .size) many arena (recordIn ws i .slot) (b .slot single);
     }
 
 -- its change, by what a key covers, also as that of a run of one; and no change of a group
 module _ (f : ControlValue → ControlValue) (key : Key) (name : List ℕ) (count : ℕ) (ws arena : List ℕ) (i : ℕ) where
-  pub cover-change : isGroup (nodeIn ws i) ≡ false → (c : Cover) → coverAt c ≡ coverOn key name ws arena (nodeIn ws i .slot)
-      → changeCovered f (coverAt c) (nodeIn ws i .row) count (controlsIn ws) ≡ changeNode f key name count ws arena i (controlsIn ws)
+  pub cover-change : isGroup (recordIn ws i) ≡ false → (c : Cover) → coverAt c ≡ coverOn key name ws arena (recordIn ws i .slot)
+      → changeCovered f (coverAt c) (recordIn ws i .row) count (controlsIn ws) ≡ changeNode f key name count ws arena i (controlsIn ws)
   cover-change single c e =
-      ap (λ (o : Option Covered). changeCovered f o (nodeIn ws i .row) count (controlsIn ws)) e
-      ∙ sym (ap (λ (b : Bool). pick b (controlsIn ws) (changeSynth f key name count (nodeIn ws i .row) (slotBytes ws arena (nodeIn ws i .slot)) (controlsIn ws))) single)
+      ap (λ (o : Option Covered). changeCovered f o (recordIn ws i .row) count (controlsIn ws)) e
+      ∙ sym (ap (λ (b : Bool). pick b (controlsIn ws) (changeSynth f key name count (recordIn ws i .row) (slotBytes ws arena (recordIn ws i .slot)) (controlsIn ws))) single)
 
-  pub cover-alone : Ready ws arena → i < countIn ws → isGroup (nodeIn ws i) ≡ false → (c : Cover) → coverAt c ≡ coverOn key name ws arena (nodeIn ws i .slot)
-      → changeCovered f (coverAt c) (nodeIn ws i .row) count (controlsIn ws)
+  pub cover-alone : Ready ws arena → i < countIn ws → isGroup (recordIn ws i) ≡ false → (c : Cover) → coverAt c ≡ coverOn key name ws arena (recordIn ws i .slot)
+      → changeCovered f (coverAt c) (recordIn ws i .row) count (controlsIn ws)
       ≡ changeAll f key name count (decode ws arena .slots) (take (i + 1 - i) (drop i (nodesIn ws))) (controlsIn ws)
   cover-alone ready few single c e =
-      ap (λ (o : Option Covered). changeCovered f o (nodeIn ws i .row) count (controlsIn ws)) (e ∙ sym (synth-cover ws arena ready i few single key name))
+      ap (λ (o : Option Covered). changeCovered f o (recordIn ws i .row) count (controlsIn ws)) (e ∙ sym (synth-cover ws arena ready i few single key name))
       ∙ sym (all-one f key name count (decode ws arena .slots) ws i (controlsIn ws) few single)
 
-  pub no-change : isGroup (nodeIn ws i) ≡ true → ws ≡ putControls (changeNode f key name count ws arena i (controlsIn ws)) ws
+  pub no-change : isGroup (recordIn ws i) ≡ true → ws ≡ putControls (changeNode f key name count ws arena i (controlsIn ws)) ws
   no-change group =
-      sym (ap (λ (b : Bool). putControls (pick b (controlsIn ws) (changeSynth f key name count (nodeIn ws i .row) (slotBytes ws arena (nodeIn ws i .slot)) (controlsIn ws))) ws) group ∙ same-controls ws)
+      sym (ap (λ (b : Bool). putControls (pick b (controlsIn ws) (changeSynth f key name count (recordIn ws i .row) (slotBytes ws arena (recordIn ws i .slot)) (controlsIn ws))) ws) group ∙ same-controls ws)

@@ -19,7 +19,7 @@ use Rattle.nodes.specs.Place.{isGroup}
 use Rattle.values.specs.declared.Key.{Key}
 use Rattle.values.specs.declared.Key.the-variants.{Index, Name}
 use Rattle.values.specs.Controls.{ControlValue, controlAt, shownBy}
-use Rattle.model.specs.Layout.{rowWords, countIn, controlsIn, busesIn}
+use Rattle.model.specs.Layout.{rowWords, countIn, controlsIn, busesIn, recordIn}
 use Rattle.model.specs.Engine.{Slot, decode, definitionOf, controlsFrom, controlsOf}
 use Rattle.model.specs.Meaning.{firstNegative, isNegative, negativeKey, coverOf, hasControls, pastWidth}
 use Rattle.model.specs.Replies.{noControl, readAt}
@@ -30,7 +30,7 @@ use Rattle.controls.specs.declared.definition.Asked.the-variants.{There,
 use Rattle.controls.specs.Encoded.{frontIn, frontOnly, values-few, cover-front}
 use Rattle.controls.specs.Cover.{askedBy, askedIn, Bounded, bounded, one-covered, cover-there}
 use Rattle.slots.specs.Slots.{slotBytes}
-use Rattle.controls.specs.Ready.{Ready, nodeIn, either-true, synth-ready}
+use Rattle.controls.specs.Ready.{Ready, either-true, synth-ready}
 
 -- refusal 21's test on a node
 abbrev pub controlsMissing : Key → ℕ → List ℕ → List Slot → Node → Bool
@@ -116,15 +116,15 @@ control-in n cs row i h =
     ∙ ap₂ (λ (x y : ℕ). controlAt x y) (getD-drop (rowWords * row) cs (2 * i) 0) (getD-drop (rowWords * row) cs (2 * i + 1) 0 ∙ ap (λ (k : ℕ). getD cs k 0) mapping)
 
 -- of a synth at a place of the table, by its definition's bytes
-module _ (ws arena : List ℕ) (ready : Ready ws arena) (i : ℕ) (few : i < countIn ws) (single : isGroup (nodeIn ws i) ≡ false) where
-  front : definitionOf (decode ws arena .slots) (nodeIn ws i) .front ≡ frontIn (slotBytes ws arena (nodeIn ws i .slot))
+module _ (ws arena : List ℕ) (ready : Ready ws arena) (i : ℕ) (few : i < countIn ws) (single : isGroup (recordIn ws i) ≡ false) where
+  front : definitionOf (decode ws arena .slots) (recordIn ws i) .front ≡ frontIn (slotBytes ws arena (recordIn ws i .slot))
   front = synth-ready ws arena ready i few single .front
 
   pub synth-cover : (key : Key) (name : List ℕ)
-      → coverOf key name (definitionOf (decode ws arena .slots) (nodeIn ws i)) ≡ coverOf key name (frontOnly (slotBytes ws arena (nodeIn ws i .slot)))
-  synth-cover key name = cover-front key name (definitionOf (decode ws arena .slots) (nodeIn ws i)) (frontOnly (slotBytes ws arena (nodeIn ws i .slot))) front
+      → coverOf key name (definitionOf (decode ws arena .slots) (recordIn ws i)) ≡ coverOf key name (frontOnly (slotBytes ws arena (recordIn ws i .slot)))
+  synth-cover key name = cover-front key name (definitionOf (decode ws arena .slots) (recordIn ws i)) (frontOnly (slotBytes ws arena (recordIn ws i .slot))) front
 
-  pub synth-many : length (definitionOf (decode ws arena .slots) (nodeIn ws i) .front .values) ≡ length (frontIn (slotBytes ws arena (nodeIn ws i .slot)) .values)
+  pub synth-many : length (definitionOf (decode ws arena .slots) (recordIn ws i) .front .values) ≡ length (frontIn (slotBytes ws arena (recordIn ws i .slot)) .values)
   synth-many = ap (λ (f : Front). length (f .values)) front
 
   has-front : (o : Option Covered) (count : ℕ) (d e : Definition) → d .front ≡ e .front → hasControls o count d ≡ hasControls o count e
@@ -132,29 +132,29 @@ module _ (ws arena : List ℕ) (ready : Ready ws arena) (i : ℕ) (few : i < cou
   has-front (some c) count d e h = ap (λ (f : Front). leb (c .index + count) (length (f .values))) h
 
   pub synth-asked : (key : Key) (name : List ℕ) (count : ℕ)
-      → controlsAsked key count name (decode ws arena .slots) (nodeIn ws i)
-      ≡ askedIn (coverOf key name (frontOnly (slotBytes ws arena (nodeIn ws i .slot)))) count (frontOnly (slotBytes ws arena (nodeIn ws i .slot)))
+      → controlsAsked key count name (decode ws arena .slots) (recordIn ws i)
+      ≡ askedIn (coverOf key name (frontOnly (slotBytes ws arena (recordIn ws i .slot)))) count (frontOnly (slotBytes ws arena (recordIn ws i .slot)))
   synth-asked key name count =
-      let d = definitionOf (decode ws arena .slots) (nodeIn ws i) in
-      let e = frontOnly (slotBytes ws arena (nodeIn ws i .slot)) in
+      let d = definitionOf (decode ws arena .slots) (recordIn ws i) in
+      let e = frontOnly (slotBytes ws arena (recordIn ws i .slot)) in
       rw single
-      (ap (λ (b : Bool). askedBy b (pastWidth (coverOf key name d) count)) (negative-lacks key name count d (rw synth-many (values-few (slotBytes ws arena (nodeIn ws i .slot)))))
+      (ap (λ (b : Bool). askedBy b (pastWidth (coverOf key name d) count)) (negative-lacks key name count d (rw synth-many (values-few (slotBytes ws arena (recordIn ws i .slot)))))
       ∙ ap (λ (o : Option Covered). askedIn o count d) (synth-cover key name)
       ∙ ap (λ (b : Bool). askedBy (not b) (pastWidth (coverOf key name e) count)) (has-front (coverOf key name e) count d e front))
 
   -- by the lookup's answer: what is asked, and what reading a control gives
-  module _ (key : Key) (name : List ℕ) (c : Cover) (said : coverAt c ≡ coverOf key name (frontOnly (slotBytes ws arena (nodeIn ws i .slot)))) where
-    pub cover-asked : (count : ℕ) → askedIn (coverAt c) count (frontOnly (slotBytes ws arena (nodeIn ws i .slot))) ≡ controlsAsked key count name (decode ws arena .slots) (nodeIn ws i)
-    cover-asked count = ap (λ (o : Option Covered). askedIn o count (frontOnly (slotBytes ws arena (nodeIn ws i .slot)))) said ∙ sym (synth-asked key name count)
+  module _ (key : Key) (name : List ℕ) (c : Cover) (said : coverAt c ≡ coverOf key name (frontOnly (slotBytes ws arena (recordIn ws i .slot)))) where
+    pub cover-asked : (count : ℕ) → askedIn (coverAt c) count (frontOnly (slotBytes ws arena (recordIn ws i .slot))) ≡ controlsAsked key count name (decode ws arena .slots) (recordIn ws i)
+    cover-asked count = ap (λ (o : Option Covered). askedIn o count (frontOnly (slotBytes ws arena (recordIn ws i .slot)))) said ∙ sym (synth-asked key name count)
 
     abbrev reading : ℕ
-    reading = readAt (busesIn ws) (controlsOf (decode ws arena .slots) (controlsIn ws) (nodeIn ws i)) (coverOf key name (definitionOf (decode ws arena .slots) (nodeIn ws i)))
+    reading = readAt (busesIn ws) (controlsOf (decode ws arena .slots) (controlsIn ws) (recordIn ws i)) (coverOf key name (definitionOf (decode ws arena .slots) (recordIn ws i)))
 
-    same : reading ≡ readAt (busesIn ws) (controlsOf (decode ws arena .slots) (controlsIn ws) (nodeIn ws i)) (coverAt c)
-    same = ap (readAt (busesIn ws) (controlsOf (decode ws arena .slots) (controlsIn ws) (nodeIn ws i))) (synth-cover key name ∙ sym said)
+    same : reading ≡ readAt (busesIn ws) (controlsOf (decode ws arena .slots) (controlsIn ws) (recordIn ws i)) (coverAt c)
+    same = ap (readAt (busesIn ws) (controlsOf (decode ws arena .slots) (controlsIn ws) (recordIn ws i))) (synth-cover key name ∙ sym said)
 
-    there : c .found ≡ true → Bounded (length (definitionOf (decode ws arena .slots) (nodeIn ws i) .front .values)) (record { index = c .index; width = c .width })
-    there found = rw synth-many (bounded key name (frontOnly (slotBytes ws arena (nodeIn ws i .slot))) (record { index = c .index; width = c .width }) (sym said ∙ cover-there c found))
+    there : c .found ≡ true → Bounded (length (definitionOf (decode ws arena .slots) (recordIn ws i) .front .values)) (record { index = c .index; width = c .width })
+    there found = rw synth-many (bounded key name (frontOnly (slotBytes ws arena (recordIn ws i .slot))) (record { index = c .index; width = c .width }) (sym said ∙ cover-there c found))
 
     pub read-none : c .found ≡ false → reading ≡ 0
     read-none e = same ∙ rw e
@@ -163,10 +163,10 @@ module _ (ws arena : List ℕ) (ready : Ready ws arena) (i : ℕ) (few : i < cou
     read-past found e =
         same
         ∙ rw found
-        (ap (shownBy (busesIn ws)) (control-past (length (definitionOf (decode ws arena .slots) (nodeIn ws i) .front .values)) (drop (rowWords * nodeIn ws i .row) (controlsIn ws)) (c .index) (there found .past e)))
+        (ap (shownBy (busesIn ws)) (control-past (length (definitionOf (decode ws arena .slots) (recordIn ws i) .front .values)) (drop (rowWords * recordIn ws i .row) (controlsIn ws)) (c .index) (there found .past e)))
 
-    pub read-there : c .found ≡ true → 0 < c .width → reading ≡ shownBy (busesIn ws) (controlIn (controlsIn ws) (nodeIn ws i .row) (c .index))
+    pub read-there : c .found ≡ true → 0 < c .width → reading ≡ shownBy (busesIn ws) (controlIn (controlsIn ws) (recordIn ws i .row) (c .index))
     read-there found h =
         same
         ∙ rw found
-        (ap (shownBy (busesIn ws)) (control-in (length (definitionOf (decode ws arena .slots) (nodeIn ws i) .front .values)) (controlsIn ws) (nodeIn ws i .row) (c .index) (omega (arith, there found .ends h))))
+        (ap (shownBy (busesIn ws)) (control-in (length (definitionOf (decode ws arena .slots) (recordIn ws i) .front .values)) (controlsIn ws) (recordIn ws i .row) (c .index) (omega (arith, there found .ends h))))

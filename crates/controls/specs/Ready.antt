@@ -21,16 +21,12 @@ use Rattle.nodes.specs.Table.{width, nodeFrom}
 use Rattle.nodes.specs.TableLaws.{row-from}
 use Rattle.nodes.specs.Place.{groupSlot, isGroup}
 use Rattle.nodes.specs.Formed.{mostNodes, mostRows, numberFormed, rowFormed, fieldsFormed, allFormed}
-use Rattle.model.specs.Layout.{slotCount, nodesPlace, nodesWords, wordsLength, arenaLength, countIn, nextIn, lengthsIn, nodesIn}
+use Rattle.model.specs.Layout.{slotCount, nodesPlace, nodesWords, wordsLength, arenaLength, countIn, nextIn, lengthsIn, nodesIn, recordIn}
 use Rattle.model.specs.Engine.{Slot, decode, noDefinition, valueOr, definitionIn, slotAt, definitionOf, held, slotTaken}
 use Rattle.model.specs.Formed.{isWhole, slotFormed, slotsFormed}
 use Rattle.slots.specs.Slots.{slotBytes, slot-bytes, decoded-many}
 use Rattle.state.specs.Known.{Known}
 use Rattle.controls.specs.Encoded.{frontIn, front-read}
-
--- the record at a place of the node table
-abbrev pub nodeIn : List ℕ → ℕ → Node
-nodeIn ws i = nodeFrom (region nodesPlace nodesWords ws) (width * i)
 
 -- a state of which the check has passed the sizes, the nodes' fields and the slots
 pub record Ready (ws arena : List ℕ) : Type 0 where
@@ -123,9 +119,9 @@ slot-whole ws arena k formed held h =
     (rw (slot-bytes ws arena k h) (bytes-short ws arena k)))
 
 -- a synth at a place of the table
-pub synth-ready : (ws arena : List ℕ) → Ready ws arena → (i : ℕ) → i < countIn ws → isGroup (nodeIn ws i) ≡ false → Synth ws arena (nodeIn ws i)
+pub synth-ready : (ws arena : List ℕ) → Ready ws arena → (i : ℕ) → i < countIn ws → isGroup (recordIn ws i) ≡ false → Synth ws arena (recordIn ws i)
 synth-ready ws arena ready i h single =
-    let r = nodeIn ws i in
+    let r = recordIn ws i in
     let found : drop i (nodesIn ws) ≡ r ∷ drop (i + 1) (nodesIn ws) = row-from (countIn ws) (region nodesPlace nodesWords ws) i h in
     let a = both-true (numberFormed (nextIn ws) r) _ (fields-at (nextIn ws) (nodesIn ws) i r (drop (i + 1) (nodesIn ws)) found (ready .fields)) in
     let b = both-true (leb (r .run) 1) _ (a .1) in
@@ -142,5 +138,5 @@ synth-ready ws arena ready i h single =
     }
 
 -- the bytes of its definition, as they are lent
-pub synth-readable : (ws arena : List ℕ) → Ready ws arena → (i : ℕ) → i < countIn ws → isGroup (nodeIn ws i) ≡ false → {s : List ℕ} → s ≡ slotBytes ws arena (nodeIn ws i .slot) → Readable s
-synth-readable ws arena ready i h single e = subst Readable (sym e) (whole-readable (slotBytes ws arena (nodeIn ws i .slot)) (synth-ready ws arena ready i h single .whole))
+pub synth-readable : (ws arena : List ℕ) → Ready ws arena → (i : ℕ) → i < countIn ws → isGroup (recordIn ws i) ≡ false → {s : List ℕ} → s ≡ slotBytes ws arena (recordIn ws i .slot) → Readable s
+synth-readable ws arena ready i h single e = subst Readable (sym e) (whole-readable (slotBytes ws arena (recordIn ws i .slot)) (synth-ready ws arena ready i h single .whole))

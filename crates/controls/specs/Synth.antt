@@ -14,14 +14,13 @@ use Rattle.nodes.specs.Place.{groupSlot, isGroup}
 use Rattle.nodes.specs.Formed.{mostNodes, mostRows}
 use Rattle.values.specs.declared.Key.{Key}
 use Rattle.values.specs.Controls.{ControlValue}
-use Rattle.model.specs.Layout.{slotCount, busCount, nodesPlace, nodesWords, controlsPlace, controlsWords, controlsIn, putControls, wordsLength, arenaLength}
+use Rattle.model.specs.Layout.{slotCount, busCount, nodesPlace, nodesWords, controlsPlace, controlsWords, controlsIn, putControls, wordsLength, arenaLength, recordIn}
 use Rattle.model.specs.Meaning.{coverOf}
 use Rattle.model.specs.Formed.{mappingsFormed}
 use Rattle.model.specs.Effects.{changeCovered}
 use Rattle.nodes.specs.Table.{width, slotField, rowField}
 use Rattle.controls.specs.Encoded.{frontOnly}
 use Rattle.slots.specs.Slots.{slotBytes, part-word}
-use Rattle.controls.specs.Ready.{nodeIn}
 
 -- the controls of the row, by a definition's bytes
 abbrev pub changeSynth : (ControlValue → ControlValue) → Key → List ℕ → ℕ → ℕ → List ℕ → List ℕ → List ℕ
@@ -30,16 +29,16 @@ changeSynth f key name count row s cs = changeCovered f (coverOf key name (front
 -- of the node at a place of the table
 abbrev pub changeNode : (ControlValue → ControlValue) → Key → List ℕ → ℕ → List ℕ → List ℕ → ℕ → List ℕ → List ℕ
 changeNode f key name count ws arena i cs =
-    pick (isGroup (nodeIn ws i)) cs (changeSynth f key name count (nodeIn ws i .row) (slotBytes ws arena (nodeIn ws i .slot)) cs)
+    pick (isGroup (recordIn ws i)) cs (changeSynth f key name count (recordIn ws i .row) (slotBytes ws arena (recordIn ws i .slot)) cs)
 
 -- the words' sizes, that the slot and the row of the synth at a place are there, and that its definition is readable
 pub record Bounds (ws arena : List ℕ) (i : ℕ) : Type 0 where
   pub size : length ws ≡ wordsLength
   pub arenaSize : length arena ≡ arenaLength
   pub place : i < mostNodes
-  pub slot : isGroup (nodeIn ws i) ≡ false → nodeIn ws i .slot < slotCount
-  pub row : isGroup (nodeIn ws i) ≡ false → nodeIn ws i .row < mostRows
-  pub readable : isGroup (nodeIn ws i) ≡ false → Readable (slotBytes ws arena (nodeIn ws i .slot))
+  pub slot : isGroup (recordIn ws i) ≡ false → recordIn ws i .slot < slotCount
+  pub row : isGroup (recordIn ws i) ≡ false → recordIn ws i .row < mostRows
+  pub readable : isGroup (recordIn ws i) ≡ false → Readable (slotBytes ws arena (recordIn ws i .slot))
 
 -- the mapping words of a row: one more, and the end
 pub mappings-turn : (us : List ℕ) (n i : ℕ) → i < n → mappingsFormed (n - i) (drop (2 * i) us) ≡ both (leb (getD us (2 * i + 1) 0) busCount) (mappingsFormed (n - (i + 1)) (drop (2 * (i + 1)) us))
@@ -55,21 +54,21 @@ mappings-none us n e = rw e
 
 -- a synth's slot and row, by the words
 module _ (ws : List ℕ) (i : ℕ) (few : i < mostNodes) where
-  pub slot-word : nodeIn ws i .slot ≡ getD ws (nodesPlace + width * i + slotField) 0
+  pub slot-word : recordIn ws i .slot ≡ getD ws (nodesPlace + width * i + slotField) 0
   slot-word =
       let place : nodesPlace + (width * i + slotField) ≡ nodesPlace + width * i + 3 = omega arith in
       part-word nodesPlace nodesWords (width * i + slotField) ws (omega arith) ∙ ap (λ (k : ℕ). getD ws k 0) place
 
-  pub row-word : nodeIn ws i .row ≡ getD ws (nodesPlace + width * i + rowField) 0
+  pub row-word : recordIn ws i .row ≡ getD ws (nodesPlace + width * i + rowField) 0
   row-word =
       let place : nodesPlace + (width * i + rowField) ≡ nodesPlace + width * i + 4 = omega arith in
       part-word nodesPlace nodesWords (width * i + rowField) ws (omega arith) ∙ ap (λ (k : ℕ). getD ws k 0) place
 
-  pub is-group : getD ws (nodesPlace + width * i + slotField) 0 ≡ groupSlot → isGroup (nodeIn ws i) ≡ true
-  is-group e = eq-eqb (nodeIn ws i .slot) groupSlot (slot-word ∙ e)
+  pub is-group : getD ws (nodesPlace + width * i + slotField) 0 ≡ groupSlot → isGroup (recordIn ws i) ≡ true
+  is-group e = eq-eqb (recordIn ws i .slot) groupSlot (slot-word ∙ e)
 
-  pub is-synth : (getD ws (nodesPlace + width * i + slotField) 0 ≡ groupSlot → ⊥) → isGroup (nodeIn ws i) ≡ false
-  is-synth other = ne-eqb (nodeIn ws i .slot) groupSlot (λ e. other (sym slot-word ∙ e))
+  pub is-synth : (getD ws (nodesPlace + width * i + slotField) 0 ≡ groupSlot → ⊥) → isGroup (recordIn ws i) ≡ false
+  is-synth other = ne-eqb (recordIn ws i .slot) groupSlot (λ e. other (sym slot-word ∙ e))
 
 -- the bounds of a synth, by the words
 module _ {ws arena : List ℕ} {i : ℕ} (b : Bounds ws arena i) (other : getD ws (nodesPlace + width * i + slotField) 0 ≡ groupSlot → ⊥) where

@@ -21,11 +21,11 @@ ghost use Rattle.format.specs.Reader.{mostParameters};
 ghost use Rattle.nodes.specs.Formed.{mostRows};
 ghost use Rattle.nodes.specs.Place.{isGroup};
 ghost use Rattle.values.specs.Controls.{shownBy};
-ghost use Rattle.model.specs.Layout.{wordsLength, countIn, controlsIn, busesIn};
+ghost use Rattle.model.specs.Layout.{wordsLength, countIn, controlsIn, busesIn, recordIn};
 ghost use Rattle.model.specs.Engine.{decode, definitionOf, controlsOf};
 ghost use Rattle.model.specs.Meaning.{negativeKey, coverOf};
 ghost use Rattle.model.specs.Replies.{readAt};
-ghost use Rattle.controls.specs.Ready.{Ready, nodeIn};
+ghost use Rattle.controls.specs.Ready.{Ready};
 ghost use Rattle.controls.specs.Asked.{controlsMissing, controlsAsked, controlIn};
 
 // "Negative indices are always refused."
@@ -50,7 +50,7 @@ pub fn controls_asked(
     count: u32,
 ) -> Asked
     requires { ⌜ (Ready (now words) (now arena)) × (place < countIn (now words)) ⌝ }
-    ensures { λ r. ⌜ r ≡ controlsAsked key count (now (name .entry)) (decode (now (words .entry)) (now (arena .entry)) .slots) (nodeIn (now (words .entry)) place) ⌝ }
+    ensures { λ r. ⌜ r ≡ controlsAsked key count (now (name .entry)) (decode (now (words .entry)) (now (arena .entry)) .slots) (recordIn (now (words .entry)) place) ⌝ }
 {
     if negative_key(key) {
         return Asked::Missing;
@@ -74,7 +74,7 @@ pub fn controls_missing(
     count: u32,
 ) -> bool
     requires { ⌜ (Ready (now words) (now arena)) × (place < countIn (now words)) ⌝ }
-    ensures { λ r. ⌜ r ≡ controlsMissing key count (now (name .entry)) (decode (now (words .entry)) (now (arena .entry)) .slots) (nodeIn (now (words .entry)) place) ⌝ }
+    ensures { λ r. ⌜ r ≡ controlsMissing key count (now (name .entry)) (decode (now (words .entry)) (now (arena .entry)) .slots) (recordIn (now (words .entry)) place) ⌝ }
 {
     match controls_asked(words, arena, place, key, name, count) {
         Asked::Missing => true,
@@ -94,8 +94,8 @@ pub fn read_control(words: &[u32], row: u32, index: u32) -> u32
 
 // What reading the control that a key names gives, of the synth at a place; 0 where it lacks it.
 pub fn read_key(words: &[u32], arena: &[u8], place: usize, key: Key, name: &[u8]) -> u32
-    requires { ⌜ (Ready (now words) (now arena)) × (place < countIn (now words)) × (isGroup (nodeIn (now words) place) ≡ false) ⌝ }
-    ensures { λ r. ⌜ r ≡ readAt (busesIn (now (words .entry))) (controlsOf (decode (now (words .entry)) (now (arena .entry)) .slots) (controlsIn (now (words .entry))) (nodeIn (now (words .entry)) place)) (coverOf key (now (name .entry)) (definitionOf (decode (now (words .entry)) (now (arena .entry)) .slots) (nodeIn (now (words .entry)) place))) ⌝ }
+    requires { ⌜ (Ready (now words) (now arena)) × (place < countIn (now words)) × (isGroup (recordIn (now words) place) ≡ false) ⌝ }
+    ensures { λ r. ⌜ r ≡ readAt (busesIn (now (words .entry))) (controlsOf (decode (now (words .entry)) (now (arena .entry)) .slots) (controlsIn (now (words .entry))) (recordIn (now (words .entry)) place)) (coverOf key (now (name .entry)) (definitionOf (decode (now (words .entry)) (now (arena .entry)) .slots) (recordIn (now (words .entry)) place))) ⌝ }
 {
     let cover = key_cover(node_definition(words, arena, place), key, name);
     if !cover.found {

@@ -11,14 +11,13 @@ ghost use mathlib.Core.Path.{_≡_};
 ghost use lib.ListN.{length};
 ghost use Rattle.nodes.specs.Formed.{mostNodes};
 ghost use Rattle.nodes.specs.Place.{isGroup};
-ghost use Rattle.model.specs.Layout.{slotCount, wordsLength};
+ghost use Rattle.model.specs.Layout.{slotCount, wordsLength, recordIn};
 ghost use Rattle.slots.specs.Slots.{slotBytes};
-ghost use Rattle.controls.specs.Ready.{nodeIn};
 
 // The node at a place is a group.
 pub fn node_is_group(words: &[u32], place: usize) -> bool
     requires { ⌜ (length (now words) ≡ wordsLength) × (place < mostNodes) ⌝ }
-    ensures { λ r. ⌜ r ≡ isGroup (nodeIn (now (words .entry)) place) ⌝ }
+    ensures { λ r. ⌜ r ≡ isGroup (recordIn (now (words .entry)) place) ⌝ }
 {
     words[NODES + RECORD * place + SLOT] == GROUP
 }
@@ -26,7 +25,7 @@ pub fn node_is_group(words: &[u32], place: usize) -> bool
 // The slot of the node at a place.
 pub fn node_slot(words: &[u32], place: usize) -> usize
     requires { ⌜ (length (now words) ≡ wordsLength) × (place < mostNodes) ⌝ }
-    ensures { λ r. ⌜ r ≡ nodeIn (now (words .entry)) place .slot ⌝ }
+    ensures { λ r. ⌜ r ≡ recordIn (now (words .entry)) place .slot ⌝ }
 {
     wide(words[NODES + RECORD * place + SLOT])
 }
@@ -34,15 +33,15 @@ pub fn node_slot(words: &[u32], place: usize) -> usize
 // The row of the node at a place.
 pub fn node_row(words: &[u32], place: usize) -> u32
     requires { ⌜ (length (now words) ≡ wordsLength) × (place < mostNodes) ⌝ }
-    ensures { λ r. ⌜ r ≡ nodeIn (now (words .entry)) place .row ⌝ }
+    ensures { λ r. ⌜ r ≡ recordIn (now (words .entry)) place .row ⌝ }
 {
     words[NODES + RECORD * place + ROW]
 }
 
 // The bytes of the definition of the synth at a place.
 pub fn node_definition<'a, 'b>(words: &'b [u32], arena: &'a [u8], place: usize) -> &'a [u8]
-    requires { ⌜ (length (now words) ≡ wordsLength) × (place < mostNodes) × (nodeIn (now words) place .slot < slotCount) ⌝ }
-    ensures { λ r. ⌜ now r ≡ slotBytes (now (words .entry)) (now (arena .entry)) (nodeIn (now (words .entry)) place .slot) ⌝ }
+    requires { ⌜ (length (now words) ≡ wordsLength) × (place < mostNodes) × (recordIn (now words) place .slot < slotCount) ⌝ }
+    ensures { λ r. ⌜ now r ≡ slotBytes (now (words .entry)) (now (arena .entry)) (recordIn (now (words .entry)) place .slot) ⌝ }
 {
     slot_bytes(words, arena, node_slot(words, place))
 }

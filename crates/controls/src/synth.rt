@@ -17,12 +17,11 @@ ghost use Rattle.nodes.specs.Formed.{mostNodes, mostRows};
 ghost use Rattle.words.specs.Choice.{both};
 ghost use Rattle.values.specs.Controls.{controlAt, shownBy};
 ghost use Rattle.model.specs.Formed.{mappingsFormed};
-ghost use Rattle.model.specs.Layout.{rowWords, busCount, wordsLength, putControls, controlsIn};
+ghost use Rattle.model.specs.Layout.{rowWords, busCount, wordsLength, putControls, controlsIn, recordIn};
 ghost use Rattle.model.specs.Effects.{changeCovered};
 ghost use Rattle.readable.specs.Lookup.{coverAt};
 ghost use Rattle.controls.specs.Change.{changeOf};
 ghost use Rattle.controls.specs.Cover.{Inside, reachedBy};
-ghost use Rattle.controls.specs.Ready.{nodeIn};
 
 // How many of the controls that are covered a count reaches.
 fn reached(cover: Cover, count: u32) -> u32
@@ -39,8 +38,8 @@ fn reached(cover: Cover, count: u32) -> u32
 
 // The controls of the synth at a place of the table changed, as far as they are covered.
 pub fn change_node(words: &mut [u32], place: usize, cover: Cover, count: u32, change: Change)
-    requires { ⌜ (length (now words) ≡ wordsLength) × (place < mostNodes) × (nodeIn (now words) place .row < mostRows) × Inside cover ⌝ }
-    ensures { λ r. ⌜ now (words .exit) ≡ putControls (changeCovered (changeOf change) (coverAt cover) (nodeIn (now (words .entry)) place .row) count (controlsIn (now (words .entry)))) (now (words .entry)) ⌝ }
+    requires { ⌜ (length (now words) ≡ wordsLength) × (place < mostNodes) × (recordIn (now words) place .row < mostRows) × Inside cover ⌝ }
+    ensures { λ r. ⌜ now (words .exit) ≡ putControls (changeCovered (changeOf change) (coverAt cover) (recordIn (now (words .entry)) place .row) count (controlsIn (now (words .entry)))) (now (words .entry)) ⌝ }
 {
     let many = reached(cover, count);
     if many == 0 {

@@ -5,7 +5,7 @@ use lib.ListN.{length, take, drop, getD, replicate}
 use Rattle.words.specs.Parts.{region, put}
 use Rattle.format.specs.Reader.{sizeLimit}
 use Rattle.nodes.specs.declared.Node.{Node}
-use Rattle.nodes.specs.Table.{width, rows, fill}
+use Rattle.nodes.specs.Table.{width, rows, fill, nodeFrom}
 use Rattle.nodes.specs.Formed.{mostNodes}
 
 -- "256 nodes with the root; 32 definition slots; 32 parameters and 2,048 encoded bytes to a definition"; "4,096 control buses"
@@ -94,8 +94,15 @@ lengthsIn ws = region lengthsPlace slotCount ws
 abbrev pub flagsIn : List ℕ → List ℕ
 flagsIn ws = region residentPlace slotCount ws
 
+abbrev pub nodeWords : List ℕ → List ℕ
+nodeWords ws = region nodesPlace nodesWords ws
+
 abbrev pub nodesIn : List ℕ → List Node
-nodesIn ws = rows (countIn ws) (region nodesPlace nodesWords ws)
+nodesIn ws = rows (countIn ws) (nodeWords ws)
+
+-- the record at a place of the node table
+abbrev pub recordIn : List ℕ → ℕ → Node
+recordIn ws at = nodeFrom (nodeWords ws) (width * at)
 
 abbrev pub orderIn : List ℕ → List ℕ
 orderIn ws = take (orderLengthIn ws) (region orderPlace orderWords ws)
@@ -107,8 +114,11 @@ abbrev pub busesIn : List ℕ → List ℕ
 busesIn ws = region busesPlace busCount ws
 
 -- the index has one entry for each node
+abbrev pub entriesIn : List ℕ → List ℕ
+entriesIn ws = region indexPlace indexWords ws
+
 abbrev pub indexIn : List ℕ → List ℕ
-indexIn ws = take (countIn ws) (region indexPlace indexWords ws)
+indexIn ws = take (countIn ws) (entriesIn ws)
 
 -- where the bytes of the slot k start in the arena
 abbrev pub startOf : ℕ → ℕ
@@ -120,7 +130,7 @@ slotIn arena k size = take size (region (startOf k) sizeLimit arena)
 
 -- the words with a part put in
 abbrev pub putNodes : List Node → List ℕ → List ℕ
-putNodes t ws = put nodesPlace nodesWords (fill (region nodesPlace nodesWords ws) t) ws
+putNodes t ws = put nodesPlace nodesWords (fill (nodeWords ws) t) ws
 
 -- the order region is written whole, zeros past its length
 abbrev pub orderRegion : List ℕ → List ℕ

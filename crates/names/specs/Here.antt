@@ -10,7 +10,7 @@ use Rattle.nodes.specs.TableLaws.{row-from}
 use Rattle.nodes.specs.Place.{place}
 use Rattle.nodes.specs.PlaceLaws.{search-at}
 use Rattle.values.specs.declared.NodeArgument.{NodeArgument}
-use Rattle.model.specs.Layout.{nodesPlace, nodesWords, countIn, nodesIn}
+use Rattle.model.specs.Layout.{nodesPlace, nodesWords, countIn, nodesIn, recordIn}
 use Rattle.model.specs.Engine.{decode}
 use Rattle.model.specs.Meaning.{nodeNamed, node}
 use Rattle.names.specs.Judged.{meantIn, NodeFound}
@@ -20,8 +20,8 @@ named-record : (n : ℕ) (t : List Node) (r : Node) (rest : List Node) → drop 
 unfolding nodeNamed
 named-record n = search-at (λ l. nodeNamed n l) (λ r l. r) n (λ r l. refl)
 
-pub node-here : (a : NodeArgument) (ws : List ℕ) (at : ℕ) → NodeFound a ws at → (bs : List ℕ) → node a (decode ws bs) ≡ nodeFrom (region nodesPlace nodesWords ws) (width * at)
+pub node-here : (a : NodeArgument) (ws : List ℕ) (at : ℕ) → NodeFound a ws at → (bs : List ℕ) → node a (decode ws bs) ≡ recordIn ws at
 unfolding decode
 node-here a ws at f bs =
-    named-record (meantIn a ws) (nodesIn ws) (nodeFrom (region nodesPlace nodesWords ws) (width * at)) (drop (at + 1) (nodesIn ws))
+    named-record (meantIn a ws) (nodesIn ws) (recordIn ws at) (drop (at + 1) (nodesIn ws))
     (ap (λ (k : ℕ). drop k (nodesIn ws)) (sym (f .here)) ∙ row-from (countIn ws) (region nodesPlace nodesWords ws) at (f .live))

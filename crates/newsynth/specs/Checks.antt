@@ -15,7 +15,7 @@ use Rattle.nodes.specs.Formed.{noneLeft}
 use Rattle.values.specs.declared.NodeArgument.{NodeArgument}
 use Rattle.model.specs.declared.TreeCommand.the-variants as tree
 use Rattle.model.specs.declared.Answer.the-variants.{Done, Refused}
-use Rattle.model.specs.Layout.{slotCount, countIn, nextIn, lengthsIn, flagsIn, nodesIn}
+use Rattle.model.specs.Layout.{slotCount, countIn, nextIn, lengthsIn, flagsIn, nodesIn, nodeWords}
 use Rattle.model.specs.Engine.{decode, residentOf}
 use Rattle.model.specs.Meaning.{minusOne, isNegative}
 use Rattle.model.specs.Checks.{firstOf, treeChecks, noResident}
@@ -25,7 +25,7 @@ use Rattle.tree.specs.Action.{numberOf, number-most}
 use Rattle.tree.specs.Add.{Room}
 use Rattle.treecommands.specs.declared.group.Spot.{Spot}
 use Rattle.treecommands.specs.declared.group.Spot.the-variants as spot
-use Rattle.treecommands.specs.Ready.{Ready, nodeWords}
+use Rattle.treecommands.specs.Ready.{Ready}
 use Rattle.names.specs.Judged.{NodeFound, NodeRefused}
 use Rattle.treecommands.specs.Adding.{badAt, fullAt, bad-target, is-full, room}
 

@@ -27,7 +27,7 @@ use Rattle.values.specs.declared.NodeArgument.{NodeArgument}
 use Rattle.model.specs.declared.TreeCommand.the-variants as tree
 use Rattle.model.specs.declared.Command.the-variants as command
 use Rattle.model.specs.declared.Answer.the-variants.{Done, Refused}
-use Rattle.model.specs.Layout.{slotCount, rowWords, wordsLength, lengthsPlace, nodesPlace, nodesWords, controlsPlace, controlsWords, countIn, nextIn, lengthsIn, nodesIn, controlsIn, putHeader, putControls, putIndex, putOrder, putNodes, slotIn}
+use Rattle.model.specs.Layout.{slotCount, rowWords, wordsLength, lengthsPlace, nodesPlace, nodesWords, controlsPlace, controlsWords, countIn, nextIn, lengthsIn, nodesIn, controlsIn, putHeader, putControls, putIndex, putOrder, putNodes, slotIn, nodeWords}
 use Rattle.model.specs.Engine.{Engine, decode, definitionIn, noDefinition, valueOr, definitionOf, residentOf, slotAt}
 use Rattle.model.specs.Meaning.{meant, known}
 use Rattle.model.specs.Checks.{firstOf, treeChecks}
@@ -52,7 +52,7 @@ use Rattle.definitions.specs.Slots.{Whole, Formed}
 use Rattle.definitions.specs.Retiring.{slot-is}
 use Rattle.definitions.specs.Lent.{tableIn, formed-lent}
 use Rattle.controls.specs.Encoded.{frontIn, front-read}
-use Rattle.treecommands.specs.Ready.{ready, nodeWords, words-long}
+use Rattle.treecommands.specs.Ready.{ready, words-long}
 use Rattle.treecommands.specs.Edits.{editBy, add-does}
 use Rattle.names.specs.Judged.{meantIn}
 use Rattle.treecommands.specs.Settle.{Changed, settled, settled-tree, order-size, index-size, nodes-size, changed-left}

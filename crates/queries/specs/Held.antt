@@ -22,14 +22,14 @@ use Rattle.readable.specs.Readable.{ReadableWhole}
 use Rattle.nodes.specs.Table.{width, slotField}
 use Rattle.nodes.specs.TableLaws.{row-from}
 use Rattle.nodes.specs.Place.{groupSlot, isGroup}
-use Rattle.model.specs.Layout.{slotCount, nodesPlace, nodesWords, countIn, lengthsIn, nodesIn}
+use Rattle.model.specs.Layout.{slotCount, nodesPlace, nodesWords, countIn, lengthsIn, nodesIn, recordIn}
 use Rattle.model.specs.Engine.{Slot, decode, noDefinition, valueOr, definitionIn, slotAt, definitionOf, slotTaken}
 use Rattle.model.specs.Formed.{isWhole, slotFormed}
 use Rattle.state.specs.Known.{Known}
 use Rattle.tree.specs.Sizes.{Placed}
 use Rattle.controls.specs.Encoded.{frontIn}
 use Rattle.slots.specs.Slots.{slotBytes, slot-bytes, decoded-many}
-use Rattle.controls.specs.Ready.{Ready, nodeIn, held-at, slot-formed, either-true, synth-ready}
+use Rattle.controls.specs.Ready.{Ready, held-at, slot-formed, either-true, synth-ready}
 use Rattle.controls.specs.Formed.{bounds-ready}
 use Rattle.controls.specs.Synth.{Bounds, slot-bound}
 
@@ -51,7 +51,7 @@ at-placed ws bs i a count same =
     record { room = omega (arith, size, a .state .few); few = omega (arith, a .state .few); live = omega (arith, a .live) }
 
 -- a record and what follows it
-pub node-there : (ws bs : List ℕ) (i : ℕ) → At ws bs i → drop i (nodesIn ws) ≡ nodeIn ws i ∷ drop (i + 1) (nodesIn ws)
+pub node-there : (ws bs : List ℕ) (i : ℕ) → At ws bs i → drop i (nodesIn ws) ≡ recordIn ws i ∷ drop (i + 1) (nodesIn ws)
 node-there ws bs i a = row-from (countIn ws) (region nodesPlace nodesWords ws) i (a .live)
 
 whole-read : (s : Slot) (size : ℕ) (r : Read Definition) → readDefinition (s .bytes) 0 ≡ r → isWhole size r ≡ true
@@ -59,23 +59,23 @@ whole-read : (s : Slot) (size : ℕ) (r : Read Definition) → readDefinition (s
 whole-read s size (got d next) e h k = k next (e ∙ ap (λ (x : Definition). got x next) (sym (ap (valueOr noDefinition) e)))
 whole-read s size (bad q place) e h k = absurd (let z : _≡_ {A = ℕ} 0 1 = cc in omega arith)
 
-module _ (ws bs : List ℕ) (i : ℕ) (a : At ws bs i) (single : isGroup (nodeIn ws i) ≡ false) where
+module _ (ws bs : List ℕ) (i : ℕ) (a : At ws bs i) (single : isGroup (recordIn ws i) ≡ false) where
   abbrev slots : List Slot
   slots = decode ws bs .slots
 
   abbrev slot : ℕ
-  slot = nodeIn ws i .slot
+  slot = recordIn ws i .slot
 
   low : slot < slotCount
   low = bounds ws bs i a .slot single
 
   -- a synth's slot has one whole definition
-  pub held-whole : {E : Type 0} → ((next : ℕ) → readDefinition (slotBytes ws bs slot) 0 ≡ got (definitionOf slots (nodeIn ws i)) next → E) → E
+  pub held-whole : {E : Type 0} → ((next : ℕ) → readDefinition (slotBytes ws bs slot) 0 ≡ got (definitionOf slots (recordIn ws i)) next → E) → E
   held-whole k =
       let formed : slotFormed slot (getD (lengthsIn ws) slot 0) (slotAt slots slot) (nodesIn ws) ≡ true =
       rw zero-add at (slot-formed 0 slot (lengthsIn ws) slots (nodesIn ws) (rw (decoded-many ws bs) low) (a .state .slots)) in
       let taken : slotTaken slot (slotAt slots slot) (nodesIn ws) ≡ true =
-      rw (held-at (nodesIn ws) i (nodeIn ws i) (drop (i + 1) (nodesIn ws)) (node-there ws bs i a)) (either-true (slotAt slots slot .resident)) in
+      rw (held-at (nodesIn ws) i (recordIn ws i) (drop (i + 1) (nodesIn ws)) (node-there ws bs i a)) (either-true (slotAt slots slot .resident)) in
       let whole : both (leb (getD (lengthsIn ws) slot 0) sizeLimit) (isWhole (getD (lengthsIn ws) slot 0) (readDefinition (slotAt slots slot .bytes) 0)) ≡ true = rw taken at formed in
       whole-read (slotAt slots slot) (getD (lengthsIn ws) slot 0) (readDefinition (slotAt slots slot .bytes) 0) refl (both-true (leb (getD (lengthsIn ws) slot 0) sizeLimit) _ whole .1)
       (λ next e. k next (ap (λ (s : List ℕ). readDefinition s 0) (sym (slot-bytes ws bs slot low)) ∙ e))
@@ -84,16 +84,16 @@ module _ (ws bs : List ℕ) (i : ℕ) (a : At ws bs i) (single : isGroup (nodeIn
   held-readable = synth-ready ws bs (ready ws bs (a .state)) i (a .live) single .whole
 
   -- what its bytes tell is what its definition has
-  pub held-units : unitsIn (slotBytes ws bs slot) ≡ found.At (length (definitionOf slots (nodeIn ws i) .units))
+  pub held-units : unitsIn (slotBytes ws bs slot) ≡ found.At (length (definitionOf slots (recordIn ws i) .units))
   held-units = held-whole (λ next e. units-of (slotBytes ws bs slot) e)
 
-  pub held-name : nameIn (slotBytes ws bs slot) ≡ definitionOf slots (nodeIn ws i) .front .name
+  pub held-name : nameIn (slotBytes ws bs slot) ≡ definitionOf slots (recordIn ws i) .front .name
   held-name = held-whole (λ next e. name-of (slotBytes ws bs slot) e)
 
-  pub held-first-name : (j : ℕ) → nameOfIn j (slotBytes ws bs slot) ≡ firstName j (definitionOf slots (nodeIn ws i) .front .names)
+  pub held-first-name : (j : ℕ) → nameOfIn j (slotBytes ws bs slot) ≡ firstName j (definitionOf slots (recordIn ws i) .front .names)
   held-first-name j = held-whole (λ next e. first-name-of (slotBytes ws bs slot) e j)
 
-  pub held-front : definitionOf slots (nodeIn ws i) .front ≡ frontIn (slotBytes ws bs slot)
+  pub held-front : definitionOf slots (recordIn ws i) .front ≡ frontIn (slotBytes ws bs slot)
   held-front = synth-ready ws bs (ready ws bs (a .state)) i (a .live) single .front
 
 -- a synth's slot, by the words

@@ -13,7 +13,7 @@ use Rattle.values.specs.declared.NodeArgument.{NodeArgument}
 use Rattle.model.specs.declared.Query.the-variants as query
 use Rattle.model.specs.declared.Answer.{Answer}
 use Rattle.model.specs.declared.Answer.the-variants.{Refused}
-use Rattle.model.specs.Layout.{nodesIn, controlsIn}
+use Rattle.model.specs.Layout.{nodesIn, controlsIn, recordIn}
 use Rattle.model.specs.Engine.{decode}
 use Rattle.model.specs.View.{PlainNode, isGroupKind, view}
 use Rattle.model.specs.Meaning.{meant}
@@ -22,7 +22,6 @@ use Rattle.model.specs.Replies.{reply, replyTo, infoAddress, infoKind, infoRepl
 use Rattle.replies.specs.Words.{wordBytes}
 use Rattle.replies.specs.Sent.{wordMessage}
 use Rattle.names.specs.Judged.{NodeFound, NodeRefused, found-place}
-use Rattle.controls.specs.Ready.{nodeIn}
 use Rattle.queries.specs.Held.{At, node-there}
 use Rattle.queries.specs.Shape.{parent-same, previous-same, next-same, head-same, tail-same}
 use Rattle.queries.specs.Found.{number-found, plain-found}
@@ -36,18 +35,18 @@ synthTags = 44 ∷ (105 ∷ (105 ∷ (105 ∷ (105 ∷ (105 ∷ [])))))
 
 -- the node that a query names, at its place
 module _ (argument : NodeArgument) (ws bs : List ℕ) (at : ℕ) (n : NodeFound argument ws at) (a : At ws bs at) where
-  pub here : drop (place (meant argument (decode ws bs)) (nodesIn ws)) (nodesIn ws) ≡ nodeIn ws at ∷ drop (at + 1) (nodesIn ws)
+  pub here : drop (place (meant argument (decode ws bs)) (nodesIn ws)) (nodesIn ws) ≡ recordIn ws at ∷ drop (at + 1) (nodesIn ws)
   here = ap (λ (k : ℕ). drop k (nodesIn ws)) (sym (found-place argument ws bs at n)) ∙ node-there ws bs at a
 
-  pub number-here : nodeIn ws at .number ≡ meant argument (decode ws bs)
-  number-here = number-found (meant argument (decode ws bs)) (nodesIn ws) (nodeIn ws at) (drop (at + 1) (nodesIn ws)) here
+  pub number-here : recordIn ws at .number ≡ meant argument (decode ws bs)
+  number-here = number-found (meant argument (decode ws bs)) (nodesIn ws) (recordIn ws at) (drop (at + 1) (nodesIn ws)) here
 
-  pub here-number : at ≡ place (nodeIn ws at .number) (nodesIn ws)
+  pub here-number : at ≡ place (recordIn ws at .number) (nodesIn ws)
   here-number = found-place argument ws bs at n ∙ ap (λ (k : ℕ). place k (nodesIn ws)) (sym number-here)
 
-  pub plain-kind : isGroupKind (plainNamed (meant argument (decode ws bs)) (viewFrom ws bs 0) .kind) ≡ isGroup (nodeIn ws at)
+  pub plain-kind : isGroupKind (plainNamed (meant argument (decode ws bs)) (viewFrom ws bs 0) .kind) ≡ isGroup (recordIn ws at)
   plain-kind =
-      ap (λ (x : PlainNode). isGroupKind (x .kind)) (plain-found (decode ws bs .slots) (controlsIn ws) (meant argument (decode ws bs)) (nodesIn ws) (nodeIn ws at) (drop (at + 1) (nodesIn ws)) here)
+      ap (λ (x : PlainNode). isGroupKind (x .kind)) (plain-found (decode ws bs .slots) (controlsIn ws) (meant argument (decode ws bs)) (nodesIn ws) (recordIn ws at) (drop (at + 1) (nodesIn ws)) here)
       ∙ kind-group ws bs at
 
 -- who stands where, of a node of the table
@@ -64,12 +63,12 @@ info-from n ws bs b parent previous next w e =
     ap (infoReply n) (view-from ws bs)
     ∙ rw (e, parent-same slots cs n (nodesIn ws), previous-same slots cs n (nodesIn ws), next-same slots cs n (nodesIn ws), w .isParent, w .isPrevious, w .isNext)
 
-pub group-info : (argument : NodeArgument) (bytes ws bs : List ℕ) (at : ℕ) → NodeFound argument ws at → At ws bs at → isGroup (nodeIn ws at) ≡ true
-    → (parent previous next head tail : ℕ) → Around (nodeIn ws at .number) (nodesIn ws) parent previous next → head ≡ headOf (nodeIn ws at .number) (nodesIn ws) → tail ≡ tailOf (nodeIn ws at .number) (nodesIn ws)
-    → wordMessage infoAddress groupTags (nodeIn ws at .number ∷ (parent ∷ (previous ∷ (next ∷ (1 ∷ (head ∷ (tail ∷ []))))))) ≡ reply (query.Node argument) bytes (decode ws bs)
+pub group-info : (argument : NodeArgument) (bytes ws bs : List ℕ) (at : ℕ) → NodeFound argument ws at → At ws bs at → isGroup (recordIn ws at) ≡ true
+    → (parent previous next head tail : ℕ) → Around (recordIn ws at .number) (nodesIn ws) parent previous next → head ≡ headOf (recordIn ws at .number) (nodesIn ws) → tail ≡ tailOf (recordIn ws at .number) (nodesIn ws)
+    → wordMessage infoAddress groupTags (recordIn ws at .number ∷ (parent ∷ (previous ∷ (next ∷ (1 ∷ (head ∷ (tail ∷ []))))))) ≡ reply (query.Node argument) bytes (decode ws bs)
 unfolding wordBytes tags arguments replyTo
 group-info argument bytes ws bs at n a isGroup parent previous next head tail w h t =
-    let m = nodeIn ws at .number in
+    let m = recordIn ws at .number in
     let same : m ≡ meant argument (decode ws bs) = number-here argument ws bs at n a in
     let kind : isGroupKind (plainNamed m (viewFrom ws bs 0) .kind) ≡ true =
     ap (λ (k : ℕ). isGroupKind (plainNamed k (viewFrom ws bs 0) .kind)) same ∙ plain-kind argument ws bs at n a ∙ isGroup in
@@ -77,12 +76,12 @@ group-info argument bytes ws bs at n a isGroup parent previous next head tail w 
     ∙ info-from m ws bs true parent previous next w kind
     ∙ rw (head-same (decode ws bs .slots) (controlsIn ws) m (nodesIn ws), tail-same (decode ws bs .slots) (controlsIn ws) m (nodesIn ws), sym h, sym t))
 
-pub synth-info : (argument : NodeArgument) (bytes ws bs : List ℕ) (at : ℕ) → NodeFound argument ws at → At ws bs at → isGroup (nodeIn ws at) ≡ false
-    → (parent previous next : ℕ) → Around (nodeIn ws at .number) (nodesIn ws) parent previous next
-    → wordMessage infoAddress synthTags (nodeIn ws at .number ∷ (parent ∷ (previous ∷ (next ∷ (0 ∷ []))))) ≡ reply (query.Node argument) bytes (decode ws bs)
+pub synth-info : (argument : NodeArgument) (bytes ws bs : List ℕ) (at : ℕ) → NodeFound argument ws at → At ws bs at → isGroup (recordIn ws at) ≡ false
+    → (parent previous next : ℕ) → Around (recordIn ws at .number) (nodesIn ws) parent previous next
+    → wordMessage infoAddress synthTags (recordIn ws at .number ∷ (parent ∷ (previous ∷ (next ∷ (0 ∷ []))))) ≡ reply (query.Node argument) bytes (decode ws bs)
 unfolding wordBytes tags arguments replyTo
 synth-info argument bytes ws bs at n a single parent previous next w =
-    let m = nodeIn ws at .number in
+    let m = recordIn ws at .number in
     let same : m ≡ meant argument (decode ws bs) = number-here argument ws bs at n a in
     let kind : isGroupKind (plainNamed m (viewFrom ws bs 0) .kind) ≡ false =
     ap (λ (k : ℕ). isGroupKind (plainNamed k (viewFrom ws bs 0) .kind)) same ∙ plain-kind argument ws bs at n a ∙ single in

@@ -15,7 +15,7 @@ use Rattle.nodes.specs.TableLaws.{rows-end, rows-length}
 use Rattle.nodes.specs.Place.{isGroup}
 use Rattle.model.specs.declared.Query.the-variants as query
 use Rattle.model.specs.declared.Answer.{Answer}
-use Rattle.model.specs.Layout.{nodesPlace, nodesWords, countIn, nodesIn, controlsIn}
+use Rattle.model.specs.Layout.{nodesPlace, nodesWords, countIn, nodesIn, controlsIn, recordIn}
 use Rattle.model.specs.Engine.{Slot, Engine, decode, residents}
 use Rattle.model.specs.View.{Kind, group, Row, kindIn, viewRows, view, isGroupKind}
 use Rattle.model.specs.Checks.{firstOf, queryChecks}
@@ -24,7 +24,6 @@ use Rattle.replies.specs.Words.{wordBytes}
 use Rattle.replies.specs.Sent.{wordMessage}
 use Rattle.controls.specs.Encoded.{numberOr}
 use Rattle.slots.specs.Slots.{slotBytes}
-use Rattle.controls.specs.Ready.{nodeIn}
 use Rattle.queries.specs.Held.{At, node-there, held-units}
 
 -- the engine's nodes as the plain tree knows them, from a place on
@@ -37,7 +36,7 @@ view-from ws bs = refl
 
 -- the kind of the node at a place
 abbrev pub kindAt : List ℕ → List ℕ → ℕ → Kind
-kindAt ws bs i = kindIn (decode ws bs .slots) (controlsIn ws) (nodeIn ws i)
+kindAt ws bs i = kindIn (decode ws bs .slots) (controlsIn ws) (recordIn ws i)
 
 group-kind : (b : Bool) (k : Kind) → isGroupKind k ≡ false → isGroupKind (pick b group k) ≡ b
 group-kind true k h = refl
@@ -46,14 +45,14 @@ group-kind false k h = h
 pub kind-is : (slots : List Slot) (controls : List ℕ) (r : Node) → isGroupKind (kindIn slots controls r) ≡ isGroup r
 kind-is slots controls r = group-kind (isGroup r) _ refl
 
-pub kind-group : (ws bs : List ℕ) (i : ℕ) → isGroupKind (kindAt ws bs i) ≡ isGroup (nodeIn ws i)
-kind-group ws bs i = kind-is (decode ws bs .slots) (controlsIn ws) (nodeIn ws i)
+pub kind-group : (ws bs : List ℕ) (i : ℕ) → isGroupKind (kindAt ws bs i) ≡ isGroup (recordIn ws i)
+kind-group ws bs i = kind-is (decode ws bs .slots) (controlsIn ws) (recordIn ws i)
 
 -- units
-pub units-group : (ws bs : List ℕ) (i : ℕ) → isGroup (nodeIn ws i) ≡ true → unitsOf (kindAt ws bs i) ≡ 0
+pub units-group : (ws bs : List ℕ) (i : ℕ) → isGroup (recordIn ws i) ≡ true → unitsOf (kindAt ws bs i) ≡ 0
 units-group ws bs i h = rw h
 
-pub units-synth : (ws bs : List ℕ) (i : ℕ) → At ws bs i → isGroup (nodeIn ws i) ≡ false → unitsOf (kindAt ws bs i) ≡ numberOr (unitsIn (slotBytes ws bs (nodeIn ws i .slot)))
+pub units-synth : (ws bs : List ℕ) (i : ℕ) → At ws bs i → isGroup (recordIn ws i) ≡ false → unitsOf (kindAt ws bs i) ≡ numberOr (unitsIn (slotBytes ws bs (recordIn ws i .slot)))
 units-synth ws bs i a h = rw h (ap numberOr (sym (held-units ws bs i a h)))
 
 module _ (ws bs : List ℕ) (i : ℕ) (a : At ws bs i) where

@@ -17,14 +17,13 @@ use Rattle.nodes.specs.declared.Node.{Node}
 use Rattle.nodes.specs.TableLaws.{row-from, rows-end, rows-length}
 use Rattle.nodes.specs.Place.{groupSlot, isGroup}
 use Rattle.nodes.specs.Formed.{mostNodes}
-use Rattle.model.specs.Layout.{slotCount, countIn, nodesIn, nodesPlace, nodesWords, controlsIn, wordsLength}
+use Rattle.model.specs.Layout.{slotCount, countIn, nodesIn, nodesPlace, nodesWords, controlsIn, wordsLength, recordIn}
 use Rattle.model.specs.Engine.{Slot, decode}
 use Rattle.model.specs.View.{kindIn, viewRows, isGroupKind}
 use Rattle.model.specs.Replies.{unitsOf, unitCount, groupCount}
 use Rattle.state.specs.Known.{Known}
 use Rattle.controls.specs.Encoded.{numberOr}
 use Rattle.slots.specs.Slots.{slotBytes}
-use Rattle.controls.specs.Ready.{nodeIn}
 use Rattle.queries.specs.Held.{At, bounds, held-readable}
 use Rattle.queries.specs.Status.{viewFrom, kindAt, kind-is, units-group, units-synth, units-turn, units-end}
 
@@ -45,13 +44,13 @@ Tallies ws a b c d = (k : ℕ) → k < slotWords → getD a k 0 + getD b k 0 + g
 pub record Slotted (ws : List ℕ) : Type 0 where
   pub size : length ws ≡ wordsLength
   pub few : countIn ws ≤ mostNodes
-  pub low : (i : ℕ) → i < countIn ws → nodeIn ws i .slot < slotWords
+  pub low : (i : ℕ) → i < countIn ws → recordIn ws i .slot < slotWords
 
 pub slotted : (ws bs : List ℕ) → Known ws bs → Slotted ws
-slotted ws bs k = record { size = k .size; few = k .few; low = λ i h. by i h (isGroup (nodeIn ws i)) refl }
+slotted ws bs k = record { size = k .size; few = k .few; low = λ i h. by i h (isGroup (recordIn ws i)) refl }
   where
-    by : (i : ℕ) → i < countIn ws → (b : Bool) → isGroup (nodeIn ws i) ≡ b → nodeIn ws i .slot < slotWords
-    by i h true e = omega (arith, eqb-true (nodeIn ws i .slot) groupSlot e)
+    by : (i : ℕ) → i < countIn ws → (b : Bool) → isGroup (recordIn ws i) ≡ b → recordIn ws i .slot < slotWords
+    by i h true e = omega (arith, eqb-true (recordIn ws i .slot) groupSlot e)
     by i h false e = omega (arith, bounds ws bs i (record { state = k; live = h }) .slot e)
 
 tally-list : (k : ℕ) (t : List Node) → slotTally k t ≤ length t
@@ -67,7 +66,7 @@ module _ (ws : List ℕ) (k : ℕ) where
   pub tally-most : slotTally k (nodesIn ws) ≤ countIn ws
   tally-most = omega (arith, tally-list k (nodesIn ws), rows-length (countIn ws) (region nodesPlace nodesWords ws))
 
-  tally-turn : (i : ℕ) → i < countIn ws → slotTally k (drop i (nodesIn ws)) ≡ pick (eqb (nodeIn ws i .slot) k) 1 0 + slotTally k (drop (i + 1) (nodesIn ws))
+  tally-turn : (i : ℕ) → i < countIn ws → slotTally k (drop i (nodesIn ws)) ≡ pick (eqb (recordIn ws i .slot) k) 1 0 + slotTally k (drop (i + 1) (nodesIn ws))
   unfolding slotTally
   tally-turn i h = ap (slotTally k) (row-from (countIn ws) (region nodesPlace nodesWords ws) i h)
 
@@ -91,14 +90,14 @@ tallied-none ws from =
       same = λ k h. omega (arith, getD-replicate {A = ℕ} slotWords k 0 0 h, tally-place ws k (from + 0) from (omega arith));
     }
 
-pub tallied-more : (ws : List ℕ) (from i : ℕ) → Slotted ws → from + i < countIn ws → (counts : List ℕ) → Tallied ws from i counts → (slot : ℕ) → slot ≡ nodeIn ws (from + i) .slot
+pub tallied-more : (ws : List ℕ) (from i : ℕ) → Slotted ws → from + i < countIn ws → (counts : List ℕ) → Tallied ws from i counts → (slot : ℕ) → slot ≡ recordIn ws (from + i) .slot
     → Tallied ws from (i + 1) (set counts slot (getD counts slot 0 + 1))
 tallied-more ws from i s h counts t slot is = record { size = length-set counts slot _ ∙ t .size; same = λ k l. by k l (eqb slot k) refl }
   where
     turn : (k : ℕ) → slotTally k (drop (from + i) (nodesIn ws)) ≡ pick (eqb slot k) 1 0 + slotTally k (drop (from + (i + 1)) (nodesIn ws))
     turn k =
         let next = tally-place ws k (from + i + 1) (from + (i + 1)) (omega arith) in
-        rw is (tally-turn ws k (from + i) h ∙ ap (λ (n : ℕ). pick (eqb (nodeIn ws (from + i) .slot) k) 1 0 + n) next)
+        rw is (tally-turn ws k (from + i) h ∙ ap (λ (n : ℕ). pick (eqb (recordIn ws (from + i) .slot) k) 1 0 + n) next)
 
     by : (k : ℕ) → k < slotWords → (b : Bool) → eqb slot k ≡ b
         → getD (set counts slot (getD counts slot 0 + 1)) k 0 + slotTally k (drop (from + (i + 1)) (nodesIn ws)) ≡ slotTally k (drop from (nodesIn ws))
@@ -152,12 +151,12 @@ tallies-few ws a b c d s t k h = omega (arith, t k h, tally-most ws k, s .few)
 -- a slot that a synth holds has one whole definition
 pub held-slot : (ws bs : List ℕ) (k : ℕ) → Known ws bs → k < slotCount → (n i : ℕ) → countIn ws ≤ i + n → 0 < slotTally k (drop i (nodesIn ws)) → ReadableWhole (slotBytes ws bs k)
 held-slot ws bs k s low zero i most some = absurd (omega (arith, tally-end ws k i (omega arith)))
-held-slot ws bs k s low (suc n) i most some = by (held-slot ws bs k s low n (i + 1) (omega arith)) (ltb i (countIn ws)) (eqb (nodeIn ws i .slot) k) refl refl
+held-slot ws bs k s low (suc n) i most some = by (held-slot ws bs k s low n (i + 1) (omega arith)) (ltb i (countIn ws)) (eqb (recordIn ws i .slot) k) refl refl
   where
-    by : (0 < slotTally k (drop (i + 1) (nodesIn ws)) → ReadableWhole (slotBytes ws bs k)) → (a b : Bool) → ltb i (countIn ws) ≡ a → eqb (nodeIn ws i .slot) k ≡ b → ReadableWhole (slotBytes ws bs k)
+    by : (0 < slotTally k (drop (i + 1) (nodesIn ws)) → ReadableWhole (slotBytes ws bs k)) → (a b : Bool) → ltb i (countIn ws) ≡ a → eqb (recordIn ws i .slot) k ≡ b → ReadableWhole (slotBytes ws bs k)
     by ih true true p q =
-        let here : nodeIn ws i .slot ≡ k = eqb-true (nodeIn ws i .slot) k q in
-        rw here at (held-readable ws bs i (record { state = s; live = ltb-true i (countIn ws) p }) (ne-eqb (nodeIn ws i .slot) groupSlot (λ e. absurd (omega arith))))
+        let here : recordIn ws i .slot ≡ k = eqb-true (recordIn ws i .slot) k q in
+        rw here at (held-readable ws bs i (record { state = s; live = ltb-true i (countIn ws) p }) (ne-eqb (recordIn ws i .slot) groupSlot (λ e. absurd (omega arith))))
     by ih true false p q = ih (omega (arith, rw q at (tally-turn ws k i (ltb-true i (countIn ws) p))))
     by ih false b p q = absurd (omega (arith, tally-end ws k i (ltb-false i (countIn ws) p)))
 
@@ -241,9 +240,9 @@ module _ (ws : List ℕ) where
             → i + unitsBefore one slotWords (drop i (nodesIn ws)) ≡ countIn ws
         by ih true e =
             let live = ltb-true i (countIn ws) e in
-            let turn : unitsBefore one slotWords (drop i (nodesIn ws)) ≡ pick (ltb (nodeIn ws i .slot) slotWords) 1 0 + unitsBefore one slotWords (drop (i + 1) (nodesIn ws)) =
+            let turn : unitsBefore one slotWords (drop i (nodesIn ws)) ≡ pick (ltb (recordIn ws i .slot) slotWords) 1 0 + unitsBefore one slotWords (drop (i + 1) (nodesIn ws)) =
             ap (unitsBefore one slotWords) (row-from (countIn ws) (region nodesPlace nodesWords ws) i live) in
-            omega (arith, rw (lt-ltb (nodeIn ws i .slot) slotWords (s .low i live)) at turn, ih (omega arith) (omega arith))
+            omega (arith, rw (lt-ltb (recordIn ws i .slot) slotWords (s .low i live)) at turn, ih (omega arith) (omega arith))
         by ih false e =
             let past = ltb-false i (countIn ws) e in
             omega (arith, ap (unitsBefore one slotWords) (rows-end (countIn ws) (region nodesPlace nodesWords ws) i past))
@@ -273,14 +272,14 @@ module _ (ws bs : List ℕ) where
 
   -- all slots: all synths
   module _ (s : Known ws bs) where
-    here : (i : ℕ) → i < countIn ws → pick (ltb (nodeIn ws i .slot) slotCount) (slotUnits ws bs (nodeIn ws i .slot)) 0 ≡ unitsOf (kindAt ws bs i)
-    here i h = by (isGroup (nodeIn ws i)) refl
+    here : (i : ℕ) → i < countIn ws → pick (ltb (recordIn ws i .slot) slotCount) (slotUnits ws bs (recordIn ws i .slot)) 0 ≡ unitsOf (kindAt ws bs i)
+    here i h = by (isGroup (recordIn ws i)) refl
       where
-        by : (b : Bool) → isGroup (nodeIn ws i) ≡ b → pick (ltb (nodeIn ws i .slot) slotCount) (slotUnits ws bs (nodeIn ws i .slot)) 0 ≡ unitsOf (kindAt ws bs i)
-        by true e = rw (le-ltb (nodeIn ws i .slot) slotCount (omega (arith, eqb-true (nodeIn ws i .slot) groupSlot e))) (sym (units-group ws bs i e))
+        by : (b : Bool) → isGroup (recordIn ws i) ≡ b → pick (ltb (recordIn ws i .slot) slotCount) (slotUnits ws bs (recordIn ws i .slot)) 0 ≡ unitsOf (kindAt ws bs i)
+        by true e = rw (le-ltb (recordIn ws i .slot) slotCount (omega (arith, eqb-true (recordIn ws i .slot) groupSlot e))) (sym (units-group ws bs i e))
         by false e =
             let at : At ws bs i = record { state = s; live = h } in
-            rw (lt-ltb (nodeIn ws i .slot) slotCount (bounds ws bs i at .slot e)) (sym (units-synth ws bs i at e))
+            rw (lt-ltb (recordIn ws i .slot) slotCount (bounds ws bs i at .slot e)) (sym (units-synth ws bs i at e))
 
     all-from : (n i : ℕ) → countIn ws ≤ i + n → unitsBefore (slotUnits ws bs) slotCount (drop i (nodesIn ws)) ≡ unitCount (viewFrom ws bs i)
     unfolding unitsBefore
@@ -292,7 +291,7 @@ module _ (ws bs : List ℕ) where
             → unitsBefore (slotUnits ws bs) slotCount (drop i (nodesIn ws)) ≡ unitCount (viewFrom ws bs i)
         by ih true e =
             let live = ltb-true i (countIn ws) e in
-            let turn : unitsBefore (slotUnits ws bs) slotCount (drop i (nodesIn ws)) ≡ pick (ltb (nodeIn ws i .slot) slotCount) (slotUnits ws bs (nodeIn ws i .slot)) 0 + unitsBefore (slotUnits ws bs) slotCount (drop (i + 1) (nodesIn ws)) =
+            let turn : unitsBefore (slotUnits ws bs) slotCount (drop i (nodesIn ws)) ≡ pick (ltb (recordIn ws i .slot) slotCount) (slotUnits ws bs (recordIn ws i .slot)) 0 + unitsBefore (slotUnits ws bs) slotCount (drop (i + 1) (nodesIn ws)) =
             ap (unitsBefore (slotUnits ws bs) slotCount) (row-from (countIn ws) (region nodesPlace nodesWords ws) i live) in
             omega (arith, turn, ih, here i live, units-turn ws bs i (record { state = s; live = live }))
         by ih false e =

@@ -18,7 +18,7 @@ use Rattle.nodes.specs.Formed as nodes
 use Rattle.index.specs.Index.{indexed}
 use Rattle.index.specs.Words.{IndexFits}
 use Rattle.index.specs.Nodes.{indexed-apart}
-use Rattle.model.specs.Layout.{wordsLength, arenaLength, nodesPlace, nodesWords, orderPlace, orderWords, indexPlace, indexWords, countIn, nextIn, latestIn, orderLengthIn, lengthsIn, flagsIn, nodesIn, controlsIn}
+use Rattle.model.specs.Layout.{wordsLength, arenaLength, nodesPlace, nodesWords, orderPlace, orderWords, indexPlace, indexWords, countIn, nextIn, latestIn, orderLengthIn, lengthsIn, flagsIn, nodesIn, controlsIn, entriesIn}
 use Rattle.model.specs.Engine.{decode}
 use Rattle.model.specs.Formed.{formed, orderFormed, flagsFormed, slotsFormed, namesApart, controlsFormed}
 use Rattle.state.specs.Known.{tree-known}
@@ -26,12 +26,9 @@ use Rattle.order.specs.Same.{sameOrder}
 use Rattle.order.specs.Checks.{nodesHold, formed-apart}
 use Rattle.controls.specs.Ready.{Ready}
 
--- the records of the node region, the region of the index, and that of the kept order
+-- the records of the node region, and the region of the kept order
 abbrev pub nodesOf : ℕ → List ℕ → List Node
 nodesOf count ws = rows count (region nodesPlace nodesWords ws)
-
-abbrev pub entriesIn : List ℕ → List ℕ
-entriesIn ws = region indexPlace indexWords ws
 
 abbrev pub keptIn : List ℕ → List ℕ
 keptIn ws = region orderPlace orderWords ws

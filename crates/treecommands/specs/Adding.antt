@@ -15,7 +15,7 @@ use Rattle.values.specs.declared.NodeArgument.{NodeArgument}
 use Rattle.model.specs.declared.TreeCommand.{TreeCommand}
 use Rattle.model.specs.declared.Command.the-variants as command
 use Rattle.model.specs.declared.Answer.the-variants.{Done}
-use Rattle.model.specs.Layout.{nodesWords, countIn}
+use Rattle.model.specs.Layout.{nodesWords, countIn, recordIn, nodeWords}
 use Rattle.model.specs.Engine.{decode}
 use Rattle.model.specs.Checks.{badTarget, full}
 use Rattle.model.specs.Effects.{treeEffect, effect}
@@ -30,14 +30,14 @@ use Rattle.tree.specs.declared.action.Position.the-variants.{Head, Tail, Before
 use Rattle.tree.specs.Action.{numberOf}
 use Rattle.tree.specs.Add.{grows, Room}
 use Rattle.tree.specs.Shallow.{addable}
-use Rattle.treecommands.specs.Ready.{Ready, nodeWords, nodeIn, words-long}
+use Rattle.treecommands.specs.Ready.{Ready, words-long}
 use Rattle.names.specs.Judged.{NodeFound}
 use Rattle.treecommands.specs.Finding.{root-there, group-there}
 
 -- 18 and 20 by the target's place and the count of nodes
 abbrev pub badAt : Action → List ℕ → ℕ → Bool
-badAt (Put Head) ws at = not (isGroup (nodeIn ws at))
-badAt (Put Tail) ws at = not (isGroup (nodeIn ws at))
+badAt (Put Head) ws at = not (isGroup (recordIn ws at))
+badAt (Put Tail) ws at = not (isGroup (recordIn ws at))
 badAt (Put Before) ws at = eqb at 0
 badAt (Put After) ws at = eqb at 0
 badAt Replace ws at = eqb at 0

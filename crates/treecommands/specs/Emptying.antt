@@ -20,7 +20,7 @@ use Rattle.model.specs.declared.TreeCommand.the-variants as tree
 use Rattle.model.specs.declared.Command.the-variants as command
 use Rattle.model.specs.declared.Answer.{Answer}
 use Rattle.model.specs.declared.Answer.the-variants.{Done, Refused}
-use Rattle.model.specs.Layout.{nodesPlace, nodesWords, countIn, nodesIn}
+use Rattle.model.specs.Layout.{nodesPlace, nodesWords, countIn, nodesIn, recordIn, nodeWords}
 use Rattle.model.specs.Engine.{decode}
 use Rattle.model.specs.Checks.{check, firstOf, nodeCheck, notGroup}
 use Rattle.model.specs.Effects.{effect}
@@ -29,7 +29,7 @@ use Rattle.model.specs.Apply.{answerIn}
 use Rattle.state.specs.Does.{step-refused, step-done}
 use Rattle.tree.specs.Sizes.{Leaves}
 use Rattle.names.specs.Judged.{meantIn, NodeFound, NodeRefused}
-use Rattle.treecommands.specs.Ready.{Ready, nodeWords, nodeIn}
+use Rattle.treecommands.specs.Ready.{Ready}
 use Rattle.treecommands.specs.Finding.{group-there}
 use Rattle.treecommands.specs.Edits.{cutBelow-does, deep-sifts}
 use Rattle.treecommands.specs.Settle.{Changed, Sifted, renewed}
@@ -56,19 +56,19 @@ module _ (g : NodeArgument) (ws : List ℕ) where
     live : at < count
     live = rw same (group-at .live)
 
-    group-wrong : not (isGroup (nodeIn ws at)) ≡ true → (bs : List ℕ) → groupAnswer bs ≡ Refused WrongKind
+    group-wrong : not (isGroup (recordIn ws at)) ≡ true → (bs : List ℕ) → groupAnswer bs ≡ Refused WrongKind
     unfolding firstOf
     group-wrong b bs = rw (group-at .passes bs, group-there g ws k at group-at bs, b)
 
-    group-right : not (isGroup (nodeIn ws at)) ≡ false → (bs : List ℕ) → groupAnswer bs ≡ Done
+    group-right : not (isGroup (recordIn ws at)) ≡ false → (bs : List ℕ) → groupAnswer bs ≡ Done
     unfolding firstOf
     group-right b bs = rw (group-at .passes bs, group-there g ws k at group-at bs, b)
 
-    pub all-wrong : not (isGroup (nodeIn ws at)) ≡ true → Steps (tree.FreeAll g) ws (Refused WrongKind) ws
+    pub all-wrong : not (isGroup (recordIn ws at)) ≡ true → Steps (tree.FreeAll g) ws (Refused WrongKind) ws
     unfolding answerIn
     all-wrong b bytes bs = step-refused (command.Tree (tree.FreeAll g)) bytes ws bs WrongKind (group-wrong b bs)
 
-    pub deep-wrong : not (isGroup (nodeIn ws at)) ≡ true → Steps (tree.DeepFree g) ws (Refused WrongKind) ws
+    pub deep-wrong : not (isGroup (recordIn ws at)) ≡ true → Steps (tree.DeepFree g) ws (Refused WrongKind) ws
     unfolding answerIn
     deep-wrong b bytes bs = step-refused (command.Tree (tree.DeepFree g)) bytes ws bs WrongKind (group-wrong b bs)
 
@@ -82,7 +82,7 @@ module _ (g : NodeArgument) (ws : List ℕ) where
       pub all-ready : Changed (edit.Cut (at + 1) (at + 1 + (count - many))) many (put nodesPlace nodesWords us ws)
       all-ready = edited-ready g ws k count same at group-at freeAllHere us many does all-few (edit.Cut (at + 1) (at + 1 + (count - many))) (cutBelow-does count (nodeWords ws) at live many (does .size))
 
-      pub all-done : (out : List ℕ) → not (isGroup (nodeIn ws at)) ≡ false → out ≡ renewed many (put nodesPlace nodesWords us ws) → Steps (tree.FreeAll g) ws Done out
+      pub all-done : (out : List ℕ) → not (isGroup (recordIn ws at)) ≡ false → out ≡ renewed many (put nodesPlace nodesWords us ws) → Steps (tree.FreeAll g) ws Done out
       unfolding answerIn decode wordsAfter effect
       all-done out b o bytes bs =
           step-done (command.Tree (tree.FreeAll g)) bytes ws bs out (group-right b bs) (edited-left g ws k count same at group-at freeAllHere us many does all-few out o bs)
@@ -91,7 +91,7 @@ module _ (g : NodeArgument) (ws : List ℕ) where
       pub deep-ready : (end : ℕ) → end ≡ endAt count (nodeWords ws) at → (ps : List ℕ) → PlacesTold (at + 1) end (rows count (nodeWords ws)) ps → Sifted ps many (put nodesPlace nodesWords us ws)
       deep-ready end ends ps sieved = edited-sifts g ws k count same at group-at deepFreeHere us many does deep-few (at + 1) end (rw ends (deep-sifts count (nodeWords ws) at live)) ps sieved
 
-      pub deep-done : (out : List ℕ) → not (isGroup (nodeIn ws at)) ≡ false → out ≡ renewed many (put nodesPlace nodesWords us ws) → Steps (tree.DeepFree g) ws Done out
+      pub deep-done : (out : List ℕ) → not (isGroup (recordIn ws at)) ≡ false → out ≡ renewed many (put nodesPlace nodesWords us ws) → Steps (tree.DeepFree g) ws Done out
       unfolding answerIn decode wordsAfter effect
       deep-done out b o bytes bs =
           step-done (command.Tree (tree.DeepFree g)) bytes ws bs out (group-right b bs) (edited-left g ws k count same at group-at deepFreeHere us many does deep-few out o bs)

@@ -12,14 +12,14 @@ use Rattle.nodes.specs.declared.Node.{Node}
 use Rattle.nodes.specs.Place.{place, isGroup}
 use Rattle.nodes.specs.Formed.{rooted}
 use Rattle.values.specs.declared.NodeArgument.{NodeArgument}
-use Rattle.model.specs.Layout.{countIn, nodesIn}
+use Rattle.model.specs.Layout.{countIn, nodesIn, recordIn, nodeWords}
 use Rattle.model.specs.Engine.{decode}
 use Rattle.model.specs.Meaning.{meant}
 use Rattle.model.specs.Checks.{isRoot, notGroup}
 use Rattle.tree.specs.Sizes.{Placed}
 use Rattle.names.specs.Judged.{meantIn, NodeFound}
 use Rattle.names.specs.Here.{node-here}
-use Rattle.treecommands.specs.Ready.{Ready, nodeWords, nodeIn, words-long}
+use Rattle.treecommands.specs.Ready.{Ready, words-long}
 
 -- the root stands first, and no other node does
 root-first : (n : ℕ) (t : List Node) → rooted t ≡ true → eqb n 0 ≡ eqb (place n t) 0
@@ -35,7 +35,7 @@ root-first n (r ∷ l) h = go (eqb (r .number) n) refl
     go false e = ne-eqb n 0 (λ q. eqb-false (r .number) n e (zero ∙ sym q)) ∙ sym (ne-eqb (suc (place n l)) 0 (λ q. omega arith))
 
 module _ (a : NodeArgument) (ws : List ℕ) (k : Ready ws) (at : ℕ) (f : NodeFound a ws at) where
-  pub group-there : (bs : List ℕ) → notGroup a (decode ws bs) ≡ not (isGroup (nodeIn ws at))
+  pub group-there : (bs : List ℕ) → notGroup a (decode ws bs) ≡ not (isGroup (recordIn ws at))
   group-there bs = ap (λ (r : Node). not (isGroup r)) (node-here a ws at f bs)
 
   pub root-there : (bs : List ℕ) → isRoot (meant a (decode ws bs)) ≡ eqb at 0

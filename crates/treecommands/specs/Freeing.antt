@@ -23,7 +23,7 @@ use Rattle.model.specs.declared.TreeCommand.the-variants as tree
 use Rattle.model.specs.declared.Command.the-variants as command
 use Rattle.model.specs.declared.Answer.the-variants.{Done, Refused}
 use Rattle.reindex.specs.declared.edit.Edit.the-variants as edit
-use Rattle.model.specs.Layout.{nodesPlace, nodesWords, countIn, latestIn, nodesIn}
+use Rattle.model.specs.Layout.{nodesPlace, nodesWords, countIn, latestIn, nodesIn, recordIn, nodeWords}
 use Rattle.model.specs.Engine.{decode}
 use Rattle.model.specs.Checks.{firstOf}
 use Rattle.model.specs.Effects.{effect}
@@ -33,7 +33,7 @@ use Rattle.state.specs.Does.{step-refused, step-done}
 use Rattle.tree.specs.Sizes.{Leaves}
 use Rattle.tree.specs.Words.{run-leaves}
 use Rattle.names.specs.Judged.{meantIn, NodeFound, NodeRefused}
-use Rattle.treecommands.specs.Ready.{Ready, nodeWords, nodeIn}
+use Rattle.treecommands.specs.Ready.{Ready}
 use Rattle.treecommands.specs.Finding.{root-there}
 use Rattle.treecommands.specs.Edits.{cut-does, cut-one}
 use Rattle.treecommands.specs.Settle.{Sorted, Changed, renewed}
@@ -104,11 +104,11 @@ module _ (n : NodeArgument) (ws : List ℕ) where
       free-ready = edited-ready n ws k count same at free-at freeHere us many does free-few (edit.Cut at (at + (count - many))) (cut-does count (nodeWords ws) at live many (does .size))
 
       -- one node alone: the latest synth is told by the number that stood at its place
-      pub free-one : (gone : ℕ) → gone ≡ nodeIn ws at .number → at + (count - many) ≡ at + 1 → Freed (edit.Cut at (at + (count - many))) many gone (put nodesPlace nodesWords us ws)
+      pub free-one : (gone : ℕ) → gone ≡ recordIn ws at .number → at + (count - many) ≡ at + 1 → Freed (edit.Cut at (at + (count - many))) many gone (put nodesPlace nodesWords us ws)
       free-one gone is one =
           rw is
           (edited-freed n ws k count same at free-at freeHere us many does free-few (edit.Cut at (at + (count - many))) (cut-does count (nodeWords ws) at live many (does .size))
-          (nodeIn ws at) (cut-one count (nodeWords ws) at live many (does .size) one))
+          (recordIn ws at) (cut-one count (nodeWords ws) at live many (does .size) one))
 
       pub free-done : (out : List ℕ) → (at ≡ 0 → ⊥) → out ≡ renewed many (put nodesPlace nodesWords us ws) → Steps (tree.Free n) ws Done out
       unfolding answerIn firstOf decode wordsAfter effect

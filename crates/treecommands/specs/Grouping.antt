@@ -23,7 +23,7 @@ use Rattle.values.specs.declared.NodeArgument.{NodeArgument}
 use Rattle.model.specs.declared.TreeCommand.the-variants as tree
 use Rattle.model.specs.declared.Command.the-variants as command
 use Rattle.model.specs.declared.Answer.the-variants.{Done, Refused}
-use Rattle.model.specs.Layout.{nodesPlace, nodesWords, countIn, latestIn, nodesIn}
+use Rattle.model.specs.Layout.{nodesPlace, nodesWords, countIn, latestIn, nodesIn, nodeWords}
 use Rattle.model.specs.Engine.{decode}
 use Rattle.model.specs.Meaning.{firstNegative}
 use Rattle.model.specs.Checks.{firstOf, treeChecks}
@@ -45,7 +45,7 @@ use Rattle.reindex.specs.declared.edit.Edit.the-variants as edit
 use Rattle.treecommands.specs.declared.group.Spot.{Spot}
 use Rattle.treecommands.specs.declared.group.Spot.the-variants as spot
 use Rattle.names.specs.Judged.{meantIn, NodeFound, NodeRefused}
-use Rattle.treecommands.specs.Ready.{Ready, nodeWords}
+use Rattle.treecommands.specs.Ready.{Ready}
 use Rattle.treecommands.specs.Edits.{editBy, add-does}
 use Rattle.treecommands.specs.Settle.{Changed, renewed}
 use Rattle.treecommands.specs.Steps.{Steps, edited-ready, edited-stays, edited-left}

@@ -17,42 +17,41 @@ use Rattle.reindex.specs.Spot.{Reads}
 use Rattle.reindex.specs.Edits.{newPlace, Bounded}
 use Rattle.reindex.specs.Kept.{placeIn}
 use Rattle.reindex.specs.Followed.{ground-entries, edit-bounds, follow-none, cut-follows, swap-follows, put-reads, put-place, put-follows}
-use Rattle.model.specs.Layout.{wordsLength, nodesPlace, nodesWords, indexPlace, indexWords, countIn, putIndex}
+use Rattle.model.specs.Layout.{wordsLength, nodesPlace, nodesWords, indexPlace, indexWords, countIn, putIndex, nodeWords, entriesIn}
 use Rattle.state.specs.Regions.{region-before, put-size}
-use Rattle.treecommands.specs.Ready.{nodeWords}
-use Rattle.treecommands.specs.Settle.{indexRegion, Changed, Sifted, index-size, index-by}
+use Rattle.treecommands.specs.Settle.{Changed, Sifted, index-size, index-by}
 
 -- what following asks
-pub changed-follows : (edit : Edit) (count : ℕ) (ws : List ℕ) → Changed edit count ws → Bounded edit (countIn ws) × Entries (indexRegion ws) (countIn ws)
+pub changed-follows : (edit : Edit) (count : ℕ) (ws : List ℕ) → Changed edit count ws → Bounded edit (countIn ws) × Entries (entriesIn ws) (countIn ws)
 changed-follows edit count ws c =
     let e = c .edited in (
-      edit-bounds (indexRegion ws) (countIn ws) (nodeWords ws) count (e .old) (e .ground) edit (e .does),
-      ground-entries (indexRegion ws) (countIn ws) (nodeWords ws) count (e .old) (e .ground),
+      edit-bounds (entriesIn ws) (countIn ws) (nodeWords ws) count (e .old) (e .ground) edit (e .does),
+      ground-entries (entriesIn ws) (countIn ws) (nodeWords ws) count (e .old) (e .ground),
     )
 
 -- no node is new
 module _ (count : ℕ) (ws out : List ℕ) (left : ℕ) where
-  pub cut-index : (from to : ℕ) → Changed (Cut from to) count ws → Followed (newPlace (Cut from to)) (indexRegion ws) (countIn ws) out left
+  pub cut-index : (from to : ℕ) → Changed (Cut from to) count ws → Followed (newPlace (Cut from to)) (entriesIn ws) (countIn ws) out left
       → put indexPlace indexWords out ws ≡ putIndex (indexOf (rows count (nodeWords ws))) ws
   cut-index from to c f =
       let e = c .edited in
-      index-by count ws (c .size) (e .ground .fewAfter) out (cut-follows (indexRegion ws) (countIn ws) (nodeWords ws) count (e .old) (e .ground) from to (e .does) out left f)
+      index-by count ws (c .size) (e .ground .fewAfter) out (cut-follows (entriesIn ws) (countIn ws) (nodeWords ws) count (e .old) (e .ground) from to (e .does) out left f)
 
-  pub swap-index : (a b d : ℕ) → Changed (Swap a b d) count ws → Followed (newPlace (Swap a b d)) (indexRegion ws) (countIn ws) out left
+  pub swap-index : (a b d : ℕ) → Changed (Swap a b d) count ws → Followed (newPlace (Swap a b d)) (entriesIn ws) (countIn ws) out left
       → put indexPlace indexWords out ws ≡ putIndex (indexOf (rows count (nodeWords ws))) ws
   swap-index a b d c f =
       let e = c .edited in
-      index-by count ws (c .size) (e .ground .fewAfter) out (swap-follows (indexRegion ws) (countIn ws) (nodeWords ws) count (e .old) (e .ground) a b d (e .does) out left f)
+      index-by count ws (c .size) (e .ground .fewAfter) out (swap-follows (entriesIn ws) (countIn ws) (nodeWords ws) count (e .old) (e .ground) a b d (e .does) out left f)
 
-  pub sifted-index : (ps : List ℕ) → Sifted ps count ws → Followed (placeIn ps) (indexRegion ws) (countIn ws) out left
+  pub sifted-index : (ps : List ℕ) → Sifted ps count ws → Followed (placeIn ps) (entriesIn ws) (countIn ws) out left
       → put indexPlace indexWords out ws ≡ putIndex (indexOf (rows count (nodeWords ws))) ws
   sifted-index ps c f =
       let e = c .moved in
-      index-by count ws (c .size) (e .ground .fewAfter) out (follow-none (indexRegion ws) (countIn ws) (nodeWords ws) count (e .old) (e .ground) (placeIn ps) (e .carries) (e .came) out left f)
+      index-by count ws (c .size) (e .ground .fewAfter) out (follow-none (entriesIn ws) (countIn ws) (nodeWords ws) count (e .old) (e .ground) (placeIn ps) (e .carries) (e .came) out left f)
 
   -- one is, whose entry is put in then
-  module _ (at to : ℕ) (c : Changed (Put at to) count ws) (f : Followed (newPlace (Put at to)) (indexRegion ws) (countIn ws) out left) (same : length out ≡ length (indexRegion ws)) where
-    region-size : length (indexRegion ws) ≡ indexWords
+  module _ (at to : ℕ) (c : Changed (Put at to) count ws) (f : Followed (newPlace (Put at to)) (entriesIn ws) (countIn ws) out left) (same : length out ≡ length (entriesIn ws)) where
+    region-size : length (entriesIn ws) ≡ indexWords
     region-size = region-length indexPlace indexWords ws (omega (arith, c .size))
 
     abbrev mid : List ℕ
@@ -64,16 +63,16 @@ module _ (count : ℕ) (ws out : List ℕ) (left : ℕ) where
     mid-nodes : nodeWords mid ≡ nodeWords ws
     mid-nodes = region-before indexPlace indexWords out ws (omega (arith, c .size)) (same ∙ region-size) nodesPlace nodesWords (omega arith)
 
-    mid-index : indexRegion mid ≡ out
+    mid-index : entriesIn mid ≡ out
     mid-index = region-put indexPlace indexWords out ws (omega (arith, c .size)) (same ∙ region-size)
 
-    pub new-reads : Reads (nodeWords mid) (indexRegion mid) left
-    new-reads = rw (mid-nodes, mid-index) (put-reads (indexRegion ws) (countIn ws) (nodeWords ws) count (c .edited .old) (c .edited .ground) at to (c .edited .does) out left f same)
+    pub new-reads : Reads (nodeWords mid) (entriesIn mid) left
+    new-reads = rw (mid-nodes, mid-index) (put-reads (entriesIn ws) (countIn ws) (nodeWords ws) count (c .edited .old) (c .edited .ground) at to (c .edited .does) out left f same)
 
     pub new-place : at ≤ left
-    new-place = put-place (indexRegion ws) (countIn ws) (nodeWords ws) count (c .edited .old) (c .edited .ground) at to (c .edited .does) out left f
+    new-place = put-place (entriesIn ws) (countIn ws) (nodeWords ws) count (c .edited .old) (c .edited .ground) at to (c .edited .does) out left f
 
-    pub new-index : (last : List ℕ) → last ≡ put indexPlace indexWords (putIn (numbers (rows (left + 1) (nodeWords mid))) at (take left (indexRegion mid)) ++ drop (left + 1) (indexRegion mid)) mid
+    pub new-index : (last : List ℕ) → last ≡ put indexPlace indexWords (putIn (numbers (rows (left + 1) (nodeWords mid))) at (take left (entriesIn mid)) ++ drop (left + 1) (entriesIn mid)) mid
         → last ≡ putIndex (indexOf (rows count (nodeWords ws))) ws
     new-index last e =
         let ix = putIn (numbers (rows (left + 1) (nodeWords ws))) at (take left out) ++ drop (left + 1) out in
@@ -81,9 +80,9 @@ module _ (count : ℕ) (ws out : List ℕ) (left : ℕ) where
         e
         ∙ ap₂ (λ (us r : List ℕ). put indexPlace indexWords (putIn (numbers (rows (left + 1) us)) at (take left r) ++ drop (left + 1) r) mid) mid-nodes mid-index
         ∙ put-put indexPlace indexWords out ix ws (omega (arith, c .size)) (same ∙ region-size)
-        ∙ index-by count ws (c .size) (g .fewAfter) ix (put-follows (indexRegion ws) (countIn ws) (nodeWords ws) count (c .edited .old) g at to (c .edited .does) out left f ix refl)
+        ∙ index-by count ws (c .size) (g .fewAfter) ix (put-follows (entriesIn ws) (countIn ws) (nodeWords ws) count (c .edited .old) g at to (c .edited .does) out left f ix refl)
 
-    pub new-size : (last : List ℕ) → last ≡ put indexPlace indexWords (putIn (numbers (rows (left + 1) (nodeWords mid))) at (take left (indexRegion mid)) ++ drop (left + 1) (indexRegion mid)) mid
+    pub new-size : (last : List ℕ) → last ≡ put indexPlace indexWords (putIn (numbers (rows (left + 1) (nodeWords mid))) at (take left (entriesIn mid)) ++ drop (left + 1) (entriesIn mid)) mid
         → length last ≡ length ws
     new-size last e =
         let few : length (rows count (nodeWords ws)) ≤ mostNodes = omega (arith, rows-length count (nodeWords ws), c .edited .ground .fewAfter) in

@@ -25,7 +25,7 @@ use Rattle.model.specs.declared.TreeCommand.the-variants as tree
 use Rattle.model.specs.declared.Command.the-variants as command
 use Rattle.model.specs.declared.Answer.{Answer}
 use Rattle.model.specs.declared.Answer.the-variants.{Done, Refused}
-use Rattle.model.specs.Layout.{nodesPlace, nodesWords, countIn, latestIn, nodesIn}
+use Rattle.model.specs.Layout.{nodesPlace, nodesWords, countIn, latestIn, nodesIn, nodeWords}
 use Rattle.model.specs.Engine.{Engine, decode}
 use Rattle.model.specs.Effects.{withNodes, effect}
 use Rattle.model.specs.After.{putTree, wordsAfter}
@@ -44,7 +44,7 @@ use Rattle.tree.specs.Ends.{Moving, move-place}
 use Rattle.tree.specs.Moved.{move-first}
 use Rattle.treecommands.specs.declared.moves.Pair.{Pair}
 use Rattle.treecommands.specs.declared.moves.Pair.the-variants as pair
-use Rattle.treecommands.specs.Ready.{Ready, nodeWords}
+use Rattle.treecommands.specs.Ready.{Ready}
 use Rattle.names.specs.Judged.{meantIn}
 use Rattle.treecommands.specs.Edits.{moveEdit, move-does}
 use Rattle.treecommands.specs.Settle.{renewed, changed-left, renewed-left}

@@ -14,7 +14,7 @@ use Rattle.nodes.specs.Table.{width, nodeFrom, slotField}
 use Rattle.nodes.specs.Place.{isGroup}
 use Rattle.nodes.specs.Formed.{mostNodes}
 use Rattle.index.specs.Index.{indexed}
-use Rattle.model.specs.Layout.{wordsLength, nodesPlace, nodesWords, countIn, nextIn, latestIn, nodesIn, indexIn}
+use Rattle.model.specs.Layout.{wordsLength, nodesPlace, nodesWords, countIn, nextIn, latestIn, nodesIn, indexIn, recordIn, nodeWords}
 use Rattle.state.specs.Known.{Tree, Known}
 
 pub record Ready (ws : List ℕ) : Type 0 where
@@ -29,13 +29,6 @@ pub record Ready (ws : List ℕ) : Type 0 where
 pub ready : (ws bs : List ℕ) → Known ws bs → Ready ws
 ready ws bs k = record { size = k .size; some = k .some; few = k .few; tree = k .tree; index = k .index; arena = bs; known = k }
 
--- the node region, and the record at a place of it
-abbrev pub nodeWords : List ℕ → List ℕ
-nodeWords ws = region nodesPlace nodesWords ws
-
-abbrev pub nodeIn : List ℕ → ℕ → Node
-nodeIn ws at = nodeFrom (nodeWords ws) (width * at)
-
 pub words-long : (ws : List ℕ) → length ws ≡ wordsLength → length (nodeWords ws) ≡ nodesWords
 words-long ws h = region-length nodesPlace nodesWords ws (omega arith)
 
@@ -44,11 +37,11 @@ pub node-word : (ws : List ℕ) (i : ℕ) → i < nodesWords → getD (nodeWords
 node-word ws i h = rw (getD-take, getD-drop)
 
 -- the number of the record at a place
-pub node-number : (ws : List ℕ) (at : ℕ) → at < mostNodes → getD ws (nodesPlace + width * at) 0 ≡ nodeIn ws at .number
+pub node-number : (ws : List ℕ) (at : ℕ) → at < mostNodes → getD ws (nodesPlace + width * at) 0 ≡ recordIn ws at .number
 node-number ws at h = sym (node-word ws (width * at) (omega arith))
 
 -- whether the record at a place is a synth's, by its slot word
-pub node-slot : (ws : List ℕ) (at : ℕ) → at < mostNodes → not (eqb (getD ws (nodesPlace + width * at + slotField) 0) 32) ≡ not (isGroup (nodeIn ws at))
+pub node-slot : (ws : List ℕ) (at : ℕ) → at < mostNodes → not (eqb (getD ws (nodesPlace + width * at + slotField) 0) 32) ≡ not (isGroup (recordIn ws at))
 node-slot ws at h =
     let same : nodesPlace + (width * at + slotField) ≡ nodesPlace + width * at + 3 = omega arith in
     ap (λ (v : ℕ). not (eqb v 32)) (sym (node-word ws (width * at + slotField) (omega arith) ∙ ap (λ (i : ℕ). getD ws i 0) same))

@@ -23,34 +23,30 @@ use Rattle.reindex.specs.Follow.{Carries, PlaceOfNode}
 use Rattle.reindex.specs.Edits.{Does}
 use Rattle.reindex.specs.Kept.{placeIn}
 use Rattle.reindex.specs.Followed.{IndexBefore, Edited, Moved, edit-apart, follow-apart}
-use Rattle.model.specs.Layout.{wordsLength, nodesPlace, nodesWords, orderPlace, orderWords, controlsPlace, controlsWords, indexPlace, indexWords, countIn, nextIn, latestIn, nodesIn, controlsIn, indexIn, putNodes, putOrder, orderRegion, putIndex, putControls, putHeader}
+use Rattle.model.specs.Layout.{wordsLength, nodesPlace, nodesWords, orderPlace, orderWords, controlsPlace, controlsWords, indexPlace, indexWords, countIn, nextIn, latestIn, nodesIn, controlsIn, indexIn, putNodes, putOrder, orderRegion, putIndex, putControls, putHeader, nodeWords, entriesIn}
 use Rattle.model.specs.Engine.{decode}
 use Rattle.model.specs.Effects.{latestAmong, withNodes}
 use Rattle.model.specs.After.{putTree}
 use Rattle.state.specs.Regions.{region-before, region-past, word-before, put-size}
 use Rattle.state.specs.Decoded.{order-region-length, index-many, index-region-length}
 use Rattle.tree.specs.Sizes.{Leaves}
-use Rattle.treecommands.specs.Ready.{Ready, nodeWords, words-long}
-
--- the index region, for the table of so many nodes in the words
-abbrev pub indexRegion : List ℕ → List ℕ
-indexRegion ws = region indexPlace indexWords ws
+use Rattle.treecommands.specs.Ready.{Ready, words-long}
 
 -- the index is right for the table of so many nodes
 pub record Sorted (count : ℕ) (ws : List ℕ) : Type 0 where
   pub size : length ws ≡ wordsLength
   pub few : count ≤ mostNodes
-  pub rule : indexed (take count (indexRegion ws)) (rows count (nodeWords ws)) ≡ true
+  pub rule : indexed (take count (entriesIn ws)) (rows count (nodeWords ws)) ≡ true
 
 -- it was right for the table before the edit: the first words still tell its count
 pub record Changed (edit : Edit) (count : ℕ) (ws : List ℕ) : Type 0 where
   pub size : length ws ≡ wordsLength
-  pub edited : Edited (indexRegion ws) (countIn ws) edit (nodeWords ws) count
+  pub edited : Edited (entriesIn ws) (countIn ws) edit (nodeWords ws) count
 
 -- or for the table before these were the new places of its nodes
 pub record Sifted (ps : List ℕ) (count : ℕ) (ws : List ℕ) : Type 0 where
   pub size : length ws ≡ wordsLength
-  pub moved : Moved (indexRegion ws) (countIn ws) ps (nodeWords ws) count
+  pub moved : Moved (entriesIn ws) (countIn ws) ps (nodeWords ws) count
 
 -- the whole order region, the index and the four first words, for the table of so many nodes in the words
 abbrev pub settled : ℕ → ℕ → ℕ → List ℕ → List ℕ
@@ -75,7 +71,7 @@ pub put-own : (a k : ℕ) (ws : List ℕ) → put a k (region a k ws) ws ≡ ws
 put-own a k ws = ap (λ (l : List ℕ). take a ws ++ l) (take-append-drop k (drop a ws)) ∙ take-append-drop a ws
 
 -- what a lookup asks
-pub sorted-keeps : (count : ℕ) (ws : List ℕ) → Sorted count ws → Keeps (nodeWords ws) (indexRegion ws) count
+pub sorted-keeps : (count : ℕ) (ws : List ℕ) → Sorted count ws → Keeps (nodeWords ws) (entriesIn ws) count
 sorted-keeps count ws s = record {
   room = omega (arith, words-long ws (s .size), s .few);
   few = s .few;
@@ -91,7 +87,7 @@ module _ (o ws : List ℕ) (size : length ws ≡ wordsLength) where
   order-nodes : nodeWords (putOrder o ws) ≡ nodeWords ws
   order-nodes = region-before orderPlace orderWords (orderRegion o) ws (omega arith) (order-region-length o) nodesPlace nodesWords (omega arith)
 
-  order-index : indexRegion (putOrder o ws) ≡ indexRegion ws
+  order-index : entriesIn (putOrder o ws) ≡ entriesIn ws
   order-index = region-past orderPlace orderWords (orderRegion o) ws (omega arith) (order-region-length o) indexPlace indexWords (omega arith)
 
   order-word : (i : ℕ) → i < orderPlace → getD (putOrder o ws) i 0 ≡ getD ws i 0
@@ -125,7 +121,7 @@ order-sifted ps count ws c w1 e =
 -- the index put in
 module _ (t : List Node) (few : length t ≤ mostNodes) (ws : List ℕ) (size : length ws ≡ wordsLength) where
   abbrev entries : List ℕ
-  entries = indexOf t ++ drop (length (indexOf t)) (indexRegion ws)
+  entries = indexOf t ++ drop (length (indexOf t)) (entriesIn ws)
 
   entered : length entries ≡ indexWords
   entered = index-region-length (indexOf t) ws size (omega (arith, index-many t))
@@ -139,10 +135,10 @@ module _ (t : List Node) (few : length t ≤ mostNodes) (ws : List ℕ) (size : 
   index-word : (i : ℕ) → i < indexPlace → getD (putIndex (indexOf t) ws) i 0 ≡ getD ws i 0
   index-word i h = word-before indexPlace indexWords entries ws (omega arith) entered i h
 
-  index-back : take (length t) (indexRegion (putIndex (indexOf t) ws)) ≡ indexOf t
+  index-back : take (length t) (entriesIn (putIndex (indexOf t) ws)) ≡ indexOf t
   index-back =
       ap (λ (l : List ℕ). take (length t) l) (region-put indexPlace indexWords entries ws (omega arith) entered)
-      ∙ take-at (indexOf t) (drop (length (indexOf t)) (indexRegion ws)) (length t) (index-many t)
+      ∙ take-at (indexOf t) (drop (length (indexOf t)) (entriesIn ws)) (length t) (index-many t)
 
 -- the index as it was followed, and written
 module _ (count : ℕ) (ws : List ℕ) (size : length ws ≡ wordsLength) (most : count ≤ mostNodes) where
@@ -152,10 +148,10 @@ module _ (count : ℕ) (ws : List ℕ) (size : length ws ≡ wordsLength) (most 
   few : length t ≤ mostNodes
   few = omega (arith, rows-length count (nodeWords ws))
 
-  pub index-by : (ix : List ℕ) → ix ≡ indexOf t ++ drop count (indexRegion ws) → put indexPlace indexWords ix ws ≡ putIndex (indexOf t) ws
+  pub index-by : (ix : List ℕ) → ix ≡ indexOf t ++ drop count (entriesIn ws) → put indexPlace indexWords ix ws ≡ putIndex (indexOf t) ws
   index-by ix e =
       ap (λ (l : List ℕ). put indexPlace indexWords l ws)
-      (e ∙ ap (λ (n : ℕ). indexOf t ++ drop n (indexRegion ws)) (sym (index-many t ∙ rows-length count (nodeWords ws))))
+      (e ∙ ap (λ (n : ℕ). indexOf t ++ drop n (entriesIn ws)) (sym (index-many t ∙ rows-length count (nodeWords ws))))
 
   index-sorted : apart t ≡ true → (w2 : List ℕ) → w2 ≡ putIndex (indexOf t) ws → Sorted count w2
   index-sorted differ w2 e = subst (λ (l : List ℕ). Sorted count l) (sym e) (record {
@@ -164,30 +160,30 @@ module _ (count : ℕ) (ws : List ℕ) (size : length ws ≡ wordsLength) (most 
     rule =
         let same : nodeWords (putIndex (indexOf t) ws) ≡ nodeWords ws = index-before t few ws size nodesPlace nodesWords (omega arith) in
         rw same
-        (afresh-indexed (take count (indexRegion (putIndex (indexOf t) ws))) t differ
-        (ap (λ (n : ℕ). take n (indexRegion (putIndex (indexOf t) ws))) (sym (rows-length count (nodeWords ws))) ∙ index-back t few ws size));
+        (afresh-indexed (take count (entriesIn (putIndex (indexOf t) ws))) t differ
+        (ap (λ (n : ℕ). take n (entriesIn (putIndex (indexOf t) ws))) (sym (rows-length count (nodeWords ws))) ∙ index-back t few ws size));
   })
 
 -- by an edit, and by the new places
 pub edited-sorted : (edit : Edit) (count : ℕ) (ws : List ℕ) → Changed edit count ws → (w2 : List ℕ) → w2 ≡ putIndex (indexOf (rows count (nodeWords ws))) ws → Sorted count w2
 edited-sorted edit count ws c =
     let e = c .edited in
-    index-sorted count ws (c .size) (e .ground .fewAfter) (edit-apart (indexRegion ws) (countIn ws) (nodeWords ws) count (e .old) (e .ground) edit (e .does))
+    index-sorted count ws (c .size) (e .ground .fewAfter) (edit-apart (entriesIn ws) (countIn ws) (nodeWords ws) count (e .old) (e .ground) edit (e .does))
 
 pub sifted-sorted : (ps : List ℕ) (count : ℕ) (ws : List ℕ) → Sifted ps count ws → (w2 : List ℕ) → w2 ≡ putIndex (indexOf (rows count (nodeWords ws))) ws → Sorted count w2
 sifted-sorted ps count ws c =
     let e = c .moved in
-    index-sorted count ws (c .size) (e .ground .fewAfter) (follow-apart (indexRegion ws) (countIn ws) (nodeWords ws) count (e .old) (e .ground) (placeIn ps) (e .carries) (e .came))
+    index-sorted count ws (c .size) (e .ground .fewAfter) (follow-apart (entriesIn ws) (countIn ws) (nodeWords ws) count (e .old) (e .ground) (placeIn ps) (e .carries) (e .came))
 
 -- the index as it was, where it is right
 pub index-own : (count : ℕ) (ws : List ℕ) → Sorted count ws → putIndex (indexOf (rows count (nodeWords ws))) ws ≡ ws
 index-own count ws s =
     let t = rows count (nodeWords ws) in
-    let own : indexOf t ≡ take count (indexRegion ws) = sym (indexed-afresh (take count (indexRegion ws)) t (s .rule)) in
-    let many : length (take count (indexRegion ws)) ≡ count = length-take-le count (indexRegion ws) (omega (arith, s .few, region-length indexPlace indexWords ws (omega (arith, s .size)))) in
+    let own : indexOf t ≡ take count (entriesIn ws) = sym (indexed-afresh (take count (entriesIn ws)) t (s .rule)) in
+    let many : length (take count (entriesIn ws)) ≡ count = length-take-le count (entriesIn ws) (omega (arith, s .few, region-length indexPlace indexWords ws (omega (arith, s .size)))) in
     ap (λ (ix : List ℕ). putIndex ix ws) own
-    ∙ ap (λ (n : ℕ). put indexPlace indexWords (take count (indexRegion ws) ++ drop n (indexRegion ws)) ws) many
-    ∙ ap (λ (l : List ℕ). put indexPlace indexWords l ws) (take-append-drop count (indexRegion ws))
+    ∙ ap (λ (n : ℕ). put indexPlace indexWords (take count (entriesIn ws) ++ drop n (entriesIn ws)) ws) many
+    ∙ ap (λ (l : List ℕ). put indexPlace indexWords l ws) (take-append-drop count (entriesIn ws))
     ∙ put-own indexPlace indexWords ws
 
 -- the parts written one after the other
@@ -274,7 +270,7 @@ module _ (ws : List ℕ) (size : length ws ≡ wordsLength) (t : List Node) (few
 
 -- and what that asks: of the table as it is, in the place of the one that the words held
 module _ (ws : List ℕ) (k : Ready ws) (t : List Node) (few : length t ≤ mostNodes) where
-  ground : IndexBefore (indexRegion ws) (countIn ws) (fill (nodeWords ws) t) (length t) (nodesIn ws)
+  ground : IndexBefore (entriesIn ws) (countIn ws) (fill (nodeWords ws) t) (length t) (nodesIn ws)
   ground = record {
     size = rows-length (countIn ws) (nodeWords ws);
     few = k .few;
@@ -287,7 +283,7 @@ module _ (ws : List ℕ) (k : Ready ws) (t : List Node) (few : length t ≤ most
   abbrev there : List ℕ
   there = putNodes t ws
 
-  index-there : indexRegion there ≡ indexRegion ws
+  index-there : entriesIn there ≡ entriesIn ws
   index-there = region-past nodesPlace nodesWords (fill (nodeWords ws) t) ws (omega (arith, k .size)) (filled ws (k .size) t few) indexPlace indexWords (omega arith)
 
   nodes-there : nodeWords there ≡ fill (nodeWords ws) t
@@ -295,13 +291,13 @@ module _ (ws : List ℕ) (k : Ready ws) (t : List Node) (few : length t ≤ most
 
   pub changed-left : (edit : Edit) → Does edit (nodesIn ws) t → (us : List ℕ) (n : ℕ) → Leaves (nodeWords ws) t us n → Changed edit n (put nodesPlace nodesWords us ws)
   changed-left edit d us n h =
-      let edited : Edited (indexRegion ws) (countIn ws) edit (fill (nodeWords ws) t) (length t) = record { old = nodesIn ws; ground = ground; does = rw rows-fill d } in
+      let edited : Edited (entriesIn ws) (countIn ws) edit (fill (nodeWords ws) t) (length t) = record { old = nodesIn ws; ground = ground; does = rw rows-fill d } in
       rw (h .size, h .words) (record { size = nodes-size ws (k .size) t few; edited = rw (index-there, nodes-there, first-word ws (k .size) t few 0 (omega arith)) edited })
 
   pub sifted-left : (ps : List ℕ) → Carries (placeIn ps) (nodesIn ws) t → ((q : ℕ) → q < length t → PlaceOfNode (placeIn ps) (nodesIn ws) q)
       → (us : List ℕ) (n : ℕ) → Leaves (nodeWords ws) t us n → Sifted ps n (put nodesPlace nodesWords us ws)
   sifted-left ps carries came us n h =
-      let moved : Moved (indexRegion ws) (countIn ws) ps (fill (nodeWords ws) t) (length t) = record { old = nodesIn ws; ground = ground; carries = rw rows-fill carries; came = rw rows-fill came } in
+      let moved : Moved (entriesIn ws) (countIn ws) ps (fill (nodeWords ws) t) (length t) = record { old = nodesIn ws; ground = ground; carries = rw rows-fill carries; came = rw rows-fill came } in
       rw (h .size, h .words) (record { size = nodes-size ws (k .size) t few; moved = rw (index-there, nodes-there, first-word ws (k .size) t few 0 (omega arith)) moved })
 
 -- where the numbers are where they were, the index is right as it is
@@ -311,8 +307,8 @@ sorted-left ws k t many same us n h =
     let few : length t ≤ mostNodes = omega (arith, many, k .few, rows-length (countIn ws) (nodeWords ws)) in
     let long = filled ws (k .size) t few in
     let count : length t ≡ countIn ws = many ∙ rows-length (countIn ws) (nodeWords ws) in
-    let rule : indexed (take (length t) (indexRegion ws)) t ≡ true =
-    ap (λ (j : ℕ). indexed (take j (indexRegion ws)) t) count
+    let rule : indexed (take (length t) (entriesIn ws)) t ≡ true =
+    ap (λ (j : ℕ). indexed (take j (entriesIn ws)) t) count
     ∙ ap₂ (λ (ks : List ℕ) (j : ℕ). both (eqb (length (indexIn ws)) j) (rises ks j 0 (indexIn ws))) same many
     ∙ k .index in
     rw (h .size, h .words) (record {

@@ -13,7 +13,7 @@ use Rattle.nodes.specs.Edit.{isBelow}
 use Rattle.values.specs.declared.NodeArgument.{NodeArgument}
 use Rattle.model.specs.declared.Answer.{Answer}
 use Rattle.model.specs.declared.Answer.the-variants.{Done, Refused}
-use Rattle.model.specs.Layout.{countIn, nodesIn}
+use Rattle.model.specs.Layout.{countIn, nodesIn, recordIn, nodeWords}
 use Rattle.model.specs.Engine.{Engine, decode}
 use Rattle.model.specs.Checks.{Check, firstOf, nodeCheck, inside, besideChecks, intoChecks}
 use Rattle.tree.specs.Shallow.{moving}
@@ -23,7 +23,7 @@ use Rattle.tree.specs.Sizes.{TwoPlaces}
 use Rattle.treecommands.specs.declared.moves.Pair.{Pair}
 use Rattle.treecommands.specs.declared.moves.Pair.the-variants as pair
 use Rattle.names.specs.Judged.{meantIn, NodeFound, NodeRefused}
-use Rattle.treecommands.specs.Ready.{Ready, nodeWords, nodeIn, words-long}
+use Rattle.treecommands.specs.Ready.{Ready, words-long}
 use Rattle.treecommands.specs.Finding.{root-there, group-there}
 
 -- two arguments judged in their order: the places of both nodes, or the answer, whatever checks come behind
@@ -70,7 +70,7 @@ module _ (moved to : NodeArgument) (ws : List ℕ) (k : Ready ws) (a b : ℕ) (f
   unfolding firstOf
   beside-row bs = rw (f .passes bs, g .passes bs, root-there moved ws k a f bs, root-there to ws k b g bs, inside-there bs)
 
-  pub into-row : (bs : List ℕ) → firstOf (intoChecks to moved (decode ws bs)) Done ≡ kindAnswer (not (isGroup (nodeIn ws b))) (eqb a 0) (inRun (countIn ws) (nodeWords ws) b a)
+  pub into-row : (bs : List ℕ) → firstOf (intoChecks to moved (decode ws bs)) Done ≡ kindAnswer (not (isGroup (recordIn ws b))) (eqb a 0) (inRun (countIn ws) (nodeWords ws) b a)
   unfolding firstOf
   into-row bs = rw (g .passes bs, f .passes bs, group-there to ws k b g bs, root-there moved ws k a f bs, inside-there bs)
 

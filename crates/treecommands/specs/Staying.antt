@@ -16,14 +16,14 @@ use Rattle.nodes.specs.Formed.{mostNodes, apart, synthLives, latestFormed}
 use Rattle.treerefinement.specs.Tally.{tally, Grown}
 use Rattle.treerefinement.specs.Keep.{numbered, lives-some, apart-few, grown-lives}
 use Rattle.reindex.specs.declared.edit.Edit.{Edit}
-use Rattle.model.specs.Layout.{nodesPlace, nodesWords, nextIn, latestIn, nodesIn}
+use Rattle.model.specs.Layout.{nodesPlace, nodesWords, nextIn, latestIn, nodesIn, nodeWords}
 use Rattle.model.specs.Effects.{latestAmong}
 use Rattle.preservation.specs.Nodes.{no-synth}
 use Rattle.tree.specs.declared.action.Position.{Position}
 use Rattle.tree.specs.declared.action.Action.{Action}
 use Rattle.tree.specs.declared.action.Action.the-variants.{Put}
 use Rattle.tree.specs.Sizes.{Leaves}
-use Rattle.treecommands.specs.Ready.{Ready, nodeWords}
+use Rattle.treecommands.specs.Ready.{Ready}
 use Rattle.treecommands.specs.Settle.{Changed, settled, renewed, nodes-back, first-word}
 
 -- the latest synth is right for the table of so many nodes

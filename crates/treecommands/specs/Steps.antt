@@ -23,13 +23,13 @@ use Rattle.reindex.specs.declared.edit.Edit.{Edit}
 use Rattle.reindex.specs.Follow.{Carries, PlaceOfNode}
 use Rattle.reindex.specs.Edits.{Does}
 use Rattle.reindex.specs.Kept.{sift, placeIn, PlacesTold}
-use Rattle.model.specs.Layout.{nodesPlace, nodesWords, countIn, latestIn, nodesIn}
+use Rattle.model.specs.Layout.{nodesPlace, nodesWords, countIn, latestIn, nodesIn, nodeWords}
 use Rattle.model.specs.Engine.{decode}
 use Rattle.model.specs.Effects.{withNodes}
 use Rattle.model.specs.After.{putTree}
 use Rattle.state.specs.Does.{WordsStep}
 use Rattle.tree.specs.Sizes.{Leaves, leaves-first}
-use Rattle.treecommands.specs.Ready.{Ready, nodeWords}
+use Rattle.treecommands.specs.Ready.{Ready}
 use Rattle.names.specs.Judged.{meantIn, NodeFound}
 use Rattle.treecommands.specs.Staying.{Stays, Freed, stays-left, freed-left}
 use Rattle.treecommands.specs.Settle.{Sorted, Changed, Sifted, renewed, changed-left, sifted-left, sorted-left, renewed-left}

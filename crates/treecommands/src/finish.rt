@@ -16,9 +16,8 @@ ghost use mathlib.Core.Path.{_≡_};
 ghost use Prim.Native.Nat.{_≤_};
 ghost use lib.ListN.{length};
 ghost use Rattle.nodes.specs.Table.{rows};
-ghost use Rattle.model.specs.Layout.{nextIn, latestIn, putHeader};
+ghost use Rattle.model.specs.Layout.{nextIn, latestIn, putHeader, nodeWords};
 ghost use Rattle.model.specs.Effects.{latestAmong};
-ghost use Rattle.treecommands.specs.Ready.{nodeWords};
 ghost use Rattle.treecommands.specs.Settle.{Sorted, Changed, Sifted, settled, renewed};
 ghost use Rattle.treecommands.specs.Staying.{Stays, Staying, latestWithout, Freed};
 

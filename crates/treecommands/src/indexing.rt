@@ -18,10 +18,9 @@ ghost use Rattle.words.specs.Parts.{put};
 ghost use Rattle.nodes.specs.Table.{rows, numbers};
 ghost use Rattle.index.specs.Index.{indexOf, putIn};
 ghost use Rattle.reindex.specs.Spot.{Reads};
-ghost use Rattle.model.specs.Layout.{wordsLength, indexPlace, indexWords, putIndex};
-ghost use Rattle.treecommands.specs.Ready.{nodeWords};
+ghost use Rattle.model.specs.Layout.{wordsLength, indexPlace, indexWords, putIndex, nodeWords, entriesIn};
 ghost use Rattle.treecommands.specs.Edits.{moveEdit};
-ghost use Rattle.treecommands.specs.Settle.{indexRegion, Changed, Sifted};
+ghost use Rattle.treecommands.specs.Settle.{Changed, Sifted};
 
 // What a move of the run from the place a up to its end to another place does.
 pub fn move_edit(a: usize, end: usize, place: usize) -> Edit
@@ -35,8 +34,8 @@ pub fn move_edit(a: usize, end: usize, place: usize) -> Edit
 
 // The entry of the new node at a place put in.
 fn put_new(words: &mut [u32], count: usize, at: usize)
-    requires { ⌜ (length (now words) ≡ wordsLength) × (Reads (nodeWords (now words)) (indexRegion (now words)) count × (at ≤ count)) ⌝ }
-    ensures { λ r. ⌜ now (words .exit) ≡ put indexPlace indexWords (putIn (numbers (rows (count + 1) (nodeWords (now (words .entry))))) at (take count (indexRegion (now (words .entry)))) ++ drop (count + 1) (indexRegion (now (words .entry)))) (now (words .entry)) ⌝ }
+    requires { ⌜ (length (now words) ≡ wordsLength) × (Reads (nodeWords (now words)) (entriesIn (now words)) count × (at ≤ count)) ⌝ }
+    ensures { λ r. ⌜ now (words .exit) ≡ put indexPlace indexWords (putIn (numbers (rows (count + 1) (nodeWords (now (words .entry))))) at (take count (entriesIn (now (words .entry)))) ++ drop (count + 1) (entriesIn (now (words .entry)))) (now (words .entry)) ⌝ }
 {
     let spot = spot_of(
         &words[NODES..NODES_END],

@@ -11,8 +11,7 @@ ghost use lib.ListN.{length};
 ghost use Rattle.nodes.specs.Table.{rows};
 ghost use Rattle.nodes.specs.Order.{order};
 ghost use Rattle.nodes.specs.Formed.{mostNodes};
-ghost use Rattle.model.specs.Layout.{wordsLength, putOrder};
-ghost use Rattle.treecommands.specs.Ready.{nodeWords};
+ghost use Rattle.model.specs.Layout.{wordsLength, putOrder, nodeWords};
 
 // The whole order region, for the table of so many nodes, and how long the order is.
 pub fn renew_order(words: &mut [u32], count: usize) -> u32

@@ -12,11 +12,10 @@ use Rattle.words.specs.Choice.{pick}
 use Rattle.words.specs.Parts.{region}
 use Rattle.nodes.specs.declared.Node.{Node}
 use Rattle.nodes.specs.TableLaws.{row-from, rows-end}
-use Rattle.model.specs.Layout.{nodesPlace, nodesWords, controlsIn}
+use Rattle.model.specs.Layout.{nodesPlace, nodesWords, controlsIn, recordIn}
 use Rattle.model.specs.Engine.{decode}
 use Rattle.model.specs.View.{viewOf, viewRows}
 use Rattle.model.specs.Replies.{rowsBelow, rowsAt}
-use Rattle.controls.specs.Ready.{nodeIn}
 use Rattle.treequery.specs.RowArguments.{depthAt, viewTo, childrenAt}
 use Rattle.treequery.specs.Nested.{Nested}
 
@@ -41,7 +40,7 @@ module _ (ws bs : List ℕ) (d end i : ℕ) where
       ∙ go (ltb d (depthAt ws i))
     where
       go : (b : Bool)
-          → rowsAt (d + 1) (pick b (record { depth = depthAt ws i; node = viewOf (decode ws bs .slots) (controlsIn ws) (nodeIn ws i) } ∷ rowsBelow d (viewTo ws bs end (i + 1))) [])
+          → rowsAt (d + 1) (pick b (record { depth = depthAt ws i; node = viewOf (decode ws bs .slots) (controlsIn ws) (recordIn ws i) } ∷ rowsBelow d (viewTo ws bs end (i + 1))) [])
           ≡ pick b (pick (eqb (depthAt ws i) (d + 1)) 1 0 + childrenFrom ws bs end d (i + 1)) 0
       go true = below-turn true (eqb (depthAt ws i) (d + 1)) (childrenFrom ws bs end d (i + 1))
       go false = refl

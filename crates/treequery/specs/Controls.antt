@@ -8,11 +8,10 @@ use lib.ListN.{length, getD}
 use Rattle.readable.specs.Labels.{labelAt}
 use Rattle.nodes.specs.Place.{isGroup}
 use Rattle.osc.specs.Message.{Argument, int}
-use Rattle.model.specs.Layout.{controlsIn}
+use Rattle.model.specs.Layout.{controlsIn, recordIn}
 use Rattle.model.specs.Replies.{mappingArgument, labelArgument}
 use Rattle.controls.specs.Encoded.{frontIn}
 use Rattle.slots.specs.Slots.{slotBytes}
-use Rattle.controls.specs.Ready.{nodeIn}
 use Rattle.controls.specs.Asked.{controlIn}
 use Rattle.queries.specs.Held.{At, bounds}
 use Rattle.treequery.specs.declared.piece.Piece.{Piece}
@@ -25,8 +24,8 @@ use Rattle.treequery.specs.Shapes.{shapeWords, shapesLength, labelIn, Sh
 -- a synth's row, with the shape of its definition
 pub record Shaped (ws bs shapes : List ℕ) (i : ℕ) : Type 0 where
   pub at : At ws bs i
-  pub single : isGroup (nodeIn ws i) ≡ false
-  pub shape : Shape (slotBytes ws bs (nodeIn ws i .slot)) (nodeIn ws i .slot) shapes
+  pub single : isGroup (recordIn ws i) ≡ false
+  pub shape : Shape (slotBytes ws bs (recordIn ws i .slot)) (recordIn ws i .slot) shapes
 
 -- the label of a control is a whole string
 pub record LabelThere (s shapes : List ℕ) (first j : ℕ) : Type 0 where
@@ -40,20 +39,20 @@ valueOf ws row j = mappingArgument (controlIn (controlsIn ws) row j .mapping) (c
 
 -- what the code knows of a synth
 pub record SynthAt (ws bs : List ℕ) (i : ℕ) (k : Synth) : Type 0 where
-  pub row : k .row ≡ nodeIn ws i .row
-  pub first : k .first ≡ shapeWords * nodeIn ws i .slot
-  pub many : k .many ≡ length (frontIn (slotBytes ws bs (nodeIn ws i .slot)) .values)
+  pub row : k .row ≡ recordIn ws i .row
+  pub first : k .first ≡ shapeWords * recordIn ws i .slot
+  pub many : k .many ≡ length (frontIn (slotBytes ws bs (recordIn ws i .slot)) .values)
 
 -- a synth's controls, as they are counted and written one by one
 pub record Controls (ws bs shapes : List ℕ) (i : ℕ) (definition : List ℕ) (row first many : ℕ) : Type 0 where
   pub of : Shaped ws bs shapes i
-  pub bytes : definition ≡ slotBytes ws bs (nodeIn ws i .slot)
-  pub rowIs : row ≡ nodeIn ws i .row
-  pub firstIs : first ≡ shapeWords * nodeIn ws i .slot
-  pub manyIs : many ≡ length (frontIn (slotBytes ws bs (nodeIn ws i .slot)) .values)
+  pub bytes : definition ≡ slotBytes ws bs (recordIn ws i .slot)
+  pub rowIs : row ≡ recordIn ws i .row
+  pub firstIs : first ≡ shapeWords * recordIn ws i .slot
+  pub manyIs : many ≡ length (frontIn (slotBytes ws bs (recordIn ws i .slot)) .values)
 
 module _ {ws bs shapes : List ℕ} {i : ℕ} {definition : List ℕ} {row first many : ℕ} (k : Controls ws bs shapes i definition row first many) where
-  single : isGroup (nodeIn ws i) ≡ false
+  single : isGroup (recordIn ws i) ≡ false
   single = k .of .single
 
   held : At ws bs i
@@ -69,7 +68,7 @@ module _ {ws bs shapes : List ℕ} {i : ℕ} {definition : List ℕ} {row first 
   controls-end j h = controls-done ws bs i held single j (omega (arith, k .manyIs))
 
   module _ (j : ℕ) (h : j < many) where
-    low : j < length (frontIn (slotBytes ws bs (nodeIn ws i .slot)) .values)
+    low : j < length (frontIn (slotBytes ws bs (recordIn ws i .slot)) .values)
     low = omega (arith, k .manyIs)
 
     few : j < 32
@@ -91,7 +90,7 @@ module _ {ws bs shapes : List ℕ} {i : ℕ} {definition : List ℕ} {row first 
     pub control-turn : (p : Piece) → pieceArgument definition p ≡ labelArgument (labelAt definition (getD shapes (first + 1 + j) 0)) j
         → controlsLeft ws bs i j ≡ pieceArgument definition p ∷ (valueOf ws row j ∷ controlsLeft ws bs i (j + 1))
     control-turn p e =
-        let label : labelArgument (labelAt (slotBytes ws bs (nodeIn ws i .slot)) (labelIn shapes (nodeIn ws i .slot) j)) j ≡ pieceArgument definition p =
+        let label : labelArgument (labelAt (slotBytes ws bs (recordIn ws i .slot)) (labelIn shapes (recordIn ws i .slot) j)) j ≡ pieceArgument definition p =
         sym (e ∙ ap₂ (λ (s : List ℕ) (f : ℕ). labelArgument (labelAt s (getD shapes (f + 1 + j) 0)) j) (k .bytes) (k .firstIs)) in
         control-left ws bs i held single shapes j (k .of .shape) low
         ∙ ap₂ (λ (x : Argument) (r : ℕ). x ∷ (mappingArgument (controlIn (controlsIn ws) r j .mapping) (controlIn (controlsIn ws) r j .own) ∷ controlsLeft ws bs i (j + 1))) label (sym (k .rowIs))

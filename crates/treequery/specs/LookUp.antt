@@ -10,7 +10,7 @@ use lib.Dec.{ltb}
 use lib.ListN.{getD, replicate, length-replicate, getD-replicate}
 use Rattle.nodes.specs.Place.{isGroup}
 use Rattle.slots.specs.Slots.{slotBytes}
-use Rattle.controls.specs.Ready.{nodeIn}
+use Rattle.model.specs.Layout.{recordIn}
 use Rattle.treequery.specs.Shapes.{shapeWords, shapesLength, labelIn, Shape, Shapes, Filled, ShapesKnown, LookedUp}
 
 -- three ways for two numbers to lie
@@ -35,15 +35,15 @@ shape-kept s k table table′ same h =
     }
 
 module _ (ws bs : List ℕ) (i : ℕ) (table : List ℕ) (t : ShapesKnown ws bs table) where
-  pub looked-group : isGroup (nodeIn ws i) ≡ true → LookedUp ws bs i table table
+  pub looked-group : isGroup (recordIn ws i) ≡ true → LookedUp ws bs i table table
   looked-group e = record { fact = t; kept = λ k l h. h; there = λ f. absurd (true≢false (sym e ∙ f)) }
 
-  pub looked-before : 0 < getD table (shapeWords * nodeIn ws i .slot) 0 → LookedUp ws bs i table table
+  pub looked-before : 0 < getD table (shapeWords * recordIn ws i .slot) 0 → LookedUp ws bs i table table
   looked-before h = record { fact = t; kept = λ k l p. p; there = λ f. h }
 
-  pub looked-now : (table′ : List ℕ) → nodeIn ws i .slot < 32 → Filled (slotBytes ws bs (nodeIn ws i .slot)) (nodeIn ws i .slot) table table′ → LookedUp ws bs i table table′
+  pub looked-now : (table′ : List ℕ) → recordIn ws i .slot < 32 → Filled (slotBytes ws bs (recordIn ws i .slot)) (recordIn ws i .slot) table table′ → LookedUp ws bs i table table′
   looked-now table′ low f =
-      let slot = nodeIn ws i .slot in
+      let slot = recordIn ws i .slot in
       let many = f .shape .many in
       let before : (k m : ℕ) → k < slot → m < shapeWords → getD table′ (shapeWords * k + m) 0 ≡ getD table (shapeWords * k + m) 0 = λ k m less h. f .below (shapeWords * k + m) (omega arith) in
       let behind : (k m : ℕ) → slot < k → getD table′ (shapeWords * k + m) 0 ≡ getD table (shapeWords * k + m) 0 = λ k m more. f .above (shapeWords * k + m) (omega arith) in
@@ -65,19 +65,19 @@ module _ (ws bs : List ℕ) (i : ℕ) (table : List ℕ) (t : ShapesKnown ws bs 
       }
 
 -- one row more
-pub looked-more : (ws bs : List ℕ) (from i : ℕ) (table table′ : List ℕ) → ((j : ℕ) → j < i → isGroup (nodeIn ws j) ≡ false → nodeIn ws j .slot < 32) → LookedUp ws bs i table table′
-    → ((j : ℕ) → from ≤ j → j < i → isGroup (nodeIn ws j) ≡ false → 0 < getD table (shapeWords * nodeIn ws j .slot) 0)
-    → (j : ℕ) → from ≤ j → j < i + 1 → isGroup (nodeIn ws j) ≡ false → 0 < getD table′ (shapeWords * nodeIn ws j .slot) 0
+pub looked-more : (ws bs : List ℕ) (from i : ℕ) (table table′ : List ℕ) → ((j : ℕ) → j < i → isGroup (recordIn ws j) ≡ false → recordIn ws j .slot < 32) → LookedUp ws bs i table table′
+    → ((j : ℕ) → from ≤ j → j < i → isGroup (recordIn ws j) ≡ false → 0 < getD table (shapeWords * recordIn ws j .slot) 0)
+    → (j : ℕ) → from ≤ j → j < i + 1 → isGroup (recordIn ws j) ≡ false → 0 < getD table′ (shapeWords * recordIn ws j .slot) 0
 looked-more ws bs from i table table′ low h there = λ j l k single.
-    below-more (λ (m : ℕ). from ≤ m → isGroup (nodeIn ws m) ≡ false → 0 < getD table′ (shapeWords * nodeIn ws m .slot) 0) i
-    (λ m x y z. h .kept (nodeIn ws m .slot) (low m x z) (there m y x z))
+    below-more (λ (m : ℕ). from ≤ m → isGroup (recordIn ws m) ≡ false → 0 < getD table′ (shapeWords * recordIn ws m .slot) 0) i
+    (λ m x y z. h .kept (recordIn ws m .slot) (low m x z) (there m y x z))
     (λ y z. h .there z)
     j k l single
 
 -- all rows looked up
-pub looked-all : (ws bs : List ℕ) (from end : ℕ) (table : List ℕ) → ShapesKnown ws bs table → ((i : ℕ) → i < end → isGroup (nodeIn ws i) ≡ false → nodeIn ws i .slot < 32)
-    → ((i : ℕ) → from ≤ i → i < end → isGroup (nodeIn ws i) ≡ false → 0 < getD table (shapeWords * nodeIn ws i .slot) 0) → Shapes ws bs from end table
-looked-all ws bs from end table t low there = λ i l h single. t .right (nodeIn ws i .slot) (low i h single) (there i l h single)
+pub looked-all : (ws bs : List ℕ) (from end : ℕ) (table : List ℕ) → ShapesKnown ws bs table → ((i : ℕ) → i < end → isGroup (recordIn ws i) ≡ false → recordIn ws i .slot < 32)
+    → ((i : ℕ) → from ≤ i → i < end → isGroup (recordIn ws i) ≡ false → 0 < getD table (shapeWords * recordIn ws i .slot) 0) → Shapes ws bs from end table
+looked-all ws bs from end table t low there = λ i l h single. t .right (recordIn ws i .slot) (low i h single) (there i l h single)
 
 -- none so far
 pub fact-none : (ws bs : List ℕ) → ShapesKnown ws bs (replicate shapesLength 0)

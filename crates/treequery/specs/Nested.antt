@@ -14,10 +14,9 @@ use Rattle.nodes.specs.declared.Node.{Node}
 use Rattle.nodes.specs.Place.{isGroup}
 use Rattle.nodes.specs.Formed.{reach, steps, rooted}
 use Rattle.tree.specs.Shallow.{depth-most}
-use Rattle.model.specs.Layout.{wordsLength, countIn, nodesIn, nodesPlace, nodesWords}
+use Rattle.model.specs.Layout.{wordsLength, countIn, nodesIn, nodesPlace, nodesWords, recordIn}
 use Rattle.state.specs.Known.{Known}
 use Rattle.slots.specs.Slots.{part-word}
-use Rattle.controls.specs.Ready.{nodeIn}
 use Rattle.queries.specs.Held.{node-there}
 use Rattle.nodes.specs.Table.{width, depthField}
 use Rattle.treequery.specs.RowArguments.{depthAt}
@@ -75,11 +74,11 @@ rooted-after (suc k) (x ∷ l) r s rest h e =
 
 -- of a well-formed state
 module _ (ws bs : List ℕ) (k : Known ws bs) where
-  after : (i : ℕ) → i + 1 < countIn ws → After (nodeIn ws i) (nodeIn ws (i + 1))
+  after : (i : ℕ) → i + 1 < countIn ws → After (recordIn ws i) (recordIn ws (i + 1))
   after i h =
-      rooted-after i (nodesIn ws) (nodeIn ws i) (nodeIn ws (i + 1)) (drop (i + 1 + 1) (nodesIn ws)) (k .tree .root)
+      rooted-after i (nodesIn ws) (recordIn ws i) (recordIn ws (i + 1)) (drop (i + 1 + 1) (nodesIn ws)) (k .tree .root)
       (node-there ws bs i (record { state = k; live = omega arith })
-      ∙ ap (λ (l : List Node). nodeIn ws i ∷ l) (node-there ws bs (i + 1) (record { state = k; live = h })))
+      ∙ ap (λ (l : List Node). recordIn ws i ∷ l) (node-there ws bs (i + 1) (record { state = k; live = h })))
 
   pub nested : (at end : ℕ) → at < end → end ≤ countIn ws → Nested ws at end
   nested at end h most =

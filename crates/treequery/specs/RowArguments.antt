@@ -19,12 +19,11 @@ use Rattle.nodes.specs.Place.{isGroup}
 use Rattle.nodes.specs.Structure.{noNode}
 use Rattle.osc.specs.Message.{Argument, int, text}
 use Rattle.values.specs.Controls.{ControlValue}
-use Rattle.model.specs.Layout.{busCount, rowWords, nodesIn, nodesPlace, nodesWords, controlsIn}
+use Rattle.model.specs.Layout.{busCount, rowWords, nodesIn, nodesPlace, nodesWords, controlsIn, recordIn}
 use Rattle.model.specs.Engine.{Slot, decode, definitionOf, controlsFrom, controlsOf}
 use Rattle.model.specs.View.{Row, viewRows}
 use Rattle.model.specs.Formed.{mappingsFormed, controlsFormed}
 use Rattle.model.specs.Replies.{controlArguments, flagged, kindArguments, rowsBelow, rowsAt, treeArguments}
-use Rattle.controls.specs.Ready.{nodeIn}
 use Rattle.queries.specs.Held.{At, node-there}
 use Rattle.queries.specs.Status.{kindAt}
 
@@ -33,14 +32,14 @@ abbrev pub viewTo : List ℕ → List ℕ → ℕ → ℕ → List Row
 viewTo ws bs end i = viewRows (decode ws bs .slots) (controlsIn ws) (drop i (rows end (region nodesPlace nodesWords ws)))
 
 abbrev pub depthAt : List ℕ → ℕ → ℕ
-depthAt ws i = nodeIn ws i .depth
+depthAt ws i = recordIn ws i .depth
 
 -- the children of the node at the place i
 abbrev pub childrenAt : List ℕ → List ℕ → ℕ → ℕ → ℕ
 childrenAt ws bs end i = rowsAt (depthAt ws i + 1) (rowsBelow (depthAt ws i) (viewTo ws bs end (i + 1)))
 
 unfoldable pub rowArguments : Bool → List ℕ → List ℕ → ℕ → ℕ → List Argument
-rowArguments shown ws bs end i = int (nodeIn ws i .number) ∷ kindArguments shown (childrenAt ws bs end i) (kindAt ws bs i)
+rowArguments shown ws bs end i = int (recordIn ws i .number) ∷ kindArguments shown (childrenAt ws bs end i) (kindAt ws bs i)
 
 -- all rows from a place on: its own, and the rest
 pub rows-turn : (shown : Bool) (ws bs : List ℕ) (end i : ℕ) → i < end
@@ -56,17 +55,17 @@ rows-none shown ws bs end i h =
 
 -- the arguments of a group's row, and of a synth's
 module _ (shown : Bool) (ws bs : List ℕ) (end i : ℕ) where
-  pub row-group : isGroup (nodeIn ws i) ≡ true → rowArguments shown ws bs end i ≡ int (nodeIn ws i .number) ∷ (int (childrenAt ws bs end i) ∷ [])
+  pub row-group : isGroup (recordIn ws i) ≡ true → rowArguments shown ws bs end i ≡ int (recordIn ws i .number) ∷ (int (childrenAt ws bs end i) ∷ [])
   unfolding rowArguments
   row-group h = rw h
 
   abbrev d : Definition
-  d = definitionOf (decode ws bs .slots) (nodeIn ws i)
+  d = definitionOf (decode ws bs .slots) (recordIn ws i)
 
   abbrev cs : List ControlValue
-  cs = controlsOf (decode ws bs .slots) (controlsIn ws) (nodeIn ws i)
+  cs = controlsOf (decode ws bs .slots) (controlsIn ws) (recordIn ws i)
 
-  pub row-synth : isGroup (nodeIn ws i) ≡ false → rowArguments shown ws bs end i ≡ int (nodeIn ws i .number) ∷ (int noNode ∷ (text (d .front .name) ∷ flagged shown d cs))
+  pub row-synth : isGroup (recordIn ws i) ≡ false → rowArguments shown ws bs end i ≡ int (recordIn ws i .number) ∷ (int noNode ∷ (text (d .front .name) ∷ flagged shown d cs))
   unfolding rowArguments
   row-synth h = rw h
 
@@ -102,13 +101,13 @@ formed-at slots controls (x ∷ t) zero r rest e h =
 formed-at slots controls (x ∷ t) (suc i) r rest e h =
     formed-at slots controls t i r rest e (both-true (pick (isGroup x) true (mappingsFormed (length (definitionOf slots x .front .values)) (drop (rowWords * x .row) controls))) _ h .1)
 
-pub mapping-low : (ws bs : List ℕ) (i j : ℕ) → At ws bs i → isGroup (nodeIn ws i) ≡ false → j < length (definitionOf (decode ws bs .slots) (nodeIn ws i) .front .values)
-    → getD (controlsIn ws) (rowWords * nodeIn ws i .row + 2 * j + 1) 0 ≤ busCount
+pub mapping-low : (ws bs : List ℕ) (i j : ℕ) → At ws bs i → isGroup (recordIn ws i) ≡ false → j < length (definitionOf (decode ws bs .slots) (recordIn ws i) .front .values)
+    → getD (controlsIn ws) (rowWords * recordIn ws i .row + 2 * j + 1) 0 ≤ busCount
 mapping-low ws bs i j a single h =
     let slots = decode ws bs .slots in
-    let formed : mappingsFormed (length (definitionOf slots (nodeIn ws i) .front .values)) (drop (rowWords * nodeIn ws i .row) (controlsIn ws)) ≡ true =
-    rw single at (formed-at slots (controlsIn ws) (nodesIn ws) i (nodeIn ws i) (drop (i + 1) (nodesIn ws)) (node-there ws bs i a) (a .state .controls)) in
-    let on : rowWords * nodeIn ws i .row + (2 * j + 1) ≡ rowWords * nodeIn ws i .row + 2 * j + 1 = omega arith in
-    let same : getD (drop (rowWords * nodeIn ws i .row) (controlsIn ws)) (2 * j + 1) 0 ≡ getD (controlsIn ws) (rowWords * nodeIn ws i .row + 2 * j + 1) 0 =
-    getD-drop (rowWords * nodeIn ws i .row) (controlsIn ws) (2 * j + 1) 0 ∙ ap (λ (k : ℕ). getD (controlsIn ws) k 0) on in
-    rw same at (mapping-few (length (definitionOf slots (nodeIn ws i) .front .values)) j (drop (rowWords * nodeIn ws i .row) (controlsIn ws)) h formed)
+    let formed : mappingsFormed (length (definitionOf slots (recordIn ws i) .front .values)) (drop (rowWords * recordIn ws i .row) (controlsIn ws)) ≡ true =
+    rw single at (formed-at slots (controlsIn ws) (nodesIn ws) i (recordIn ws i) (drop (i + 1) (nodesIn ws)) (node-there ws bs i a) (a .state .controls)) in
+    let on : rowWords * recordIn ws i .row + (2 * j + 1) ≡ rowWords * recordIn ws i .row + 2 * j + 1 = omega arith in
+    let same : getD (drop (rowWords * recordIn ws i .row) (controlsIn ws)) (2 * j + 1) 0 ≡ getD (controlsIn ws) (rowWords * recordIn ws i .row + 2 * j + 1) 0 =
+    getD-drop (rowWords * recordIn ws i .row) (controlsIn ws) (2 * j + 1) 0 ∙ ap (λ (k : ℕ). getD (controlsIn ws) k 0) on in
+    rw same at (mapping-few (length (definitionOf slots (recordIn ws i) .front .values)) j (drop (rowWords * recordIn ws i .row) (controlsIn ws)) h formed)

@@ -9,11 +9,10 @@ use lib.Dec.{ltb}
 use borrow.Author.Tests.{ltb-true, ltb-false}
 use Rattle.nodes.specs.Place.{isGroup}
 use Rattle.osc.specs.Message.{Argument, int, message}
-use Rattle.model.specs.Layout.{countIn, nodesPlace, nodesWords}
+use Rattle.model.specs.Layout.{countIn, nodesPlace, nodesWords, recordIn}
 use Rattle.model.specs.Replies.{treeAddress, flagNumber, treeArguments}
 use Rattle.state.specs.Known.{Known}
 use Rattle.slots.specs.Slots.{slotBytes, part-word}
-use Rattle.controls.specs.Ready.{nodeIn}
 use Rattle.queries.specs.Held.{At, bounds}
 use Rattle.nodes.specs.Table.{width}
 use Rattle.treequery.specs.RowArguments.{rowArguments, childrenAt, viewTo, row-group, rows-turn, rows-none}
@@ -22,26 +21,26 @@ use Rattle.treequery.specs.SynthRow.{synth-row, synth-length}
 use Rattle.treequery.specs.Shapes.{Shape, Shapes}
 
 row-few : (shown : Bool) (ws bs : List ℕ) (end i : ℕ) → At ws bs i → length (rowArguments shown ws bs end i) ≤ 68
-row-few shown ws bs end i a = go (isGroup (nodeIn ws i)) refl
+row-few shown ws bs end i a = go (isGroup (recordIn ws i)) refl
   where
-    go : (b : Bool) → isGroup (nodeIn ws i) ≡ b → length (rowArguments shown ws bs end i) ≤ 68
+    go : (b : Bool) → isGroup (recordIn ws i) ≡ b → length (rowArguments shown ws bs end i) ≤ 68
     go true e = rw (row-group shown ws bs end i e) (omega arith)
     go false e = synth-length ws bs i a e shown end
 
 pub row-some : (shown : Bool) (ws bs : List ℕ) (end i : ℕ) → At ws bs i → 2 ≤ length (rowArguments shown ws bs end i)
-row-some shown ws bs end i a = go (isGroup (nodeIn ws i)) refl
+row-some shown ws bs end i a = go (isGroup (recordIn ws i)) refl
   where
-    go : (b : Bool) → isGroup (nodeIn ws i) ≡ b → 2 ≤ length (rowArguments shown ws bs end i)
+    go : (b : Bool) → isGroup (recordIn ws i) ≡ b → 2 ≤ length (rowArguments shown ws bs end i)
     go true e = rw (row-group shown ws bs end i e) (omega arith)
     go false e = rw (synth-row ws bs i a e shown end) (omega arith)
 
 -- a group's row: its number and how many children it has
-pub group-turn : (shown : Bool) (ws bs : List ℕ) (end i n children : ℕ) → isGroup (nodeIn ws i) ≡ true → n ≡ nodeIn ws i .number → children ≡ childrenAt ws bs end i
+pub group-turn : (shown : Bool) (ws bs : List ℕ) (end i n children : ℕ) → isGroup (recordIn ws i) ≡ true → n ≡ recordIn ws i .number → children ≡ childrenAt ws bs end i
     → rowArguments shown ws bs end i ≡ int n ∷ (int children ∷ [])
 group-turn shown ws bs end i n children e a b = row-group shown ws bs end i e ∙ ap₂ (λ (x y : ℕ). int x ∷ (int y ∷ [])) (sym a) (sym b)
 
 -- a node's number, by the words
-pub number-fact : (ws bs : List ℕ) (i : ℕ) → At ws bs i → getD ws (nodesPlace + width * i) 0 ≡ nodeIn ws i .number
+pub number-fact : (ws bs : List ℕ) (i : ℕ) → At ws bs i → getD ws (nodesPlace + width * i) 0 ≡ recordIn ws i .number
 number-fact ws bs i a = sym (part-word nodesPlace nodesWords (width * i) ws (omega (arith, bounds ws bs i a .place)))
 
 -- all rows from a place on
@@ -51,7 +50,7 @@ leftRows shown ws bs end i = treeArguments shown (viewTo ws bs end i)
 -- the reply's message for the group at the place at, whose run ends at end
 abbrev pub treeMessage : Bool → List ℕ → List ℕ → ℕ → ℕ → List ℕ
 treeMessage shown ws bs end at =
-    message treeAddress (int (flagNumber shown) ∷ (int (nodeIn ws at .number) ∷ (int (childrenAt ws bs end at) ∷ leftRows shown ws bs end (at + 1))))
+    message treeAddress (int (flagNumber shown) ∷ (int (recordIn ws at .number) ∷ (int (childrenAt ws bs end at) ∷ leftRows shown ws bs end (at + 1))))
 
 -- the rows from one place to another of a well-formed state
 pub record Run (ws bs : List ℕ) (from end : ℕ) : Type 0 where
@@ -62,7 +61,7 @@ pub record Run (ws bs : List ℕ) (from end : ℕ) : Type 0 where
 pub run-at : (ws bs : List ℕ) (from end i : ℕ) → Run ws bs from end → i < end → At ws bs i
 run-at ws bs from end i r h = record { state = r .state; live = omega (arith, r .ends) }
 
-pub run-slot : (ws bs : List ℕ) (from end i : ℕ) → Run ws bs from end → i < end → isGroup (nodeIn ws i) ≡ false → nodeIn ws i .slot < 32
+pub run-slot : (ws bs : List ℕ) (from end i : ℕ) → Run ws bs from end → i < end → isGroup (recordIn ws i) ≡ false → recordIn ws i .slot < 32
 run-slot ws bs from end i r h single = bounds ws bs i (run-at ws bs from end i r h) .slot single
 
 rows-some : (n : ℕ) (shown : Bool) (ws bs : List ℕ) (from end i : ℕ) → Run ws bs from end → end ≤ i + n → length (leftRows shown ws bs end i) ≤ 68 * n
@@ -85,7 +84,7 @@ pub record RowOf (shown : Bool) (ws bs shapes : List ℕ) (end i : ℕ) : Type 0
   pub at : At ws bs i
   pub inside : i < end
   pub ends : end ≤ countIn ws
-  pub shape : shown ≡ true → isGroup (nodeIn ws i) ≡ false → Shape (slotBytes ws bs (nodeIn ws i .slot)) (nodeIn ws i .slot) shapes
+  pub shape : shown ≡ true → isGroup (recordIn ws i) ≡ false → Shape (slotBytes ws bs (recordIn ws i .slot)) (recordIn ws i .slot) shapes
 
 -- the whole part
 pub record RowsOf (shown : Bool) (ws bs shapes : List ℕ) (from end : ℕ) : Type 0 where

@@ -10,7 +10,7 @@ use Rattle.readable.specs.Labels.{labelAt}
 use Rattle.nodes.specs.Place.{isGroup}
 use Rattle.controls.specs.Encoded.{frontIn}
 use Rattle.slots.specs.Slots.{slotBytes}
-use Rattle.controls.specs.Ready.{nodeIn}
+use Rattle.model.specs.Layout.{recordIn}
 
 abbrev pub shapeWords : ℕ
 shapeWords = 33
@@ -31,7 +31,7 @@ pub record Shape (s : List ℕ) (k : ℕ) (table : List ℕ) : Type 0 where
 -- the same of each synth from one place of the node table to another
 abbrev pub Shapes : List ℕ → List ℕ → ℕ → ℕ → List ℕ → Type 0
 Shapes ws bs from end table =
-    (i : ℕ) → from ≤ i → i < end → isGroup (nodeIn ws i) ≡ false → Shape (slotBytes ws bs (nodeIn ws i .slot)) (nodeIn ws i .slot) table
+    (i : ℕ) → from ≤ i → i < end → isGroup (recordIn ws i) ≡ false → Shape (slotBytes ws bs (recordIn ws i .slot)) (recordIn ws i .slot) table
 
 -- a definition's shape, put into its slot's part of the table
 pub record Filled (s : List ℕ) (k : ℕ) (table table′ : List ℕ) : Type 0 where
@@ -49,4 +49,4 @@ pub record ShapesKnown (ws bs table : List ℕ) : Type 0 where
 pub record LookedUp (ws bs : List ℕ) (i : ℕ) (table table′ : List ℕ) : Type 0 where
   pub fact : ShapesKnown ws bs table′
   pub kept : (k : ℕ) → k < 32 → 0 < getD table (shapeWords * k) 0 → 0 < getD table′ (shapeWords * k) 0
-  pub there : isGroup (nodeIn ws i) ≡ false → 0 < getD table′ (shapeWords * nodeIn ws i .slot) 0
+  pub there : isGroup (recordIn ws i) ≡ false → 0 < getD table′ (shapeWords * recordIn ws i .slot) 0

@@ -24,7 +24,7 @@ use Rattle.values.specs.declared.NodeArgument.{NodeArgument}
 use Rattle.model.specs.declared.Query.the-variants as query
 use Rattle.model.specs.declared.Answer.{Answer}
 use Rattle.model.specs.declared.Answer.the-variants.{Refused}
-use Rattle.model.specs.Layout.{countIn, nodesIn, nodesPlace, nodesWords, controlsIn}
+use Rattle.model.specs.Layout.{countIn, nodesIn, nodesPlace, nodesWords, controlsIn, recordIn}
 use Rattle.model.specs.Engine.{Slot, decode}
 use Rattle.model.specs.View.{Row, view, viewRows, viewOf}
 use Rattle.model.specs.Meaning.{meant}
@@ -33,7 +33,6 @@ use Rattle.model.specs.Replies.{reply, replyTo, treeReply, treeAddress, flagNum
 use Rattle.tree.specs.Around.{childNumbers, childrenOf-at}
 use Rattle.names.specs.Judged.{NodeFound, NodeRefused}
 use Rattle.names.specs.Here.{node-here}
-use Rattle.controls.specs.Ready.{nodeIn}
 use Rattle.queries.specs.Held.{At}
 use Rattle.queries.specs.Shape.{count-same}
 use Rattle.queries.specs.Found.{subtree-found}
@@ -103,11 +102,11 @@ unfolding firstOf
 tree-unknown argument bytes ws bs flag r n b = rw (n .fires bs) (n .answer bs)
 
 module _ (argument : NodeArgument) (bytes ws bs : List ℕ) (at : ℕ) (n : NodeFound argument ws at) (a : At ws bs at) where
-  pub tree-synth : (flag : ℕ) → isGroup (nodeIn ws at) ≡ false → (b : Answer) → firstOf (queryChecks (query.Tree argument flag) bytes (decode ws bs)) b ≡ Refused WrongKind
+  pub tree-synth : (flag : ℕ) → isGroup (recordIn ws at) ≡ false → (b : Answer) → firstOf (queryChecks (query.Tree argument flag) bytes (decode ws bs)) b ≡ Refused WrongKind
   unfolding firstOf
   tree-synth flag h b = rw (n .passes bs, node-here argument ws at n bs, h)
 
-  pub tree-passes : (flag : ℕ) → isGroup (nodeIn ws at) ≡ true → (b : Answer) → firstOf (queryChecks (query.Tree argument flag) bytes (decode ws bs)) b ≡ b
+  pub tree-passes : (flag : ℕ) → isGroup (recordIn ws at) ≡ true → (b : Answer) → firstOf (queryChecks (query.Tree argument flag) bytes (decode ws bs)) b ≡ b
   unfolding firstOf
   tree-passes flag h b = rw (n .passes bs, node-here argument ws at n bs, h)
 
@@ -118,10 +117,10 @@ module _ (argument : NodeArgument) (bytes ws bs : List ℕ) (at : ℕ) (n : Node
   slots = decode ws bs .slots
 
   -- the rows below the group
-  run-rows : (end : ℕ) → end ≡ endAt (countIn ws) (region nodesPlace nodesWords ws) at → rowsBelow (nodeIn ws at .depth) (viewRows slots (controlsIn ws) run) ≡ viewTo ws bs end (at + 1)
+  run-rows : (end : ℕ) → end ≡ endAt (countIn ws) (region nodesPlace nodesWords ws) at → rowsBelow (recordIn ws at .depth) (viewRows slots (controlsIn ws) run) ≡ viewTo ws bs end (at + 1)
   run-rows end e =
       let us = region nodesPlace nodesWords ws in
-      let d = nodeIn ws at .depth in
+      let d = recordIn ws at .depth in
       let fits : at + 1 + deeper d run ≤ countIn ws = end-most (countIn ws) at us (a .live) in
       below-rows slots (controlsIn ws) d run
       ∙ ap (viewRows slots (controlsIn ws)) (run-part (countIn ws) (at + 1) (deeper d run) us fits)
@@ -129,23 +128,23 @@ module _ (argument : NodeArgument) (bytes ws bs : List ℕ) (at : ℕ) (n : Node
 
   subtree-rows : (end : ℕ) → end ≡ endAt (countIn ws) (region nodesPlace nodesWords ws) at → subtreeRows (meant argument (decode ws bs)) (viewFrom ws bs 0) ≡ viewTo ws bs end (at + 1)
   subtree-rows end e =
-      subtree-found slots (controlsIn ws) (meant argument (decode ws bs)) (nodesIn ws) (nodeIn ws at) run (here argument ws bs at n a) ∙ run-rows end e
+      subtree-found slots (controlsIn ws) (meant argument (decode ws bs)) (nodesIn ws) (recordIn ws at) run (here argument ws bs at n a) ∙ run-rows end e
 
   -- its children
-  group-children : (end : ℕ) → end ≡ endAt (countIn ws) (region nodesPlace nodesWords ws) at → childrenAt ws bs end at ≡ childCount (nodeIn ws at .number) (nodesIn ws)
+  group-children : (end : ℕ) → end ≡ endAt (countIn ws) (region nodesPlace nodesWords ws) at → childrenAt ws bs end at ≡ childCount (recordIn ws at .number) (nodesIn ws)
   group-children end e =
       let us = region nodesPlace nodesWords ws in
-      let d = nodeIn ws at .depth in
+      let d = recordIn ws at .depth in
       ap (λ (l : List Row). rowsAt (d + 1) (rowsBelow d l)) (sym (run-rows end e))
       ∙ ap (rowsAt (d + 1)) (below-twice d (viewRows slots (controlsIn ws) run))
       ∙ child-rows slots (controlsIn ws) d run
-      ∙ ap (length {A = ℕ}) (sym (childrenOf-at (countIn ws) us (nodeIn ws at .number) at (here-number argument ws bs at n a) (a .live)))
+      ∙ ap (length {A = ℕ}) (sym (childrenOf-at (countIn ws) us (recordIn ws at .number) at (here-number argument ws bs at n a) (a .live)))
 
   pub tree-reply : (flag end : ℕ) (shown : Bool) → shown ≡ not (eqb flag 0) → end ≡ endAt (countIn ws) (region nodesPlace nodesWords ws) at
       → treeMessage shown ws bs end at ≡ reply (query.Tree argument flag) bytes (decode ws bs)
   unfolding replyTo
   tree-reply flag end shown f e =
-      let m = nodeIn ws at .number in
+      let m = recordIn ws at .number in
       let same : m ≡ meant argument (decode ws bs) = number-here argument ws bs at n a in
       sym (ap (λ (k : ℕ). treeReply k (not (eqb flag 0)) (view (decode ws bs))) (sym same)
       ∙ ap₂ (λ (b : Bool) (v : List Row). treeReply m b v) (sym f) (view-from ws bs)

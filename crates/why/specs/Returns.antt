@@ -17,7 +17,7 @@ use Rattle.nodes.specs.Sizes.{TableFits}
 use Rattle.nodes.specs.Place.{groupSlot, isGroup, place}
 use Rattle.nodes.specs.PlaceLaws.{place-most}
 use Rattle.nodes.specs.Order.{isOn}
-use Rattle.model.specs.Layout.{wordsLength, nodesPlace, nodesWords, countIn, latestIn, nodesIn}
+use Rattle.model.specs.Layout.{wordsLength, nodesPlace, nodesWords, countIn, latestIn, nodesIn, recordIn}
 use Rattle.model.specs.Plain.{minusOne}
 use Rattle.why.specs.declared.Reason.the-variants.{NoNode, Group, Off, AncestorOff, Running}
 use Rattle.why.specs.declared.sight.Sight.{Sight}
@@ -49,14 +49,14 @@ module _ (ws : List ℕ) (few : countIn ws ≤ 256) (at : ℕ) (count : ℕ) (co
     return-group g = sym (rw (live, eq-eqb (getD us (width * at + slotField) 0) groupSlot (sym (word 3 (omega arith)) ∙ g)))
 
     module _ (g : getD ws (nodesPlace + width * at + slotField) 0 ≡ groupSlot → ⊥) where
-      synth : isGroup (nodeFrom (region nodesPlace nodesWords ws) (width * at)) ≡ false
+      synth : isGroup (recordIn ws at) ≡ false
       synth = ne-eqb (getD us (width * at + slotField) 0) groupSlot (λ e. g (word 3 (omega arith) ∙ e))
 
       pub return-off : (getD ws (nodesPlace + width * at + runField) 0 ≡ 1 → ⊥) → Off ≡ rowReason (region nodesPlace nodesWords ws) (countIn ws) at
       return-off o = sym (rw (live, synth, ne-eqb (getD us (width * at + runField) 0) 1 (λ e. o (word 2 (omega arith) ∙ e))))
 
       module _ (o : getD ws (nodesPlace + width * at + runField) 0 ≡ 1) where
-        sounding : isOn (nodeFrom (region nodesPlace nodesWords ws) (width * at)) ≡ true
+        sounding : isOn (recordIn ws at) ≡ true
         sounding = eq-eqb (getD us (width * at + runField) 0) 1 (sym (word 2 (omega arith)) ∙ o)
 
         module _ (seen : Sight) (s : SeenBefore (region nodesPlace nodesWords ws) at seen) where

@@ -27,7 +27,7 @@ use Rattle.treerefinement.specs.Parent.{depthIn, depth-flatten}
 use Rattle.treerefinement.specs.Order.{order-tree}
 use Rattle.treerefinement.specs.Build.{build}
 use Rattle.treerefinement.specs.Shape.{items-build, build-flatten}
-use Rattle.model.specs.Layout.{nodesPlace, nodesWords, countIn, latestIn, nodesIn}
+use Rattle.model.specs.Layout.{nodesPlace, nodesWords, countIn, latestIn, nodesIn, recordIn}
 use Rattle.model.specs.Plain.{minusOne}
 use Rattle.why.specs.declared.Reason.the-variants.{NoNode, Group, Off, AncestorOff, Running}
 use Rattle.why.specs.Reasons.{nodeOf, ancestors, firstOff, placeFrom1, reasonOn, firstTrue, reason}
@@ -83,13 +83,13 @@ module _ (ws : List ℕ) (root : rooted (nodesIn ws) ≡ true) (n : ℕ) where
       (no-node key n f (living ∙ not-found (countIn ws) us n h))
 
   module _ (h : place n (nodesIn ws) < countIn ws) where
-    here : drop (place n (nodesIn ws)) (nodesIn ws) ≡ nodeFrom (region nodesPlace nodesWords ws) (width * place n (nodesIn ws)) ∷ drop (place n (nodesIn ws) + 1) (nodesIn ws)
+    here : drop (place n (nodesIn ws)) (nodesIn ws) ≡ recordIn ws (place n (nodesIn ws)) ∷ drop (place n (nodesIn ws) + 1) (nodesIn ws)
     here = row-from (countIn ws) us (place n t) h
 
     lived : has key n (build (nodesIn ws)) ≡ true
     lived = living ∙ found (countIn ws) us n h
 
-    node-here : nodeOf key n (build (nodesIn ws)) ≡ some (nodeFrom (region nodesPlace nodesWords ws) (width * place n (nodesIn ws)))
+    node-here : nodeOf key n (build (nodesIn ws)) ≡ some (recordIn ws (place n (nodesIn ws)))
     node-here =
         node-row n f row (drop (place n t + 1) t) lived
         (subst (λ (l : List Node). drop (place n l) l ≡ row ∷ drop (place n t + 1) t) (sym listed) here)
@@ -98,7 +98,7 @@ module _ (ws : List ℕ) (root : rooted (nodesIn ws) ≡ true) (n : ℕ) where
     rows-here : rowsBefore n (nodesIn ws) ≡ rows (place n (nodesIn ws)) (region nodesPlace nodesWords ws)
     rows-here = before-place n t ∙ rows-take (place n t) (countIn ws) us (omega arith)
 
-    deep : depthIn 0 n (build (nodesIn ws)) ≡ nodeFrom (region nodesPlace nodesWords ws) (width * place n (nodesIn ws)) .depth
+    deep : depthIn 0 n (build (nodesIn ws)) ≡ recordIn ws (place n (nodesIn ws)) .depth
     deep =
         sym (depth-flatten n 0 f [] lived)
         ∙ ap (λ (l : List Node). depthOf n l) (append-nil (flatten 0 f) ∙ laid)
@@ -106,7 +106,7 @@ module _ (ws : List ℕ) (root : rooted (nodesIn ws) ≡ true) (n : ℕ) where
 
     -- the off ancestor is the one that was seen
     off-here : firstOff key isOn (ancestors key n (build (nodesIn ws)))
-        ≡ pick (leb (nodeFrom (region nodesPlace nodesWords ws) (width * place n (nodesIn ws)) .depth) (sightTo (region nodesPlace nodesWords ws) (place n (nodesIn ws)) .0)) none
+        ≡ pick (leb (recordIn ws (place n (nodesIn ws)) .depth) (sightTo (region nodesPlace nodesWords ws) (place n (nodesIn ws)) .0)) none
         (some (sightTo (region nodesPlace nodesWords ws) (place n (nodesIn ws)) .1))
     off-here =
         off-seen n 0 f [] (0, 0) lived (omega arith)
@@ -114,8 +114,8 @@ module _ (ws : List ℕ) (root : rooted (nodesIn ws) ≡ true) (n : ℕ) where
         (ap (λ (l : List Node). rowsBefore n l) (append-nil (flatten 0 f) ∙ laid) ∙ rows-here)
 
     -- where it runs, so many run before it
-    place-here : isGroup (nodeFrom (region nodesPlace nodesWords ws) (width * place n (nodesIn ws))) ≡ false → isOn (nodeFrom (region nodesPlace nodesWords ws) (width * place n (nodesIn ws))) ≡ true
-        → leb (nodeFrom (region nodesPlace nodesWords ws) (width * place n (nodesIn ws)) .depth) (sightTo (region nodesPlace nodesWords ws) (place n (nodesIn ws)) .0) ≡ true
+    place-here : isGroup (recordIn ws (place n (nodesIn ws))) ≡ false → isOn (recordIn ws (place n (nodesIn ws))) ≡ true
+        → leb (recordIn ws (place n (nodesIn ws)) .depth) (sightTo (region nodesPlace nodesWords ws) (place n (nodesIn ws)) .0) ≡ true
         → placeFrom1 n (orderTree key isGroup isOn (build (nodesIn ws))) ≡ length (orderFrom 0 (rows (place n (nodesIn ws)) (region nodesPlace nodesWords ws))) + 1
     unfolding orderFrom placeFrom1
     place-here g o q =

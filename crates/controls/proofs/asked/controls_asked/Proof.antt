@@ -9,7 +9,8 @@ use Rattle.nodes.specs.Place.{isGroup}
 use Rattle.model.specs.Meaning.{isNegative, negativeKey, coverOf}
 use Rattle.controls.specs.Encoded.{frontOnly}
 use Rattle.controls.specs.Cover.{askedIn}
-use Rattle.controls.specs.Ready.{nodeIn, synth-ready, synth-readable}
+use Rattle.model.specs.Layout.{recordIn}
+use Rattle.controls.specs.Ready.{synth-ready, synth-readable}
 use Rattle.controls.specs.Asked.{synth-asked}
 use Rattle.controls.proofs.asked.controls_asked.Statement.{statement}
 use Rattle.controls.proofs.asked.controls_asked.Tie as tie
@@ -26,21 +27,21 @@ returns-3 c =
     let a = c .before .before .before .before .before .before .before .before .args in
     let key : negativeKey (a .key) ≡ false = sym (c .before .before .before .before .negative-key .ensures) ∙ c .before .before .before .if1 .left in
     let count : isNegative (a .count) ≡ false = lt-leb 2147483648 (a .count) (omega arith) in
-    let group : isGroup (nodeIn (a .words .now) (a .place)) ≡ true = sym (c .before .node-is-group .ensures) ∙ c .if3 .taken in
+    let group : isGroup (recordIn (a .words .now) (a .place)) ≡ true = sym (c .before .node-is-group .ensures) ∙ c .if3 .taken in
     rw (key, count, group)
 
 node-definition-requires : tie.Need-node-definition-requires
 node-definition-requires c κs =
     let a = c .before .before .before .before .before .before .before .before .args in
     let p = c .before .before .before .before .before .before .before .before .pre in
-    let single : isGroup (nodeIn (a .words .now) (a .place)) ≡ false = sym (c .before .node-is-group .ensures) ∙ c .if3 .left in
+    let single : isGroup (recordIn (a .words .now) (a .place)) ≡ false = sym (c .before .node-is-group .ensures) ∙ c .if3 .left in
     (p .0 .size, omega (arith, p .0 .few, p .1), synth-ready (a .words .now) (a .arena .now) (p .0) (a .place) (p .1) single .slot)
 
 asked-of-requires : tie.Need-asked-of-requires
 asked-of-requires c κs =
     let a = c .before .before .before .before .before .before .before .before .before .args in
     let p = c .before .before .before .before .before .before .before .before .before .pre in
-    let single : isGroup (nodeIn (a .words .now) (a .place)) ≡ false = sym (c .before .before .node-is-group .ensures) ∙ c .before .if3 .left in
+    let single : isGroup (recordIn (a .words .now) (a .place)) ≡ false = sym (c .before .before .node-is-group .ensures) ∙ c .before .if3 .left in
     synth-readable (a .words .now) (a .arena .now) (p .0) (a .place) (p .1) single (c .node-definition .ensures)
 
 returns-4 : tie.Need-returns-4
@@ -48,7 +49,7 @@ returns-4 c =
     let a = c .before .before .before .before .before .before .before .before .before .before .args in
     let p = c .before .before .before .before .before .before .before .before .before .before .pre in
     let ws = a .words .now in
-    let single : isGroup (nodeIn ws (a .place)) ≡ false = sym (c .before .before .before .node-is-group .ensures) ∙ c .before .before .if3 .left in
+    let single : isGroup (recordIn ws (a .place)) ≡ false = sym (c .before .before .before .node-is-group .ensures) ∙ c .before .before .if3 .left in
     c .asked-of .ensures
     ∙ ap (λ (s : List ℕ). askedIn (coverOf (a .key) (a .name .now) (frontOnly s)) (a .count) (frontOnly s)) (c .before .node-definition .ensures)
     ∙ sym (synth-asked ws (a .arena .now) (p .0) (a .place) (p .1) single (a .key) (a .name .now) (a .count))

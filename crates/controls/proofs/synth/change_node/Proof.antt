@@ -4,10 +4,9 @@ use mathlib.Core.List.{List}
 use native.Mathlib.Omega.{arith}
 use lib.ListN.{length}
 use Rattle.words.specs.PartsLaws.{region-length}
-use Rattle.model.specs.Layout.{controlsPlace, controlsWords, controlsIn, putControls}
+use Rattle.model.specs.Layout.{controlsPlace, controlsWords, controlsIn, putControls, recordIn}
 use Rattle.model.specs.Effects.{changeRow}
 use Rattle.controls.specs.Change.{changeOf}
-use Rattle.controls.specs.Ready.{nodeIn}
 use Rattle.controls.specs.Synth.{same-controls}
 use Rattle.controls.specs.Cover.{reachedBy, reached-inside, reached-none, reached-some}
 use borrow.Author.Needs.{needs}
@@ -19,7 +18,7 @@ returns c =
     let a = c .before .before .before .args in
     let ws = a .words .now in
     let none : reachedBy (a .cover) (a .count) ≡ 0 = sym (c .before .reached .ensures) ∙ c .if1 .taken in
-    sym (ap (λ (l : List ℕ). putControls l ws) (reached-none (a .cover) (a .count) (changeOf (a .change)) (nodeIn ws (a .place) .row) (controlsIn ws) none) ∙ same-controls ws)
+    sym (ap (λ (l : List ℕ). putControls l ws) (reached-none (a .cover) (a .count) (changeOf (a .change)) (recordIn ws (a .place) .row) (controlsIn ws) none) ∙ same-controls ws)
 
 change-row-requires : tie.Need-change-row-requires
 change-row-requires c κs =
@@ -43,7 +42,7 @@ returns-2 c =
     ap (λ (l : List ℕ). putControls l ws)
     (c .before .before .change-row .ensures
     ∙ ap₂ (λ (row many : ℕ). changeRow f row (a .cover .index) many (controlsIn ws)) (c .before .before .before .before .node-row .ensures) said
-    ∙ reached-some (a .cover) (a .count) f (nodeIn ws (a .place) .row) (controlsIn ws) some-reached)
+    ∙ reached-some (a .cover) (a .count) f (recordIn ws (a .place) .row) (controlsIn ws) some-reached)
 
 pub change-node-spec : {M : Type 1} → statement M
 change-node-spec =

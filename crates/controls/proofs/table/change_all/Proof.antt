@@ -7,7 +7,7 @@ use native.Mathlib.Omega.{arith}
 use borrow.Author.Tests.{not-true, not-false}
 use borrow.Author.Needs.{needs}
 use lib.ListN.{length, take, drop}
-use Rattle.model.specs.Layout.{wordsLength, countIn, nodesIn, controlsIn, putControls}
+use Rattle.model.specs.Layout.{wordsLength, countIn, nodesIn, controlsIn, putControls, recordIn}
 use Rattle.model.specs.Engine.{decode}
 use Rattle.model.specs.Effects.{changeAll}
 use Rattle.controls.specs.Change.{changeOf}
@@ -16,7 +16,6 @@ use Rattle.controls.specs.Encoded.{frontOnly}
 use Rattle.controls.specs.Synth.{same-controls}
 use Rattle.controls.specs.All.{synth-lent, cover-change, no-change, turned, all-none}
 use Rattle.slots.specs.Slots.{slotBytes}
-use Rattle.controls.specs.Ready.{nodeIn}
 use Rattle.controls.specs.Noted.{noted-none, noted-more}
 use Rattle.controls.specs.Cover.{coverOn, cover-inside, CoversNoted, noCover}
 use Rattle.controls.proofs.table.change_all.Statement.{statement}
@@ -76,7 +75,7 @@ slot-cover-requires c κs =
     let single = sym (c .before .before .before .before .before .node-is-group .ensures) ∙ not-true (c .before .before .before .before .before .node-is-group .result) (c .before .before .before .before .if1 .taken) in
     let w = synth-lent (a .words .now) (a .arena .now) (l .words) (l .i) (s .pre .0) (l .inv .0) (l .inv .1) (omega (arith, s .pre .1)) single in
     let slot = c .before .before .node-slot .result in
-    let here : slot ≡ nodeIn (l .words) (l .i) .slot = c .before .before .node-slot .ensures in (
+    let here : slot ≡ recordIn (l .words) (l .i) .slot = c .before .before .node-slot .ensures in (
       l .inv .0,
       rw here (w .slot),
       rw here (w .readable),
@@ -125,7 +124,7 @@ loop-again c =
     let single = sym (group .ensures) ∙ not-true (group .result) (w .0 .taken) in
     let e = synth-lent (a .words .now) (a .arena .now) (l .words) (l .i) (s .pre .0) (l .inv .0) (l .inv .1) live single in
     let slot = w .2 .result in
-    let here : slot ≡ nodeIn (l .words) (l .i) .slot = w .2 .ensures in
+    let here : slot ≡ recordIn (l .words) (l .i) .slot = w .2 .ensures in
     let cover = w .5 .ensures ∙ ap (coverOn (a .key) (a .name .now) (l .words) (a .arena .now)) here in
     let fact = w .7 .ensures ∙ ap (λ (cs : List ℕ). putControls cs (l .words)) (cover-change f (a .key) (a .name .now) (a .count) (l .words) (a .arena .now) (l .i) single (w .5 .result) cover) in
     let t =

@@ -9,11 +9,10 @@ use mathlib.Core.Path.{_≡_, refl, sym, _∙_}
 use native.Mathlib.Omega.{arith}
 use borrow.Author.Tests.{not-true, not-false}
 use lib.ListN.{drop}
-use Rattle.model.specs.Layout.{controlsPlace, controlsWords, nodesIn, controlsIn}
+use Rattle.model.specs.Layout.{controlsPlace, controlsWords, nodesIn, controlsIn, recordIn}
 use Rattle.model.specs.Engine.{decode}
 use Rattle.model.specs.Formed.{mappingsFormed, controlsFormed}
 use Rattle.controls.specs.Formed.{nodeFormed, formed-turn, formed-end, synth-here}
-use Rattle.controls.specs.Ready.{nodeIn}
 use Rattle.words.specs.PartsLaws.{region-length}
 use Rattle.controls.specs.Noted.{noted-none, noted-more}
 use Rattle.controls.specs.Cover.{unknown, controlsOn, Counted}
@@ -69,7 +68,7 @@ slot-controls-requires c κs =
     let single = sym (c .before .before .node-is-group .ensures) ∙ not-true (c .before .before .node-is-group .result) (c .before .if1 .taken) in
     let h = synth-here ws arena (s .pre) (l .i) (omega arith) single in
     let slot = c .node-slot .result in
-    let here : slot ≡ nodeIn ws (l .i) .slot = c .node-slot .ensures in
+    let here : slot ≡ recordIn ws (l .i) .slot = c .node-slot .ensures in
     let low : slot < 32 = rw here (h .bounds .slot single) in
     (s .pre .size, low, rw here (h .bounds .readable single), λ other. l .inv .1 .same 0 slot low other)
 
@@ -110,7 +109,7 @@ row-formed-requires c κs =
     let low = h .bounds .row single in
     let row = c .node-row .ensures in
     let few = h .few in
-    let many : c .before .before .slot-controls .result ≡ controlsOn ws arena (nodeIn ws (l .i) .slot) = c .before .before .slot-controls .ensures ∙ ap (controlsOn ws arena) (c .before .before .before .node-slot .ensures) in
+    let many : c .before .before .slot-controls .result ≡ controlsOn ws arena (recordIn ws (l .i) .slot) = c .before .before .slot-controls .ensures ∙ ap (controlsOn ws arena) (c .before .before .before .node-slot .ensures) in
     let long : length (controlsIn ws) ≡ controlsWords = region-length controlsPlace controlsWords ws (omega (arith, s .pre .size)) in
     omega arith
 
@@ -143,7 +142,7 @@ loop-again c =
     (λ w.
     let single = sym (group .ensures) ∙ not-true (group .result) (w .0 .taken) in
     let h = synth-here ws arena (s .pre) (l .i) (omega arith) single in
-    let here : w .1 .result ≡ nodeIn ws (l .i) .slot = w .1 .ensures in
+    let here : w .1 .result ≡ recordIn ws (l .i) .slot = w .1 .ensures in
     let more : nodeFormed ws arena (l .i) ≡ true =
     h .test
     ∙ sym (ap₂ (λ (n row : ℕ). mappingsFormed n (drop (64 * row) (controlsIn ws))) (w .2 .ensures ∙ ap (controlsOn ws arena) here) (w .4 .ensures))

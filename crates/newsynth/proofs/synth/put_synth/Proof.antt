@@ -7,9 +7,8 @@ use mathlib.Core.List.{List}
 use lib.ListN.{getD}
 use Rattle.words.specs.Parts.{region, put, over}
 use Rattle.readable.specs.Readable.{Readable}
-use Rattle.model.specs.Layout.{controlsPlace, controlsWords, countIn}
+use Rattle.model.specs.Layout.{controlsPlace, controlsWords, countIn, nodeWords}
 use Rattle.tree.specs.Gaps.{gap-fits}
-use Rattle.treecommands.specs.Ready.{nodeWords}
 use Rattle.model.specs.Effects.{initialWords}
 use Rattle.slots.specs.Slots.{slotBytes}
 use Rattle.controls.specs.Encoded.{frontIn}

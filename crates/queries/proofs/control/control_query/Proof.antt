@@ -8,10 +8,9 @@ use lib.ListN.{getD}
 use Rattle.refusals.specs.declared.Refusal.the-variants.{WrongKind, NoControl}
 use Rattle.osc.specs.Message.{int, float, message}
 use Rattle.model.specs.declared.Query.the-variants as query
-use Rattle.model.specs.Layout.{nodesPlace, nodesWords}
+use Rattle.model.specs.Layout.{nodesPlace, nodesWords, recordIn}
 use Rattle.model.specs.Replies.{setAddress, keyArgument}
 use Rattle.slots.specs.Slots.{part-word}
-use Rattle.controls.specs.Ready.{nodeIn}
 use Rattle.nodes.specs.Table.{width}
 use Rattle.names.specs.Judged.{NodeFound, NodeRefused}
 use Rattle.queries.specs.Answers.{reply-refused, reply-sent}
@@ -137,7 +136,7 @@ returns-4 c =
     let sent = c .before .before .send-control in
     let group = c .before .before .before .before .before .before .before .before .before .node-is-group in
     let single = sym (group .ensures) ∙ c .before .before .before .before .before .before .before .before .if1 .left in
-    let number : getD ws (nodesPlace + width * here) 0 ≡ nodeIn ws here .number = sym (part-word nodesPlace nodesWords (width * here) ws (omega (arith, s .pre .few, found .live))) in
+    let number : getD ws (nodesPlace + width * here) 0 ≡ recordIn ws here .number = sym (part-word nodesPlace nodesWords (width * here) ws (omega (arith, s .pre .few, found .live))) in
     reply-sent (query.Control (a .node) (a .key)) (a .bytes .now) ws bs (a .out .now)
     (message setAddress (int (getD ws (nodesPlace + width * here) 0) ∷ (keyArgument (a .key) (a .bytes .now) ∷ (float (value .result) ∷ []))))
     (sent .result) (sent .last .0)

@@ -12,10 +12,9 @@ use Rattle.nodes.specs.Place.{groupSlot, place}
 use Rattle.nodes.specs.Structure.{noNode, firstOr, lastOr, headOf, tailOf, nextOf}
 use Rattle.tree.specs.Around.{nextAt, childrenAt, parentOf-at, previousOf-at, nextOf-at, childrenOf-at}
 use Rattle.model.specs.declared.Query.the-variants as query
-use Rattle.model.specs.Layout.{countIn, nodesIn, nodesPlace, nodesWords}
+use Rattle.model.specs.Layout.{countIn, nodesIn, nodesPlace, nodesWords, recordIn}
 use Rattle.model.specs.Replies.{infoAddress}
 use Rattle.replies.specs.Sent.{wordMessage}
-use Rattle.controls.specs.Ready.{nodeIn}
 use Rattle.nodes.specs.Table.{width, slotField}
 use Rattle.names.specs.Judged.{NodeFound, NodeRefused}
 use Rattle.queries.specs.Answers.{reply-refused, reply-sent}
@@ -168,7 +167,7 @@ returns-2 c =
     let parent = c .before .before .before .before .before .before .before .before .before .before .before .before .before .parent-of in
     let previous = c .before .before .before .before .before .before .before .before .before .before .before .before .previous-of in
     let after = c .before .before .before .before .before .before .before .before .before .before .before .next-of in
-    let m : ℕ = nodeIn ws here .number in
+    let m : ℕ = recordIn ws here .number in
     let stands : here ≡ place m (nodesIn ws) = here-number (a .node) ws bs here found there in
     let count = c .before .before .before .before .before .before .before .before .before .before .before .before .before .before .before .before .wide in
     let next : after .result ≡ nextOf m (nodesIn ws) = after .ensures ∙ ap (λ (k : ℕ). nextAt k us here) (count .ensures) ∙ sym (nextOf-at (countIn ws) us m here stands (found .live)) in
@@ -198,7 +197,7 @@ returns-3 c =
     let parent = c .before .before .before .before .before .before .before .before .before .before .before .parent-of in
     let previous = c .before .before .before .before .before .before .before .before .before .before .previous-of in
     let after = c .before .before .before .before .before .before .before .before .before .next-of in
-    let m : ℕ = nodeIn ws here .number in
+    let m : ℕ = recordIn ws here .number in
     let stands : here ≡ place m (nodesIn ws) = here-number (a .node) ws bs here found there in
     let count = c .before .before .before .before .before .before .before .before .before .before .before .before .before .before .wide in
     let next : after .result ≡ nextOf m (nodesIn ws) = after .ensures ∙ ap (λ (k : ℕ). nextAt k us here) (count .ensures) ∙ sym (nextOf-at (countIn ws) us m here stands (found .live)) in

@@ -2,7 +2,7 @@ use Prim.Native.Nat.{ℕ, _+_, _*_, _-_, _≤_}
 use mathlib.Core.Path.{_≡_, sym, ap, _∙_, subst}
 use native.Mathlib.Nat.{zero-add}
 use native.Mathlib.Omega.{arith}
-use Rattle.controls.specs.Ready.{nodeIn}
+use Rattle.model.specs.Layout.{recordIn}
 use Rattle.queries.specs.Tally.{PartsTallied, tallied-more, tallied-few}
 use Rattle.queries.proofs.status.tally_parts.Statement.{statement}
 use Rattle.queries.proofs.status.tally_parts.Tie as tie
@@ -96,7 +96,7 @@ loop-again c =
     let fourth = c .before .node-slot4 in (
       omega arith,
       record {
-        first = tallied-more ws 0 (l .i) (s .pre .0) (omega (arith, s .pre .1)) (l .a) (l .inv .1 .first) (first .result) (first .ensures ∙ ap (λ (n : ℕ). nodeIn ws n .slot) (sym (zero-add (l .i))));
+        first = tallied-more ws 0 (l .i) (s .pre .0) (omega (arith, s .pre .1)) (l .a) (l .inv .1 .first) (first .result) (first .ensures ∙ ap (λ (n : ℕ). recordIn ws n .slot) (sym (zero-add (l .i))));
         second = tallied-more ws part (l .i) (s .pre .0) (omega (arith, s .pre .1)) (l .b) (l .inv .1 .second) (second .result) (second .ensures);
         third = tallied-more ws (2 * part) (l .i) (s .pre .0) (omega (arith, s .pre .1)) (l .c) (l .inv .1 .third) (third .result) (third .ensures);
         fourth = tallied-more ws (3 * part) (l .i) (s .pre .0) (omega (arith, s .pre .1)) (l .d) (l .inv .1 .fourth) (fourth .result) (fourth .ensures);

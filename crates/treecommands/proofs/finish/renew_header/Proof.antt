@@ -3,8 +3,7 @@ use borrow.Author.Needs.{needs}
 use native.Mathlib.Omega.{arith}
 use mathlib.Core.Path.{_∙_}
 use Rattle.nodes.specs.PlaceLaws.{found, not-found}
-use Rattle.model.specs.Layout.{latestIn}
-use Rattle.treecommands.specs.Ready.{nodeWords}
+use Rattle.model.specs.Layout.{latestIn, nodeWords}
 use Rattle.treecommands.specs.Settle.{sorted-keeps}
 use Rattle.treecommands.proofs.finish.renew_header.Statement.{statement}
 use Rattle.treecommands.proofs.finish.renew_header.Tie as tie

@@ -3,7 +3,7 @@ use native.Mathlib.Omega.{arith}
 use borrow.Author.Needs.{needs}
 use mathlib.Core.Path.{sym, _∙_}
 use Rattle.names.specs.Judged.{NodeFound, NodeRefused}
-use Rattle.treecommands.specs.Ready.{nodeWords}
+use Rattle.model.specs.Layout.{nodeWords}
 use Rattle.treecommands.specs.Finding.{placed}
 use Rattle.treecommands.specs.Edits.{cutBelow-fewer}
 use Rattle.treecommands.specs.Emptying.{all-unknown, all-wrong, all-ready, all-done}

@@ -5,9 +5,9 @@ use native.Mathlib.Omega.{arith}
 use borrow.Author.Needs.{needs}
 use lib.ListN.{getD}
 use Rattle.nodes.specs.Table.{width}
-use Rattle.model.specs.Layout.{nodesPlace}
+use Rattle.model.specs.Layout.{nodesPlace, nodeWords}
 use Rattle.names.specs.Judged.{NodeFound, NodeRefused}
-use Rattle.treecommands.specs.Ready.{nodeWords, node-number}
+use Rattle.treecommands.specs.Ready.{node-number}
 use Rattle.treecommands.specs.Finding.{placed}
 use Rattle.treecommands.specs.Edits.{cut-fewer}
 use Rattle.treecommands.specs.Freeing.{free-unknown, free-root, free-ready, free-one, free-done}

@@ -1,10 +1,9 @@
 -- `treecommands::group::add_group` meets its contract: the checks' refusal, or the law of the add action.
 use borrow.Author.Needs.{needs}
 use mathlib.Core.Path.{_≡_}
-use Rattle.model.specs.Layout.{countIn}
+use Rattle.model.specs.Layout.{countIn, nodeWords}
 use Rattle.tree.specs.Gaps.{gap-fits}
 use Rattle.treecommands.specs.declared.group.Spot.the-variants as spot
-use Rattle.treecommands.specs.Ready.{nodeWords}
 use Rattle.treecommands.specs.Grouping.{GroupGround, Answers, group-refused, group-ready, group-done}
 use Rattle.treecommands.proofs.group.add_group.Statement.{statement}
 use Rattle.treecommands.proofs.group.add_group.Tie as tie

@@ -7,10 +7,8 @@ use borrow.Author.Needs.{needs}
 use lib.ListN.{getD}
 use Rattle.words.specs.Parts.{put}
 use Rattle.reindex.specs.Spot.{spot-near, put-in-words}
-use Rattle.model.specs.Layout.{indexPlace, indexWords}
+use Rattle.model.specs.Layout.{indexPlace, indexWords, nodeWords, entriesIn}
 use Rattle.nodes.specs.Table.{width}
-use Rattle.treecommands.specs.Ready.{nodeWords}
-use Rattle.treecommands.specs.Settle.{indexRegion}
 use Rattle.treecommands.proofs.indexing.put_new.Statement.{statement}
 use Rattle.treecommands.proofs.indexing.put_new.Tie as tie
 
@@ -20,7 +18,7 @@ put-entry-requires c κs =
     let a = s .args in
     let ws = a .words .now in
     let reads = s .pre .1 .0 in
-    let near = spot-near (nodeWords ws) (indexRegion ws) (a .count) (getD (nodeWords ws) (width * a .at) 0) reads in
+    let near = spot-near (nodeWords ws) (entriesIn ws) (a .count) (getD (nodeWords ws) (width * a .at) 0) reads in
     let spot = c .before .spot-of in
     (omega (arith, spot .ensures, near), (reads .entries, omega (arith, s .pre .1 .1, reads .few)))
 
@@ -31,7 +29,7 @@ returns c =
     let ws = a .words .now in
     let spot = c .before .before .before .before .spot-of in
     ap (λ (l : List ℕ). put indexPlace indexWords l ws)
-    (c .before .before .put-entry .ensures ∙ put-in-words (nodeWords ws) (indexRegion ws) (a .count) (a .at) (spot .result) (s .pre .1 .1) (spot .ensures))
+    (c .before .before .put-entry .ensures ∙ put-in-words (nodeWords ws) (entriesIn ws) (a .count) (a .at) (spot .result) (s .pre .1 .1) (spot .ensures))
 
 pub put-new-spec : {M : Type 1} → statement M
 put-new-spec =

@@ -7,8 +7,8 @@ use Rattle.reindex.specs.declared.edit.Edit.{Edit}
 use Rattle.reindex.specs.declared.edit.Edit.the-variants.{Cut, Put, Swap}
 use Rattle.reindex.specs.FollowWords.{Followed}
 use Rattle.reindex.specs.Edits.{newPlace}
-use Rattle.model.specs.Layout.{countIn}
-use Rattle.treecommands.specs.Settle.{indexRegion, Changed}
+use Rattle.model.specs.Layout.{countIn, entriesIn}
+use Rattle.treecommands.specs.Settle.{Changed}
 use Rattle.treecommands.specs.Indexing.{changed-follows, cut-index, swap-index, mid-size, new-reads, new-place, new-index, new-size}
 use Rattle.treecommands.proofs.indexing.renew_index.Statement.{statement}
 use Rattle.treecommands.proofs.indexing.renew_index.Tie as tie
@@ -27,9 +27,9 @@ put-new-requires c κs =
     let fact : a .edit ≡ Put (at .0 .0) (at .0 .1 .0) = at .1 in
     let follow = c .before .before .before .before .before .before .follow-edit in
     let changed : Changed (Put (at .0 .0) (at .0 .1 .0)) (a .count) ws = subst (λ (x : Edit). Changed x (a .count) ws) fact (s .pre) in
-    let followed : Followed (newPlace (Put (at .0 .0) (at .0 .1 .0))) (indexRegion ws) (countIn ws) (follow .last .0) (follow .result) =
-    subst₂ (λ (x : Edit) (n : ℕ). Followed (newPlace x) (indexRegion ws) n (follow .last .0) (follow .result)) fact (c .before .before .before .before .before .before .before .before .wide .ensures) (follow .ensures) in
-    let same : length (follow .last .0) ≡ length (indexRegion ws) = search needs in
+    let followed : Followed (newPlace (Put (at .0 .0) (at .0 .1 .0))) (entriesIn ws) (countIn ws) (follow .last .0) (follow .result) =
+    subst₂ (λ (x : Edit) (n : ℕ). Followed (newPlace x) (entriesIn ws) n (follow .last .0) (follow .result)) fact (c .before .before .before .before .before .before .before .before .wide .ensures) (follow .ensures) in
+    let same : length (follow .last .0) ≡ length (entriesIn ws) = search needs in
     (mid-size (a .count) ws (follow .last .0) (follow .result) (at .0 .0) (at .0 .1 .0) changed followed same, (new-reads (a .count) ws (follow .last .0) (follow .result) (at .0 .0) (at .0 .1 .0) changed followed same, new-place (a .count) ws (follow .last .0) (follow .result) (at .0 .0) (at .0 .1 .0) changed followed same))
 
 returns : tie.Need-returns
@@ -41,8 +41,8 @@ returns c =
     let fact : a .edit ≡ Cut (at .0 .0) (at .0 .1 .0) = at .1 in
     let follow = c .before .before .before .before .before .follow-edit in
     let changed : Changed (Cut (at .0 .0) (at .0 .1 .0)) (a .count) ws = subst (λ (x : Edit). Changed x (a .count) ws) fact (s .pre) in
-    let followed : Followed (newPlace (Cut (at .0 .0) (at .0 .1 .0))) (indexRegion ws) (countIn ws) (follow .last .0) (follow .result) =
-    subst₂ (λ (x : Edit) (n : ℕ). Followed (newPlace x) (indexRegion ws) n (follow .last .0) (follow .result)) fact (c .before .before .before .before .before .before .before .wide .ensures) (follow .ensures) in
+    let followed : Followed (newPlace (Cut (at .0 .0) (at .0 .1 .0))) (entriesIn ws) (countIn ws) (follow .last .0) (follow .result) =
+    subst₂ (λ (x : Edit) (n : ℕ). Followed (newPlace x) (entriesIn ws) n (follow .last .0) (follow .result)) fact (c .before .before .before .before .before .before .before .wide .ensures) (follow .ensures) in
     cut-index (a .count) ws (follow .last .0) (follow .result) (at .0 .0) (at .0 .1 .0) changed followed
 
 same-length-2 : tie.Need-same-length-2
@@ -54,9 +54,9 @@ same-length-2 c =
     let fact : a .edit ≡ Put (at .0 .0) (at .0 .1 .0) = at .1 in
     let follow = c .before .before .before .before .before .before .before .before .before .follow-edit in
     let changed : Changed (Put (at .0 .0) (at .0 .1 .0)) (a .count) ws = subst (λ (x : Edit). Changed x (a .count) ws) fact (s .pre) in
-    let followed : Followed (newPlace (Put (at .0 .0) (at .0 .1 .0))) (indexRegion ws) (countIn ws) (follow .last .0) (follow .result) =
-    subst₂ (λ (x : Edit) (n : ℕ). Followed (newPlace x) (indexRegion ws) n (follow .last .0) (follow .result)) fact (c .before .before .before .before .before .before .before .before .before .before .before .wide .ensures) (follow .ensures) in
-    let same : length (follow .last .0) ≡ length (indexRegion ws) = search needs in
+    let followed : Followed (newPlace (Put (at .0 .0) (at .0 .1 .0))) (entriesIn ws) (countIn ws) (follow .last .0) (follow .result) =
+    subst₂ (λ (x : Edit) (n : ℕ). Followed (newPlace x) (entriesIn ws) n (follow .last .0) (follow .result)) fact (c .before .before .before .before .before .before .before .before .before .before .before .wide .ensures) (follow .ensures) in
+    let same : length (follow .last .0) ≡ length (entriesIn ws) = search needs in
     new-size (a .count) ws (follow .last .0) (follow .result) (at .0 .0) (at .0 .1 .0) changed followed same (c .before .before .put-new .last .0) (c .before .before .put-new .ensures)
 
 returns-2 : tie.Need-returns-2
@@ -68,9 +68,9 @@ returns-2 c =
     let fact : a .edit ≡ Put (at .0 .0) (at .0 .1 .0) = at .1 in
     let follow = c .before .before .before .before .before .before .before .before .before .follow-edit in
     let changed : Changed (Put (at .0 .0) (at .0 .1 .0)) (a .count) ws = subst (λ (x : Edit). Changed x (a .count) ws) fact (s .pre) in
-    let followed : Followed (newPlace (Put (at .0 .0) (at .0 .1 .0))) (indexRegion ws) (countIn ws) (follow .last .0) (follow .result) =
-    subst₂ (λ (x : Edit) (n : ℕ). Followed (newPlace x) (indexRegion ws) n (follow .last .0) (follow .result)) fact (c .before .before .before .before .before .before .before .before .before .before .before .wide .ensures) (follow .ensures) in
-    let same : length (follow .last .0) ≡ length (indexRegion ws) = search needs in
+    let followed : Followed (newPlace (Put (at .0 .0) (at .0 .1 .0))) (entriesIn ws) (countIn ws) (follow .last .0) (follow .result) =
+    subst₂ (λ (x : Edit) (n : ℕ). Followed (newPlace x) (entriesIn ws) n (follow .last .0) (follow .result)) fact (c .before .before .before .before .before .before .before .before .before .before .before .wide .ensures) (follow .ensures) in
+    let same : length (follow .last .0) ≡ length (entriesIn ws) = search needs in
     new-index (a .count) ws (follow .last .0) (follow .result) (at .0 .0) (at .0 .1 .0) changed followed same (c .before .before .put-new .last .0) (c .before .before .put-new .ensures)
 
 returns-3 : tie.Need-returns-3
@@ -82,8 +82,8 @@ returns-3 c =
     let fact : a .edit ≡ Swap (at .0 .0) (at .0 .1 .0) (at .0 .1 .1 .0) = at .1 in
     let follow = c .before .before .before .before .before .follow-edit in
     let changed : Changed (Swap (at .0 .0) (at .0 .1 .0) (at .0 .1 .1 .0)) (a .count) ws = subst (λ (x : Edit). Changed x (a .count) ws) fact (s .pre) in
-    let followed : Followed (newPlace (Swap (at .0 .0) (at .0 .1 .0) (at .0 .1 .1 .0))) (indexRegion ws) (countIn ws) (follow .last .0) (follow .result) =
-    subst₂ (λ (x : Edit) (n : ℕ). Followed (newPlace x) (indexRegion ws) n (follow .last .0) (follow .result)) fact (c .before .before .before .before .before .before .before .wide .ensures) (follow .ensures) in
+    let followed : Followed (newPlace (Swap (at .0 .0) (at .0 .1 .0) (at .0 .1 .1 .0))) (entriesIn ws) (countIn ws) (follow .last .0) (follow .result) =
+    subst₂ (λ (x : Edit) (n : ℕ). Followed (newPlace x) (entriesIn ws) n (follow .last .0) (follow .result)) fact (c .before .before .before .before .before .before .before .wide .ensures) (follow .ensures) in
     swap-index (a .count) ws (follow .last .0) (follow .result) (at .0 .0) (at .0 .1 .0) (at .0 .1 .1 .0) changed followed
 
 pub renew-index-spec : {M : Type 1} → statement M

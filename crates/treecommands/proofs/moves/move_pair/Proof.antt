@@ -3,11 +3,10 @@ use borrow.Author.Needs.{needs}
 use native.Mathlib.Omega.{arith}
 use mathlib.Core.Path.{_≡_, refl, sym, subst}
 use Rattle.model.specs.declared.Answer.the-variants.{Done, Refused}
-use Rattle.model.specs.Layout.{countIn}
+use Rattle.model.specs.Layout.{countIn, nodeWords}
 use Rattle.tree.specs.Ends.{move-place}
 use Rattle.treecommands.specs.declared.moves.Pair.{Pair}
 use Rattle.treecommands.specs.declared.moves.Pair.the-variants as pair
-use Rattle.treecommands.specs.Ready.{nodeWords}
 use Rattle.treecommands.specs.Moving.{Movable, Goes, gone, gone-ready}
 use Rattle.treecommands.proofs.moves.move_pair.Statement.{statement}
 use Rattle.treecommands.proofs.moves.move_pair.Tie as tie

@@ -5,8 +5,7 @@ use mathlib.Core.List.{List}
 use native.Mathlib.Omega.{arith}
 use borrow.Author.Needs.{needs}
 use Rattle.words.specs.Parts.{put}
-use Rattle.model.specs.Layout.{orderPlace, orderWords}
-use Rattle.treecommands.specs.Ready.{nodeWords}
+use Rattle.model.specs.Layout.{orderPlace, orderWords, nodeWords}
 use Rattle.treecommands.specs.Ordering.{order-region, order-short}
 use Rattle.treecommands.proofs.ordering.renew_order.Statement.{statement}
 use Rattle.treecommands.proofs.ordering.renew_order.Tie as tie

@@ -5,7 +5,7 @@ use native.Mathlib.Omega.{arith}
 use borrow.Author.Needs.{needs}
 use Rattle.nodes.specs.Structure.{noNode}
 use Rattle.osc.specs.Message.{int}
-use Rattle.controls.specs.Ready.{nodeIn}
+use Rattle.model.specs.Layout.{recordIn}
 use Rattle.queries.specs.Held.{bounds}
 use Rattle.treequery.specs.Pieces.{pieceArgument}
 use Rattle.treequery.specs.RowArguments.{childrenAt, row-group}
@@ -27,7 +27,7 @@ returns c =
     let s = c .before .before .before .before .before in
     let ws = s .args .words .now in
     let bs = s .args .arena .now in
-    rw (row-group (s .args .shown) ws bs (s .args .end) (s .args .place) (sym (c .before .node-is-group .ensures) ∙ c .if1 .taken)) (c .before .before .count-pair .ensures (nodeIn ws (s .args .place) .number) (childrenAt ws bs (s .args .end) (s .args .place)))
+    rw (row-group (s .args .shown) ws bs (s .args .end) (s .args .place) (sym (c .before .node-is-group .ensures) ∙ c .if1 .taken)) (c .before .before .count-pair .ensures (recordIn ws (s .args .place) .number) (childrenAt ws bs (s .args .end) (s .args .place)))
 
 node-definition-requires : tie.Need-node-definition-requires
 node-definition-requires c κs =
@@ -60,7 +60,7 @@ count-piece-requires c κs =
     let one = sym (c .before .before .before .node-is-group .ensures) ∙ c .before .before .if1 .left in
     let d = c .before .node-definition .result .now in
     let p = c .string-at .result in
-    let n = nodeIn ws i .number in
+    let n = recordIn ws i .number in
     let shown = controlsShown ws bs i (s .args .shown) in
     let turn = synth-turn ws bs i at one (s .args .shown) (s .args .end) n d p (refl) (c .before .node-definition .ensures) (c .string-at .ensures .0) in
     let h1 = counting-less (int n ∷ (int noNode ∷ [])) (pieceArgument d p ∷ shown) (counting-all (s .pre .1)) turn (c .before .before .before .before .count-pair .ensures n noNode) in
@@ -76,7 +76,7 @@ count-controls-requires c κs =
     let one = sym (c .before .before .before .before .before .node-is-group .ensures) ∙ c .before .before .before .before .if1 .left in
     let d = c .before .before .before .node-definition .result .now in
     let p = c .before .before .string-at .result in
-    let n = nodeIn ws i .number in
+    let n = recordIn ws i .number in
     let shown = controlsShown ws bs i (s .args .shown) in
     let turn = synth-turn ws bs i at one (s .args .shown) (s .args .end) n d p (refl) (c .before .before .before .node-definition .ensures) (c .before .before .string-at .ensures .0) in
     let h1 = counting-less (int n ∷ (int noNode ∷ [])) (pieceArgument d p ∷ shown) (counting-all (s .pre .1)) turn (c .before .before .before .before .before .before .count-pair .ensures n noNode) in
@@ -93,7 +93,7 @@ returns-2 c =
     let one = sym (c .before .before .before .before .before .before .node-is-group .ensures) ∙ c .before .before .before .before .before .if1 .left in
     let d = c .before .before .before .before .node-definition .result .now in
     let p = c .before .before .before .string-at .result in
-    let n = nodeIn ws i .number in
+    let n = recordIn ws i .number in
     let shown = controlsShown ws bs i (s .args .shown) in
     let turn = synth-turn ws bs i at one (s .args .shown) (s .args .end) n d p (refl) (c .before .before .before .before .node-definition .ensures) (c .before .before .before .string-at .ensures .0) in
     let h1 = counting-less (int n ∷ (int noNode ∷ [])) (pieceArgument d p ∷ shown) (counting-all (s .pre .1)) turn (c .before .before .before .before .before .before .before .count-pair .ensures n noNode) in
@@ -111,7 +111,7 @@ returns-3 c =
     let one = sym (c .before .before .before .before .before .node-is-group .ensures) ∙ c .before .before .before .before .if1 .left in
     let d = c .before .before .before .node-definition .result .now in
     let p = c .before .before .string-at .result in
-    let n = nodeIn ws i .number in
+    let n = recordIn ws i .number in
     let shown = controlsShown ws bs i (s .args .shown) in
     let turn = synth-turn ws bs i at one (s .args .shown) (s .args .end) n d p (refl) (c .before .before .before .node-definition .ensures) (c .before .before .string-at .ensures .0) in
     let h1 = counting-less (int n ∷ (int noNode ∷ [])) (pieceArgument d p ∷ shown) (counting-all (s .pre .1)) turn (c .before .before .before .before .before .before .count-pair .ensures n noNode) in

@@ -11,10 +11,9 @@ use Rattle.osc.specs.Message.{tags, arguments}
 use Rattle.words.specs.Parts.{over}
 use Rattle.osc.specs.Lengths.{tags-size}
 use Rattle.model.specs.declared.Answer.the-variants.{Refused, Replied}
-use Rattle.model.specs.Layout.{nodesPlace}
+use Rattle.model.specs.Layout.{nodesPlace, recordIn}
 use Rattle.model.specs.Replies.{flagNumber}
 use Rattle.replies.specs.Sent.{Sends, sends-none, sends-all}
-use Rattle.controls.specs.Ready.{nodeIn}
 use Rattle.nodes.specs.Table.{width}
 use Rattle.treequery.specs.RowArguments.{childrenAt}
 use Rattle.treequery.specs.Nested.{nested}
@@ -58,9 +57,9 @@ returns c =
     let b = size .ensures .byte in
     let front = 20 + c .before .before .padded-length .result in
     let f : front ≡ frontAt many = ap (λ (k : ℕ). 20 + k) (c .before .before .padded-length .ensures) in
-    let message = treeHead (tags left) ++ treeBody flag (nodeIn ws (a .at) .number) (childrenAt ws bs (a .end) (a .at)) (arguments left) in
-    let whole : length message ≡ frontAt many + 12 + length (arguments left) = message-size (tags left) (arguments left) many flag (nodeIn ws (a .at) .number) (childrenAt ws bs (a .end) (a .at)) (size .ensures .tag) in
-    subst (λ (l : List ℕ). Sends l (a .out .now) (Refused NoRoom) (a .out .now)) (tree-message flag (nodeIn ws (a .at) .number) (childrenAt ws bs (a .end) (a .at)) left)
+    let message = treeHead (tags left) ++ treeBody flag (recordIn ws (a .at) .number) (childrenAt ws bs (a .end) (a .at)) (arguments left) in
+    let whole : length message ≡ frontAt many + 12 + length (arguments left) = message-size (tags left) (arguments left) many flag (recordIn ws (a .at) .number) (childrenAt ws bs (a .end) (a .at)) (size .ensures .tag) in
+    subst (λ (l : List ℕ). Sends l (a .out .now) (Refused NoRoom) (a .out .now)) (tree-message flag (recordIn ws (a .at) .number) (childrenAt ws bs (a .end) (a .at)) left)
     (sends-none message (a .out .now) (omega (arith, c .if2 .taken)))
 
 tree-children-requires : tie.Need-tree-children-requires
@@ -130,18 +129,18 @@ returns-2 c =
     let b = size .ensures .byte in
     let front = 20 + c .before .before .before .before .before .before .before .before .before .before .before .before .before .before .padded-length .result in
     let f : front ≡ frontAt many = ap (λ (k : ℕ). 20 + k) (c .before .before .before .before .before .before .before .before .before .before .before .before .before .before .padded-length .ensures) in
-    let message = treeHead (tags left) ++ treeBody flag (nodeIn ws (a .at) .number) (childrenAt ws bs (a .end) (a .at)) (arguments left) in
-    let whole : length message ≡ frontAt many + 12 + length (arguments left) = message-size (tags left) (arguments left) many flag (nodeIn ws (a .at) .number) (childrenAt ws bs (a .end) (a .at)) (size .ensures .tag) in
+    let message = treeHead (tags left) ++ treeBody flag (recordIn ws (a .at) .number) (childrenAt ws bs (a .end) (a .at)) (arguments left) in
+    let whole : length message ≡ frontAt many + 12 + length (arguments left) = message-size (tags left) (arguments left) many flag (recordIn ws (a .at) .number) (childrenAt ws bs (a .end) (a .at)) (size .ensures .tag) in
     let put = c .before .before .put-tree in
     let live : a .at < a .end = omega (arith, s .pre .order) in
     let fitted = c .before .before .before .before .before .before .before .before .before .before .before .before .if2 .left in
-    let numbers : treeFront many front flag (getD ws (nodesPlace + width * a .at) 0) (getD (c .before .before .before .before .before .before .before .before .before .before .before .tree-children .result) (a .at) 0) (a .out .now) ≡ treeFront many front flag (nodeIn ws (a .at) .number) (childrenAt ws bs (a .end) (a .at)) (a .out .now) =
+    let numbers : treeFront many front flag (getD ws (nodesPlace + width * a .at) 0) (getD (c .before .before .before .before .before .before .before .before .before .before .before .tree-children .result) (a .at) 0) (a .out .now) ≡ treeFront many front flag (recordIn ws (a .at) .number) (childrenAt ws bs (a .end) (a .at)) (a .out .now) =
     ap₂ (λ (x y : ℕ). treeFront many front flag x y (a .out .now)) (number-fact ws bs (a .at) (run-at ws bs (a .at + 1) (a .end) (a .at) (s .pre) live)) (c .before .before .before .before .before .before .before .before .before .before .before .tree-children .ensures bs (a .at) (omega arith) live) in
     let written : put .last .0 ≡ over 0 message (a .out .now) =
     put .ensures .buffer
     ∙ ap (λ (l : List ℕ). over (front + 12) (arguments left) (over 24 (tags left) l)) (c .before .before .before .before .before .before .before .before .put-front .ensures ∙ numbers)
-    ∙ tree-put (tags left) (arguments left) (a .out .now) many front flag (nodeIn ws (a .at) .number) (childrenAt ws bs (a .end) (a .at)) (size .ensures .tag) f (omega (arith, fitted)) in
-    subst (λ (l : List ℕ). Sends l (a .out .now) (Replied (front + 12 + size .result .byte)) (put .last .0)) (tree-message flag (nodeIn ws (a .at) .number) (childrenAt ws bs (a .end) (a .at)) left)
+    ∙ tree-put (tags left) (arguments left) (a .out .now) many front flag (recordIn ws (a .at) .number) (childrenAt ws bs (a .end) (a .at)) (size .ensures .tag) f (omega (arith, fitted)) in
+    subst (λ (l : List ℕ). Sends l (a .out .now) (Replied (front + 12 + size .result .byte)) (put .last .0)) (tree-message flag (recordIn ws (a .at) .number) (childrenAt ws bs (a .end) (a .at)) left)
     (sends-all message (a .out .now) (front + 12 + size .result .byte) (put .last .0) (omega arith) (omega (arith, fitted)) written)
 
 pub send-tree-spec : {M : Type 1} → statement M

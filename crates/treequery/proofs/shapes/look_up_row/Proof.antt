@@ -6,7 +6,7 @@ use native.Mathlib.Nat.{pos-of-ne-zero}
 use borrow.Author.Needs.{needs}
 use lib.ListN.{getD}
 use Rattle.slots.specs.Slots.{slotBytes}
-use Rattle.controls.specs.Ready.{nodeIn}
+use Rattle.model.specs.Layout.{recordIn}
 use Rattle.queries.specs.Held.{bounds}
 use Rattle.treequery.specs.Shapes.{Filled}
 use Rattle.treequery.specs.LookUp.{looked-group, looked-before, looked-now}
@@ -68,7 +68,7 @@ returns-3 c =
     let one = sym (c .before .before .before .before .before .before .before .node-is-group .ensures) ∙ c .before .before .before .before .before .before .if1 .left in
     let slot = c .before .before .before .before .before .node-slot in
     looked-now ws bs (s .args .place) (s .args .shapes .now) (s .pre .1) (c .look-up .last .0) (bounds ws bs (s .args .place) (s .pre .0) .slot one)
-    (subst (λ (k : ℕ). Filled (slotBytes ws bs (nodeIn ws (s .args .place) .slot)) k (s .args .shapes .now) (c .look-up .last .0)) (slot .ensures)
+    (subst (λ (k : ℕ). Filled (slotBytes ws bs (recordIn ws (s .args .place) .slot)) k (s .args .shapes .now) (c .look-up .last .0)) (slot .ensures)
     (subst (λ (d : List ℕ). Filled d (slot .result) (s .args .shapes .now) (c .look-up .last .0)) (c .before .node-definition .ensures) (c .look-up .ensures)))
 
 pub look-up-row-spec : {M : Type 1} → statement M

@@ -4,7 +4,7 @@ use mathlib.Core.Path.{_≡_}
 use native.Mathlib.Omega.{arith}
 use lib.ListN.{getD}
 use Rattle.nodes.specs.Place.{isGroup}
-use Rattle.controls.specs.Ready.{nodeIn}
+use Rattle.model.specs.Layout.{recordIn}
 use Rattle.treequery.specs.Shapes.{ShapesKnown}
 use Rattle.treequery.specs.LookUp.{looked-more, looked-all}
 use Rattle.treequery.specs.Rows.{run-at, run-slot}
@@ -16,7 +16,7 @@ Inv-loop shapes₀ words arena from end i₀ shapes i =
     (from ≤ i)
     × (i ≤ end)
     × ShapesKnown words arena shapes
-    × ((j : ℕ) → from ≤ j → j < i → isGroup (nodeIn words j) ≡ false → 0 < getD shapes (33 * nodeIn words j .slot) 0)
+    × ((j : ℕ) → from ≤ j → j < i → isGroup (recordIn words j) ≡ false → 0 < getD shapes (33 * recordIn words j .slot) 0)
 
 abbrev μ-loop : tie.MeasureT-loop
 μ-loop shapes₀ words arena from end i₀ shapes i = end - i

@@ -7,9 +7,8 @@ use lib.ListN.{getD}
 use Rattle.format.specs.Fields.{stringAt}
 use Rattle.nodes.specs.Structure.{noNode}
 use Rattle.osc.specs.Message.{int, text}
-use Rattle.model.specs.Layout.{nodesPlace}
+use Rattle.model.specs.Layout.{nodesPlace, recordIn}
 use Rattle.slots.specs.Slots.{slotBytes}
-use Rattle.controls.specs.Ready.{nodeIn}
 use Rattle.queries.specs.Held.{bounds}
 use Rattle.nodes.specs.Table.{width}
 use Rattle.treequery.specs.Pieces.{pieceArgument}
@@ -44,7 +43,7 @@ put-pair-requires-2 c κs =
     let at = s .pre .0 .at in
     let one = sym (c .before .before .node-is-group .ensures) ∙ c .before .if1 .left in
     let n = getD ws (nodesPlace + width * i) 0 in
-    left-some (int n ∷ (int noNode ∷ [])) (text (stringAt (slotBytes ws bs (nodeIn ws i .slot)) 0) ∷ controlsShown ws bs i (s .args .shown)) (left-all (s .pre .2)) (synth-pair ws bs i at one (s .args .shown) (s .args .end) n (number-fact ws bs i at))
+    left-some (int n ∷ (int noNode ∷ [])) (text (stringAt (slotBytes ws bs (recordIn ws i .slot)) 0) ∷ controlsShown ws bs i (s .args .shown)) (left-all (s .pre .2)) (synth-pair ws bs i at one (s .args .shown) (s .args .end) n (number-fact ws bs i at))
 
 node-definition-requires : tie.Need-node-definition-requires
 node-definition-requires c κs =
