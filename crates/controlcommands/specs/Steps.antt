@@ -26,7 +26,8 @@ use Rattle.model.specs.declared.Answer.{Answer}
 use Rattle.model.specs.declared.Answer.the-variants.{Done, Refused}
 use Rattle.model.specs.Layout.{nodesPlace, nodesWords, countIn, nodesIn, controlsIn, putControls, recordIn}
 use Rattle.model.specs.Engine.{Engine, decode}
-use Rattle.model.specs.Meaning.{minusOne, isBus, meant, node, mappingTo}
+use Rattle.words.specs.Patterns.{minusOne}
+use Rattle.model.specs.Meaning.{isBus, meant, node, mappingTo}
 use Rattle.model.specs.Checks.{Check, check, firstOf, nodeCheck, noControls, pastName}
 use Rattle.model.specs.Effects.{effect, controlEffect, changeAll, changed}
 use Rattle.model.specs.After.{wordsAfter}

@@ -27,6 +27,7 @@ use values::NodeArgument;
 use values::Value;
 use values::ValuePattern;
 use values::value_pattern;
+use words::MINUS_ONE;
 use words::wide;
 ghost use Prim.Native.Nat.{_<_};
 ghost use mathlib.Core.Bool.{false};
@@ -36,7 +37,8 @@ ghost use Rattle.words.specs.Choice.{either};
 ghost use Rattle.nodes.specs.Place.{isGroup};
 ghost use Rattle.model.specs.declared.ControlCommand.{ControlCommand};
 ghost use Rattle.model.specs.Layout.{countIn, recordIn};
-ghost use Rattle.model.specs.Meaning.{minusOne, isBus, mappingTo};
+ghost use Rattle.words.specs.Patterns.{minusOne};
+ghost use Rattle.model.specs.Meaning.{isBus, mappingTo};
 ghost use Rattle.state.specs.Known.{Known};
 ghost use Rattle.controlcommands.specs.Steps.{Steps, answerTo, Changed};
 
@@ -152,7 +154,7 @@ fn fill_controls(
 fn can_map(bus: u32) -> bool
     ensures { λ r. ⌜ r ≡ either (eqb bus minusOne) (isBus bus) ⌝ }
 {
-    if bus == 4294967295 {
+    if bus == MINUS_ONE {
         return true;
     }
     is_bus(bus)
@@ -162,7 +164,7 @@ fn can_map(bus: u32) -> bool
 fn mapping_to(bus: u32) -> Mapping
     ensures { λ r. ⌜ r ≡ mappingTo bus ⌝ }
 {
-    if bus == 4294967295 {
+    if bus == MINUS_ONE {
         return Mapping::Unmapped;
     }
     Mapping::Bus(bus)

@@ -8,7 +8,7 @@ use Rattle.words.specs.Bytes.{AreBytes, bytes8, bytes16, bytes32}
 use Rattle.format.specs.declared.Width.{Width}
 use Rattle.format.specs.declared.Width.the-variants.{Short, Long}
 use Rattle.format.specs.Read.{got}
-use Rattle.format.specs.Fields.{minusOne}
+use Rattle.words.specs.Patterns.{minusOne}
 use Rattle.format.specs.Definition.{Input, constant, output, UnitSpec, ParameterName, Front, Definition}
 use Rattle.format.specs.Reader.{definitionBy}
 use Rattle.format.specs.Writer.{writeInteger, writeName, writeAll, writeParameterName, writeInput, writeUnit, writeVariant, writeFront, writeDefinitionBy, writeDefinition}

@@ -68,10 +68,6 @@ abbrev pub highestOf : Width → ℕ
 highestOf Short = highest16
 highestOf Long = highest32
 
--- -1 as a pattern
-abbrev pub minusOne : ℕ
-minusOne = 4294967295
-
 -- Paper 02, 4/14: "int16 for K, P, N, U, the parameter index, I, O and both input indices": the field of a count or an index takes two bytes in
 -- version 1 and four in version 2
 abbrev pub sizeOf : Width → ℕ

@@ -9,7 +9,8 @@ use Rattle.faults.specs.declared.Fault.the-variants.{NotSynthDef, BadVersion, B
 use Rattle.format.specs.Read.{Read, got, bad, andThen, checked, repeat}
 use Rattle.format.specs.declared.Width.{Width}
 use Rattle.format.specs.declared.Width.the-variants.{Short, Long}
-use Rattle.format.specs.Fields.{word, int16, int32, float32, name, definitionName, integerBy, minusOne, highest16, countToBy, countBy, shortCountTo, rate, indexBelowBy}
+use Rattle.words.specs.Patterns.{minusOne}
+use Rattle.format.specs.Fields.{word, int16, int32, float32, name, definitionName, integerBy, highest16, countToBy, countBy, shortCountTo, rate, indexBelowBy}
 use Rattle.format.specs.Definition.{Input, constant, output, UnitSpec, ParameterName, Variant, Front, Definition}
 use Rattle.format.specs.Writer.{fileType, firstVersion, fileVersion, writeDefinition}
 

@@ -7,11 +7,12 @@ use lib.ListN.{length}
 use Rattle.words.specs.Bytes.{bytes16, bytes32}
 use Rattle.faults.specs.declared.Fault.the-variants.{BadVersion}
 use Rattle.format.specs.Read.{got, bad, repeat}
+use Rattle.words.specs.Patterns.{minusOne}
 use Rattle.format.specs.Fields.{nameBytes}
 use Rattle.format.specs.Definition.{ParameterName, Definition}
 use Rattle.format.specs.Names.{Covered, firstIndex, nextIndex, coveredBy}
 use Rattle.format.specs.declared.Width.the-variants.{Short}
-use Rattle.format.specs.Fields.{integerBy, minusOne}
+use Rattle.format.specs.Fields.{integerBy}
 use Rattle.format.specs.Reader.{frontBy, unitsBy, definitionBy, readDefinitions, readFile, sameName, among}
 use Rattle.format.specs.Writer.{writeAll, writeDefinitionBy, writeFile, fileType, firstVersion}
 

@@ -5,7 +5,7 @@ use lib.ListN.{length}
 use Rattle.words.specs.Bytes.{bytes8, bytes16, bytes32}
 use Rattle.format.specs.declared.Width.{Width}
 use Rattle.format.specs.declared.Width.the-variants.{Short, Long}
-use Rattle.format.specs.Fields.{minusOne}
+use Rattle.words.specs.Patterns.{minusOne}
 use Rattle.format.specs.Definition.{Input, constant, output, UnitSpec, ParameterName, Variant, Front, Definition}
 
 -- ""SCgf", int32 version 2, int16 count D": the bytes of "SCgf" as one number; paper 02, 4/14: "The archive holds version 1 files"

@@ -24,9 +24,6 @@ pub const HIGHEST_SHORT: u32 = 0x7FFF;
 // The highest rate: 0 is scalar, 1 control, 2 audio, 3 demand.
 pub const HIGHEST_RATE: u32 = 3;
 
-// An input's unit where it names a constant.
-pub const MINUS_ONE: u32 = 0xFFFF_FFFF;
-
 // How wide the field of a count or an index is: two bytes in version 1, four in version 2.
 pub enum Width {
     Short,

@@ -31,7 +31,8 @@ use Rattle.model.specs.declared.Answer.{Answer}
 use Rattle.model.specs.declared.Answer.the-variants.{Done, Refused, RefusedAt}
 use Rattle.model.specs.Layout.{slotCount}
 use Rattle.model.specs.Engine.{Slot, Engine, held, nameIn, definitionOf, residentOf}
-use Rattle.model.specs.Meaning.{minusOne, isNegative, meant, known, node, coverOf, hasControls, pastWidth, negativeKey, isBus, isBusRange}
+use Rattle.words.specs.Patterns.{minusOne}
+use Rattle.model.specs.Meaning.{isNegative, meant, known, node, coverOf, hasControls, pastWidth, negativeKey, isBus, isBusRange}
 
 pub record Check : Type 0 where
   pub fires : Bool

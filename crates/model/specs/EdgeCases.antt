@@ -32,7 +32,8 @@ use Rattle.nodes.specs.Structure.{firstOr, lastOr, atDepth, depthOf, lastAbove,
 use Rattle.format.specs.Names.{firstIndex, nextIndex, firstName}
 use Rattle.model.specs.Engine.{Engine, held, residents, residentFrom, controlsFrom}
 use Rattle.model.specs.View.{viewRows, shape}
-use Rattle.model.specs.Meaning.{minusOne, nodeNamed}
+use Rattle.words.specs.Patterns.{minusOne}
+use Rattle.model.specs.Meaning.{nodeNamed}
 use Rattle.model.specs.Checks.{firstOf, namesOf, staying}
 use Rattle.model.specs.Effects.{retired, freeFrom, loaded, initialWords, changeWords, changeAll, effect}
 use Rattle.model.specs.Replies.{plainNamed, controlArguments, rowsBelow, rowsAt, treeArguments, subtreeRows, unitCount, groupCount, synthCount, definitionsIn, replyTo}

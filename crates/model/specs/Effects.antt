@@ -32,7 +32,8 @@ use Rattle.model.specs.declared.Command.{Command}
 use Rattle.model.specs.declared.Command.the-variants as command
 use Rattle.model.specs.Layout.{rowWords}
 use Rattle.model.specs.Engine.{Slot, Engine, slotTaken, nameIn, definitionOf, residentOf, slotAt}
-use Rattle.model.specs.Meaning.{minusOne, meant, coverOf, mappingTo}
+use Rattle.words.specs.Patterns.{minusOne}
+use Rattle.model.specs.Meaning.{meant, coverOf, mappingTo}
 use Rattle.model.specs.Checks.{definitionsOf, namesOf}
 
 -- "A load first retires residents whose names are in the file"

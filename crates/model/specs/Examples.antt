@@ -26,7 +26,8 @@ use Rattle.model.specs.declared.Command.the-variants.{Definitions, Tree,
 use Rattle.format.specs.Names.{firstIndex, nextIndex}
 use Rattle.model.specs.Engine.{Engine, held, residentFrom, controlsFrom}
 use Rattle.model.specs.View.{viewRows}
-use Rattle.model.specs.Meaning.{minusOne, nodeNamed}
+use Rattle.words.specs.Patterns.{minusOne}
+use Rattle.model.specs.Meaning.{nodeNamed}
 use Rattle.model.specs.Checks.{firstOf, namesOf, staying}
 use Rattle.model.specs.Effects.{retired, freeFrom, loaded, initialWords, changeWords, changeAll, effect}
 use Rattle.model.specs.Replies.{plainNamed, replyTo}

@@ -20,11 +20,9 @@ use Rattle.values.specs.Targets.{targetOf}
 use Rattle.model.specs.Layout.{busCount}
 use Rattle.format.specs.Names.{Covered, coveredBy}
 use Rattle.model.specs.Engine.{Engine}
+use Rattle.words.specs.Patterns.{minusOne}
 
--- the pattern of -1, and the first that is negative
-abbrev pub minusOne : ℕ
-minusOne = 4294967295
-
+-- the first pattern that is negative
 abbrev pub firstNegative : ℕ
 firstNegative = 2147483648
 

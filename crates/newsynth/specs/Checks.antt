@@ -17,7 +17,8 @@ use Rattle.model.specs.declared.TreeCommand.the-variants as tree
 use Rattle.model.specs.declared.Answer.the-variants.{Done, Refused}
 use Rattle.model.specs.Layout.{slotCount, countIn, nextIn, lengthsIn, flagsIn, nodesIn, nodeWords}
 use Rattle.model.specs.Engine.{decode, residentOf}
-use Rattle.model.specs.Meaning.{minusOne, isNegative}
+use Rattle.words.specs.Patterns.{minusOne}
+use Rattle.model.specs.Meaning.{isNegative}
 use Rattle.model.specs.Checks.{firstOf, treeChecks, noResident}
 use Rattle.slots.specs.Slots.{slots-length}
 use Rattle.tree.specs.declared.action.Action.{Action}

@@ -1,6 +1,7 @@
 // The number of a new synth: as told, or for -1 the next one, which falls.
 use layout::COUNT;
 use names::place_of;
+use words::MINUS_ONE;
 use words::wide;
 ghost use Prim.Native.Nat.{_≤_};
 ghost use mathlib.Core.Path.{_≡_};
@@ -15,7 +16,7 @@ pub fn bad_number(number: u32) -> bool
     if number < 2147483648 {
         return false;
     }
-    number != 4294967295
+    number != MINUS_ONE
 }
 
 // A number other than -1 that is live.
@@ -23,7 +24,7 @@ pub fn is_live(number: u32, words: &[u32]) -> bool
     requires { ⌜ Ready (now words) ⌝ }
     ensures { λ r. ⌜ r ≡ liveIn number (now (words .entry)) ⌝ }
 {
-    if number == 4294967295 {
+    if number == MINUS_ONE {
         return false;
     }
     let count = wide(words[COUNT]);
@@ -34,7 +35,7 @@ pub fn is_live(number: u32, words: &[u32]) -> bool
 pub fn is_spent(number: u32, next: u32) -> bool
     ensures { λ r. ⌜ r ≡ spent number next ⌝ }
 {
-    if number == 4294967295 {
+    if number == MINUS_ONE {
         return next == 2147483647;
     }
     false
@@ -43,7 +44,7 @@ pub fn is_spent(number: u32, next: u32) -> bool
 pub fn number_for(number: u32, next: u32) -> u32
     ensures { λ r. ⌜ r ≡ numberFor number next ⌝ }
 {
-    if number == 4294967295 {
+    if number == MINUS_ONE {
         return next;
     }
     number
@@ -53,7 +54,7 @@ pub fn next_after(number: u32, next: u32) -> u32
     requires { ⌜ 1 ≤ next ⌝ }
     ensures { λ r. ⌜ r ≡ nextAfter number next ⌝ }
 {
-    if number == 4294967295 {
+    if number == MINUS_ONE {
         return next - 1;
     }
     next

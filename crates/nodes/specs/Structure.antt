@@ -9,10 +9,11 @@ use Rattle.words.specs.Choice.{pick, either}
 use Rattle.nodes.specs.declared.Node.{Node}
 use Rattle.nodes.specs.Edit.{dropDeeper, runOf}
 use Rattle.nodes.specs.Forest.{Forest, none, node, has, below}
+use Rattle.words.specs.Patterns.{minusOne}
 
--- the pattern of -1: there is none
+-- -1: there is none
 abbrev pub noNode : ℕ
-noNode = 4294967295
+noNode = minusOne
 
 -- the first and the last of some numbers, or d
 unfoldable pub firstOr : ℕ → List ℕ → ℕ

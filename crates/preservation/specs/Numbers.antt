@@ -12,7 +12,8 @@ use Rattle.nodes.specs.declared.Node.{Node}
 use Rattle.nodes.specs.Place.{groupSlot, lives}
 use Rattle.nodes.specs.Formed.{firstGiven, lastGiven, noneLeft, mostRows, numberFormed, fieldsFormed, allFormed, nextFormed}
 use Rattle.model.specs.Layout.{slotCount}
-use Rattle.model.specs.Meaning.{minusOne, isNegative}
+use Rattle.words.specs.Patterns.{minusOne}
+use Rattle.model.specs.Meaning.{isNegative}
 use Rattle.model.specs.Effects.{newSynth, newGroup, numberFor, nextAfter}
 
 -- the next number has not been given

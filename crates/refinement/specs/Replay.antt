@@ -53,7 +53,8 @@ use Rattle.model.specs.Layout.{slotCount, rowWords, busCount, busesPlace}
 use Rattle.model.specs.Engine.{Engine, decode, definitionIn, definitionOf, controlsOf, slotAt, residentOf}
 use Rattle.model.specs.View.{group, synth, PlainNode, kindIn, viewOf}
 use Rattle.model.specs.Formed.{namesApart}
-use Rattle.model.specs.Meaning.{minusOne, isNegative, meant, coverOf, hasControls, pastWidth, negativeKey, isBus}
+use Rattle.words.specs.Patterns.{minusOne}
+use Rattle.model.specs.Meaning.{isNegative, meant, coverOf, hasControls, pastWidth, negativeKey, isBus}
 use Rattle.model.specs.Meaning.{known as knownIn, node as nodeOf}
 use Rattle.model.specs.Checks.{definitionsOf, noResident, isRoot, notGroup, noControls, pastName}
 use Rattle.model.specs.Effects.{changed, numberFor, withBuses, definitionEffect, treeEffect, controlEffect, busEffect, effect}

@@ -32,7 +32,7 @@ use Rattle.model.specs.Engine.{Engine, definitionIn, slotAt, definitionOf, cont
 use Rattle.model.specs.View.{Kind, group, synth, PlainNode, viewOf}
 use Rattle.model.specs.Effects.{stayingNodes, newSynth, numberFor, nextAfter, initialWords, synthMade}
 use Rattle.model.specs.Checks.{badAction}
-use Rattle.model.specs.Meaning.{minusOne}
+use Rattle.words.specs.Patterns.{minusOne}
 use Rattle.model.specs.Plain.{Plain, lowest, andThen, numberIn, initialControls, synthOf, putBy, putNew, putSynth, stepSynth}
 use Rattle.refinement.specs.Kept.{Kept, Replayed}
 use Rattle.refinement.specs.Places.{seen-has}

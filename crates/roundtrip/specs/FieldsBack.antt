@@ -14,7 +14,8 @@ use Rattle.faults.specs.declared.Fault.the-variants.{BadCount, BadName, BadRate
 use Rattle.format.specs.declared.Width.{Width}
 use Rattle.format.specs.declared.Width.the-variants.{Short, Long}
 use Rattle.format.specs.Read.{got}
-use Rattle.format.specs.Fields.{whole, int8, int16, int32, float32, nameBytes, pstring, name, definitionName, highestRate, highest16, integerBy, highestOf, minusOne, countToBy, shortCountTo, rate, indexBelowBy}
+use Rattle.words.specs.Patterns.{minusOne}
+use Rattle.format.specs.Fields.{whole, int8, int16, int32, float32, nameBytes, pstring, name, definitionName, highestRate, highest16, integerBy, highestOf, countToBy, shortCountTo, rate, indexBelowBy}
 use Rattle.words.specs.Bytes.{bytes8, bytes16, bytes32}
 use Rattle.format.specs.Writer.{writeInteger, writeName}
 use Rattle.format.specs.Bounds.{isName, isFloat, isRate}

@@ -13,7 +13,8 @@ use Rattle.format.specs.declared.Width.{Width}
 use Rattle.format.specs.declared.Width.the-variants.{Short, Long}
 use Rattle.format.specs.Read.{repeat}
 use Rattle.format.specs.Definition.{constant, output, UnitSpec, Front}
-use Rattle.format.specs.Fields.{float32, rate, highest16, highest32, highestOf, minusOne, countBy}
+use Rattle.words.specs.Patterns.{minusOne}
+use Rattle.format.specs.Fields.{float32, rate, highest16, highest32, highestOf, countBy}
 use Rattle.format.specs.Reader.{mostParameters, parameterNameBy, frontBy, inputBy, unitBy, unitsBy, variant, definitionBy}
 use Rattle.words.specs.Bytes.{bytes8, bytes32}
 use Rattle.format.specs.Writer.{writeInteger, writeAll, writeParameterName, writeInput, writeUnit, writeVariant, writeFront, writeDefinitionBy}

@@ -12,7 +12,8 @@ use Rattle.faults.specs.declared.Fault.the-variants.{BadIndex}
 use Rattle.format.specs.declared.Width.{Width}
 use Rattle.format.specs.Read.{got, bad, andThen, repeat}
 use Rattle.format.specs.Definition.{constant, output}
-use Rattle.format.specs.Fields.{float32, rate, highest16, highest32, highestOf, minusOne, countBy, indexBelowBy}
+use Rattle.words.specs.Patterns.{minusOne}
+use Rattle.format.specs.Fields.{float32, rate, highest16, highest32, highestOf, countBy, indexBelowBy}
 use Rattle.format.specs.Reader.{mostParameters, parameterNameBy, frontBy, inputBy, unitBy, unitsBy, variant, definitionBy}
 use Rattle.words.specs.Bytes.{bytes8, bytes32}
 use Rattle.format.specs.Writer.{writeInteger, writeAll, writeParameterName, writeInput, writeUnit, writeVariant, writeFront, writeDefinitionBy}

@@ -39,7 +39,8 @@ use Rattle.model.specs.declared.Command.the-variants as command
 use Rattle.model.specs.declared.Answer.the-variants.{Done}
 use Rattle.model.specs.Layout.{busCount}
 use Rattle.model.specs.Engine.{Engine}
-use Rattle.model.specs.Meaning.{minusOne, isNegative, meantBy, knownBy, meant, known, node, isBus, mappingTo}
+use Rattle.words.specs.Patterns.{minusOne}
+use Rattle.model.specs.Meaning.{isNegative, meantBy, knownBy, meant, known, node, isBus, mappingTo}
 use Rattle.model.specs.Checks.{faultOf, definitionsOf, noSlot, noResident, badAction, isRoot, notGroup, badTarget, full, noControls, pastName, definitionChecks, inside, treeChecks, controlChecks, busChecks, queryChecks}
 use Rattle.model.specs.Apply.{queryAnswer, answerIn, isAccepted}
 use Rattle.state.specs.Refusing.{Passed, all-passed}

@@ -1,7 +1,8 @@
-// Who stands around the node at a place; 4294967295, the pattern of -1, where there is none.
+// Who stands around the node at a place; the pattern of -1 where there is none.
 use crate::search::subtree_end;
 use layout::DEPTH;
 use layout::RECORD;
+use words::MINUS_ONE;
 ghost use mathlib.Core.Path.{_≡_};
 ghost use Prim.Native.Nat.{_+_, _*_, _≤_};
 ghost use lib.ListN.{length};
@@ -11,7 +12,7 @@ ghost use Rattle.tree.specs.Sizes.{Placed, TwoPlaces};
 ghost use Rattle.tree.specs.Around.{parentAt, previousAt, nextAt, childrenAt};
 ghost use Rattle.tree.specs.Ends.{inRun};
 
-const NONE: u32 = 4294967295;
+const NONE: u32 = MINUS_ONE;
 
 // The number of the node's parent.
 pub fn parent_of(nodes: &[u32], at: usize) -> u32

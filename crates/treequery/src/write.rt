@@ -12,6 +12,7 @@ use controls::node_definition;
 use controls::node_is_group;
 use layout::NODES;
 use layout::RECORD;
+use words::MINUS_ONE;
 ghost use Prim.Native.Nat.{_≤_};
 ghost use mathlib.Core.Bool.{true};
 ghost use mathlib.Core.Path.{_≡_};
@@ -74,7 +75,7 @@ fn put_row(
     if node_is_group(words, place) {
         return put_pair(out, places, number, children);
     }
-    let next = put_pair(out, places, number, 4294967295);
+    let next = put_pair(out, places, number, MINUS_ONE);
     let definition = node_definition(words, arena, place);
     let titled = put_argument(out, next, definition, string_at(definition, 0));
     if shown {

@@ -17,7 +17,8 @@ use Rattle.faults.specs.declared.Fault.{Fault}
 use Rattle.faults.specs.declared.Fault.the-variants.{BadIndex}
 use Rattle.format.specs.declared.Width.{Width}
 use Rattle.format.specs.Read.{Read, got, bad, andThen, repeat, ending, mapRead}
-use Rattle.format.specs.Fields.{int16, name, rate, sizeOf, valueBy, integerBy, countBy, indexBelowBy, minusOne}
+use Rattle.words.specs.Patterns.{minusOne}
+use Rattle.format.specs.Fields.{int16, name, rate, sizeOf, valueBy, integerBy, countBy, indexBelowBy}
 use Rattle.format.specs.Definition.{constant, output, UnitSpec}
 use Rattle.format.specs.Reader.{inputBy, unitBy, unitsBy}
 use Rattle.format.specs.Endings.{then-got, then-bad, mapped-got, fact-then, fact-ending, ending-fact, ending-keeps, FixedSize, repeat-got, field-got}

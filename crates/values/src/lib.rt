@@ -1,4 +1,5 @@
 // Small types by value: a control, a value and a node argument of a command.
+use words::MINUS_ONE;
 use words::wide;
 ghost use mathlib.Core.Path.{_≡_};
 ghost use Rattle.values.specs.Controls.{Holds, controlAt, seen, mappingOf, mappingWord, setTo, mapTo, shownBy, busAt};
@@ -174,7 +175,7 @@ pub fn target_of(number: u32) -> Target
     if number < 2147483648 {
         return Target::Number(number);
     }
-    if number == 4294967295 {
+    if number == MINUS_ONE {
         return Target::Latest;
     }
     Target::Reserved

@@ -2,6 +2,7 @@
 use layout::COUNT;
 use layout::LATEST;
 use names::place_of;
+use words::MINUS_ONE;
 use words::wide;
 ghost use mathlib.Core.Path.{_≡_};
 ghost use Rattle.names.specs.Named.{Findable};
@@ -13,7 +14,7 @@ pub fn asked_place(words: &[u32], number: u32) -> usize
     ensures { λ r. ⌜ r ≡ askedPlace number (now (words .entry)) ⌝ }
 {
     let mut asked = number;
-    if number == 4294967295 {
+    if number == MINUS_ONE {
         asked = words[LATEST];
         if asked == 0 {
             return wide(words[COUNT]);

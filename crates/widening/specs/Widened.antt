@@ -14,7 +14,8 @@ use Rattle.faults.specs.declared.Fault.the-variants.{BadCount, BadIndex, BadNam
 use Rattle.format.specs.declared.Width.the-variants.{Short, Long}
 use Rattle.format.specs.Read.{Read, got, bad, andThen, repeat}
 use Rattle.format.specs.Definition.{Input, constant, output, UnitSpec, ParameterName, Front, Definition}
-use Rattle.format.specs.Fields.{int16, float32, name, definitionName, pstring, rate, valueBy, integerBy, countToBy, countBy, indexBelowBy, shortCountTo, minusOne, highest16, highest32}
+use Rattle.words.specs.Patterns.{minusOne}
+use Rattle.format.specs.Fields.{int16, float32, name, definitionName, pstring, rate, valueBy, integerBy, countToBy, countBy, indexBelowBy, shortCountTo, highest16, highest32}
 use Rattle.format.specs.Reader.{mostParameters, parameterNameBy, frontBy, inputBy, unitBy, unitsBy, variant, definitionBy}
 use Rattle.format.specs.Writer.{writeName, writeAll, writeParameterName, writeInput, writeUnit, writeVariant, writeFront, writeDefinitionBy, writeDefinition}
 use Rattle.format.specs.Bounds.{isFloat, isRate, isVariant}

@@ -3,4 +3,5 @@ pub mod ChoiceLaws
 pub mod Parts
 pub mod PartsLaws
 pub mod Bytes
+pub mod Patterns
 pub mod Zeros

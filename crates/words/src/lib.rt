@@ -2,6 +2,9 @@
 ghost use mathlib.Core.Path.{_≡_};
 ghost use lib.ListN.{length, replicate};
 
+// The pattern of -1.
+pub const MINUS_ONE: u32 = 0xFFFF_FFFF;
+
 // A word as an index.
 pub fn wide(x: u32) -> usize
     ensures { λ r. ⌜ r ≡ x ⌝ }
