@@ -15,6 +15,11 @@ use Rattle.nodes.specs.TableLaws.{row-from}
 use Rattle.nodes.specs.Place.{lives, place, deeper}
 use Rattle.nodes.specs.Edit.{withRun, lift, sink, takeDeeper, dropDeeper, onlyGroups, runOf, editRows, editAt, freeHere, freeAllHere, deepFreeHere, setRunHere, headHere, tailHere, beforeHere, afterHere, overHere}
 
+pub lives-sink : (n k : ℕ) (l : List Node) → lives n (sink k l) ≡ lives n l
+unfolding lives sink
+lives-sink n k [] = refl
+lives-sink n k (r ∷ l) = ap (λ (b : Bool). pick (eqb (r .number) n) true b) (lives-sink n k l)
+
 pub takeDeeper-at : (d : ℕ) (l : List Node) → takeDeeper d l ≡ take (deeper d l) l
 unfolding takeDeeper deeper
 takeDeeper-at d [] = refl

@@ -15,16 +15,11 @@ use Rattle.nodes.specs.TableLaws.{rows-length, row-from}
 use Rattle.nodes.specs.Place.{lives, place, deeper}
 use Rattle.nodes.specs.PlaceLaws.{end-most}
 use Rattle.nodes.specs.Edit.{sink, isBelow}
-use Rattle.nodes.specs.Split.{runOf-at}
+use Rattle.nodes.specs.Split.{runOf-at, lives-sink}
 use Rattle.nodes.specs.Formed.{apart}
 use Rattle.nodes.specs.Sizes.{depthAt, endAt}
 use Rattle.tree.specs.Places.{place-drop}
 use Rattle.tree.specs.Ends.{inRun}
-
-lives-sink : (n k : ℕ) (l : List Node) → lives n (sink k l) ≡ lives n l
-unfolding lives sink
-lives-sink n k [] = refl
-lives-sink n k (r ∷ l) = ap (λ (b : Bool). pick (eqb (r .number) n) true b) (lives-sink n k l)
 
 -- a number stands among the first records where its place does
 lives-front : (n k : ℕ) (l : List Node) → k ≤ length l → lives n (take k l) ≡ ltb (place n l) k

@@ -10,7 +10,7 @@ use Rattle.words.specs.Choice.{pick, either}
 use Rattle.nodes.specs.declared.Node.{Node}
 use Rattle.nodes.specs.Place.{isGroup, lives}
 use Rattle.nodes.specs.Edit.{withRun, lift, sink, takeDeeper, dropDeeper, onlyGroups, runOf, isBelow, editRows, cut, cutBelow, deepFree, setRun, addHead, addTail, addBefore, addAfter, addOver, moveBefore, moveAfter, moveHead, moveTail}
-use Rattle.nodes.specs.Split.{edit-none}
+use Rattle.nodes.specs.Split.{edit-none, lives-sink}
 use Rattle.nodes.specs.Formed.{apart, synthLives}
 use Rattle.treerefinement.specs.Tally.{one, tally, tally-append}
 use Rattle.treerefinement.specs.Keep.{numbered, synthNumbered, lives-some, synthLives-some, apart-few}
@@ -58,11 +58,6 @@ found n (r ∷ l) h = go (eqb (r .number) n) refl h (found n l)
           edited = λ H. rw e (ap (λ (m : List Node). r ∷ m) (w .edited H));
           run = rw e (w .run);
         }
-
-lives-sink : (m k : ℕ) (l : List Node) → lives m (sink k l) ≡ lives m l
-unfolding lives sink
-lives-sink m k [] = refl
-lives-sink m k (r ∷ l) = ap (λ (b : Bool). pick (eqb (r .number) m) true b) (lives-sink m k l)
 
 lives-lift : (m k : ℕ) (l : List Node) → lives m (lift k l) ≡ lives m l
 unfolding lives lift
