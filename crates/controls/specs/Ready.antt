@@ -1,5 +1,5 @@
 -- What the functions on the words assume of them: sizes and bounds, which the state check has tested.
-use Prim.Native.Nat.{ℕ, zero, suc, _+_, _*_, _≤_, _<_}
+use Prim.Native.Nat.{ℕ, zero, suc, _+_, _≤_, _<_}
 use mathlib.Core.Bool.{Bool, true, false}
 use mathlib.Core.Path.{_≡_, refl, sym, ap, _∙_, subst}
 use mathlib.Core.List.{List, [], _∷_, nil≢cons, head-eq-of-cons-eq}
@@ -17,7 +17,6 @@ use Rattle.format.specs.Definition.{Definition}
 use Rattle.format.specs.Reader.{sizeLimit, readDefinition}
 use Rattle.readable.specs.Readable.{Readable, ReadableWhole, whole-readable}
 use Rattle.nodes.specs.declared.Node.{Node}
-use Rattle.nodes.specs.Table.{width, nodeFrom}
 use Rattle.nodes.specs.TableLaws.{row-from}
 use Rattle.nodes.specs.Place.{groupSlot, isGroup}
 use Rattle.nodes.specs.Formed.{mostNodes, mostRows, numberFormed, rowFormed, fieldsFormed, allFormed}

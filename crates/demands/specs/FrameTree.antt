@@ -1,11 +1,10 @@
 -- Demand 3: numbers are distinct, and every node descends from the root by one parent, of every well-formed state.
 use Prim.Native.Nat.{ℕ}
-use mathlib.Core.Bool.{Bool, true}
-use mathlib.Core.Path.{_≡_, refl, sym, ap, _∙_}
-use mathlib.Core.List.{List, [], _∷_}
-use lib.Dec.{eqb}
-use Rattle.words.specs.Choice.{either}
-use Rattle.nodes.specs.Structure.{parentOf, childrenOf, listed}
+use mathlib.Core.Bool.{true}
+use mathlib.Core.Path.{_≡_, sym, _∙_}
+use mathlib.Core.List.{List}
+
+use Rattle.nodes.specs.Structure.{parentOf}
 use Rattle.treerefinement.specs.Family.{descends, parent-group, one-parent-of}
 use Rattle.model.specs.Engine.{decode}
 use Rattle.model.specs.Formed.{formed}

@@ -1,13 +1,13 @@
 -- The three demands, each as a statement over the definitions that the contracts cite.
 use Prim.{Unit}
 use Prim.Native.Nat.{ℕ, _≤_, _<_}
-use mathlib.Core.Bool.{Bool, true, false}
+use mathlib.Core.Bool.{true, false}
 use mathlib.Core.Path.{_≡_}
 use mathlib.Core.List.{List, [], _∷_, _++_}
 use mathlib.Core.Option.{Option, none, some}
 use lib.ListN.{length, drop}
 use lib.Dec.{ltb, eqb}
-use Rattle.words.specs.Choice.{pick, either}
+use Rattle.words.specs.Choice.{pick}
 use Rattle.faults.specs.Faults.{faultNumber}
 use Rattle.refusals.specs.declared.Refusal.the-variants.{NoRoom}
 use Rattle.refusals.specs.Refusals.{numberOf}

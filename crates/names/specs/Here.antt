@@ -1,11 +1,10 @@
 -- The node that an argument means is the record at its place.
-use Prim.Native.Nat.{ℕ, _+_, _*_}
+use Prim.Native.Nat.{ℕ, _+_}
 use mathlib.Core.Path.{_≡_, refl, sym, ap, _∙_}
 use mathlib.Core.List.{List, _∷_}
 use lib.ListN.{drop}
 use Rattle.words.specs.Parts.{region}
 use Rattle.nodes.specs.declared.Node.{Node}
-use Rattle.nodes.specs.Table.{width, nodeFrom}
 use Rattle.nodes.specs.TableLaws.{row-from}
 use Rattle.nodes.specs.Place.{place}
 use Rattle.nodes.specs.PlaceLaws.{search-at}

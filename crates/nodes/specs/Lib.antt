@@ -8,5 +8,6 @@ pub mod Split
 pub mod Structure
 pub mod Forest
 pub mod Order
+pub mod OrderLaws
 pub mod Formed
 pub mod Worked

@@ -1,9 +1,9 @@
 -- The node table in words: how records lie in a run of words, and what writing records there leaves.
 use Prim.Native.Nat.{ℕ, zero, suc, _+_, _*_}
 use mathlib.Core.List.{List, [], _∷_, _++_}
-use lib.ListN.{length, take, drop, getD}
+use lib.ListN.{length, drop, getD}
 use Rattle.nodes.specs.declared.Node.{Node}
-use Rattle.words.specs.Parts.{over}
+
 
 -- the words of a record; its number is the first, and the other fields stand so far behind it
 abbrev pub width : ℕ

@@ -1,7 +1,6 @@
 pub mod Pad
 pub mod Visits
 pub mod Order
-pub mod Few
 pub mod Same
 pub mod Marks
 pub mod Kept

@@ -15,6 +15,7 @@ use Rattle.nodes.specs.Order.{isOn, orderFrom, order}
 use Rattle.nodes.specs.Formed.{mostNodes, mostRows, rooted, rowTaken, freeRowFrom, freeRow, inRow}
 use Rattle.treerefinement.specs.Tally.{one, tally}
 use Rattle.treerefinement.specs.Keep.{rowTaken-some}
+use Rattle.nodes.specs.OrderLaws.{order-most}
 
 pub tally-most : (p : Node → Bool) (t : List Node) → tally p t ≤ length t
 unfolding tally
@@ -70,18 +71,6 @@ pub free-row : (t : List Node) → length t < mostNodes → (freeRow t < mostRow
 free-row t h = free-among mostRows 0 t (omega (arith, tally-most (inRows 0 mostRows) t))
 
 -- the running order holds no more than the table, and not the root
-order-most : (limit : ℕ) (t : List Node) → length (orderFrom limit t) ≤ length t
-unfolding orderFrom
-order-most limit [] = omega arith
-order-most limit (r ∷ l) = go (leb (r .depth) limit) (isOn r) (isGroup r) (order-most (r .depth + 1) l) (order-most (r .depth) l) (order-most limit l)
-  where
-    go : (a b c : Bool) → length (orderFrom (r .depth + 1) l) ≤ length l → length (orderFrom (r .depth) l) ≤ length l → length (orderFrom limit l) ≤ length l
-        → length (pick a (pick b (pick c (orderFrom (r .depth + 1) l) (r .number ∷ orderFrom (r .depth + 1) l)) (orderFrom (r .depth) l)) (orderFrom limit l)) ≤ suc (length l)
-    go true true true u v w = omega arith
-    go true true false u v w = omega arith
-    go true false c u v w = omega arith
-    go false b c u v w = omega arith
-
 pub order-short : (t : List Node) → rooted t ≡ true → length (order t) < length t
 unfolding rooted orderFrom
 order-short [] h = absurd (let z : _≡_ {A = ℕ} 0 1 = cc in omega arith)

@@ -14,7 +14,7 @@ use Rattle.nodes.specs.Table.{width, nodeFrom, rows}
 use Rattle.nodes.specs.TableLaws.{rows-length, row-from}
 use Rattle.nodes.specs.Place.{lives, place, deeper}
 use Rattle.nodes.specs.PlaceLaws.{end-most}
-use Rattle.nodes.specs.Edit.{sink, isBelow}
+use Rattle.nodes.specs.Edit.{isBelow}
 use Rattle.nodes.specs.Split.{runOf-at, lives-sink}
 use Rattle.nodes.specs.Formed.{apart}
 use Rattle.nodes.specs.Sizes.{depthAt, endAt}

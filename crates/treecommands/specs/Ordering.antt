@@ -10,7 +10,7 @@ use Rattle.model.specs.Layout.{orderWords, orderRegion}
 use Rattle.order.specs.declared.Order.{Order}
 use Rattle.order.specs.Kept.{Kept}
 use Rattle.order.specs.Pad.{pad-is}
-use Rattle.order.specs.Few.{order-most}
+use Rattle.nodes.specs.OrderLaws.{order-most}
 
 module _ (count : ℕ) (us : List ℕ) (r : Order) (k : Kept (rows count us) r) where
   pub order-region : r .numbers ≡ orderRegion (order (rows count us))

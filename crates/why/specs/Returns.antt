@@ -11,7 +11,7 @@ use borrow.Author.Tests.{eq-eqb, ne-eqb, le-leb, lt-leb}
 use Rattle.words.specs.Choice.{pick}
 use Rattle.words.specs.Parts.{region}
 use Rattle.words.specs.PartsLaws.{region-length}
-use Rattle.nodes.specs.Table.{width, nodeFrom, depthField, runField, slotField}
+use Rattle.nodes.specs.Table.{width, depthField, runField, slotField}
 use Rattle.nodes.specs.TableLaws.{rows-length}
 use Rattle.nodes.specs.Sizes.{TableFits}
 use Rattle.nodes.specs.Place.{groupSlot, isGroup, place}

@@ -1,9 +1,8 @@
 -- The version 2 encoding of a definition put at a place.
 use Prim.Native.Nat.{ℕ, _+_, _≤_}
 use mathlib.Core.Path.{_≡_, sym, ap, _∙_}
-use mathlib.Core.List.{List, _++_, append-assoc}
-use lib.ListN.{length, take, drop}
-use lib.Seq.{drop-drop}
+use mathlib.Core.List.{List}
+use lib.ListN.{length}
 use Rattle.words.specs.Parts.{put, over}
 use Rattle.format.specs.declared.Width.{Width}
 use Rattle.format.specs.Read.{got}

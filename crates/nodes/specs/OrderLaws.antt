@@ -1,4 +1,4 @@
--- The running order has no more numbers than the table has records.
+-- Laws of `Order`: the running order has no more numbers than the table has records.
 use Prim.Native.Nat.{ℕ, suc, _+_, _≤_}
 use mathlib.Core.Bool.{Bool, true, false}
 use mathlib.Core.List.{List, [], _∷_}
