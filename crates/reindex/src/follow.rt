@@ -10,7 +10,7 @@ ghost use Rattle.reindex.specs.FollowWords.{Followed, Entries};
 ghost use Rattle.reindex.specs.Edits.{closed, swapped, newPlace, Bounded};
 
 // From this place on, a new place says that the node is gone.
-const GONE: u32 = 256;
+pub(crate) const GONE: u32 = 256;
 
 // The new place where the nodes from one place up to another went, and so many came there.
 fn closed_place(place: u32, from: u32, to: u32, by: u32) -> u32

@@ -1,4 +1,5 @@
 // A set of nodes taken out: the synths from one place up to another.
+use crate::follow::GONE;
 use layout::GROUP;
 use layout::MOST_NODES;
 use layout::RECORD;
@@ -11,9 +12,6 @@ ghost use Rattle.nodes.specs.Table.{width, rows, nodeFrom};
 ghost use Rattle.nodes.specs.Sizes.{TableFits};
 ghost use Rattle.reindex.specs.FollowWords.{Followed};
 ghost use Rattle.reindex.specs.Kept.{stays, placeIn, PlacesTold};
-
-// From this place on, a new place says that the node is gone.
-const GONE: u32 = 256;
 
 // Whether the node at a place stays.
 fn stays_at(nodes: &[u32], at: usize, from: usize, to: usize) -> bool
