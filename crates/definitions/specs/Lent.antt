@@ -24,7 +24,8 @@ use Rattle.definitions.specs.Holders.{HeldBy, holders, SameHeld, same-he
 use Rattle.slots.specs.Slots.{tableWords, lengthsOn, flagsOn, slotsOn, slots-length, slots-lent, lengths-lent, flags-lent, drop-take}
 use Rattle.definitions.specs.Slots.{SlotsFit, Formed}
 use Rattle.definitions.specs.Files.{definitionsOn}
-use Rattle.definitions.specs.Storing.{tableOf, lengths-size}
+use Rattle.slots.specs.Arena.{lengths-length}
+use Rattle.definitions.specs.Storing.{tableOf}
 use Rattle.definitions.specs.Retiring.{retired-many, retire-table}
 use Rattle.definitions.specs.Retired.{table-lengths}
 use Rattle.definitions.specs.Loading.{Loaded, loadedOn, placed-many}
@@ -68,7 +69,7 @@ put-two a k m ys zs ws h e =
 pub put-slots : (slots : List Slot) (ws : List ℕ) → length slots ≡ slotCount → length ws ≡ wordsLength
     → put lengthsPlace tableWords (tableOf slots (tableIn ws)) ws ≡ putSlots slots ws
 put-slots slots ws many h =
-    put-two lengthsPlace slotCount slotCount (lengthsOf slots (lengthsOn (tableIn ws))) (flagsOf slots) ws (omega arith) (lengths-size slots (lengthsOn (tableIn ws)) ∙ many)
+    put-two lengthsPlace slotCount slotCount (lengthsOf slots (lengthsOn (tableIn ws))) (flagsOf slots) ws (omega arith) (lengths-length slots (lengthsOn (tableIn ws)) ∙ many)
     ∙ ap (λ (l : List ℕ). putLengths (lengthsOf slots l) (putResident (flagsOf slots) ws)) (lengths-lent ws)
 
 -- what the tests of held slots tell, fact of the nodes
@@ -156,7 +157,7 @@ free-lent ws arena name table′ k h f found less e =
     ap (λ (j : ℕ). flagsOf (retire j (slotsOn table arena))) found
     ∙ ap (λ (s : List Slot). flagsOf (retire (residentOf name s) s)) (slots-lent ws arena) in (
       ap (λ (x : List ℕ). put lengthsPlace tableWords x ws) (e ∙ left)
-          ∙ put-two lengthsPlace slotCount slotCount (lengthsOf slots (lengthsOn table)) flags ws (omega arith) (lengths-size slots (lengthsOn table) ∙ many)
+          ∙ put-two lengthsPlace slotCount slotCount (lengthsOf slots (lengthsOn table)) flags ws (omega arith) (lengths-length slots (lengthsOn table) ∙ many)
           ∙ put-own lengthsPlace slotCount (lengthsOf slots (lengthsOn table)) (putResident flags ws) (lengths-kept flags ws h ∙ sym lengths)
           ∙ ap (λ (l : List ℕ). putResident l ws) retired,
       refl,

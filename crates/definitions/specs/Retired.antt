@@ -16,7 +16,8 @@ use Rattle.model.specs.Effects.{retired}
 use Rattle.model.specs.After.{flagsOf, lengthsOf}
 use Rattle.slots.specs.Slots.{lengthsOn, flagsOn, slotsOn, residentOn}
 use Rattle.definitions.specs.Slots.{Formed}
-use Rattle.definitions.specs.Storing.{tableOf, flags-size, lengths-size, table-size, flags-at, lengths-at}
+use Rattle.slots.specs.Arena.{flags-length, lengths-length}
+use Rattle.definitions.specs.Storing.{tableOf, table-size, flags-at, lengths-at}
 use Rattle.definitions.specs.Names.{nameOn}
 use Rattle.definitions.specs.Retiring.{retired-many, retired-is, retired-size}
 
@@ -35,16 +36,16 @@ retired-from k (suc n) lengths flags arena names =
 
 -- a table's parts
 pub table-lengths : (slots : List Slot) (table : List ℕ) → length slots ≡ slotCount → lengthsOn (tableOf slots table) ≡ lengthsOf slots (lengthsOn table)
-table-lengths slots table many = take-at (lengthsOf slots (lengthsOn table)) (flagsOf slots) slotCount (lengths-size slots (lengthsOn table) ∙ many)
+table-lengths slots table many = take-at (lengthsOf slots (lengthsOn table)) (flagsOf slots) slotCount (lengths-length slots (lengthsOn table) ∙ many)
 
 pub table-flags : (slots : List Slot) (table : List ℕ) → length slots ≡ slotCount → flagsOn (tableOf slots table) ≡ flagsOf slots
 table-flags slots table many =
-    ap (λ (l : List ℕ). take slotCount l) (drop-at (lengthsOf slots (lengthsOn table)) (flagsOf slots) slotCount (lengths-size slots (lengthsOn table) ∙ many))
-    ∙ take-all slotCount (flagsOf slots) (rw (flags-size slots, many) (omega arith))
+    ap (λ (l : List ℕ). take slotCount l) (drop-at (lengthsOf slots (lengthsOn table)) (flagsOf slots) slotCount (lengths-length slots (lengthsOn table) ∙ many))
+    ∙ take-all slotCount (flagsOf slots) (rw (flags-length slots, many) (omega arith))
 
 pub table-flag : (slots : List Slot) (table : List ℕ) (k : ℕ) → length slots ≡ slotCount → k < slotCount → getD (tableOf slots table) (slotCount + k) 0 ≡ pick (slotAt slots k .resident) 1 0
 table-flag slots table k many h =
-    let size : length (lengthsOf slots (lengthsOn table)) ≡ slotCount = lengths-size slots (lengthsOn table) ∙ many in
+    let size : length (lengthsOf slots (lengthsOn table)) ≡ slotCount = lengths-length slots (lengthsOn table) ∙ many in
     ap (λ (n : ℕ). getD (tableOf slots table) (n + k) 0) (sym size)
     ∙ getD-append-add (lengthsOf slots (lengthsOn table)) (flagsOf slots) k 0
     ∙ flags-at slots k (rw many h)
@@ -58,7 +59,7 @@ module _ (table arena : List ℕ) (names : List (List ℕ)) (f : Formed table ar
       let long = f .sized .tableSize in
       let size : length (lengthsOn table) ≡ slotCount = length-take-le slotCount table (omega arith) in
       let slots = retired names (slotsOn table arena) in
-      let size′ : length (lengthsOf slots (lengthsOn table)) ≡ slotCount = lengths-size slots (lengthsOn table) ∙ many in
+      let size′ : length (lengthsOf slots (lengthsOn table)) ≡ slotCount = lengths-length slots (lengthsOn table) ∙ many in
       table-lengths slots table many
       ∙ ext-getD 0 (lengthsOf slots (lengthsOn table)) (lengthsOn table) (size′ ∙ sym size) (λ k h.
       let less : k < slotCount = rw size′ at h in

@@ -16,7 +16,8 @@ use Rattle.model.specs.Effects.{retired, retire}
 use Rattle.model.specs.After.{flagsOf, lengthsOf}
 use Rattle.slots.specs.Slots.{tableWords, lengthsOn, flagsOn, slotsOn, slotOn, bytesOn, residentOn, slots-length, slot-at}
 use Rattle.definitions.specs.Slots.{SlotsFit, Whole, Formed}
-use Rattle.definitions.specs.Storing.{tableOf, lengths-size, table-size, flags-at, lengths-at}
+use Rattle.slots.specs.Arena.{lengths-length}
+use Rattle.definitions.specs.Storing.{tableOf, table-size, flags-at, lengths-at}
 use Rattle.definitions.specs.Names.{nameOn}
 use Rattle.definitions.specs.Naming.{NamedBy}
 
@@ -40,7 +41,7 @@ table-is slots table now many size first second =
     by : (i : ℕ) → i < length now → (b : Bool) → ltb i slotCount ≡ b → getD now i 0 ≡ getD (tableOf slots table) i 0
     by i h true e =
         let less : i < slotCount = ltb-true i slotCount e in
-        let inside : i < length (lengthsOf slots (lengthsOn table)) = rw (lengths-size slots (lengthsOn table), many) less in
+        let inside : i < length (lengthsOf slots (lengthsOn table)) = rw (lengths-length slots (lengthsOn table), many) less in
         first i less
         ∙ sym (List·getD-append (lengthsOf slots (lengthsOn table)) (flagsOf slots) 0 i inside
         ∙ lengths-at slots (lengthsOn table) i (rw many less)
@@ -48,7 +49,7 @@ table-is slots table now many size first second =
     by i h false e =
         let past : slotCount ≤ i = ltb-false i slotCount e in
         let less : i - slotCount < slotCount = omega arith in
-        let size : length (lengthsOf slots (lengthsOn table)) ≡ slotCount = lengths-size slots (lengthsOn table) ∙ many in
+        let size : length (lengthsOf slots (lengthsOn table)) ≡ slotCount = lengths-length slots (lengthsOn table) ∙ many in
         let sum : i ≡ slotCount + (i - slotCount) = omega arith in
         ap (λ (j : ℕ). getD now j 0) sum
         ∙ second (i - slotCount) less

@@ -15,23 +15,14 @@ use Rattle.model.specs.Effects.{freeFrom}
 use Rattle.model.specs.After.{flagsOf, lengthsOf}
 use Rattle.definitions.specs.Lists.{set-append-add}
 use Rattle.slots.specs.Slots.{lengthsOn}
+use Rattle.slots.specs.Arena.{flags-length, lengths-length}
 
 -- the table of slots: a resident's own length, of another what was there; and the flags
 abbrev pub tableOf : List Slot → List ℕ → List ℕ
 tableOf slots table = lengthsOf slots (lengthsOn table) ++ flagsOf slots
 
-pub flags-size : (slots : List Slot) → length (flagsOf slots) ≡ length slots
-unfolding flagsOf
-flags-size [] = refl
-flags-size (s ∷ more) = ap suc (flags-size more)
-
-pub lengths-size : (slots : List Slot) (sizes : List ℕ) → length (lengthsOf slots sizes) ≡ length slots
-unfolding lengthsOf
-lengths-size [] sizes = refl
-lengths-size (s ∷ more) sizes = ap suc (lengths-size more (drop 1 sizes))
-
 pub table-size : (slots : List Slot) (table : List ℕ) → length (tableOf slots table) ≡ length slots + length slots
-table-size slots table = length-append (lengthsOf slots (lengthsOn table)) (flagsOf slots) ∙ ap₂ (λ (a b : ℕ). a + b) (lengths-size slots (lengthsOn table)) (flags-size slots)
+table-size slots table = length-append (lengthsOf slots (lengthsOn table)) (flagsOf slots) ∙ ap₂ (λ (a b : ℕ). a + b) (lengths-length slots (lengthsOn table)) (flags-length slots)
 
 -- at a place
 pub flags-at : (slots : List Slot) (k : ℕ) → k < length slots → getD (flagsOf slots) k 0 ≡ pick (slotAt slots k .resident) 1 0
@@ -72,7 +63,7 @@ pub table-set : (slots : List Slot) (table : List ℕ) (k : ℕ) (x : Slot) → 
 table-set slots table k x many h r =
     let ls = lengthsOf slots (lengthsOn table) in
     let fs = flagsOf slots in
-    let size : length ls ≡ slotCount = lengths-size slots (lengthsOn table) ∙ many in
+    let size : length ls ≡ slotCount = lengths-length slots (lengthsOn table) ∙ many in
     let size′ : length (set ls k (length (x .bytes))) ≡ slotCount = length-set ls k (length (x .bytes)) ∙ size in
     rw (lengths-set slots (lengthsOn table) k x r, flags-set slots k x, r)
     (sym (rw (set-append-left ls fs k (length (x .bytes)) (omega arith), sym size′) (set-append-add (set ls k (length (x .bytes))) fs k 1)))

@@ -17,8 +17,8 @@ use Rattle.model.specs.Formed.{formed, flagsFormed, slotsFormed, controlsFormed
 use Rattle.state.specs.Accepted.{DefinitionAccepted}
 use Rattle.state.specs.Known.{Known, known}
 use Rattle.slots.specs.Slots.{decoded-many}
-use Rattle.slots.specs.Arena.{Backed, backed-short, arena-length}
-use Rattle.state.specs.Decoded.{flags-length, resident-size, resident-word, resident-lengths, resident-flags, resident-past, resident-decoded, slots-size, slots-index, slots-word, slots-lengths, slots-flags, slots-decoded}
+use Rattle.slots.specs.Arena.{Backed, backed-short, arena-length, flags-length}
+use Rattle.state.specs.Decoded.{resident-size, resident-word, resident-lengths, resident-flags, resident-past, resident-decoded, slots-size, slots-index, slots-word, slots-lengths, slots-flags, slots-decoded}
 use Rattle.refinement.specs.Beside.{beside-formed}
 use Rattle.refinement.specs.Follow.{AllLess, retire-less, follow-length, follow-backed, follow-formed, less-back, less-formed, flags-right, controls-held}
 use Rattle.refinement.specs.LoadKept.{Kept, slots-kept}

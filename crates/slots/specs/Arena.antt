@@ -29,6 +29,17 @@ slot-size arena k size long fits =
     let c = length-drop (startOf k) arena in
     omega arith
 
+-- the lists of a slot's words are as many as the slots
+pub flags-length : (slots : List Slot) → length (flagsOf slots) ≡ length slots
+unfolding flagsOf
+flags-length [] = refl
+flags-length (s ∷ slots) = ap suc (flags-length slots)
+
+pub lengths-length : (slots : List Slot) (sizes : List ℕ) → length (lengthsOf slots sizes) ≡ length slots
+unfolding lengthsOf
+lengths-length [] sizes = refl
+lengths-length (s ∷ slots) sizes = ap suc (lengths-length slots (drop 1 sizes))
+
 -- a resident's bytes are at most those of the longest definition
 abbrev pub Short : List Slot → Type 0
 Short slots = (k : ℕ) → slotAt slots k .resident ≡ true → length (slotAt slots k .bytes) ≤ sizeLimit

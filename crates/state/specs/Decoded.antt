@@ -16,7 +16,7 @@ use Rattle.model.specs.Layout.{wordsLength, nodesPlace, nodesWords, orderPlace,
 use Rattle.model.specs.Engine.{Slot, Engine, slotsFrom, decode}
 use Rattle.model.specs.Effects.{withControls, withBuses, withSlots}
 use Rattle.model.specs.After.{putTree, flagsOf, lengthsOf, putSlots, arenaOf}
-use Rattle.slots.specs.Arena.{Backed, slots-back}
+use Rattle.slots.specs.Arena.{Backed, slots-back, flags-length, lengths-length}
 use Rattle.state.specs.Regions.{region-before, region-past, word-before, put-size, header-length, header-region}
 
 -- an order padded to its region, and read back from it
@@ -215,17 +215,6 @@ module _ (cs ws bs : List ℕ) (size : length ws ≡ wordsLength) (many : length
       same-engine bs (word′ 0 (omega arith)) (word′ 1 (omega arith)) (word′ 2 (omega arith)) (word′ 3 (omega arith)) (part′ lengthsPlace slotCount (omega arith))
       (part′ residentPlace slotCount (omega arith)) (part′ nodesPlace nodesWords (omega arith)) (part′ orderPlace orderWords (omega arith))
       (part′ controlsPlace controlsWords (omega arith)) (region-put busesPlace busCount cs ws (omega arith) many)
-
--- the lists of a slot's words are as many as the slots
-pub flags-length : (slots : List Slot) → length (flagsOf slots) ≡ length slots
-unfolding flagsOf
-flags-length [] = refl
-flags-length (s ∷ slots) = ap suc (flags-length slots)
-
-lengths-length : (slots : List Slot) (sizes : List ℕ) → length (lengthsOf slots sizes) ≡ length slots
-unfolding lengthsOf
-lengths-length [] sizes = refl
-lengths-length (s ∷ slots) sizes = ap suc (lengths-length slots (drop 1 sizes))
 
 -- the flags put in, and nothing else
 module _ (fs ws bs : List ℕ) (size : length ws ≡ wordsLength) (many : length fs ≡ slotCount) where
