@@ -31,8 +31,8 @@ use Rattle.lists.specs.declared.Verdict.the-variants.{Fit}
 use Rattle.lists.specs.Lent.{verdict}
 use Rattle.lists.specs.OneByOne.{outcomeOf, Lists}
 use Rattle.lists.specs.OneByOne as lists
-use Rattle.why.specs.declared.Told.{Told}
-use Rattle.why.specs.declared.Told.the-variants as told
+use Rattle.why.specs.declared.WhyAnswer.{WhyAnswer}
+use Rattle.why.specs.declared.WhyAnswer.the-variants as told
 use Rattle.why.specs.Held.{whyTold}
 
 -- what a call of one command is given beside the state and the reply buffer
@@ -58,7 +58,7 @@ pub record Listed : Type 0 where
 -- a question why as it was asked: its number; what was told, and the state that it left
 pub record Asked : Type 0 where
   pub number : ℕ
-  pub told : Told
+  pub told : WhyAnswer
   pub left : State
 
 pub data Made : Type 0 where
@@ -159,7 +159,7 @@ abbrev pub refusalAtEnd : Outcome → ℕ
 refusalAtEnd NoList = noCommand
 refusalAtEnd (Ended a n) = refusalIn a
 
-abbrev pub refusalTold : Told → ℕ
+abbrev pub refusalTold : WhyAnswer → ℕ
 refusalTold (told.Refused r) = numberOf r
 refusalTold (told.Because r) = 0
 

@@ -21,7 +21,7 @@ use Rattle.model.specs.Demands.{replay}
 use Rattle.refinement.specs.Kept.{Kept}
 use Rattle.refinement.specs.Same.{kept-same}
 use Rattle.why.specs.declared.Reason.the-variants.{Running}
-use Rattle.why.specs.declared.Told.the-variants.{Because}
+use Rattle.why.specs.declared.WhyAnswer.the-variants.{Because}
 use Rattle.why.specs.Reasons.{nodeOf, plainReason, reasonFor, plainWhy}
 use Rattle.why.specs.Held.{heldTree, heldWhy, whyTold}
 use Rattle.why.specs.Runs.{times}

@@ -10,8 +10,8 @@ use Rattle.model.specs.Engine.{Engine, decode}
 use Rattle.model.specs.View.{PlainNode, viewOf}
 use Rattle.model.specs.Formed.{formed}
 use Rattle.model.specs.Demands.{latestSynth}
-use Rattle.why.specs.declared.Told.{Told}
-use Rattle.why.specs.declared.Told.the-variants.{Refused, Because}
+use Rattle.why.specs.declared.WhyAnswer.{WhyAnswer}
+use Rattle.why.specs.declared.WhyAnswer.the-variants.{Refused, Because}
 use Rattle.why.specs.declared.Reason.{Reason}
 use Rattle.why.specs.Reasons.{reasonFor}
 
@@ -23,5 +23,5 @@ abbrev pub heldWhy : ℕ → Engine → Reason
 heldWhy number e = reasonFor number (latestSynth (e .latest)) (heldTree e)
 
 -- "1 comes first."
-abbrev pub whyTold : ℕ → List ℕ → List ℕ → Told
+abbrev pub whyTold : ℕ → List ℕ → List ℕ → WhyAnswer
 whyTold number ws arena = pick (formed ws arena) (Because (heldWhy number (decode ws arena))) (Refused BadState)

@@ -23,7 +23,7 @@ use Rattle.model.specs.Formed.{formed}
 use Rattle.model.specs.Plain.{ifSome, minusOne, numberIn, isGroupNode, isOnNode}
 use Rattle.why.specs.declared.Reason.{Reason}
 use Rattle.why.specs.declared.Reason.the-variants.{NoNode}
-use Rattle.why.specs.declared.Told.the-variants.{Refused, Because}
+use Rattle.why.specs.declared.WhyAnswer.the-variants.{Refused, Because}
 use Rattle.refusals.specs.declared.Refusal.the-variants.{BadState}
 use Rattle.why.specs.Reasons.{nodeOf, ancestors, firstOff, placeFrom1, firstTrue, reason, plainReason}
 use Rattle.why.specs.Held.{heldTree, heldWhy, whyTold}

@@ -4,8 +4,8 @@ use Prim.Native.Nat.{ℕ, _+_, _*_}
 use Rattle.refusals.specs.Refusals.{numberOf}
 use Rattle.why.specs.declared.Reason.{Reason}
 use Rattle.why.specs.declared.Reason.the-variants.{NoNode, Group, Off, AncestorOff, Running}
-use Rattle.why.specs.declared.Told.{Told}
-use Rattle.why.specs.declared.Told.the-variants.{Refused, Because}
+use Rattle.why.specs.declared.WhyAnswer.{WhyAnswer}
+use Rattle.why.specs.declared.WhyAnswer.the-variants.{Refused, Because}
 
 abbrev pub reasonNumber : Reason → ℕ
 reasonNumber NoNode = 1
@@ -21,6 +21,6 @@ detailOf Off = 0
 detailOf (AncestorOff m) = m
 detailOf (Running place) = place
 
-abbrev pub toldNumber : Told → ℕ
+abbrev pub toldNumber : WhyAnswer → ℕ
 toldNumber (Refused r) = numberOf r
 toldNumber (Because r) = 256 * reasonNumber r + 65536 * detailOf r

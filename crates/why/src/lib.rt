@@ -16,8 +16,8 @@ pub enum Reason {
     Running(u32),
 }
 
-// What is told: refusal 1, or the reason.
-pub enum Told {
+// What is answered: refusal 1, or the reason.
+pub enum WhyAnswer {
     Refused(Refusal),
     Because(Reason),
 }

@@ -1,6 +1,6 @@
 // What is told as one number.
 use crate::Reason;
-use crate::Told;
+use crate::WhyAnswer;
 use refusals::refusal_number;
 ghost use mathlib.Core.Path.{_≡_};
 ghost use Rattle.why.specs.Numbers.{reasonNumber, detailOf, toldNumber};
@@ -32,12 +32,12 @@ fn detail_of(reason: Reason) -> u32
 }
 
 // The refusal's number; or the reason's from bit 8 on, and what goes with it from bit 16 on.
-pub fn told_number(told: Told) -> u64
+pub fn told_number(told: WhyAnswer) -> u64
     ensures { λ r. ⌜ r ≡ toldNumber told ⌝ }
 {
     match told {
-        Told::Refused(refusal) => refusal_number(refusal) as u64,
-        Told::Because(reason) => {
+        WhyAnswer::Refused(refusal) => refusal_number(refusal) as u64,
+        WhyAnswer::Because(reason) => {
             256 * (reason_number(reason) as u64) + 65536 * (detail_of(reason) as u64)
         }
     }

@@ -1,6 +1,6 @@
 // The reason of a row, and `why`.
 use crate::Reason;
-use crate::Told;
+use crate::WhyAnswer;
 use crate::place::asked_place;
 use crate::sight::Sight;
 use crate::sight::sight_to;
@@ -49,13 +49,13 @@ fn reason_at(words: &[u32], at: usize, seen: Sight) -> Reason
 }
 
 // Why the node that a number names is silent, or where it runs, in any state at all: refusal 1 where the state is not well formed.
-pub fn why(number: u32, words: &[u32], arena: &[u8]) -> Told
+pub fn why(number: u32, words: &[u32], arena: &[u8]) -> WhyAnswer
     ensures { λ r. ⌜ r ≡ whyTold number (now (words .entry)) (now (arena .entry)) ⌝ }
 {
     if !well_formed(words, arena) {
-        return Told::Refused(Refusal::BadState);
+        return WhyAnswer::Refused(Refusal::BadState);
     }
     let at = asked_place(words, number);
     let seen = sight_to(&words[NODES..NODES_END], at);
-    Told::Because(reason_at(words, at, seen))
+    WhyAnswer::Because(reason_at(words, at, seen))
 }
