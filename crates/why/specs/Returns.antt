@@ -20,7 +20,7 @@ use Rattle.nodes.specs.Order.{isOn}
 use Rattle.model.specs.Layout.{wordsLength, nodesPlace, nodesWords, countIn, latestIn, nodesIn, recordIn}
 use Rattle.model.specs.Plain.{minusOne}
 use Rattle.why.specs.declared.Reason.the-variants.{NoNode, Group, Off, AncestorOff, Running}
-use Rattle.why.specs.declared.sight.Sight.{Sight}
+use Rattle.why.specs.declared.sight.SeenSoFar.{SeenSoFar}
 use Rattle.why.specs.Rows.{sightTo, rowReason, askedPlace}
 use Rattle.why.specs.Seen.{SeenBefore}
 
@@ -59,7 +59,7 @@ module _ (ws : List ℕ) (few : countIn ws ≤ 256) (at : ℕ) (count : ℕ) (co
         sounding : isOn (recordIn ws at) ≡ true
         sounding = eq-eqb (getD us (width * at + runField) 0) 1 (sym (word 2 (omega arith)) ∙ o)
 
-        module _ (seen : Sight) (s : SeenBefore (region nodesPlace nodesWords ws) at seen) where
+        module _ (seen : SeenSoFar) (s : SeenBefore (region nodesPlace nodesWords ws) at seen) where
           pub return-above : seen .limit < getD ws (nodesPlace + width * at + depthField) 0 → AncestorOff (seen .named) ≡ rowReason (region nodesPlace nodesWords ws) (countIn ws) at
           return-above deep =
               let d = word 1 (omega arith) in

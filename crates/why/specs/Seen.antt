@@ -12,12 +12,12 @@ use Rattle.nodes.specs.Table.{width, nodeFrom, rows}
 use Rattle.nodes.specs.TableLaws.{rows-take, rows-end, row-from}
 use Rattle.nodes.specs.Place.{groupSlot}
 use Rattle.nodes.specs.Order.{orderFrom}
-use Rattle.why.specs.declared.sight.Sight.{Sight}
+use Rattle.why.specs.declared.sight.SeenSoFar.{SeenSoFar}
 use Rattle.why.specs.Rows.{see, sight, sightTo}
 use Rattle.why.specs.Sight.{sight-append, order-on}
 
 -- what was seen is what the rows before a place show, and neither number is larger than there are rows
-pub record SeenBefore (us : List ℕ) (at : ℕ) (seen : Sight) : Type 0 where
+pub record SeenBefore (us : List ℕ) (at : ℕ) (seen : SeenSoFar) : Type 0 where
   pub limit : seen .limit ≡ sightTo us at .0
   pub many : seen .many ≡ length (orderFrom 0 (rows at us))
   pub named : seen .named ≡ sightTo us at .1
@@ -51,8 +51,8 @@ module _ (us : List ℕ) (i : ℕ) where
       ∙ length-append (orderFrom 0 (rows i us)) (orderFrom (sightTo us i .0) (this ∷ []))
 
   -- by what the row is: the next sight, and how many synths it adds
-  module _ (so : Sight) (s : SeenBefore us i so) where
-    later : (next : Sight) → (next .limit, next .named) ≡ see (sightTo us i) (nodeFrom us (width * i)) → next .many ≡ so .many + length (orderFrom (sightTo us i .0) (nodeFrom us (width * i) ∷ []))
+  module _ (so : SeenSoFar) (s : SeenBefore us i so) where
+    later : (next : SeenSoFar) → (next .limit, next .named) ≡ see (sightTo us i) (nodeFrom us (width * i)) → next .many ≡ so .many + length (orderFrom (sightTo us i .0) (nodeFrom us (width * i) ∷ []))
         → next .limit ≤ i + 1 → next .many ≤ i + 1 → SeenBefore us (i + 1) next
     later next saw ran few many = record {
       limit = ap (λ (p : ℕ × ℕ). p .0) (saw ∙ sym sight-more);

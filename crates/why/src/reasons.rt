@@ -2,7 +2,7 @@
 use crate::Reason;
 use crate::WhyAnswer;
 use crate::place::asked_place;
-use crate::sight::Sight;
+use crate::sight::SeenSoFar;
 use crate::sight::sight_to;
 use layout::COUNT;
 use layout::DEPTH;
@@ -25,7 +25,7 @@ ghost use Rattle.why.specs.Rows.{rowReason};
 ghost use Rattle.why.specs.Seen.{SeenBefore};
 
 // The reason of the row at a place, by what was seen on the way to it: a row too deep for it is below the last that was not, and that one is off.
-fn reason_at(words: &[u32], at: usize, seen: Sight) -> Reason
+fn reason_at(words: &[u32], at: usize, seen: SeenSoFar) -> Reason
     requires { ⌜ (length (now words) ≡ wordsLength) × ((countIn (now words) ≤ 256) × SeenBefore (region nodesPlace nodesWords (now words)) at seen) ⌝ }
     ensures { λ r. ⌜ r ≡ rowReason (region nodesPlace nodesWords (now (words .entry))) (countIn (now (words .entry))) at ⌝ }
 {
