@@ -3,7 +3,6 @@ use Prim.Native.Nat.{ℕ}
 use mathlib.Core.Bool.{true}
 use mathlib.Core.Path.{_≡_, sym, _∙_}
 use mathlib.Core.List.{List}
-
 use Rattle.nodes.specs.Structure.{parentOf}
 use Rattle.treerefinement.specs.Family.{descends, parent-group, one-parent-of}
 use Rattle.model.specs.Engine.{decode}

@@ -24,8 +24,8 @@ use Rattle.slots.specs.Slots.{slots-length}
 use Rattle.tree.specs.declared.action.Action.{Action}
 use Rattle.tree.specs.Action.{numberOf, number-most}
 use Rattle.tree.specs.Add.{Room}
-use Rattle.treecommands.specs.declared.group.Spot.{Spot}
-use Rattle.treecommands.specs.declared.group.Spot.the-variants as spot
+use Rattle.treecommands.specs.declared.group.TargetPlace.{TargetPlace}
+use Rattle.treecommands.specs.declared.group.TargetPlace.the-variants as spot
 use Rattle.treecommands.specs.Ready.{Ready}
 use Rattle.names.specs.Judged.{NodeFound, NodeRefused}
 use Rattle.treecommands.specs.Adding.{badAt, fullAt, bad-target, is-full, room}
@@ -64,7 +64,7 @@ module _ (number : ℕ) (action : Action) (target : NodeArgument) (slot : ℕ) (
   abbrev pub Answers : Refusal → Type 0
   Answers r = (bytes bs : List ℕ) → Meant slot bytes ws bs → firstOf (treeChecks (tree.NewSynth number (numberOf action) target) bytes (decode ws bs)) Done ≡ Refused r
 
-  abbrev pub SynthPlaced : Spot → Type 0
+  abbrev pub SynthPlaced : TargetPlace → Type 0
   SynthPlaced (spot.At at) = Clear number action target slot ws at
   SynthPlaced (spot.Refused r) = Answers r
 

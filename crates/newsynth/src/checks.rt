@@ -9,7 +9,7 @@ use names::NodePlace;
 use names::node_place;
 use refusals::Refusal;
 use tree::Action;
-use treecommands::Spot;
+use treecommands::TargetPlace;
 use treecommands::bad_target;
 use treecommands::is_full;
 use values::NodeArgument;
@@ -24,34 +24,34 @@ pub fn synth_spot(
     target: NodeArgument,
     slot: u32,
     words: &[u32],
-) -> Spot
+) -> TargetPlace
     requires { ⌜ Ready (now words) ⌝ }
     ensures { λ r. ⌜ SynthPlaced number action target slot (now (words .entry)) r ⌝ }
 {
     if bad_number(number) {
-        return Spot::Refused(Refusal::BadNumber);
+        return TargetPlace::Refused(Refusal::BadNumber);
     }
     if is_live(number, words) {
-        return Spot::Refused(Refusal::NumberLive);
+        return TargetPlace::Refused(Refusal::NumberLive);
     }
     if GROUP <= slot {
-        return Spot::Refused(Refusal::NoDefinition);
+        return TargetPlace::Refused(Refusal::NoDefinition);
     }
     let count = wide(words[COUNT]);
     let at = match node_place(words, target) {
         NodePlace::At(at) => at,
         NodePlace::Refused(refusal) => {
-            return Spot::Refused(refusal);
+            return TargetPlace::Refused(refusal);
         }
     };
     if bad_target(action, at, words) {
-        return Spot::Refused(Refusal::WrongKind);
+        return TargetPlace::Refused(Refusal::WrongKind);
     }
     if is_spent(number, words[NEXT]) {
-        return Spot::Refused(Refusal::NoNumber);
+        return TargetPlace::Refused(Refusal::NoNumber);
     }
     if is_full(action, count) {
-        return Spot::Refused(Refusal::NodesFull);
+        return TargetPlace::Refused(Refusal::NodesFull);
     }
-    Spot::At(at)
+    TargetPlace::At(at)
 }

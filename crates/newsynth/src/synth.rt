@@ -19,7 +19,7 @@ use tree::Action;
 use tree::Asked;
 use tree::fill_gap;
 use tree::gap_by;
-use treecommands::Spot;
+use treecommands::TargetPlace;
 use treecommands::settle;
 use values::NodeArgument;
 use words::wide;
@@ -74,11 +74,11 @@ fn add_synth(
     let slot = definitions::find_resident(&words[LENGTHS..RESIDENT_END], arena, bytes);
     let spot = synth_spot(number, action, target, slot, words);
     match spot {
-        Spot::At(at) => {
+        TargetPlace::At(at) => {
             put_synth(number, action, at, slot, words, arena);
             Answer::Done
         }
-        Spot::Refused(why) => Answer::Refused(why),
+        TargetPlace::Refused(why) => Answer::Refused(why),
     }
 }
 

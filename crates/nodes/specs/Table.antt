@@ -4,7 +4,6 @@ use mathlib.Core.List.{List, [], _∷_, _++_}
 use lib.ListN.{length, drop, getD}
 use Rattle.nodes.specs.declared.Node.{Node}
 
-
 -- the words of a record; its number is the first, and the other fields stand so far behind it
 abbrev pub width : ℕ
 width = 5

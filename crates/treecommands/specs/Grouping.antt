@@ -42,8 +42,8 @@ use Rattle.tree.specs.declared.add.Gap.{Gap}
 use Rattle.tree.specs.Add.{Room}
 use Rattle.tree.specs.Gaps.{gapBy, inGap, gap-leaves}
 use Rattle.reindex.specs.declared.edit.Edit.the-variants as edit
-use Rattle.treecommands.specs.declared.group.Spot.{Spot}
-use Rattle.treecommands.specs.declared.group.Spot.the-variants as spot
+use Rattle.treecommands.specs.declared.group.TargetPlace.{TargetPlace}
+use Rattle.treecommands.specs.declared.group.TargetPlace.the-variants as spot
 use Rattle.names.specs.Judged.{meantIn, NodeFound, NodeRefused}
 use Rattle.treecommands.specs.Ready.{Ready}
 use Rattle.treecommands.specs.Edits.{editBy, add-does}
@@ -58,7 +58,7 @@ pub record GroupGround (number : ℕ) (action : Action) (target : NodeArgument) 
   pub spot : NodeFound target ws at
   pub room : Room (nodeWords ws) (countIn ws) action at
 
-abbrev pub GroupPlaced : ℕ → Action → NodeArgument → List ℕ → Spot → Type 0
+abbrev pub GroupPlaced : ℕ → Action → NodeArgument → List ℕ → TargetPlace → Type 0
 GroupPlaced number action target ws (spot.At at) = GroupGround number action target ws at
 GroupPlaced number action target ws (spot.Refused r) = (bytes bs : List ℕ) → firstOf (treeChecks (tree.NewGroup number (numberOf action) target) bytes (decode ws bs)) Done ≡ Refused r
 

@@ -30,36 +30,36 @@ ghost use Rattle.treecommands.specs.Steps.{Steps};
 ghost use Rattle.treecommands.specs.Grouping.{GroupPlaced};
 
 // The place of a new node's target, or the first refusal.
-pub enum Spot {
+pub enum TargetPlace {
     At(usize),
     Refused(Refusal),
 }
 
 // The checks of /g_new behind the add action's.
-fn group_spot(number: u32, action: Action, target: NodeArgument, words: &[u32]) -> Spot
+fn group_spot(number: u32, action: Action, target: NodeArgument, words: &[u32]) -> TargetPlace
     requires { ⌜ Ready (now words) ⌝ }
     ensures { λ r. ⌜ GroupPlaced number action target (now (words .entry)) r ⌝ }
 {
     if 2147483648 <= number {
-        return Spot::Refused(Refusal::BadNumber);
+        return TargetPlace::Refused(Refusal::BadNumber);
     }
     let count = wide(words[COUNT]);
     if place_of(words, number) < count {
-        return Spot::Refused(Refusal::NumberLive);
+        return TargetPlace::Refused(Refusal::NumberLive);
     }
     let at = match node_place(words, target) {
         NodePlace::At(at) => at,
         NodePlace::Refused(refusal) => {
-            return Spot::Refused(refusal);
+            return TargetPlace::Refused(refusal);
         }
     };
     if bad_target(action, at, words) {
-        return Spot::Refused(Refusal::WrongKind);
+        return TargetPlace::Refused(Refusal::WrongKind);
     }
     if is_full(action, count) {
-        return Spot::Refused(Refusal::NodesFull);
+        return TargetPlace::Refused(Refusal::NodesFull);
     }
-    Spot::At(at)
+    TargetPlace::At(at)
 }
 
 // What is derived, written afresh after an add action: only one that replaces frees nodes.
@@ -80,7 +80,7 @@ fn add_group(number: u32, action: Action, target: NodeArgument, words: &mut [u32
 {
     let spot = group_spot(number, action, target, words);
     match spot {
-        Spot::At(at) => {
+        TargetPlace::At(at) => {
             let count = wide(words[COUNT]);
             let group = Node {
                 number: number,
@@ -95,7 +95,7 @@ fn add_group(number: u32, action: Action, target: NodeArgument, words: &mut [u32
             renew_added(words, action, edit, after);
             Answer::Done
         }
-        Spot::Refused(why) => Answer::Refused(why),
+        TargetPlace::Refused(why) => Answer::Refused(why),
     }
 }
 

@@ -15,7 +15,7 @@ pub use free::deep_free;
 pub use free::free_all;
 pub use free::free_node;
 pub use free::run_node;
-pub use group::Spot;
+pub use group::TargetPlace;
 pub use group::new_group;
 pub use moves::move_after;
 pub use moves::move_before;

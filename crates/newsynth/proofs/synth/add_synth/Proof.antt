@@ -2,7 +2,7 @@
 use native.Mathlib.Omega.{arith}
 use borrow.Author.Needs.{needs}
 use mathlib.Core.Path.{_≡_}
-use Rattle.treecommands.specs.declared.group.Spot.the-variants as spot
+use Rattle.treecommands.specs.declared.group.TargetPlace.the-variants as spot
 use Rattle.treecommands.specs.Ready.{ready}
 use Rattle.newsynth.specs.Checks.{Clear, Answers}
 use Rattle.newsynth.specs.Synth.{synth-refused, meant-lent, table-formed}
