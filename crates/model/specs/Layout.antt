@@ -88,12 +88,6 @@ nextIn ws = getD ws 2 0
 abbrev pub latestIn : List ℕ → ℕ
 latestIn ws = getD ws 3 0
 
-abbrev pub lengthsIn : List ℕ → List ℕ
-lengthsIn ws = region lengthsPlace slotCount ws
-
-abbrev pub flagsIn : List ℕ → List ℕ
-flagsIn ws = region residentPlace slotCount ws
-
 abbrev pub nodeWords : List ℕ → List ℕ
 nodeWords ws = region nodesPlace nodesWords ws
 
@@ -103,6 +97,12 @@ nodesIn ws = rows (countIn ws) (nodeWords ws)
 -- the record at a place of the node table
 abbrev pub recordIn : List ℕ → ℕ → Node
 recordIn ws at = nodeFrom (nodeWords ws) (width * at)
+
+abbrev pub lengthsIn : List ℕ → List ℕ
+lengthsIn ws = region lengthsPlace slotCount ws
+
+abbrev pub flagsIn : List ℕ → List ℕ
+flagsIn ws = region residentPlace slotCount ws
 
 abbrev pub orderIn : List ℕ → List ℕ
 orderIn ws = take (orderLengthIn ws) (region orderPlace orderWords ws)
