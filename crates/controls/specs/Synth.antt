@@ -21,6 +21,7 @@ use Rattle.model.specs.Effects.{changeCovered}
 use Rattle.nodes.specs.Table.{width, slotField, rowField}
 use Rattle.controls.specs.Encoded.{frontOnly}
 use Rattle.slots.specs.Slots.{slotBytes, part-word}
+use Rattle.names.specs.Records.{slot-word}
 
 -- the controls of the row, by a definition's bytes
 abbrev pub changeSynth : (ControlValue → ControlValue) → Key → List ℕ → ℕ → ℕ → List ℕ → List ℕ → List ℕ
@@ -54,21 +55,16 @@ mappings-none us n e = rw e
 
 -- a synth's slot and row, by the words
 module _ (ws : List ℕ) (i : ℕ) (few : i < mostNodes) where
-  pub slot-word : recordIn ws i .slot ≡ getD ws (nodesPlace + width * i + slotField) 0
-  slot-word =
-      let place : nodesPlace + (width * i + slotField) ≡ nodesPlace + width * i + 3 = omega arith in
-      part-word nodesPlace nodesWords (width * i + slotField) ws (omega arith) ∙ ap (λ (k : ℕ). getD ws k 0) place
-
   pub row-word : recordIn ws i .row ≡ getD ws (nodesPlace + width * i + rowField) 0
   row-word =
       let place : nodesPlace + (width * i + rowField) ≡ nodesPlace + width * i + 4 = omega arith in
       part-word nodesPlace nodesWords (width * i + rowField) ws (omega arith) ∙ ap (λ (k : ℕ). getD ws k 0) place
 
   pub is-group : getD ws (nodesPlace + width * i + slotField) 0 ≡ groupSlot → isGroup (recordIn ws i) ≡ true
-  is-group e = eq-eqb (recordIn ws i .slot) groupSlot (slot-word ∙ e)
+  is-group e = eq-eqb (recordIn ws i .slot) groupSlot (slot-word ws i few ∙ e)
 
   pub is-synth : (getD ws (nodesPlace + width * i + slotField) 0 ≡ groupSlot → ⊥) → isGroup (recordIn ws i) ≡ false
-  is-synth other = ne-eqb (recordIn ws i .slot) groupSlot (λ e. other (sym slot-word ∙ e))
+  is-synth other = ne-eqb (recordIn ws i .slot) groupSlot (λ e. other (sym (slot-word ws i few) ∙ e))
 
 -- the bounds of a synth, by the words
 module _ {ws arena : List ℕ} {i : ℕ} (b : Bounds ws arena i) (other : getD ws (nodesPlace + width * i + slotField) 0 ≡ groupSlot → ⊥) where

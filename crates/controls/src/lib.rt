@@ -25,7 +25,6 @@ pub use definition::initial_row;
 pub use definition::key_cover;
 pub use definition::parameter_count;
 pub use node::node_definition;
-pub use node::node_is_group;
 pub use node::node_row;
 pub use node::node_slot;
 pub use synth::change_node;

@@ -1,5 +1,4 @@
 // The fields of a node's record, by its place in the table, and the bytes of its definition.
-use layout::GROUP;
 use layout::NODES;
 use layout::RECORD;
 use layout::ROW;
@@ -10,17 +9,8 @@ ghost use Prim.Native.Nat.{_<_};
 ghost use mathlib.Core.Path.{_≡_};
 ghost use lib.ListN.{length};
 ghost use Rattle.nodes.specs.Formed.{mostNodes};
-ghost use Rattle.nodes.specs.Place.{isGroup};
 ghost use Rattle.model.specs.Layout.{slotCount, wordsLength, recordIn};
 ghost use Rattle.slots.specs.Slots.{slotBytes};
-
-// The node at a place is a group.
-pub fn node_is_group(words: &[u32], place: usize) -> bool
-    requires { ⌜ (length (now words) ≡ wordsLength) × (place < mostNodes) ⌝ }
-    ensures { λ r. ⌜ r ≡ isGroup (recordIn (now (words .entry)) place) ⌝ }
-{
-    words[NODES + RECORD * place + SLOT] == GROUP
-}
 
 // The slot of the node at a place.
 pub fn node_slot(words: &[u32], place: usize) -> usize

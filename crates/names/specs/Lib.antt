@@ -1,3 +1,4 @@
 pub mod Named
 pub mod Judged
 pub mod Here
+pub mod Records

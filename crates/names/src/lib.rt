@@ -1,19 +1,25 @@
-// The node that an argument means, by its place.
+// The node that an argument means, by its place, and whether the node at a place is a group.
 use index::find_indexed;
 use layout::COUNT;
+use layout::GROUP;
 use layout::INDEX;
 use layout::INDEX_END;
 use layout::LATEST;
 use layout::NODES;
 use layout::NODES_END;
+use layout::RECORD;
+use layout::SLOT;
 use refusals::Refusal;
 use values::NodeArgument;
 use values::Target;
 use values::target_of;
 use words::wide;
+ghost use Prim.Native.Nat.{_<_};
 ghost use mathlib.Core.Path.{_≡_};
-ghost use Rattle.nodes.specs.Place.{place};
-ghost use Rattle.model.specs.Layout.{nodesIn};
+ghost use lib.ListN.{length};
+ghost use Rattle.nodes.specs.Place.{place, isGroup};
+ghost use Rattle.nodes.specs.Formed.{mostNodes};
+ghost use Rattle.model.specs.Layout.{wordsLength, nodesIn, recordIn};
 ghost use Rattle.names.specs.Named.{Findable, Named};
 ghost use Rattle.names.specs.Judged.{Judged};
 
@@ -21,6 +27,14 @@ ghost use Rattle.names.specs.Judged.{Judged};
 pub enum NodePlace {
     At(usize),
     Refused(Refusal),
+}
+
+// The node at a place is a group.
+pub fn node_is_group(words: &[u32], place: usize) -> bool
+    requires { ⌜ (length (now words) ≡ wordsLength) × (place < mostNodes) ⌝ }
+    ensures { λ r. ⌜ r ≡ isGroup (recordIn (now (words .entry)) place) ⌝ }
+{
+    words[NODES + RECORD * place + SLOT] == GROUP
 }
 
 // The place of the node with a number, or the count.

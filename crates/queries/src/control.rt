@@ -1,11 +1,11 @@
 // /s_get
 use controls::controls_missing;
-use controls::node_is_group;
 use controls::read_key;
 use layout::NODES;
 use layout::RECORD;
 use model::Answer;
 use names::NodePlace;
+use names::node_is_group;
 use names::node_place;
 use refusals::Refusal;
 use replies::send_named;

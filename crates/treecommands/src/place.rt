@@ -1,8 +1,5 @@
 // What stands at a place of the table.
-use layout::GROUP;
-use layout::NODES;
-use layout::RECORD;
-use layout::SLOT;
+use names::node_is_group;
 ghost use mathlib.Core.Bool.{not};
 ghost use mathlib.Core.Path.{_≡_};
 ghost use Prim.Native.Nat.{_<_};
@@ -15,5 +12,5 @@ pub fn is_synth(words: &[u32], at: usize) -> bool
     requires { ⌜ Ready (now words) × (at < countIn (now words)) ⌝ }
     ensures { λ r. ⌜ r ≡ not (isGroup (recordIn (now (words .entry)) at)) ⌝ }
 {
-    words[NODES + RECORD * at + SLOT] != GROUP
+    !node_is_group(words, at)
 }

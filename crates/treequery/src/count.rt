@@ -9,7 +9,7 @@ use crate::row::value_at;
 use crate::shapes::SHAPES;
 use crate::shapes::synth_at;
 use controls::node_definition;
-use controls::node_is_group;
+use names::node_is_group;
 ghost use mathlib.Core.Bool.{true};
 ghost use Rattle.treequery.specs.RowArguments.{rowArguments};
 ghost use Rattle.treequery.specs.Counting.{Counts, Counted, Size};

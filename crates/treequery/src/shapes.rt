@@ -1,10 +1,10 @@
 // What the reply needs of the definitions, looked up once for each slot: 33 words, P + 1 (0 before the slot was looked up) and for each
 // control the place of its label, 0 where it has no name.
 use controls::node_definition;
-use controls::node_is_group;
 use controls::node_row;
 use controls::node_slot;
 use controls::parameter_count;
+use names::node_is_group;
 use readable::labels;
 ghost use Prim.Native.Nat.{_<_};
 ghost use mathlib.Core.Path.{_≡_};

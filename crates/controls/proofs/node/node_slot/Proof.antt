@@ -1,7 +1,7 @@
 use mathlib.Core.Path.{sym, _∙_}
 use native.Mathlib.Omega.{arith}
 use borrow.Author.Needs.{needs}
-use Rattle.controls.specs.Synth.{slot-word}
+use Rattle.names.specs.Records.{slot-word}
 use Rattle.controls.proofs.node.node_slot.Statement.{statement}
 use Rattle.controls.proofs.node.node_slot.Tie as tie
 

@@ -3,9 +3,9 @@ use mathlib.Core.Path.{sym, ap}
 use native.Mathlib.Omega.{arith}
 use borrow.Author.Needs.{needs}
 use lib.Dec.{eqb}
-use Rattle.controls.specs.Synth.{slot-word}
-use Rattle.controls.proofs.node.node_is_group.Statement.{statement}
-use Rattle.controls.proofs.node.node_is_group.Tie as tie
+use Rattle.names.specs.Records.{slot-word}
+use Rattle.names.proofs.node_is_group.Statement.{statement}
+use Rattle.names.proofs.node_is_group.Tie as tie
 
 returns : tie.Need-returns
 returns c = ap (λ (k : ℕ). eqb k 32) (sym (slot-word (c .before .args .words .now) (c .before .args .place) (omega arith)))
