@@ -82,7 +82,10 @@ uint32_t engine_fresh(uint32_t *words, size_t words_length, uint8_t *arena, size
  * A value is a float's pattern in e where d is 0, an integer in e where d is 1. A control's name means the
  * index of its first entry, and covers the controls from there up to the next larger index that has a name,
  * else up to the last: a fill by name (16) of more is refused with 28 on a synth, after 21, and on a group
- * fills each synth as far as the name covers there. */
+ * fills each synth as far as the name covers there.
+ *
+ * 28 is a recall (version a, node b, bytes: the definition's name), which takes a store too: here it answers
+ * 255, in a list 34, and message_write says 26 or 27 of it. settings_recall does it. */
 uint64_t engine_apply(uint32_t op, uint32_t a, uint32_t b, uint32_t c, uint32_t d, uint32_t e,
                       const uint8_t *bytes, size_t bytes_length,
                       uint32_t *words, size_t words_length,
@@ -120,7 +123,8 @@ uint64_t engine_message(const uint8_t *message, size_t message_length,
  * it (all of them where it is 0), plus 2^24 times the place (refusals 2 to 11). Before the first command
  * is done, and then nothing changes and none is accepted: 255 where items_length is no multiple of 12, an
  * op or a value's kind is none, one of the last four words is not 0, or bytes are named that are not
- * there; then 1; then 34 where the list has more than 512 commands, or one that replies (op 21 to 27). */
+ * there; then 1; then 34 where the list has more than 512 commands, one that replies (op 21 to 27), or a
+ * recall (28). */
 uint64_t engine_list(const uint32_t *items, size_t items_length,
                      const uint8_t *bytes, size_t bytes_length,
                      uint32_t *words, size_t words_length,
@@ -141,11 +145,39 @@ uint64_t engine_why(uint32_t number,
                     const uint32_t *words, size_t words_length,
                     const uint8_t *arena, size_t arena_length);
 
+/* Saved settings by version: for each definition name up to 16 versions of control settings, in a store that
+ * the caller lends, of any length. docs/LAYOUT.md describes it; zeros are an empty one. A store that is not
+ * well formed is refused with 31, whichever name is asked for. A refused call changes nothing. The time that
+ * a call takes is at most the store's size times its names and settings together. */
+
+/* Saves the own floats of a synth, also where they are mapped, as a new version under the name of its own
+ * definition: each under the first of its control's names that looks up to it; a control without one is left
+ * out. Versions of a name rise from 1, and none is given again. Behind the new contents the store is zeroed.
+ * Answers 256 times the version; or 1, 31, 17, 18 (a group), 30 (16 versions stand there), 33 (the new
+ * contents are longer than the store, or version 4,294,967,295 was given), in this order. */
+uint64_t settings_save(uint32_t node,
+                       const uint32_t *words, size_t words_length,
+                       const uint8_t *arena, size_t arena_length,
+                       uint8_t *store, size_t store_length);
+
+/* Sets the controls of a synth as a version that was saved under a definition's name has them, in stored
+ * order: each as /n_set by name does in the synth's own definition, whichever that is. Names that it lacks are
+ * skipped. Answers 0; or 1, 31, 17, 18, 32 (no such version under that name), in this order. */
+uint32_t settings_recall(const uint8_t *name, size_t name_length, uint32_t version, uint32_t node,
+                         const uint8_t *store, size_t store_length,
+                         uint32_t *words, size_t words_length,
+                         const uint8_t *arena, size_t arena_length);
+
+/* Takes a version out of the store; what lies behind it closes up, and the rest is zeroed. Answers 0; or 31,
+ * then 32. */
+uint32_t settings_drop(const uint8_t *name, size_t name_length, uint32_t version,
+                       uint8_t *store, size_t store_length);
+
 /* Writes a command, given as engine_apply takes it, as the OSC message that is read as that command,
  * from the first byte of out on; bytes past it stay. What the command does not take is not looked at.
  * Answers 256 times the message's length; or a refusal's number, and then nothing is written: 255 as
  * above; 26 where a name has a byte that is not from 1 to 127, or a file is longer than 2,147,483,647
- * bytes; 27 where the command has no address (export); 24 where out is too short. */
+ * bytes; 27 where the command has no address (export, recall); 24 where out is too short. */
 uint64_t message_write(uint32_t op, uint32_t a, uint32_t b, uint32_t c, uint32_t d, uint32_t e,
                        const uint8_t *bytes, size_t bytes_length,
                        uint8_t *out, size_t out_length);

@@ -107,7 +107,11 @@ status = 26
 abbrev pub export : ℕ
 export = 27
 
--- the last op of all that have an address, and the last of all
+-- paper 02, 8/14: a recall takes a store beside its numbers, so that it is no command of `engine_apply`; no list holds it, and it has no address
+abbrev pub recall : ℕ
+recall = 28
+
+-- the last op of all that have an address, and the last of a command
 abbrev pub lastWithAddress : ℕ
 lastWithAddress = status
 

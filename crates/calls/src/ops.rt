@@ -62,5 +62,9 @@ pub const STATUS: u32 = 26;
 
 pub const EXPORT: u32 = 27;
 
+// A recall of saved settings: it takes a store beside its numbers, so that it is no command of `engine_apply`; no list holds it, and it has no
+// address.
+pub const RECALL: u32 = 28;
+
 // The last op of all that have an address.
 pub const LAST_WITH_ADDRESS: u32 = STATUS;

@@ -16,6 +16,7 @@ pub mod SequenceTheorem
 pub mod Loads
 pub mod Theorems
 pub mod Session
+pub mod RecallTheorem
 pub mod SessionTheorem
 pub mod Reloads
 pub mod Played

@@ -127,7 +127,7 @@ module _ (c : Call) (s : State) (a : Applied c s) (p : Plain) (madeFrom : ℕ �
   kept-after : isAccepted (c .answer) ≡ true → Replayed (effect (c .command) (c .bytes) (engineIn s)) (step (c .command) (c .bytes) p)
   kept-after h = replayed (c .command) (c .bytes) (s .words) (s .arena) p (a .lentBytes) fit (g .same) (known-sound (s .words) (s .arena) fit .many) (accepted (c .bytes) e (c .command) room (yes h))
 
-  abbrev next-made : ℕ → Option Definition
+  abbrev pub next-made : ℕ → Option Definition
   next-made n = pick (isAccepted (c .answer)) (madeIn (c .command) (c .bytes) (engineIn s) n (madeFrom n)) (madeFrom n)
 
   stepped-by : (b : Bool) → isAccepted (c .answer) ≡ b → afterCall c p ≡ pick b (step (c .command) (c .bytes) p) (some p)
@@ -194,7 +194,7 @@ pub record End (cs : List Call) (s : State) (p : Plain) (madeFrom : ℕ → Opti
   pub replayed : replay cs p ≡ some plain
   pub going : Going (leftBy cs s) plain (λ n. made cs s n (madeFrom n))
 
-at-end : (cs : List Call) (s : State) → Chain cs s → (p : Plain) (madeFrom : ℕ → Option Definition) → Going s p madeFrom → End cs s p madeFrom
+pub at-end : (cs : List Call) (s : State) → Chain cs s → (p : Plain) (madeFrom : ℕ → Option Definition) → Going s p madeFrom → End cs s p madeFrom
 unfolding Chain leftBy replay made
 at-end [] s a p madeFrom g = record { plain = p; replayed = refl; going = g }
 at-end (c ∷ cs) s a p madeFrom g =
@@ -202,7 +202,7 @@ at-end (c ∷ cs) s a p madeFrom g =
     let end = at-end cs (c .left) (a .1) (next .plain) (next-made c s (a .0) p madeFrom g) (next .going) in
     record { plain = end .plain; replayed = ap (λ (o : Option Plain). andThen o (λ q. replay cs q)) (next .stepped) ∙ end .replayed; going = end .going }
 
-fresh-going : (s : State) → Fresh s → Going s atFirst (λ n. none)
+pub fresh-going : (s : State) → Fresh s → Going s atFirst (λ n. none)
 fresh-going s f =
     subst (λ (x : State). Going x atFirst (λ n. none)) (sym (fresh-state s f)) (record { whole = fresh-formed; same = fresh-kept; synths = fresh-synths })
 

@@ -1,20 +1,28 @@
 -- Calls of every kind: the demands of the commands that they stand for.
 use Prim.{tt}
-use Prim.Native.Nat.{ℕ}
+use Prim.Native.Nat.{ℕ, _+_}
 use mathlib.Core.Bool.{Bool, true, false}
 use mathlib.Core.Path.{_≡_, refl, sym, ap, ap₂, _∙_, subst}
 use mathlib.Core.List.{List, [], _∷_, _++_}
+use mathlib.Core.Option.{Option, none, some}
 use lib.ListN.{length}
 use native.Mathlib.Omega.{arith}
 use Rattle.words.specs.Choice.{pick}
 use Rattle.refusals.specs.declared.Refusal.{Refusal}
 use Rattle.refusals.specs.declared.Refusal.the-variants.{Malformed, UnknownMessage}
 use Rattle.refusals.specs.Refusals.{numberOf}
-use Rattle.model.specs.declared.Answer.the-variants.{Refused}
+use Rattle.format.specs.Definition.{Definition}
+use Rattle.values.specs.declared.NodeArgument.{NodeArgument}
+use Rattle.model.specs.declared.Answer.{Answer}
+use Rattle.model.specs.declared.Answer.the-variants.{Done, Refused}
+use Rattle.model.specs.Engine.{Engine}
+use Rattle.model.specs.Meaning.{node}
+use Rattle.model.specs.Checks.{firstOf}
+use Rattle.model.specs.Plain.{Plain, andThen, atFirst}
 use Rattle.model.specs.Formed.{formed}
 use Rattle.model.specs.Apply.{answerIn, answer, isAccepted}
 use Rattle.model.specs.Chain.{State, engineIn, Call, Chain, leftBy, Fresh}
-use Rattle.model.specs.Demands.{refusalIn, Ends}
+use Rattle.model.specs.Demands.{refusalIn, Ends, afterCall, replay, made}
 use Rattle.demands.specs.FreshState.{fresh-state, fresh-formed}
 use Rattle.demands.specs.Sound.{never-one}
 use Rattle.messages.specs.Receive.{Meaning, malformed, unknown, means}
@@ -25,7 +33,14 @@ use Rattle.lists.specs.declared.Verdict.the-variants.{NoList, Unfit, Fit}
 use Rattle.lists.specs.Lent.{verdict, linesOf}
 use Rattle.lists.specs.OneByOne.{outcomeBy, tried, lastAnswer}
 use Rattle.lists.specs.OneByOne as lists
-use Rattle.demands.specs.Session.{Given, command, message, One, Listed, Made, one, list, why, leftOf, PromisedOne, Promised, Session, leftAfter, meaningIn, callOf, callsBy, callsOf, commandsOf, EndsWith, EndsBy, AllEnd, ListEnds, Demand1OfCalls, refusalAtEnd, refusalTold, refusalOf, AllHold, Demand3OfCalls}
+use Rattle.store.specs.Store.{entriesOf}
+use Rattle.store.specs.Writing.{highestFor}
+use Rattle.settings.specs.Settings.{nameOf, saveChecks, recallChecks, saveJudged, recallAnswer, savedBy}
+use Rattle.settings.specs.Recalling.{recallCalls}
+use Rattle.settings.specs.RecallLaws.{recall-answers, save-answers}
+use Rattle.demands.specs.SequenceTheorem.{Going, at-end, fresh-going}
+use Rattle.demands.specs.RecallTheorem.{recall-feeds}
+use Rattle.demands.specs.Session.{Given, command, message, One, Listed, Recalled, Stored, Made, one, list, why, recall, save, leftOf, RecallsIn, SavesIn, PromisedOne, Promised, Session, leftAfter, meaningIn, callOf, callsBy, callsOf, commandsOf, EndsWith, EndsBy, AllEnd, ListEnds, RecallEnds, Demand1OfCalls, refusalAtEnd, refusalTold, refusalSaved, refusalOf, AllHold, fedBy, fed, Demand3OfCalls}
 
 -- what is done by its meaning
 abbrev Served : Meaning → One → State → Type 0
@@ -89,10 +104,36 @@ module _ (m : Listed) (s : State) (p : Promised (list m) s) where
     refused34 = λ h. sym list-left ∙ list-unfit (verdict (m .items) (m .bytes)) h;
   }
 
+-- a recall
+module _ (m : Recalled) (s : State) (p : RecallsIn m s) where
+  abbrev judged : Answer
+  judged = recallAnswer (m .name) (m .number) (m .node) (m .store) (s .words) (s .arena)
+
+  abbrev recalled : List Call
+  recalled = recallCalls (m .name) (m .number) (m .node) (m .store) s
+
+  recall-left : leftBy recalled s ≡ m .left
+  recall-left = sym (ap₂ (λ (ws bs : List ℕ). record { words = ws; arena = bs }) (p .recalls .words) (p .arena ∙ p .recalls .arena))
+
+  -- one that is refused stands for no calls
+  recall-refused : isAccepted judged ≡ false → leftBy recalled s ≡ s
+  unfolding leftBy
+  recall-refused h = rw h
+
+  recall-ends : RecallEnds m s
+  recall-ends = record {
+    table = p .recalls .answers;
+    each = all-end recalled s (p .recalls .chain);
+    left = recall-left;
+    unchanged = λ h. sym recall-left ∙ recall-refused (ap isAccepted (sym (p .recalls .answers)) ∙ h);
+  }
+
 pub demand1-of-calls : Demand1OfCalls
 demand1-of-calls (one m) s p = ends-by (meaningIn (m .given)) m s (served m s p)
 demand1-of-calls (list m) s p = list-ends m s p
 demand1-of-calls (why m) s p = p
+demand1-of-calls (recall m) s p = recall-ends m s p
+demand1-of-calls (save m) s p = p
 
 -- a call in a well-formed state leaves one, and is not refused with 1
 module _ (m : One) (s : State) (whole : formed (s .words) (s .arena) ≡ true) where
@@ -142,16 +183,39 @@ list-sound m s h e q = go (verdict (m .items) (m .bytes)) (e .each) (ap refusalA
     go Unfit each k = let z = rw h at k in omega arith
     go Fit each k = all-sound (tried (linesOf (m .items) (m .bytes)) s) s h (rw h at each) (rw h at k)
 
+-- in a well-formed state neither a recall nor a save is refused with 1
+recall-sound : (m : Recalled) (s : State) → formed (s .words) (s .arena) ≡ true → RecallsIn m s → refusalIn (m .answer) ≡ 1 → ⊥
+unfolding recallAnswer
+recall-sound m s h p =
+    let own : m .answer ≡ firstOf (recallChecks (m .name) (m .number) (m .node) (m .store) (engineIn s)) Done = p .recalls .answers ∙ rw h in
+    λ q. recall-answers (λ a. refusalIn a ≡ 1 → ⊥) (λ z. omega arith) (λ z. omega arith) (λ z. omega arith) (λ z. omega arith) (m .node) (m .store) (engineIn s) (λ z. omega arith) (m .name) (m .number) (ap refusalIn (sym own) ∙ q)
+
+saved-not-one : (version : ℕ) (a : NodeArgument) (store : List ℕ) (e : Engine) → refusalSaved (savedBy (firstOf (saveChecks a store e) Done) version) ≡ 1 → ⊥
+saved-not-one version a store e =
+    save-answers (λ x. refusalSaved (savedBy x version) ≡ 1 → ⊥) (λ z. omega arith) (λ z. omega arith) (λ z. omega arith) (λ z. omega arith) a store e (λ z. omega arith) (λ z. omega arith)
+
+save-sound : (m : Stored) (s : State) → formed (s .words) (s .arena) ≡ true → SavesIn m s → refusalSaved (m .saved) ≡ 1 → ⊥
+unfolding saveJudged
+save-sound m s h p q =
+    let e = engineIn s in
+    let version = highestFor (nameOf (node (m .node) e) e) (entriesOf (m .store)) + 1 in
+    let own : m .saved ≡ savedBy (firstOf (saveChecks (m .node) (m .store) (engineIn s)) Done) version = p .saves .answers ∙ rw h in
+    saved-not-one version (m .node) (m .store) e (ap refusalSaved (sym own) ∙ q)
+
 pub sound : (m : Made) (s : State) → formed (s .words) (s .arena) ≡ true → Promised m s → refusalOf m ≡ 1 → ⊥
 sound (one m) s h p = sound-by m s h (meaningIn (m .given)) (served m s p)
 sound (list m) s h p = list-sound m s h (list-ends m s p)
 sound (why m) s h p = λ z. let told = ap refusalTold (p .tells) in let k = rw h at told in omega arith
+sound (recall m) s h p = recall-sound m s h p
+sound (save m) s h p = save-sound m s h p
 
 pub next-formed : (m : Made) (s : State) → formed (s .words) (s .arena) ≡ true → Promised m s → formed (leftOf m .words) (leftOf m .arena) ≡ true
 next-formed (one m) s h p = formed-by m s h (meaningIn (m .given)) (ends-by (meaningIn (m .given)) m s (served m s p))
 next-formed (list m) s h p =
     ap (λ (x : State). formed (x .words) (x .arena)) (sym (list-left m s p)) ∙ all-formed (lists.callsOf (m .items) (m .bytes) s) s h (list-ends m s p .each)
 next-formed (why m) s h p = ap (λ (x : State). formed (x .words) (x .arena)) (p .left) ∙ h
+next-formed (recall m) s h p = ap (λ (x : State). formed (x .words) (x .arena)) (sym (recall-left m s p)) ∙ all-formed (recalled m s p) s h (recall-ends m s p .each)
+next-formed (save m) s h p = ap (λ (x : State). formed (x .words) (x .arena)) (p .left) ∙ h
 
 all-hold : (ms : List Made) (s : State) → formed (s .words) (s .arena) ≡ true → Session ms s → AllHold ms s
 unfolding Session AllHold
@@ -194,6 +258,8 @@ stands (one m) s p =
     record { chain = h .0; left = h .1 }
 stands (list m) s p = record { chain = p .chain; left = list-left m s p }
 stands (why m) s p = record { chain = tt; left = sym (p .left) }
+stands (recall m) s p = record { chain = p .recalls .chain; left = recall-left m s p }
+stands (save m) s p = record { chain = tt; left = sym (p .left) }
 
 -- the commands that a session stands for are a chain, and leave what it leaves
 pub chained : (ms : List Made) (s : State) → Session ms s → Chain (commandsOf ms s) s
@@ -220,10 +286,42 @@ session-formed (m ∷ ms) s h p = session-formed ms (leftOf m) (next-formed m s 
 pub formed-at-first : (s : State) → Fresh s → formed (s .words) (s .arena) ≡ true
 formed-at-first s f = ap (λ (x : State). formed (x .words) (x .arena)) (fresh-state s f) ∙ fresh-formed
 
--- Demand 3 of commands, messages, lists and questions in any mixture
+-- calls in a row, replayed in two parts
+replay-append : (cs more : List Call) (p : Plain) → replay (cs ++ more) p ≡ andThen (replay cs p) (λ q. replay more q)
+unfolding replay
+replay-append [] more p = refl
+replay-append (c ∷ cs) more p = go (afterCall c p) (replay-append cs more)
+  where
+    go : (o : Option Plain) → ((q : Plain) → replay (cs ++ more) q ≡ andThen (replay cs q) (λ r. replay more r))
+        → andThen o (λ q. replay (cs ++ more) q) ≡ andThen (andThen o (λ q. replay cs q)) (λ r. replay more r)
+    go none ih = refl
+    go (some q) ih = ih q
+
+-- the plain tree that is fed a call goes the way of the commands that it stands for
+call-feeds : (m : Made) (s : State) → Promised m s → (p : Plain) (madeFrom : ℕ → Option Definition) → Going s p madeFrom → fedBy m s p ≡ replay (callsOf m s) p
+unfolding replay
+call-feeds (one m) s h p madeFrom g = refl
+call-feeds (list m) s h p madeFrom g = refl
+call-feeds (why m) s h p madeFrom g = refl
+call-feeds (recall m) s h p madeFrom g = recall-feeds m s h p madeFrom g
+call-feeds (save m) s h p madeFrom g = refl
+
+session-feeds : (ms : List Made) (s : State) → Session ms s → (p : Plain) (madeFrom : ℕ → Option Definition) → Going s p madeFrom → fed ms s p ≡ replay (commandsOf ms s) p
+unfolding Session fed commandsOf replay
+session-feeds [] s h p madeFrom g = refl
+session-feeds (m ∷ ms) s h p madeFrom g =
+    let v = stands m s (h .0) in
+    let end = at-end (callsOf m s) s (v .chain) p madeFrom g in
+    let going = subst (λ (t : State). Going t (end .plain) (λ n. made (callsOf m s) s n (madeFrom n))) (v .left) (end .going) in
+    ap (λ (o : Option Plain). andThen o (λ q. fed ms (leftOf m) q)) (call-feeds m s (h .0) p madeFrom g ∙ end .replayed)
+    ∙ session-feeds ms (leftOf m) (h .1) (end .plain) (λ n. made (callsOf m s) s n (madeFrom n)) going
+    ∙ sym (replay-append (callsOf m s) (commandsOf ms (leftOf m)) p ∙ ap (λ (o : Option Plain). andThen o (λ q. replay (commandsOf ms (leftOf m)) q)) (end .replayed))
+
+-- Demand 3 of commands, messages, lists, questions, recalls and saves in any mixture
 pub demand3-of-calls : (s : State) → Fresh s → (ms : List Made) → Session ms s → Demand3OfCalls ms s
 demand3-of-calls s f ms p = record {
   each = all-hold ms s (formed-at-first s f) p;
   commands = demand3 s f (commandsOf ms s) (chained ms s p);
   left = same-left ms s p;
+  feeds = session-feeds ms s p atFirst (λ n. none) (fresh-going s f) ∙ demand3 s f (commandsOf ms s) (chained ms s p) .replayed;
 }

@@ -6,6 +6,7 @@ use calls::NO_COMMAND;
 use calls::Parsed;
 use calls::call_number;
 use calls::command_of;
+use calls::ops::RECALL;
 use layout::ARENA;
 use layout::WORDS;
 use lists::list;
@@ -19,7 +20,7 @@ ghost use Rattle.model.specs.Layout.{wordsLength, arenaLength};
 ghost use Rattle.calls.specs.Ops.{commandOf};
 ghost use Rattle.why.specs.Held.{whyTold};
 ghost use Rattle.why.specs.Numbers.{toldNumber};
-ghost use Rattle.engine.specs.Calls.{Made, Called, Sent, Listed, Wrote};
+ghost use Rattle.engine.specs.Calls.{Made, Called, Sent, Listed, isWritten, Wrote};
 
 // The length of the words.
 #[no_mangle]
@@ -113,20 +114,21 @@ pub extern "C" fn message_write(
     bytes: &[u8],
     out: &mut [u8],
 ) -> u64
-    ensures { λ r. ⌜ Wrote (commandOf op a b c d e) (record { numbers = record { op = op; a = a; b = b; c = c; d = d; e = e }; bytes = now (bytes .entry) }) (now (out .entry)) r (now (out .exit)) ⌝ }
+    ensures { λ r. ⌜ Wrote (isWritten op (commandOf op a b c d e)) (record { numbers = record { op = op; a = a; b = b; c = c; d = d; e = e }; bytes = now (bytes .entry) }) (now (out .entry)) r (now (out .exit)) ⌝ }
 {
+    let numbers = Numbers {
+        op: op,
+        a: a,
+        b: b,
+        c: c,
+        d: d,
+        e: e,
+    };
+    if op == RECALL {
+        return call_number(write(numbers, bytes, out));
+    }
     match command_of(op, a, b, c, d, e) {
-        Parsed::Call(command) => {
-            let numbers = Numbers {
-                op: op,
-                a: a,
-                b: b,
-                c: c,
-                d: d,
-                e: e,
-            };
-            call_number(write(numbers, bytes, out))
-        }
+        Parsed::Call(command) => call_number(write(numbers, bytes, out)),
         Parsed::Nothing => NO_COMMAND,
     }
 }

@@ -2,6 +2,7 @@
 // among them, which is `lists::list`. Nothing here asks anything of what it is lent.
 mod commands;
 mod exports;
+mod saved;
 mod sent;
 mod start;
 
@@ -14,5 +15,8 @@ pub use exports::engine_message;
 pub use exports::engine_why;
 pub use exports::engine_words;
 pub use exports::message_write;
+pub use saved::settings_drop;
+pub use saved::settings_recall;
+pub use saved::settings_save;
 pub use sent::message;
 pub use start::fresh;

@@ -1,5 +1,6 @@
 -- What a definition's parameter names mean.
 use Prim.Native.Nat.{ℕ, _-_}
+use mathlib.Core.Bool.{Bool, false}
 use mathlib.Core.List.{List, [], _∷_}
 use mathlib.Core.Option.{Option, none, some}
 use lib.Dec.{ltb, eqb}
@@ -35,3 +36,16 @@ coveredBy name p names = coverFrom (firstIndex name names) p names
 unfoldable pub firstName : ℕ → List ParameterName → Option (List ℕ)
 firstName i [] = none
 firstName i (p ∷ more) = pick (eqb (p .index) i) (some (p .name)) (firstName i more)
+
+-- paper 02, 8/14: "the control's first name that looks up to it, if any": the first, in the definition's order, of the names entered for a control that
+-- look up to it among all names
+abbrev pub looksUpTo : Option ℕ → ℕ → Bool
+looksUpTo none i = false
+looksUpTo (some k) i = eqb k i
+
+unfoldable pub nameAmong : ℕ → List ParameterName → List ParameterName → Option (List ℕ)
+nameAmong i all [] = none
+nameAmong i all (p ∷ more) = pick (both (eqb (p .index) i) (looksUpTo (firstIndex (p .name) all) i)) (some (p .name)) (nameAmong i all more)
+
+abbrev pub nameFor : ℕ → List ParameterName → Option (List ℕ)
+nameFor i names = nameAmong i names names

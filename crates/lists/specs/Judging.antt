@@ -10,7 +10,7 @@ use borrow.Author.Tests.{eq-eqb, ne-eqb}
 use Rattle.words.specs.Choice.{pick, both}
 use Rattle.lists.specs.declared.Verdict.the-variants.{NoList, Unfit, Fit}
 use Rattle.lists.specs.declared.Kind.{Kind}
-use Rattle.lists.specs.declared.Kind.the-variants.{NoItem, Replies, Acts}
+use Rattle.lists.specs.declared.Kind.the-variants.{NoItem, Unlisted, Acts}
 use Rattle.lists.specs.Lent.{Item, itemWords, mostCommands, countIn, itemsOf, kindOf, isItem, acts, every, isList, verdict}
 use Rattle.lists.specs.Walk.{itemAt, itemsAt, items-first, items-next, items-last}
 use Rattle.words.specs.ChoiceLaws.{both-assoc}
@@ -90,5 +90,5 @@ fit-acts us bytes h = go (isList us bytes) (leb (countIn us) mostCommands) (ever
 
 pub acts-only : (k : Kind) → acts k ≡ true → k ≡ Acts
 acts-only NoItem h = cc
-acts-only Replies h = cc
+acts-only Unlisted h = cc
 acts-only Acts h = refl

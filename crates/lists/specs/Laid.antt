@@ -8,8 +8,9 @@ use lib.Dec.{eqb, leb}
 use borrow.Author.Tests.{le-leb, lt-leb, eq-eqb, ne-eqb, leb-true, leb-false}
 use Rattle.words.specs.Choice.{pick, both}
 use Rattle.words.specs.ChoiceLaws.{both-true}
-use Rattle.lists.specs.declared.Kind.the-variants.{NoItem, Acts}
+use Rattle.lists.specs.declared.Kind.the-variants.{NoItem, Unlisted, Acts}
 use Rattle.calls.specs.declared.Parsed.the-variants.{Nothing}
+use Rattle.calls.specs.Ops.{recall}
 use Rattle.lists.specs.Lent.{Item, parsed, zeros, isLaid, ofParsed, kindOf}
 
 -- four words
@@ -52,8 +53,12 @@ module _ (room : ℕ) (i : Item) where
   acts-both : kindOf room i ≡ Acts → (isLaid room i ≡ true) × (ofParsed (parsed i) ≡ Acts)
   acts-both h = go (isLaid room i) h
     where
-      go : (t : Bool) → pick t (ofParsed (parsed i)) NoItem ≡ Acts → (t ≡ true) × (ofParsed (parsed i) ≡ Acts)
-      go true k = (refl, k)
+      by-op : (r : Bool) → pick r Unlisted (ofParsed (parsed i)) ≡ Acts → ofParsed (parsed i) ≡ Acts
+      by-op true k = let z : _≡_ {A = ℕ} 0 1 = cc in absurd (omega arith)
+      by-op false k = k
+
+      go : (t : Bool) → pick t (pick (eqb (i .op) recall) Unlisted (ofParsed (parsed i))) NoItem ≡ Acts → (t ≡ true) × (ofParsed (parsed i) ≡ Acts)
+      go true k = (refl, by-op (eqb (i .op) recall) k)
       go false k = let z : _≡_ {A = ℕ} 0 1 = cc in absurd (omega arith)
 
   pub acts-laid : kindOf room i ≡ Acts → i .start + i .size ≤ room

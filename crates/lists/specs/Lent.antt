@@ -12,11 +12,11 @@ use Rattle.model.specs.declared.Command.the-variants as command
 use Rattle.model.specs.Script.{Line, line}
 use Rattle.calls.specs.declared.Parsed.{Parsed}
 use Rattle.calls.specs.declared.Parsed.the-variants.{Call, Nothing}
-use Rattle.calls.specs.Ops.{commandOf}
+use Rattle.calls.specs.Ops.{recall, commandOf}
 use Rattle.lists.specs.declared.Verdict.{Verdict}
 use Rattle.lists.specs.declared.Verdict.the-variants.{NoList, Unfit, Fit}
 use Rattle.lists.specs.declared.Kind.{Kind}
-use Rattle.lists.specs.declared.Kind.the-variants.{NoItem, Replies, Acts}
+use Rattle.lists.specs.declared.Kind.the-variants.{NoItem, Unlisted, Acts}
 
 -- an item: the op and the numbers of its command, where its bytes lie, and four words that are kept for later
 pub record Item : Type 0 where
@@ -75,29 +75,29 @@ zeros (n ∷ l) = both (eqb n 0) (zeros l)
 abbrev pub isLaid : ℕ → Item → Bool
 isLaid room i = both (zeros (i .later)) (leb (i .start + i .size) room)
 
--- "none of a kind that replies": "a query or an export"
+-- "none of a kind that replies": "a query or an export"; and a recall "goes in no list" (8/14)
 abbrev pub ofCommand : Command → Kind
 ofCommand (command.Definitions c) = Acts
 ofCommand (command.Tree c) = Acts
 ofCommand (command.Controls c) = Acts
 ofCommand (command.Buses c) = Acts
-ofCommand (command.Query q) = Replies
+ofCommand (command.Query q) = Unlisted
 
 abbrev pub ofParsed : Parsed → Kind
 ofParsed (Call c) = ofCommand c
 ofParsed Nothing = NoItem
 
 abbrev pub kindOf : ℕ → Item → Kind
-kindOf room i = pick (isLaid room i) (ofParsed (parsed i)) NoItem
+kindOf room i = pick (isLaid room i) (pick (eqb (i .op) recall) Unlisted (ofParsed (parsed i))) NoItem
 
 abbrev pub isItem : Kind → Bool
 isItem NoItem = false
-isItem Replies = true
+isItem Unlisted = true
 isItem Acts = true
 
 abbrev pub acts : Kind → Bool
 acts NoItem = false
-acts Replies = false
+acts Unlisted = false
 acts Acts = true
 
 -- every item is of a kind that passes

@@ -49,6 +49,9 @@ status = item ops.status 0 0 0 0 0 0 0
 abbrev export : List ℕ
 export = item ops.export 0 0 0 0 0 0 0
 
+abbrev recall : ℕ → List ℕ
+recall size = item ops.recall 1 0 0 0 0 0 size
+
 abbrev setBus : ℕ → List ℕ
 setBus kind = item ops.cSet 7 0 0 kind 0 0 0
 
@@ -69,9 +72,12 @@ rowsFrom e =
     -- a query or an export inside, also behind one that would be refused
     ∷ example (ended e (group 1 ++ (status ++ group 2)) []) (34 ∷ [])
     ∷ example (ended e (group 0 ++ export) []) (34 ∷ [])
+    -- a recall inside, and one that is not laid as an item is
+    ∷ example (ended e (group 1 ++ recall 0) []) (34 ∷ [])
+    ∷ example (ended e (group 1 ++ recall 1) []) (255 ∷ [])
     -- no list: words left over, an op that is none behind a query, a value's kind that is none, a word kept for later
     ∷ example (ended e (group 1 ++ (0 ∷ [])) []) (255 ∷ [])
-    ∷ example (ended e (status ++ item (suc ops.last) 0 0 0 0 0 0 0) []) (255 ∷ [])
+    ∷ example (ended e (status ++ item (suc ops.recall) 0 0 0 0 0 0 0) []) (255 ∷ [])
     ∷ example (ended e (setBus 1 ++ setBus 2) []) (255 ∷ [])
     ∷ example (ended e (take 11 (group 1) ++ (1 ∷ [])) []) (255 ∷ [])
     -- words that an op doesn't take are not looked at

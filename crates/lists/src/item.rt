@@ -2,6 +2,7 @@
 use crate::Kind;
 use calls::Parsed;
 use calls::command_of;
+use calls::ops::RECALL;
 use model::Command;
 use words::wide;
 ghost use Prim.Native.Nat.{_+_, _<_, _≤_};
@@ -91,7 +92,7 @@ fn kind_of(command: Parsed) -> Kind
             Command::Tree(of) => Kind::Acts,
             Command::Controls(of) => Kind::Acts,
             Command::Buses(of) => Kind::Acts,
-            Command::Query(of) => Kind::Replies,
+            Command::Query(of) => Kind::Unlisted,
         },
         Parsed::Nothing => Kind::NoItem,
     }
@@ -104,6 +105,9 @@ pub(crate) fn item_kind(items: &[u32], at: usize, room: usize) -> Kind
 {
     if !is_laid(items, at, room) {
         return Kind::NoItem;
+    }
+    if word(items, at, 0) == RECALL {
+        return Kind::Unlisted;
     }
     kind_of(command_at(items, at))
 }

@@ -22,7 +22,7 @@ fn is_item(kind: Kind) -> bool
 {
     match kind {
         Kind::NoItem => false,
-        Kind::Replies => true,
+        Kind::Unlisted => true,
         Kind::Acts => true,
     }
 }
@@ -33,7 +33,7 @@ fn still_fit(fit: bool, kind: Kind) -> bool
 {
     match kind {
         Kind::NoItem => false,
-        Kind::Replies => false,
+        Kind::Unlisted => false,
         Kind::Acts => fit,
     }
 }

@@ -19,10 +19,10 @@ pub enum Verdict {
     Fit,
 }
 
-// One item: none, a command that replies, or one that doesn't.
+// One item: none, a command that no list holds (one that replies, a recall), or one that is tried.
 pub enum Kind {
     NoItem,
-    Replies,
+    Unlisted,
     Acts,
 }
 
@@ -34,4 +34,5 @@ pub enum Outcome {
 
 pub use judged::judge;
 pub use number::list_number;
+pub use number::refusal_in;
 pub use run::list;

@@ -9,7 +9,7 @@ ghost use Rattle.model.specs.Demands.{refusalIn};
 ghost use Rattle.lists.specs.OneByOne.{placeIn, listNumber};
 
 // The number of the refusal that an answer gives, 0 where it gives none.
-fn refusal_in(answer: Answer) -> u32
+pub fn refusal_in(answer: Answer) -> u32
     ensures { λ r. ⌜ r ≡ refusalIn answer ⌝ }
 {
     match answer {

@@ -1,20 +1,22 @@
 -- The writer's answers: a length where it accepts.
 use Prim.Native.Nat.{ℕ, _≤_}
 use mathlib.Core.Path.{_≡_, refl, sym, ap, _∙_}
-use mathlib.Core.Bool.{Bool, true, false}
+use mathlib.Core.Bool.{Bool, true, false, not}
 use mathlib.Core.List.{List, _++_}
 use mathlib.Core.Option.{Option, none, some}
 use native.Mathlib.Omega.{arith}
 use lib.ListN.{length, take, drop}
 use lib.Seq.{take-append-le, take-length}
-use lib.Dec.{ltb}
+use lib.Dec.{ltb, eqb}
 use borrow.Author.Tests.{le-ltb}
-use Rattle.words.specs.Choice.{pick}
-use Rattle.refusals.specs.declared.Refusal.the-variants.{NoRoom, Malformed}
+use Rattle.words.specs.Choice.{pick, both}
+use Rattle.refusals.specs.declared.Refusal.the-variants.{NoRoom, Malformed, UnknownMessage}
+use Rattle.format.specs.Fields.{nameBytes}
 use Rattle.model.specs.declared.Answer.{Answer}
 use Rattle.model.specs.declared.Answer.the-variants.{Replied, Refused}
 use Rattle.model.specs.Checks.{firstOf}
 use Rattle.model.specs.Apply.{written}
+use Rattle.calls.specs.Ops.{recall}
 use Rattle.messages.specs.Table.{Row, Given}
 use Rattle.messages.specs.Write.{rowOf, anyUnfit, messageBy, messageFrom, messageOf, writeChecks, writeAnswer, Writes}
 
@@ -41,8 +43,12 @@ answer-fits g room n a = by (rowOf (g .numbers .op)) refl a
     choose r e true f a = let z : _≡_ {A = ℕ} 0 1 = cc in absurd (omega arith)
     choose r e false f a = record { row = r; known = e; fit = f }
 
+    unknown : (u : Bool) → pick u (Refused Malformed) (Refused UnknownMessage) ≡ Replied n → Fits g
+    unknown true a = let z : _≡_ {A = ℕ} 0 1 = cc in absurd (omega arith)
+    unknown false a = let z : _≡_ {A = ℕ} 0 1 = cc in absurd (omega arith)
+
     by : (o : Option Row) → rowOf (g .numbers .op) ≡ o → firstOf (writeChecks o g room) (Replied (length (messageFrom o g))) ≡ Replied n → Fits g
-    by none e a = let z : _≡_ {A = ℕ} 0 1 = cc in absurd (omega arith)
+    by none e a = unknown (both (eqb (g .numbers .op) recall) (not (nameBytes (g .bytes)))) a
     by (some r) e a = choose r e (anyUnfit (g .bytes) (r .slots)) refl a
 
 -- the length that it answers is the message's
@@ -55,8 +61,12 @@ answer-size g room n a = by (rowOf (g .numbers .op)) a
     choose size false true a = let z : _≡_ {A = ℕ} 0 1 = cc in absurd (omega arith)
     choose size false false a = cc
 
+    unknown : (u : Bool) → pick u (Refused Malformed) (Refused UnknownMessage) ≡ Replied n → 0 ≡ n
+    unknown true a = let z : _≡_ {A = ℕ} 0 1 = cc in absurd (omega arith)
+    unknown false a = let z : _≡_ {A = ℕ} 0 1 = cc in absurd (omega arith)
+
     by : (o : Option Row) → firstOf (writeChecks o g room) (Replied (length (messageFrom o g))) ≡ Replied n → length (messageFrom o g) ≡ n
-    by none a = let z : _≡_ {A = ℕ} 0 1 = cc in absurd (omega arith)
+    by none a = unknown (both (eqb (g .numbers .op) recall) (not (nameBytes (g .bytes)))) a
     by (some r) a = choose (length (messageBy r g)) (anyUnfit (g .bytes) (r .slots)) (ltb room (length (messageBy r g))) a
 
 -- what a call of the writer wrote: as many bytes of the buffer as it answered

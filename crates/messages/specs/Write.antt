@@ -5,8 +5,8 @@ use mathlib.Core.Path.{_≡_}
 use mathlib.Core.List.{List, [], _∷_}
 use mathlib.Core.Option.{Option, none, some}
 use lib.ListN.{length}
-use lib.Dec.{ltb}
-use Rattle.words.specs.Choice.{either}
+use lib.Dec.{ltb, eqb}
+use Rattle.words.specs.Choice.{both, either}
 use Rattle.words.specs.Bytes.{AreBytes}
 use Rattle.refusals.specs.declared.Refusal.the-variants.{NoRoom, Malformed, UnknownMessage}
 use Rattle.format.specs.Fields.{nameBytes, highest32}
@@ -15,6 +15,7 @@ use Rattle.model.specs.declared.Answer.{Answer}
 use Rattle.model.specs.declared.Answer.the-variants.{Replied}
 use Rattle.model.specs.Checks.{Check, check, firstOf}
 use Rattle.model.specs.Apply.{written}
+use Rattle.calls.specs.Ops.{recall}
 use Rattle.messages.specs.Table.{Slot, at-a, at-b, at-c, value, name, file, Row, table, Given, Words, giveAll}
 
 -- the row of an op; none for one that has no address
@@ -51,9 +52,9 @@ messageFrom (some r) g = messageBy r g
 unfoldable pub messageOf : Given → List ℕ
 messageOf g = messageFrom (rowOf (g .numbers .op)) g
 
--- "with 26, then a command that has no address with 27, then a buffer too short with 24"
+-- "with 26, then a command that has no address with 27, then a buffer too short with 24": of those without an address a recall has a name (8/14)
 abbrev pub writeChecks : Option Row → Given → ℕ → List Check
-writeChecks none g room = check UnknownMessage true ∷ []
+writeChecks none g room = check Malformed (both (eqb (g .numbers .op) recall) (not (nameBytes (g .bytes)))) ∷ (check UnknownMessage true ∷ [])
 writeChecks (some r) g room = check Malformed (anyUnfit (g .bytes) (r .slots)) ∷ (check NoRoom (ltb room (length (messageBy r g))) ∷ [])
 
 unfoldable pub writeAnswer : Given → ℕ → Answer

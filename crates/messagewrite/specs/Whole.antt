@@ -1,16 +1,18 @@
 -- What the writer answers and leaves, by the op's slots and its address.
 use Prim.Native.Nat.{ℕ, _+_, _≤_, _<_}
-use mathlib.Core.Bool.{true, false}
+use mathlib.Core.Bool.{Bool, true, false, not}
 use mathlib.Core.Path.{_≡_, refl, sym, ap, _∙_}
 use mathlib.Core.List.{List}
 use mathlib.Core.Option.{Option, none, some}
 use native.Mathlib.Omega.{arith}
 use borrow.Author.Tests.{lt-ltb, le-ltb}
 use lib.ListN.{length}
-use lib.Dec.{ltb}
-use Rattle.words.specs.Choice.{pick}
+use lib.Dec.{ltb, eqb}
+use Rattle.words.specs.Choice.{pick, both}
 use Rattle.words.specs.Bytes.{AreBytes}
+use Rattle.refusals.specs.declared.Refusal.{Refusal}
 use Rattle.refusals.specs.declared.Refusal.the-variants.{NoRoom, Malformed, UnknownMessage}
+use Rattle.format.specs.Fields.{nameBytes}
 use Rattle.osc.specs.Message.{message, arguments}
 use Rattle.words.specs.Parts.{over}
 use Rattle.osc.specs.Over.{over-first}
@@ -19,6 +21,7 @@ use Rattle.model.specs.declared.Answer.{Answer}
 use Rattle.model.specs.declared.Answer.the-variants.{Replied, Refused}
 use Rattle.model.specs.Checks.{firstOf}
 use Rattle.model.specs.Apply.{written}
+use Rattle.calls.specs.Ops.{recall}
 use Rattle.messages.specs.Table.{Row, Given, Words, giveAll}
 use Rattle.messages.specs.Write.{rowOf, anyUnfit, messageFrom, messageOf, writeChecks, writeAnswer, Writes}
 use Rattle.messages.specs.Rows.{slotsIn, addressIn, slotsOf, addressOf}
@@ -49,10 +52,25 @@ unfolding firstOf
 row-answer none g room a h = absurd (omega arith)
 row-answer (some r) g room a h = refl
 
+-- the refusal of a command that has no address, beside its bytes
+abbrev pub withoutAddress : ℕ → List ℕ → Refusal
+withoutAddress op bytes = pick (both (eqb op recall) (not (nameBytes bytes))) Malformed UnknownMessage
+
+none-answer : (g : Given) (room : ℕ) (a : Answer) → firstOf (writeChecks none g room) a ≡ Refused (withoutAddress (g .numbers .op) (g .bytes))
+unfolding firstOf
+none-answer g room a = by (both (eqb (g .numbers .op) recall) (not (nameBytes (g .bytes))))
+  where
+    by : (u : Bool) → pick u (Refused Malformed) (Refused UnknownMessage) ≡ Refused (pick u Malformed UnknownMessage)
+    by true = refl
+    by false = refl
+
 module _ (g : Given) (out : List ℕ) (w : Words (g .numbers)) (lent : AreBytes (g .bytes)) where
-  pub writes-unknown : length (addressOf (g .numbers .op)) ≡ 0 → Writes g out (Refused UnknownMessage) out
-  unfolding writeAnswer firstOf
-  writes-unknown e = let z : rowOf (g .numbers .op) ≡ none = no-row (g .numbers .op) e in record { answers = rw z; left = rw z; numbers = w; lentBytes = lent }
+  pub writes-none : length (addressOf (g .numbers .op)) ≡ 0 → Writes g out (Refused (withoutAddress (g .numbers .op) (g .bytes))) out
+  unfolding writeAnswer
+  writes-none e =
+      let z : rowOf (g .numbers .op) ≡ none = no-row (g .numbers .op) e in
+      let a : writeAnswer g (length out) ≡ Refused (withoutAddress (g .numbers .op) (g .bytes)) = rw z (none-answer g (length out) (Replied (length (messageOf g)))) in
+      record { answers = sym a; left = ap (λ (b : Answer). written b (messageOf g) out) (sym a); numbers = w; lentBytes = lent }
 
   module _ (h : 0 < length (addressOf (g .numbers .op))) where
     is-message : messageOf g ≡ wholeMessage g

@@ -13,6 +13,9 @@ ghost use Rattle.words.specs.Parts.{over};
 ghost use Rattle.messagewrite.specs.Codes.{numberBy, isFloat, argumentBy, sizeBy, unfitBy, given, fitting};
 ghost use Rattle.messagewrite.specs.Pieces.{BlobRoom, ArgumentRoom};
 
+// The code of a name's slot.
+pub(crate) const NAME: u8 = 5;
+
 // A name with a byte that is not 1 to 127, or a file of over 2,147,483,647 bytes.
 pub(crate) fn is_unfit(code: u8, bytes: &[u8]) -> bool
     ensures { λ r. ⌜ r ≡ unfitBy code (now (bytes .entry)) ⌝ }

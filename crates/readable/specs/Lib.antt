@@ -3,3 +3,4 @@ pub mod LookupOf
 pub mod Entries
 pub mod Readable
 pub mod Labels
+pub mod OwnLabels

@@ -13,7 +13,7 @@ use Rattle.format.specs.declared.Width.the-variants.{Long}
 use Rattle.format.specs.Read.{onRead}
 use Rattle.format.specs.Fields.{count}
 use Rattle.format.specs.Reader.{readFront}
-use Rattle.format.specs.Names.{Covered, coveredBy, firstName}
+use Rattle.format.specs.Names.{Covered, coveredBy, firstName, nameFor}
 use Rattle.front.specs.Front.{valuesAt}
 
 -- a number that was found, or none
@@ -51,3 +51,7 @@ coverIn n s = onRead (readFront s 0) none (λ f next. coveredBy n (length (f .va
 -- the first name of an index
 abbrev pub nameOfIn : ℕ → List ℕ → Option (List ℕ)
 nameOfIn i s = onRead (readFront s 0) none (λ f next. firstName i (f .names))
+
+-- its first name that looks up to it
+abbrev pub nameForIn : ℕ → List ℕ → Option (List ℕ)
+nameForIn i s = onRead (readFront s 0) none (λ f next. nameFor i (f .names))

@@ -9,10 +9,10 @@ use Rattle.format.specs.declared.Width.the-variants.{Long}
 use Rattle.format.specs.Read.{got, repeat}
 use Rattle.format.specs.Fields.{count, shortCountTo, highest16}
 use Rattle.format.specs.Definition.{UnitSpec, Definition}
-use Rattle.format.specs.Names.{coveredBy, firstName}
+use Rattle.format.specs.Names.{coveredBy, firstName, nameFor}
 use Rattle.format.specs.Reader.{readFront, unitBy, unitsBy, definitionBy, readDefinition, variant}
 use Rattle.front.specs.Front.{valuesAt}
-use Rattle.readable.specs.Lookup.{nameIn, parametersIn, unitsIn, valuesIn, coverIn, nameOfIn}
+use Rattle.readable.specs.Lookup.{nameIn, parametersIn, unitsIn, valuesIn, coverIn, nameOfIn, nameForIn}
 use Rattle.format.specs.RepeatLaws.{got-value, went-on}
 
 -- as many units are read as were asked for
@@ -54,3 +54,6 @@ module _ (s : List ℕ) {d : Definition} {end : ℕ} (e : readDefinition s 0 ≡
 
   pub first-name-of : (i : ℕ) → nameOfIn i s ≡ firstName i (d .front .names)
   first-name-of i = definition-on s 0 e (λ p q f u. rw f)
+
+  pub name-for-of : (i : ℕ) → nameForIn i s ≡ nameFor i (d .front .names)
+  name-for-of i = definition-on s 0 e (λ p q f u. rw f)

@@ -5,13 +5,13 @@ ghost use Prim.Native.Nat.{_≤_, _<_};
 ghost use lib.ListN.{length};
 ghost use Rattle.format.specs.Reader.{mostParameters, sizeLimit};
 ghost use Rattle.readable.specs.Entries.{Entries};
-ghost use Rattle.readable.specs.Labels.{Labelled, LabelledFrom};
+ghost use Rattle.readable.specs.Labels.{each, Labelled, LabelledFrom};
 ghost use Rattle.readable.specs.Readable.{Readable};
 
 // For each index the place of the length byte of its first name among so many entries, 0 where it has none.
 fn labels_from(s: &[u8], first: usize, count: u32) -> [u32; 32]
     requires { ⌜ (0 < first) × (length (now s) ≤ sizeLimit) × Entries (now s) mostParameters count first ⌝ }
-    ensures { λ r. ⌜ LabelledFrom (now (s .entry)) count first r ⌝ }
+    ensures { λ r. ⌜ LabelledFrom each (now (s .entry)) count first r ⌝ }
 {
     let mut table = [0u32; 32];
     let mut at = first;

@@ -4,6 +4,7 @@ mod entries;
 mod found;
 mod labelled;
 mod lookups;
+mod own;
 mod places;
 
 pub use cover::Cover;
@@ -14,3 +15,4 @@ pub use lookups::name_cover;
 pub use lookups::parameters;
 pub use lookups::units;
 pub use lookups::values;
+pub use own::own_labels;

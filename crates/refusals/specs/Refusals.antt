@@ -1,7 +1,7 @@
 -- The refusals' numbers: paper 01, "Refusal numbers", and from 26 on paper 02. Those of a file, 2 to 11, are in `faults`.
 use Prim.Native.Nat.{ℕ}
 use Rattle.refusals.specs.declared.Refusal.{Refusal}
-use Rattle.refusals.specs.declared.Refusal.the-variants.{BadState, NoSlot, BadFlag, BadNumber, NumberLive, NoDefinition, NoNode, WrongKind, InsideItself, NodesFull, NoControl, NoBus, BadValue, NoRoom, NoNumber, Malformed, UnknownMessage, PastWidth, ListUnfit}
+use Rattle.refusals.specs.declared.Refusal.the-variants.{BadState, NoSlot, BadFlag, BadNumber, NumberLive, NoDefinition, NoNode, WrongKind, InsideItself, NodesFull, NoControl, NoBus, BadValue, NoRoom, NoNumber, Malformed, UnknownMessage, PastWidth, VersionsFull, StoreUnformed, NoVersion, StoreFull, ListUnfit}
 
 abbrev pub numberOf : Refusal → ℕ
 -- "a state buffer has the wrong size, or a rule .. doesn't hold"
@@ -41,5 +41,13 @@ numberOf Malformed = 26
 numberOf UnknownMessage = 27
 -- paper 02, 6/14: "`/n_fill` by name past that width on a synth is refused with 28"
 numberOf PastWidth = 28
+-- paper 02, 8/14: "30 a 17th version"
+numberOf VersionsFull = 30
+-- "31 a store not so formed"
+numberOf StoreUnformed = 31
+-- "32 no such version"
+numberOf NoVersion = 32
+-- "33 exactly if the new contents would exceed the lent store, .. or if version 4,294,967,295 was given"
+numberOf StoreFull = 33
 -- paper 02, 5/14: "A longer list, or one that holds a query or an export, is refused whole with 34"
 numberOf ListUnfit = 34

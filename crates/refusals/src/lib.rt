@@ -21,6 +21,10 @@ pub enum Refusal {
     Malformed,
     UnknownMessage,
     PastWidth,
+    VersionsFull,
+    StoreUnformed,
+    NoVersion,
+    StoreFull,
     ListUnfit,
 }
 
@@ -47,6 +51,10 @@ pub fn refusal_number(refusal: Refusal) -> u32
         Refusal::Malformed => 26,
         Refusal::UnknownMessage => 27,
         Refusal::PastWidth => 28,
+        Refusal::VersionsFull => 30,
+        Refusal::StoreUnformed => 31,
+        Refusal::NoVersion => 32,
+        Refusal::StoreFull => 33,
         Refusal::ListUnfit => 34,
     }
 }

@@ -74,7 +74,7 @@ fn message<D: Applies>(line: Line, folder: &Path) -> Result<(u32, Vec<u8>), Stri
         Line::Tree => Err(unwritten("tree", NO_ADDRESS)),
         Line::List => Err(unwritten("list", NO_ADDRESS)),
         Line::End => Err(unwritten("end", NO_ADDRESS)),
-        Line::Why { text, .. } => Err(unwritten(&text, NO_ADDRESS)),
+        Line::Why { text, .. } | Line::Settings { text, .. } => Err(unwritten(&text, NO_ADDRESS)),
         Line::Load { text, file } => of(&text, &load(&file, folder)?),
         Line::Call { text, call } => of(&text, &call),
     }

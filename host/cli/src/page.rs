@@ -5,9 +5,10 @@ mod compare;
 mod data;
 mod html;
 mod json;
+mod settings;
 
 use crate::play::line::{self, Line};
-use crate::play::{Applies, Player, NO_END};
+use crate::play::{Applies, NotKept, Player, NO_END};
 use ask::{Answers, Shape};
 use data::Data;
 use html::{List, Verdict};
@@ -61,7 +62,7 @@ pub struct Page {
     pub all_read: bool,
 }
 
-/// Plays a script and makes its page. Files of `/d_recv` are named from the folder.
+/// Plays a script and makes its page. Its files are named from the folder, and its store is written back.
 pub fn page(
     script: &[u8],
     title: &str,
@@ -104,6 +105,12 @@ pub fn page(
         list.step(number + 1, b"", Verdict::Unread, NO_END);
         data.step(number + 1, [None; 2], ask(&mut player, &mut shapes)?);
     }
+    if let Some(NotKept { place, why }) = player.keep() {
+        all_read = false;
+        let why = format!("line {place}: {why}");
+        list.step(number + 1, b"", Verdict::Unread, &why);
+        data.step(number + 1, [None; 2], ask(&mut player, &mut shapes)?);
+    }
     let html = html::page(title, &list, &data.json(&shapes));
     Ok(Page { html, all_read })
 }
@@ -125,9 +132,8 @@ fn play(
         (Line::End, Some(open)) => open.shown(),
         (Line::Help | Line::List | Line::End, _) => String::new(),
         (Line::Tree, _) => "tree".to_string(),
-        (Line::Load { text, .. } | Line::Call { text, .. } | Line::Why { text, .. }, _) => {
-            text.clone()
-        }
+        (Line::Load { text, .. } | Line::Call { text, .. }, _) => text.clone(),
+        (Line::Why { text, .. } | Line::Settings { text, .. }, _) => text.clone(),
     };
     let mut out = Vec::new();
     if let Some(why) = player.line(line, number, folder, &mut out)? {
@@ -149,12 +155,12 @@ fn play(
 /// The nodes that a line names, as far as its first two numbers are such.
 fn names(line: &Line, latest: Option<i32>) -> [Option<i32>; 2] {
     match line {
-        Line::Call { call, .. } => {
-            [call.numbers[0], call.numbers[1]].map(|number| match number as i32 {
+        // Of a recall the first is a version.
+        Line::Call { call, .. } if call.op != line::RECALL => [call.numbers[0], call.numbers[1]]
+            .map(|number| match number as i32 {
                 -1 => latest,
                 number => Some(number),
-            })
-        }
+            }),
         _ => [None; 2],
     }
 }

@@ -1,14 +1,18 @@
 //! `limudvek play FILE`: sends a script's commands to an engine as messages, one a line, and those between
-//! `list` and `end` as one list, and prints the answers.
+//! `list` and `end` as one list, and prints the answers. Settings are saved to a store that a line lends.
 
+mod applies;
 pub(crate) mod line;
 mod list;
 pub(crate) mod message;
 pub mod messages;
+pub(crate) mod settings;
+mod store;
 pub(crate) mod tree;
 mod why;
 
-use engine::{List, ListRefused, Reason, Refused};
+pub(crate) use applies::written;
+pub use applies::Applies;
 use line::{Call, Line};
 use list::Open;
 use message::Message;
@@ -18,6 +22,8 @@ use std::io::{self, BufRead, BufReader, BufWriter, IsTerminal, Write};
 use std::os::unix::ffi::OsStrExt;
 use std::path::Path;
 use std::process::ExitCode;
+pub(crate) use store::NotKept;
+use store::Store;
 use synthdef::{refusal, show};
 
 /// What `limudvek help` prints: the usage, an empty line, and what a script can hold.
@@ -29,82 +35,12 @@ const QUERY_TREE_REPLY: &[u8] = b"/g_queryTree.reply";
 /// Longer than any reply or export.
 const REPLY: usize = 1 << 20;
 
-/// All of a message but its name or its file takes less.
-const FRAME: usize = 64;
-
 /// Said of a list where the script ends before it does.
 pub(crate) const NO_END: &str = "this list has no end, and was not sent";
 
 /// The exit status where a line can't be read, and where the script can't be.
 const LINES_UNREADABLE: u8 = 1;
 const UNREADABLE: u8 = 2;
-
-/// An engine to send commands to.
-pub trait Applies {
-    /// Does a command, given as the exported function `engine_apply` takes it, and answers alike.
-    fn apply(&mut self, op: u32, numbers: [u32; 5], bytes: &[u8], reply: &mut [u8]) -> u64;
-
-    /// Does the command that a message is, and answers as `engine_message`.
-    fn message(&mut self, message: &[u8], reply: &mut [u8]) -> u64;
-
-    /// Does the commands of a list, up to the first that is refused, as `engine_list`.
-    fn list(&mut self, list: &List) -> Result<usize, ListRefused>;
-
-    /// Why a node is silent, or where it runs, as `engine_why`.
-    fn why(&self, number: i32) -> Result<Reason, Refused>;
-
-    /// Writes a command as a message, and answers as `message_write`.
-    fn write(op: u32, numbers: [u32; 5], bytes: &[u8], out: &mut [u8]) -> u64;
-
-    /// The words of its state, which docs/LAYOUT.md describes.
-    fn words(&self) -> &[u32];
-}
-
-impl Applies for engine::Engine {
-    fn apply(&mut self, op: u32, numbers: [u32; 5], bytes: &[u8], reply: &mut [u8]) -> u64 {
-        packed(self.apply(op, numbers, bytes, reply))
-    }
-
-    fn message(&mut self, message: &[u8], reply: &mut [u8]) -> u64 {
-        packed(self.message(message, reply))
-    }
-
-    fn list(&mut self, list: &List) -> Result<usize, ListRefused> {
-        self.list(list)
-    }
-
-    fn why(&self, number: i32) -> Result<Reason, Refused> {
-        self.why(number)
-    }
-
-    fn write(op: u32, numbers: [u32; 5], bytes: &[u8], out: &mut [u8]) -> u64 {
-        engine::write_message(op, numbers, bytes, out)
-    }
-
-    fn words(&self) -> &[u32] {
-        self.words()
-    }
-}
-
-fn packed(answer: Result<usize, Refused>) -> u64 {
-    match answer {
-        Ok(length) => 256 * length as u64,
-        Err(refused) => u64::from(refused.number) + 256 * refused.place,
-    }
-}
-
-/// The message of a command, or why it can't be written.
-pub(crate) fn written<D: Applies>(call: &Call) -> Result<Vec<u8>, u32> {
-    let mut message = vec![0; call.bytes.len() + FRAME];
-    let answer = D::write(call.op, call.numbers, &call.bytes, &mut message);
-    match answer % 256 {
-        0 => {
-            message.truncate((answer / 256) as usize);
-            Ok(message)
-        }
-        number => Err(number as u32),
-    }
-}
 
 /// Why playing stopped before the script's end.
 #[derive(Debug)]
@@ -156,15 +92,32 @@ pub(crate) fn status(name: &OsStr, played: Result<bool, Stopped>) -> ExitCode {
     }
 }
 
-/// Plays a script. Files of `/d_recv` are named from the folder. Answers whether each line could be
-/// read.
+/// Plays a script. Its files are named from the folder. At the end, also where the output breaks off, its store is written back. Answers
+/// whether each line could be read, and the store was kept.
 pub fn play(
-    mut script: impl BufRead,
+    script: impl BufRead,
     folder: &Path,
     engine: &mut impl Applies,
     out: &mut impl Write,
 ) -> Result<bool, Stopped> {
     let mut player = Player::new(engine);
+    let played = lines(script, folder, &mut player, out);
+    let kept = player.keep();
+    let all_read = played?;
+    if let Some(NotKept { place, why }) = &kept {
+        writeln!(out, "line {place}: {why}")?;
+    }
+    out.flush()?;
+    Ok(all_read && kept.is_none())
+}
+
+/// Plays the lines of a script. Answers whether each could be read.
+fn lines(
+    mut script: impl BufRead,
+    folder: &Path,
+    player: &mut Player<impl Applies>,
+    out: &mut impl Write,
+) -> Result<bool, Stopped> {
     let mut all_read = true;
     let mut place = 0;
     while let Some(text) = next_line(&mut script)? {
@@ -174,22 +127,37 @@ pub fn play(
             writeln!(out, "line {place}: {why}")?;
         }
     }
-    if let Some(open) = player.list {
+    if let Some(open) = &player.list {
         all_read = false;
         writeln!(out, "line {}: {NO_END}", open.place)?;
     }
-    out.flush()?;
     Ok(all_read)
 }
 
-/// Asks for a line and plays it, until the input ends.
+/// Asks for a line and plays it, until the input ends; then its store is written back.
 pub fn prompt(
-    mut input: impl BufRead,
+    input: impl BufRead,
     folder: &Path,
     engine: &mut impl Applies,
     out: &mut impl Write,
 ) -> Result<bool, Stopped> {
     let mut player = Player::new(engine);
+    let asked = ask(input, folder, &mut player, out);
+    let kept = player.keep();
+    asked?;
+    if let Some(NotKept { why, .. }) = &kept {
+        writeln!(out, "{why}")?;
+    }
+    Ok(kept.is_none())
+}
+
+/// Asks for lines until the input ends.
+fn ask(
+    mut input: impl BufRead,
+    folder: &Path,
+    player: &mut Player<impl Applies>,
+    out: &mut impl Write,
+) -> Result<(), Stopped> {
     writeln!(out, "A command a line; help lists them, Ctrl-D ends.")?;
     // Lines are counted within a list.
     let mut place = 0;
@@ -202,7 +170,7 @@ pub fn prompt(
             if player.list.is_some() {
                 writeln!(out, "{NO_END}")?;
             }
-            return Ok(true);
+            return Ok(());
         };
         if let Some(why) = player.text(&text, place, folder, out)? {
             writeln!(out, "{why}")?;
@@ -251,6 +219,8 @@ pub(crate) struct Player<'a, D> {
     pub(crate) reply: Vec<u8>,
     /// The list that the lines go to, until its end.
     pub(crate) list: Option<Open>,
+    /// The store of saved settings, where one is lent.
+    pub(crate) store: Option<Store>,
 }
 
 impl<D: Applies> Player<'_, D> {
@@ -259,6 +229,7 @@ impl<D: Applies> Player<'_, D> {
             engine,
             reply: vec![0; REPLY],
             list: None,
+            store: None,
         }
     }
 
@@ -303,7 +274,9 @@ impl<D: Applies> Player<'_, D> {
                 Err(why) => return Ok(Some(self.unread(place, why))),
             },
             Line::Call { text, call } => (text, call),
-            Line::Help | Line::Tree | Line::List | Line::Why { .. } if self.list.is_some() => {
+            Line::Help | Line::Tree | Line::List | Line::Why { .. } | Line::Settings { .. }
+                if self.list.is_some() =>
+            {
                 let why = "between list and end stand commands only".to_string();
                 return Ok(Some(self.unread(place, why)));
             }
@@ -331,9 +304,13 @@ impl<D: Applies> Player<'_, D> {
                 }
                 return Ok(None);
             }
+            Line::Settings { text, asked } => {
+                return self.settings(&text, &asked, place, folder, out)
+            }
         };
         match &mut self.list {
             Some(open) => open.push(place, text, call),
+            None if call.op == line::RECALL => return self.recall(&text, &call, out),
             None => self.call(&text, &call, out)?,
         }
         Ok(None)

@@ -60,7 +60,8 @@ fn a_script_as_messages() {
 #[test]
 fn lines_that_are_no_message_are_named_and_the_rest_is_written() {
     let script = b"/status\nexport\ntree\nhelp\n/quit\n/d_free \"a\\x80\"\n/n_free five\n\
-                   /d_recv nofile\nlist\n/n_free 5\nend\nwhy  -8 # no\n";
+                   /d_recv nofile\nlist\n/n_free 5\nend\nwhy  -8 # no\nstore none/there\nsave 5\n\
+                   recall a 1 5\nrecall \"\\x80\" 1 5\ndrop a 1\nsettings\nstore\n";
     let (out, named, all) = written(script);
     assert_eq!(
         out,
@@ -91,6 +92,14 @@ fn lines_that_are_no_message_are_named_and_the_rest_is_written() {
             "limudvek: line 9: list: it has no address",
             "limudvek: line 11: end: it has no address",
             "limudvek: line 12: why -8: it has no address",
+            "limudvek: line 13: store none/there: it has no address",
+            "limudvek: line 14: save 5: it has no address",
+            "limudvek: line 15: recall a 1 5: it has no address",
+            "limudvek: line 16: recall \"\\x80\" 1 5: a name has a byte that is not from 1 to 127, or the \
+             file is longer than 2,147,483,647 bytes",
+            "limudvek: line 17: drop a 1: it has no address",
+            "limudvek: line 18: settings: it has no address",
+            "limudvek: line 19: store: it has no address",
         ]
     );
 }
@@ -188,7 +197,8 @@ fn a_script_and_its_messages_go_the_same_way() {
     for script in [EVERY, &show] {
         let no_message = |line: &str| {
             let word = line.split(' ').next().unwrap_or("");
-            matches!(word, "tree" | "export" | "list" | "end" | "why")
+            let stored = matches!(word, "store" | "save" | "recall" | "drop" | "settings");
+            stored || matches!(word, "tree" | "export" | "list" | "end" | "why")
         };
         let lines = script.lines().filter(|line| !no_message(line));
         let script = lines.collect::<Vec<_>>().join("\n");

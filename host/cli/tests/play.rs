@@ -166,7 +166,7 @@ fn a_list_is_one_call() {
 
 #[test]
 fn a_list_that_is_refused_whole() {
-    let whole = "refused 34: a list has at most 512 commands, and none of them replies";
+    let whole = "refused 34: a list has at most 512 commands, and none of them replies or recalls";
     prints(
         "list\n/g_new 1 1 0\n\n/n_query 1\nexport\nend\n/n_query 1\n",
         &format!(
@@ -266,6 +266,8 @@ fn every_command_has_its_kind() {
         "tree: ok\n  0 group\n    1 group\n    2 group\n      11 ping, off\n\
          \x20       freq 0.5 from bus 6, own 440.0\n      10 ping\n        freq 4.0\n  running: 10\n",
         "export: ok\n  46 bytes, 1 definition: ping\n",
+        "store: ok\nsave 10: ok\n  ping, version 1\nrecall ping 1 11: ok\nsettings: ok\n\
+         \x20 ping, highest version 1\n    version 1: freq 4.0\n  32 of 65536 bytes\ndrop ping 1: ok\n",
         "/status: ok\n  /status.reply 0 0 1 0\ntree: ok\n  0 group\n  running:\n",
     ] {
         assert!(text.contains(replies), "{replies}\nis not in\n{text}");

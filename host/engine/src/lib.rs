@@ -1,6 +1,7 @@
 //! Safe functions over the proved engine. An engine lives in two lent runs, which docs/LAYOUT.md
 //! describes: words, and bytes called the arena.
 
+pub mod settings;
 mod why;
 
 pub use why::Reason;
@@ -59,6 +60,34 @@ mod proved {
             arena: *const u8,
             arena_length: usize,
         ) -> u64;
+        pub fn settings_save(
+            node: u32,
+            words: *const u32,
+            words_length: usize,
+            arena: *const u8,
+            arena_length: usize,
+            store: *mut u8,
+            store_length: usize,
+        ) -> u64;
+        pub fn settings_recall(
+            name: *const u8,
+            name_length: usize,
+            version: u32,
+            node: u32,
+            store: *const u8,
+            store_length: usize,
+            words: *mut u32,
+            words_length: usize,
+            arena: *const u8,
+            arena_length: usize,
+        ) -> u32;
+        pub fn settings_drop(
+            name: *const u8,
+            name_length: usize,
+            version: u32,
+            store: *mut u8,
+            store_length: usize,
+        ) -> u32;
         pub fn message_write(
             op: u32,
             a: u32,
@@ -159,7 +188,7 @@ pub fn message(message: &[u8], words: &mut [u32], arena: &mut [u8], reply: &mut 
 /// of `bytes` starts, that part's length, and four that are 0. Answers the refusal's number, or 0, plus
 /// 256 times how many commands were accepted, plus 2^24 times the place (refusals 2 to 11). What is no
 /// list is `UNKNOWN`, then a state is refused with 1, then with 34 a list of more than 512 commands or
-/// with one that replies; then nothing changes.
+/// with one that replies or a recall; then nothing changes.
 pub fn list(items: &[u32], bytes: &[u8], words: &mut [u32], arena: &mut [u8]) -> u64 {
     // SAFETY: as above.
     unsafe {

@@ -9,6 +9,7 @@ use common::lent::{lend, spoil, SPOILT};
 use common::pair::Pair;
 use common::tally::{check, Tally};
 use common::{seed, sequences, spread};
+use engine::settings::RECALL;
 use engine::{List, ListRefused, Refused, UNKNOWN};
 use independent::engine::{Commands, Theme};
 use independent::layout::{ARENA, WORDS};
@@ -136,12 +137,12 @@ impl Sequence {
                 let place = random.up_to(length - 1);
                 self.calls(length, Some(place))
             }
-            // One that replies, at any place.
+            // One that replies or a recall, at any place.
             14..=15 => {
                 replies = true;
                 let mut calls = self.calls(length.min(MOST_COMMANDS - 1), None);
                 let place = self.random.up_to(calls.len());
-                let op = 21 + self.random.below(7) as u32;
+                let op = 21 + self.random.below(8) as u32;
                 let query = self.commands.kind(op, &self.pair.model);
                 calls.insert(place, query);
                 calls
@@ -303,7 +304,8 @@ fn damaged_states() {
             hurt(1, random, &mut pair.words, &mut pair.arena);
             let whole = random.below(4) == 0;
             if whole {
-                calls.push(commands.kind(26, &model));
+                let op = random.one_of(&[26, RECALL]);
+                calls.push(commands.kind(op, &model));
             }
             let (mut items, bytes) = lend(&calls, random);
             if random.below(4) == 0 {
@@ -407,7 +409,10 @@ fn a_list_by_the_wrapper() {
     assert!(list.push(26, [0; 5], b""));
     assert_eq!(desk.0.list(&list), stopped(34, 0, 0));
     desk.done(5, [2, 0, 0, 0, 0], b"");
+    // So is a recall, which takes a store too. One that is no command comes before.
     let mut list = List::new();
-    assert!(list.push(28, [0; 5], b""));
+    assert!(list.push(RECALL, [1, 2, 0, 0, 0], b"rain"));
+    assert_eq!(desk.0.list(&list), stopped(34, 0, 0));
+    assert!(list.push(29, [0; 5], b""));
     assert_eq!(desk.0.list(&list), stopped(255, 0, 0));
 }

@@ -40,7 +40,8 @@ int main(void) {
     /* Refused by the writer, and by the reader. */
     WANT(WRITE(2, 0, 0, 0, "a\200", 2, sizeof message) == 26);
     WANT(WRITE(27, 0, 0, 0, "", 0, sizeof message) == 27);
-    WANT(WRITE(28, 0, 0, 0, "", 0, sizeof message) == 255);
+    WANT(WRITE(28, 0, 0, 0, "", 0, sizeof message) == 27);
+    WANT(WRITE(29, 0, 0, 0, "", 0, sizeof message) == 255);
     WANT(SEND(query, sizeof query - 1) == 26);
     WANT(SEND((const uint8_t *)"/quit\0\0\0,\0\0", 12) == 27);
     free(words);

@@ -13,7 +13,7 @@ use common::{seed, sequences, spread};
 use engine::{Engine, Refused, UNKNOWN};
 use independent::engine::{packed, Commands, Theme};
 use independent::layout::{COUNT, INDEX, ORDER_LENGTH, RESIDENT};
-use independent::{write, write_message, Call, Random};
+use independent::{write, write_message, Call, Command, Random};
 
 /// The message of a call by the independent writer.
 fn written(call: &Call) -> Vec<u8> {
@@ -190,7 +190,7 @@ fn a_broken_state_is_refused_before_any_message() {
 
 /// What the writer answers and writes, with buffers of some lengths. Answers how many were compared.
 fn compare_writers(call: &Call, random: &mut Random) -> usize {
-    let command = call.command();
+    let command = Command::of(call.op, call.numbers, &call.bytes);
     let expected = |out: &mut [u8]| match &command {
         Some(command) => packed(write_message(command, out)),
         None => UNKNOWN,

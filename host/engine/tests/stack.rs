@@ -1,5 +1,5 @@
 //! Every call of the engine on a thread with 128 KB of stack: on fresh, wide, deep and damaged states, each command at its edges, with
-//! long files and names; as numbers, as a message and in lists.
+//! long files and names; as numbers, as a message and in lists; and saved settings in long stores.
 
 mod common;
 #[path = "../../stack.rs"]
@@ -9,7 +9,11 @@ use common::damage::hurt;
 use common::desk::Desk;
 use common::osc::{edges, KINDS};
 use common::shapes::sized;
-use independent::{check, lend_list, Call, Definition, Random, MOST_COMMANDS};
+use engine::settings;
+use independent::settings::contents;
+use independent::{
+    check, lend_list, Call, Definition, Named, Random, Saved, Setting, MOST_COMMANDS,
+};
 use stack::{long_files, on_little_stack};
 
 /// The most nodes besides the root.
@@ -196,6 +200,43 @@ fn long_lists() {
             let (items, bytes) = lend_list(&calls);
             let mut state = State::of(desk);
             on_little_stack(|| engine::list(&items, &bytes, &mut state.words, &mut state.arena));
+        }
+    }
+}
+
+/// Stores of 64 KB, of as many names and of as many settings as there is room for, and one that is empty.
+#[test]
+fn long_stores() {
+    let setting = |at: usize| Setting {
+        name: format!("c{at}").into_bytes(),
+        value: 7,
+    };
+    let named = |at: usize| Named {
+        name: format!("n{at}").into_bytes(),
+        highest: 1,
+        versions: Vec::new(),
+    };
+    let one = Named {
+        name: b"A".to_vec(),
+        highest: 1,
+        versions: vec![Saved {
+            version: 1,
+            settings: (0..5_000).map(setting).collect(),
+        }],
+    };
+    let names: Vec<Named> = (0..3_000).map(named).collect();
+    for entries in [names, vec![one], Vec::new()] {
+        let mut store = contents(&entries);
+        store.resize(1 << 16, 0);
+        for desk in [wide(), deep()] {
+            let State { mut words, arena } = State::of(&desk);
+            for node in [1, NODES as u32, u32::MAX] {
+                on_little_stack(|| {
+                    settings::recall(b"A", 1, node, &store, &mut words, &arena);
+                    settings::save(node, &words, &arena, &mut store);
+                    settings::drop_version(b"A", 2, &mut store);
+                });
+            }
         }
     }
 }

@@ -4,7 +4,7 @@ use crate::engine::{MOST_NODES, SLOTS};
 use crate::layout::{record, records, row_words, write_index};
 use crate::layout::{BUS, CONTROL, COUNT, GROUP, INDEX, LATEST, LENGTH, NEXT, NODE, NONE_LEFT};
 use crate::layout::{ORDER, ORDER_LENGTH, RECORD, RESIDENT};
-use crate::{View, MOST_BYTES};
+use crate::{View, MOST_BYTES, RECALL};
 use std::collections::HashMap;
 
 /// Brings a state from before an accepted command to the one after it, given what it then holds.
@@ -13,7 +13,7 @@ pub fn leave(op: u32, after: &View, words: &mut [u32], arena: &mut [u8]) {
     match op {
         1 | 2 => slots(after, words, arena),
         3..=12 => tree(op, after, words),
-        13..=18 => controls(after, words, |_| true),
+        13..=18 | RECALL => controls(after, words, |_| true),
         19 | 20 => words[BUS..INDEX].copy_from_slice(&after.buses),
         _ => {}
     }

@@ -102,7 +102,16 @@ pub enum Command<'a> {
     Status,
     /// Has no address.
     Export,
+    /// Has no address, and goes with a store only: settings of a version for a synth.
+    Recall {
+        definition: &'a [u8],
+        version: u32,
+        node: i32,
+    },
 }
+
+/// The kind of a recall, the last.
+pub const RECALL: u32 = 28;
 
 /// A command as the exported function takes it: a number for its kind, five numbers and bytes.
 /// Those that the kind has no use for may be anything.
@@ -163,6 +172,7 @@ impl Call {
             Command::QueryTree { group, flag } => (25, group, flag, 0),
             Command::Status => (26, 0, 0, 0),
             Command::Export => (27, 0, 0, 0),
+            Command::Recall { version, node, .. } => (RECALL, version as i32, node, 0),
         };
         let (mark, pattern) = match *command {
             Command::Set { value, .. }
@@ -176,7 +186,7 @@ impl Call {
         };
         let bytes = match *command {
             Command::Receive(bytes) | Command::Delete(bytes) => bytes,
-            Command::NewSynth { definition, .. } => definition,
+            Command::NewSynth { definition, .. } | Command::Recall { definition, .. } => definition,
             Command::Set { key, .. }
             | Command::Fill { key, .. }
             | Command::Map { key, .. }
@@ -186,9 +196,10 @@ impl Call {
         Call::new(op, [a, b, c, mark, pattern], bytes)
     }
 
-    /// The command, if there is one.
+    /// The command, if it is one without a store.
     pub fn command(&self) -> Option<Command<'_>> {
-        Command::of(self.op, self.numbers, &self.bytes)
+        let command = Command::of(self.op, self.numbers, &self.bytes);
+        command.filter(|command| !command.needs_store())
     }
 }
 
@@ -204,6 +215,11 @@ impl<'a> Command<'a> {
                 | Command::Status
                 | Command::Export
         )
+    }
+
+    /// Whether it is a recall.
+    pub fn needs_store(&self) -> bool {
+        matches!(self, Command::Recall { .. })
     }
 
     /// The command of a call, or none where the kind is unknown, or a value is marked neither float nor
@@ -286,6 +302,11 @@ impl<'a> Command<'a> {
             25 => Command::QueryTree { group: a, flag: b },
             26 => Command::Status,
             27 => Command::Export,
+            RECALL => Command::Recall {
+                definition: bytes,
+                version: a as u32,
+                node: b,
+            },
             _ => return None,
         })
     }

@@ -3,6 +3,7 @@
 mod commands;
 mod query;
 mod reply;
+mod settings;
 mod slots;
 mod tree;
 mod view;
@@ -27,6 +28,9 @@ pub const LAST_GENERATED: i32 = i32::MIN;
 
 /// Integers up to this, and down to its negative, are values.
 const MOST_INTEGER: u32 = 16_777_216;
+
+/// The answer to what is no command of `apply`.
+const UNKNOWN: u32 = 255;
 
 /// How an engine answers: the length of the reply or the export, 0 for other commands.
 pub type Answer = Result<usize, Fault>;
@@ -93,6 +97,8 @@ impl Engine {
             Command::QueryTree { group, flag } => return self.query_tree(group, flag, reply),
             Command::Status => return self.status(reply),
             Command::Export => return self.export(reply),
+            // It takes a store too, which `recall` is lent.
+            Command::Recall { .. } => return refuse(UNKNOWN),
             Command::Receive(file) => match read_versioned(file)? {
                 (Version::One, definitions) => {
                     let twin = write(&definitions).bytes;

@@ -1,4 +1,4 @@
-//! SynthDef files of both versions, messages, lists and the engine as the papers describe them, written without a look at the proved
+//! SynthDef files of both versions, messages, lists, saved settings and the engine as the papers describe them, written without a look at the proved
 //! code: the two are compared on many files and commands, so neither is to copy the other's mistakes.
 
 mod after;
@@ -12,12 +12,13 @@ mod list;
 mod message;
 mod random;
 mod read;
+pub mod settings;
 mod version;
 mod widen;
 mod write;
 
 pub use after::leave;
-pub use command::{Call, Command, Key, Value};
+pub use command::{Call, Command, Key, Value, RECALL};
 pub use definition::{Definition, Input, Unit, Variant};
 pub use engine::{Answer, Engine, Reason, View};
 pub use formed::{running, well_formed};
@@ -25,6 +26,7 @@ pub use list::{lend_list, read_list, Listed, ITEM, MOST_COMMANDS};
 pub use message::{read_message, write_message, Argument, Message};
 pub use random::{Random, Shape};
 pub use read::{check, read, read_definition, read_versioned, version};
+pub use settings::{drop_version, read_store, Named, Saved, Setting};
 pub use version::Version;
 pub use widen::{twin, Twin};
 pub use write::{write, write_as, Field, Rule, Written};

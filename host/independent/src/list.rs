@@ -37,14 +37,15 @@ impl Listed {
 
 impl Engine {
     /// Does commands one by one up to the first that is refused; those before it stay done, and
-    /// `accepted` is told of each. A list that is too long, or holds a command that replies, is refused
-    /// whole.
+    /// `accepted` is told of each. A list that is too long, or holds a command that replies or a recall, is
+    /// refused whole.
     pub fn list(
         &mut self,
         commands: &[Command],
         mut accepted: impl FnMut(&Engine, &Command),
     ) -> Listed {
-        if commands.len() > MOST_COMMANDS || commands.iter().any(Command::replies) {
+        let goes_in_none = |command: &Command| command.replies() || command.needs_store();
+        if commands.len() > MOST_COMMANDS || commands.iter().any(goes_in_none) {
             return Listed::whole(34);
         }
         for (place, command) in commands.iter().enumerate() {

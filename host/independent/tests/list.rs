@@ -120,7 +120,7 @@ fn what_is_no_list() {
         read(&items).is_some()
     };
     // The kind, and that of the value.
-    assert!(with(0, 27) && !with(0, 0) && !with(0, 28) && !with(0, u32::MAX));
+    assert!(with(0, 28) && !with(0, 0) && !with(0, 29) && !with(0, u32::MAX));
     assert!(with(4, 0) && with(4, 1) && !with(4, 2) && !with(4, 257));
     // Numbers that it takes or does not take.
     assert!((1..6)

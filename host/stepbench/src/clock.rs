@@ -6,10 +6,15 @@ pub const SAMPLES: usize = 201;
 const SAMPLE: Duration = Duration::from_micros(200);
 
 /// The least time of each work in nanoseconds. They take turns, a sample each.
-pub fn least(mut works: Vec<Box<dyn FnMut() + '_>>) -> Vec<f64> {
+pub fn least(works: Vec<Box<dyn FnMut() + '_>>) -> Vec<f64> {
+    least_of(SAMPLES, works)
+}
+
+/// The same of so many samples.
+pub fn least_of(samples: usize, mut works: Vec<Box<dyn FnMut() + '_>>) -> Vec<f64> {
     let turns: Vec<usize> = works.iter_mut().map(turns).collect();
     let mut times = vec![Duration::MAX; works.len()];
-    for _ in 0..SAMPLES {
+    for _ in 0..samples {
         for ((work, &turns), best) in works.iter_mut().zip(&turns).zip(&mut times) {
             *best = time(turns, work).min(*best);
         }

@@ -1,7 +1,7 @@
 //! The proved engine's time as a multiple of the independent Rust engine's, for the same commands in
 //! one run: whole (`apply`), with the time of its state check taken off (`step`), and in lists, where the
 //! check is a small part; and messages against commands as they are, their reading and writing against
-//! plain Rust; the lookup of a node; lists; why a number is silent; and the most that a call takes.
+//! plain Rust; the lookup of a node; lists; why a number is silent; saved settings; and the most that a call takes.
 //!
 //! Run it from `host/`, after `./archives engine`, by `cargo run --release -p stepbench`; words after `--`, as `lists`, ask
 //! for parts of it.
@@ -12,7 +12,9 @@ mod fast;
 mod lists;
 mod lookups;
 mod messages;
+mod settings;
 mod steps;
+mod store;
 mod why;
 mod worst;
 
@@ -67,13 +69,14 @@ impl State {
 }
 
 /// The parts, each by the word that asks for it alone.
-const PARTS: [(&str, fn()); 8] = [
+const PARTS: [(&str, fn()); 9] = [
     ("commands", every_command),
     ("steps", steps::measure),
     ("lookups", lookups::measure),
     ("lists", lists::measure),
     ("messages", messages::measure),
     ("why", why::measure),
+    ("settings", settings::measure),
     ("checks", checks),
     ("worst", worst::measure),
 ];

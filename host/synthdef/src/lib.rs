@@ -1,6 +1,7 @@
 //! Safe functions over the proved library of SynthDef files: a file of version 1 or 2 is accepted, or refused
 //! with a number and a place. Beside them the refusals in plain words, and bytes as text.
 
+pub mod file;
 pub mod refusal;
 pub mod show;
 

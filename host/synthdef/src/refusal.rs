@@ -31,7 +31,11 @@ pub fn reason(number: u32) -> &'static str {
         26 => "this is no OSC message: it is cut or malformed, or bytes are left over",
         27 => "no command has this address, or not with these arguments",
         28 => "the name covers fewer controls than that",
-        34 => "a list has at most 512 commands, and none of them replies",
+        30 => "16 versions are saved under this name already",
+        31 => "this is no well-formed store of settings",
+        32 => "no such version is saved under this name",
+        33 => "the store has no room for this, or the name has had its last version",
+        34 => "a list has at most 512 commands, and none of them replies or recalls",
         _ => "the reason has no words yet",
     }
 }

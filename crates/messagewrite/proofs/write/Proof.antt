@@ -6,7 +6,7 @@ use lib.ListN.{length}
 use Rattle.messages.specs.Table.{Words}
 use Rattle.messages.specs.Rows.{addressOf}
 use Rattle.messagewrite.specs.Codes.{given, fitting-none, fitting-some}
-use Rattle.messagewrite.specs.Whole.{wholeSize, writes-unknown, writes-unfit, writes-short, writes-whole}
+use Rattle.messagewrite.specs.Whole.{wholeSize, writes-none, writes-unfit, writes-short, writes-whole}
 use Rattle.messagewrite.proofs.write.Statement.{statement}
 use Rattle.messagewrite.proofs.write.Tie as tie
 
@@ -18,9 +18,11 @@ words s =
 
 returns : tie.Need-returns
 returns c =
-    let s = c .before .before .before .before in
+    let s = c .before .before .before .before .before in
     let a = s .args in
-    writes-unknown (given (a .numbers) (a .bytes .now)) (a .out .now) (words s) (λ i. c .before .before .before .shared-slice-known .given i .fits) (sym (c .before .address-length .ensures) ∙ c .if1 .taken)
+    rw (c .without-address .ensures)
+    (writes-none (given (a .numbers) (a .bytes .now)) (a .out .now) (words s) (λ i. c .before .before .before .before .shared-slice-known .given i .fits)
+    (sym (c .before .before .address-length .ensures) ∙ c .before .if1 .taken))
 
 returns-2 : tie.Need-returns-2
 returns-2 c =
@@ -71,5 +73,5 @@ returns-4 c =
 pub write-spec : {M : Type 1} → statement M
 write-spec =
     tie.close
-    (tie.spec (λ c κs. search needs) returns (λ c κs. search needs) (λ c κs. search needs) returns-2
+    (tie.spec (λ c κs. search needs) (λ c κs. search needs) returns (λ c κs. search needs) (λ c κs. search needs) returns-2
     (λ c κs. search needs) returns-3 put-message-requires (λ c. search needs) returns-4)

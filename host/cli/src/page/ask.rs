@@ -1,8 +1,9 @@
 //! What the engine answers between two commands: its replies to `/g_queryTree 0 1`, `/n_query -1` and
-//! `/status`, its export, and, from the words of its state, what no reply says.
+//! `/status`, its export, and, from the words of its state, what no reply says; and what the store of saved settings holds.
 
 use crate::play::line::{self, Call};
 use crate::play::message::{Argument, Message};
+use crate::play::settings::{self, Named};
 use crate::play::tree::{
     self, Kind, BUS, CONTROL, NODE, ORDER, ORDER_LENGTH, RECORD, RESIDENT, ROW,
 };
@@ -35,6 +36,8 @@ pub struct Answers {
     pub buses: Vec<u32>,
     /// Units, synths, groups, residents.
     pub status: Vec<i32>,
+    /// The saved settings, none where no store is lent.
+    pub settings: Vec<Named>,
 }
 
 #[derive(Clone, Debug, PartialEq, Eq)]
@@ -100,7 +103,10 @@ impl Answers {
         let order: Vec<i32> = order.map(|&number| number as i32).collect();
         let known = |number: &i32| nodes.iter().any(|node| node.number == *number);
         order.iter().chain(&latest).all(known).then_some(())?;
+        let store = player.store.as_ref();
+        let settings = store.map_or_else(Vec::new, |store| settings::entries(store.bytes()));
         Some(Answers {
+            settings,
             order,
             latest,
             definitions,

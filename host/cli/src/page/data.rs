@@ -12,7 +12,9 @@
 //! - `order`: the running order, as places; `latest`: what -1 means, or null; `status`: four numbers;
 //! - `definitions`: slot, name, bytes or null where it is retired, and what became of it (0 stayed,
 //!   1 came, 2 its name meant another before, 3 retired); `gone`: slot, name, 1 where it was retired;
-//! - `buses`: runs of buses with another float: first, how many, float.
+//! - `buses`: runs of buses with another float: first, how many, float;
+//! - `settings`: names under which saved settings are others: the name, its highest version, the versions that are gone, and those that came,
+//!   each with its settings, pairs of a control's name and its float.
 //!
 //! Places are counted in the tree after the step, depth first, and written as runs: first, how many.
 //! A shape is a definition's name with its controls, by its place in `shapes`, and -1 for a group.
@@ -20,6 +22,7 @@
 use super::ask::{Answers, Definition, Node, Shape};
 use super::compare::{compare, fate, gone, Change, Changed, Put};
 use super::json::{float, list, or_null, runs, string, Object};
+use super::settings;
 use std::collections::HashMap;
 use synthdef::show::quoted;
 
@@ -117,6 +120,9 @@ impl Data {
                 ])
             });
             step.set("buses", list(runs));
+        }
+        if let Some(changes) = settings::changes(&before.settings, &after.settings) {
+            step.set("settings", changes);
         }
         self.before = after;
         step

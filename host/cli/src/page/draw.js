@@ -69,6 +69,23 @@ function drawBuses({before, after, marks}) {
   $('buses').replaceChildren(...(items.length ? items : [el('li', 'empty', 'none')]));
 }
 
+/* The saved settings: of each name its versions, and those that the step dropped. */
+function drawSettings({before, after, step}) {
+  const changed = new Map((step.settings || []).map(([name, , gone, came]) => [name, {gone, came: came.map(version => version[0])}]));
+  const values = settings => settings.map(([name, float]) => name + ' ' + float).join(', ');
+  const version = (name, mark, [number, settings]) => el('li', mark,
+    el('span', 'definition', name), ' ', el('span', 'number', String(number)), mark ? tag(mark, mark === 'came' ? 'saved' : 'dropped') : null,
+    ' ', el('small', '', values(settings)));
+  const items = [];
+  for (const [name, {highest, versions}] of after.settings) {
+    const {gone, came} = changed.get(name) || {gone: [], came: []};
+    const old = gone.length ? before.settings.get(name).versions.filter(own => gone.includes(own[0])) : [];
+    items.push(...versions.map(own => version(name, came.includes(own[0]) ? 'came' : '', own)), ...old.map(own => version(name, 'freed', own)));
+    if (versions.length === 0) items.push(el('li', '', el('span', 'definition', name), ' ', el('small', '', 'no version left, the highest was ' + highest)));
+  }
+  $('settings').replaceChildren(...(items.length ? items : [el('li', 'empty', 'none')]));
+}
+
 /* What the step did, in a few words each. */
 function drawDid({after, step, marks}) {
   const items = [];
@@ -85,6 +102,10 @@ function drawDid({after, step, marks}) {
   for (const [, name, retired] of step.gone || []) say('freed', (retired ? 'retired definition ' : 'definition ') + name + ' gone');
   for (const [first, length] of step.buses || []) {
     say('changed', length === 1 ? 'bus ' + first + ' changed' : 'buses ' + first + ' to ' + (first + length - 1) + ' changed');
+  }
+  for (const [name, , gone, came] of step.settings || []) {
+    for (const number of gone) say('freed', name + ' version ' + number + ' dropped');
+    if (came.length) say('came', name + (came.length === 1 ? ' version ' : ' versions ') + some(came.map(version => version[0])) + ' saved');
   }
   if ('latest' in step) say('changed', after.latest === null ? '-1 means no node' : '-1 means ' + after.latest);
   if (step.order) say('changed', 'running order changed');
@@ -109,6 +130,7 @@ function draw() {
   drawDefinitions(look);
   drawLatest(look);
   drawBuses(look);
+  drawSettings(look);
   drawDid(look);
   const [units, synths, groups, residents] = after.status;
   $('status').textContent = units + ' units, ' + synths + ' synths, ' + groups + ' groups, ' + residents + ' definitions';

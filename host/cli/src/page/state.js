@@ -31,6 +31,11 @@ function advance(state, step) {
   if ('latest' in step) state.latest = step.latest;
   if (step.status) state.status = step.status;
   if (step.definitions) state.definitions = step.definitions;
+  for (const [name, highest, gone, came] of step.settings || []) {
+    const old = state.settings.get(name) || {versions: []};
+    const left = old.versions.filter(version => !gone.includes(version[0]));
+    state.settings.set(name, {highest, versions: left.concat(came)});
+  }
   for (const [first, count, float] of step.buses || []) {
     for (let bus = first; bus < first + count; bus++) {
       state.buses[bus] = float;
@@ -81,7 +86,7 @@ function copy(state) {
   for (const [n, node] of state.nodes) {
     nodes.set(n, {...node, kids: node.kids.slice(), own: node.own.slice(), bus: node.bus.slice()});
   }
-  return {...state, nodes, buses: state.buses.slice(), touched: new Set(state.touched)};
+  return {...state, nodes, buses: state.buses.slice(), touched: new Set(state.touched), settings: new Map(state.settings)};
 }
 
 /* The answers after so many steps. */
@@ -89,7 +94,7 @@ function answers(count) {
   if (kept.length === 0) {
     const start = {
       nodes: new Map(), root: 0, flat: [], order: [], latest: null, status: [], definitions: [],
-      buses: new Array(4096).fill('0.0'), touched: new Set(),
+      buses: new Array(4096).fill('0.0'), touched: new Set(), settings: new Map(),
     };
     advance(start, data.start);
     kept.push(start);

@@ -6,6 +6,7 @@ use synthdef::show::{self, in_quotes, looks_integer};
 pub const D_RECV: u32 = 1;
 pub const QUERY_TREE: u32 = 25;
 pub const EXPORT: u32 = 27;
+pub const RECALL: u32 = engine::settings::RECALL;
 
 /// A command as the exported function takes it.
 #[derive(Clone, Debug, Default, PartialEq, Eq)]
@@ -38,6 +39,11 @@ pub enum Line {
         text: String,
         number: i32,
     },
+    /// What is done with saved settings, but for a recall, which is a command.
+    Settings {
+        text: String,
+        asked: Settings,
+    },
     Load {
         text: String,
         file: Vec<u8>,
@@ -48,6 +54,16 @@ pub enum Line {
     },
 }
 
+#[derive(Debug, PartialEq, Eq)]
+pub enum Settings {
+    /// Lends the store of a file, or an empty one that no file keeps.
+    Lend(Option<Vec<u8>>),
+    Save(i32),
+    /// A definition's name, and the version.
+    Drop(Vec<u8>, u32),
+    List,
+}
+
 /// What stands after a command's address.
 #[derive(Clone, Copy)]
 enum Argument {
@@ -55,6 +71,8 @@ enum Argument {
     Name,
     /// An integer, as one of the command's numbers.
     Int(usize),
+    /// A version, as the first number.
+    Version,
     /// A control: an index as the second number, or a name as the bytes. A name makes the kind one
     /// more.
     Control,
@@ -64,7 +82,7 @@ enum Argument {
 
 /// Each command's kind and what it takes.
 fn command(address: &[u8]) -> Option<(u32, &'static [Argument])> {
-    use Argument::{Control, Int, Name, Value};
+    use Argument::{Control, Int, Name, Value, Version};
     Some(match address {
         b"/d_free" => (2, &[Name]),
         b"/s_new" => (3, &[Name, Int(0), Int(1), Int(2)]),
@@ -88,6 +106,7 @@ fn command(address: &[u8]) -> Option<(u32, &'static [Argument])> {
         b"/g_queryTree" => (QUERY_TREE, &[Int(0), Int(1)]),
         b"/status" => (26, &[]),
         b"export" => (EXPORT, &[]),
+        b"recall" => (RECALL, &[Name, Version, Int(1)]),
         _ => return None,
     })
 }
@@ -132,6 +151,14 @@ pub fn read(text: &[u8]) -> Result<Option<Line>, String> {
         let number = arguments[0].integer()?;
         return Ok(Some(Line::Why { text, number }));
     }
+    if let Some((takes, settings)) = settings(address) {
+        // A store without a file is one that no file keeps.
+        if address != STORE || !arguments.is_empty() {
+            expect(takes)?;
+        }
+        let asked = settings(arguments)?;
+        return Ok(Some(Line::Settings { text, asked }));
+    }
     if address == b"/d_recv" {
         expect(1)?;
         let file = arguments[0].bytes.clone();
@@ -148,10 +175,33 @@ pub fn read(text: &[u8]) -> Result<Option<Line>, String> {
     Ok(Some(Line::Call { text, call }))
 }
 
+/// The word that lends a store.
+const STORE: &[u8] = b"store";
+
+/// What a line about saved settings takes, and how that is read.
+type Asked = fn(&[Word]) -> Result<Settings, String>;
+
+fn settings(address: &[u8]) -> Option<(usize, Asked)> {
+    Some(match address {
+        STORE => (1, |words| {
+            let file = words.first().map(|word| word.bytes.clone());
+            Ok(Settings::Lend(file))
+        }),
+        b"save" => (1, |words| words[0].integer().map(Settings::Save)),
+        b"drop" => (2, |words| {
+            let version = words[1].version()?;
+            Ok(Settings::Drop(words[0].bytes.clone(), version))
+        }),
+        b"settings" => (0, |_| Ok(Settings::List)),
+        _ => return None,
+    })
+}
+
 fn put(word: &Word, kind: Argument, call: &mut Call) -> Result<(), String> {
     match kind {
         Argument::Name => call.bytes = word.bytes.clone(),
         Argument::Int(place) => call.numbers[place] = word.integer()? as u32,
+        Argument::Version => call.numbers[0] = word.version()?,
         Argument::Control if word.looks_integer() => call.numbers[1] = word.integer()? as u32,
         Argument::Control => {
             call.op += 1;
@@ -189,6 +239,10 @@ impl Word {
 
     fn integer(&self) -> Result<i32, String> {
         self.parsed("integer of 32 bits")
+    }
+
+    fn version(&self) -> Result<u32, String> {
+        self.parsed("version from 0 to 4294967295")
     }
 
     fn float(&self) -> Result<f32, String> {

@@ -10,7 +10,7 @@ use synthdef::{refusal, show};
 const STATE: u32 = 1;
 const WHOLE: u32 = 34;
 
-/// The first kind of command that replies, and those from it on.
+/// The first kind of command that goes in no list, and those from it on: what replies, and a recall.
 const REPLIES: u32 = 21;
 
 /// A command of a list, with the number of its line.

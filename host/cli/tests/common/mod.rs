@@ -5,7 +5,8 @@ use cli::play::Applies;
 use engine::{List, ListRefused, Reason, Refused};
 use independent::engine::packed;
 use independent::Reason as Plain;
-use independent::{layout, read_list, read_message, write_message, Call, Engine};
+use independent::{drop_version, layout, read_list, read_message, write_message};
+use independent::{Call, Command as Plainly, Engine, Fault};
 use std::io::Write;
 use std::path::{Path, PathBuf};
 use std::process::{Command, Stdio};
@@ -53,10 +54,7 @@ impl Applies for Independent {
         match listed.refused {
             None => Ok(listed.accepted),
             Some(fault) => Err(ListRefused {
-                refused: Refused {
-                    number: fault.number,
-                    place: fault.place,
-                },
+                refused: refused(fault),
                 accepted: listed.accepted,
             }),
         }
@@ -72,18 +70,41 @@ impl Applies for Independent {
         })
     }
 
+    fn save(&self, node: i32, store: &mut [u8]) -> Result<u32, Refused> {
+        self.engine.save(node, store).map_err(refused)
+    }
+
+    fn recall(
+        &mut self,
+        name: &[u8],
+        version: u32,
+        node: i32,
+        store: &[u8],
+    ) -> Result<(), Refused> {
+        let recalled = self.engine.recall(name, version, node, store);
+        (self.words, _) = layout::state(&self.engine.view());
+        recalled.map_err(refused)
+    }
+
+    fn drop_version(name: &[u8], version: u32, store: &mut [u8]) -> u32 {
+        let dropped = drop_version(name, version, store);
+        dropped.err().map_or(0, |fault| fault.number)
+    }
+
     fn write(op: u32, numbers: [u32; 5], bytes: &[u8], out: &mut [u8]) -> u64 {
-        let call = Call {
-            op,
-            numbers,
-            bytes: bytes.to_vec(),
-        };
-        let command = call.command().expect("a script has known commands only");
+        let command = Plainly::of(op, numbers, bytes).expect("a script has known commands only");
         packed(write_message(&command, out))
     }
 
     fn words(&self) -> &[u32] {
         &self.words
+    }
+}
+
+fn refused(fault: Fault) -> Refused {
+    Refused {
+        number: fault.number,
+        place: fault.place,
     }
 }
 
@@ -119,5 +140,6 @@ pub const EVERY: &str = "/d_recv ping.scsyndef\n/g_new 1 0 0\n/g_new 2 1 0\n/s_n
     /n_run 11 0\n/n_set 10 0 1\n/n_set 10 freq 2\n/n_fill 10 0 1 3\n\
     /n_fill 10 freq 1 4\n/n_map 11 0 5\n/n_map 11 freq 6\n/c_set 6 0.5\n\
     /c_fill 7 2 0.25\n/c_get 8\n/s_get 11 0\n/s_get 11 freq\n/n_query 2\n\
-    /g_queryTree 2 1\n/g_queryTree 2 0\ntree\nwhy 10\nexport\n/n_free 10\n/g_deepFree 0\n/g_freeAll 0\n\
+    /g_queryTree 2 1\n/g_queryTree 2 0\ntree\nwhy 10\nexport\nstore\n\
+    save 10\nrecall ping 1 11\nsettings\ndrop ping 1\n/n_free 10\n/g_deepFree 0\n/g_freeAll 0\n\
     /d_free ping\n/status\ntree\n";

@@ -6,7 +6,7 @@ use independent::{read_definition, Command, Engine, View};
 use std::collections::{BTreeMap, BTreeSet};
 
 /// A float as the page has it.
-fn float(pattern: u32) -> String {
+pub fn float(pattern: u32) -> String {
     match f32::from_bits(pattern) {
         float if float.is_nan() => format!("NaN {pattern:08x}"),
         float => format!("{float:?}"),
@@ -38,7 +38,7 @@ pub fn bytes_of(shown: &str) -> Vec<u8> {
 }
 
 /// A name as it is to be shown; what needs no quotes may have none.
-fn name(bytes: &[u8]) -> String {
+pub fn name(bytes: &[u8]) -> String {
     let plain = |byte: &u8| byte.is_ascii_graphic() && !matches!(byte, b'"' | b'#' | b'\\');
     let digits = bytes
         .strip_prefix(b"-")

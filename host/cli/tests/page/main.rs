@@ -8,6 +8,7 @@ mod json;
 mod look;
 mod replay;
 mod script;
+mod settings;
 
 use cli::page::Page;
 use common::{examples, program_on};
@@ -147,9 +148,11 @@ fn the_sample_show() {
     let mut found = HashMap::new();
     for (step, line) in data.list_at("steps").iter().zip(&steps) {
         let marks = replay.step(step);
-        // Of a list that is refused the first commands may be done.
-        let list = line.text.starts_with("end");
-        if !list && (line.class.contains("refused") || line.answer != "ok") {
+        // Of a list that is refused the first commands may be done, and a save answers its version.
+        let both = ["end", "save"]
+            .iter()
+            .any(|word| line.text.starts_with(word));
+        if !both && (line.class.contains("refused") || line.answer != "ok") {
             assert_eq!(*step, Json::Object(Vec::new()), "line {}", line.number);
         }
         found.insert(line.text.split("  ").next().unwrap_or(""), marks);
@@ -164,7 +167,13 @@ fn the_sample_show() {
     };
     assert_eq!(found["/d_free rain"], retired);
     assert!(found["/c_fill 7 2 0.5"].changed.iter().eq([&2000]));
-    assert_eq!(found["/g_deepFree 0"].freed.len(), 5);
+    assert!(found["recall rain 1 1003"].changed.is_empty(), "dropped");
+    assert_eq!(found["/g_deepFree 0"].freed.len(), 6);
+    let [rain] = &replay.settings[..] else {
+        panic!("{:?} is not of one name", replay.settings);
+    };
+    let versions: Vec<i64> = rain.versions.iter().map(|(version, _)| *version).collect();
+    assert_eq!((rain.highest, versions), (3, vec![2, 3]));
 }
 
 /// A list is one step, at its end: what its commands did together is marked there.
@@ -431,7 +440,7 @@ fn the_program_writes_the_page() {
     ] {
         let (status, page, err) = run(name, input);
         assert_eq!((status, err.as_str()), (0, ""));
-        assert_eq!(data(&pieces(&page)).list_at("steps").len(), 70);
+        assert_eq!(data(&pieces(&page)).list_at("steps").len(), 83);
         assert!(page.contains(&format!("<title>{title}</title>")));
     }
     let (status, page, _) = run("-", b"/quit\n");

@@ -53,10 +53,19 @@ struct Node {
     node: ShownNode,
 }
 
+/// Saved settings under a name: its highest version, and the versions, each with its controls and their floats.
+#[derive(Clone, Debug, Default, PartialEq)]
+pub struct ShownSettings {
+    pub name: String,
+    pub highest: i64,
+    pub versions: Vec<(i64, Vec<(String, String)>)>,
+}
+
 pub struct Replay<'a> {
     shapes: &'a [Json],
     nodes: HashMap<i64, Node>,
     pub shown: Shown,
+    pub settings: Vec<ShownSettings>,
 }
 
 impl<'a> Replay<'a> {
@@ -64,6 +73,7 @@ impl<'a> Replay<'a> {
         let mut replay = Replay {
             shapes: data.list_at("shapes"),
             nodes: HashMap::new(),
+            settings: Vec::new(),
             shown: Shown {
                 buses: vec!["0.0".to_string(); 4096],
                 ..Shown::default()
@@ -152,7 +162,42 @@ impl<'a> Replay<'a> {
             let run = &mut self.shown.buses[first..first + count.number() as usize];
             run.fill(float.string().to_string());
         }
+        for change in step.list_at("settings") {
+            self.save(change);
+        }
         marks
+    }
+
+    /// What a step did to the settings under a name.
+    fn save(&mut self, change: &Json) {
+        let [name, highest, gone, came] = change.list() else {
+            panic!("{change:?} is no change of settings");
+        };
+        let name = name.string().to_string();
+        let place = self.settings.iter().position(|entry| entry.name == name);
+        let place = place.unwrap_or_else(|| {
+            self.settings.push(ShownSettings {
+                name,
+                ..ShownSettings::default()
+            });
+            self.settings.len() - 1
+        });
+        let entry = &mut self.settings[place];
+        entry.highest = highest.number();
+        for number in gone.list().iter().map(Json::number) {
+            let before = entry.versions.len();
+            entry.versions.retain(|(own, _)| *own != number);
+            assert_eq!(entry.versions.len(), before - 1, "what is gone was there");
+        }
+        let text = |json: &Json| json.string().to_string();
+        for version in came.list() {
+            let [number, settings] = version.list() else {
+                panic!("{version:?} is no version");
+            };
+            let settings = settings.list().iter().map(Json::list);
+            let settings = settings.map(|pair| (text(&pair[0]), text(&pair[1])));
+            entry.versions.push((number.number(), settings.collect()));
+        }
     }
 
     fn put(&mut self, put: &Json, marks: &mut Marks) {

@@ -69,7 +69,7 @@ pub fn spoil(items: &mut Vec<u32>, bytes: &[u8], random: &mut Random) -> &'stati
                 _ => items.resize(items.len() + odd, 0),
             }
         }
-        1 => items[place] = random.one_of(&[0, 28, 29, 255, 256, 260, 1 << 31, u32::MAX]),
+        1 => items[place] = random.one_of(&[0, 29, 30, 255, 256, 260, 1 << 31, u32::MAX]),
         2 => {
             items[place] = random.one_of(&VALUED);
             items[place + 4] = random.one_of(&[2, 3, 256, 257, 1 << 31, u32::MAX]);

@@ -6,8 +6,10 @@ pub mod desk;
 pub mod lent;
 pub mod osc;
 pub mod pair;
+pub mod settings;
 pub mod shapes;
 pub mod shuffle;
+pub mod stores;
 pub mod tally;
 
 use independent::Random;

@@ -106,7 +106,7 @@ impl Pair {
         if answer != expected {
             return Err(format!("answer {answer:#x}, expected {expected:#x}"));
         }
-        self.compare_runs(&self.expected_words, &self.expected_arena)?;
+        self.compare_expected()?;
         self.compare_runs(&copy.0, &copy.1)
             .map_err(|what| format!("one by one: {what}"))?;
         Ok(answer)
@@ -181,8 +181,13 @@ impl Pair {
         if let Some(place) = differ(reply, expected_reply) {
             return Err(format!("reply byte {place} of {room} differs"));
         }
-        self.compare_runs(&self.expected_words, &self.expected_arena)?;
+        self.compare_expected()?;
         Ok(answer)
+    }
+
+    /// The proved engine's runs are those that are expected.
+    pub fn compare_expected(&self) -> Result<(), String> {
+        self.compare_runs(&self.expected_words, &self.expected_arena)
     }
 
     /// The proved engine's runs are these.

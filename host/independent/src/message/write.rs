@@ -11,8 +11,7 @@ const LONGEST: usize = i32::MAX as usize;
 /// with a byte that is not from 1 to 127 or a file that is too long, then with 27 a command that has no
 /// address, then with 24 a buffer that is too short.
 pub fn write_message(command: &Command, buffer: &mut [u8]) -> Result<usize, Fault> {
-    // What has no address has neither a name nor a file, so 26 and 27 never meet.
-    let (address, list) = parts(command).ok_or(refused(27))?;
+    let (address, list) = parts(command).ok_or_else(|| without_address(command))?;
     let arguments = list.arguments();
     if !arguments.iter().all(Argument::can_be_written) {
         return Err(refused(26));
@@ -32,6 +31,16 @@ pub fn write_message(command: &Command, buffer: &mut [u8]) -> Result<usize, Faul
         argument.put(&mut rest);
     }
     Ok(length)
+}
+
+/// The refusal of a command that has no address: 26 comes first, where it has a name.
+fn without_address(command: &Command) -> Fault {
+    match *command {
+        Command::Recall { definition, .. } if !Argument::String(definition).can_be_written() => {
+            refused(26)
+        }
+        _ => refused(27),
+    }
 }
 
 /// The arguments of a command.
@@ -105,7 +114,7 @@ fn parts<'a>(command: &Command<'a>) -> Option<(&'static str, List<'a>)> {
         Command::Query(node) => ("/n_query", &[Int(node)]),
         Command::QueryTree { group, flag } => ("/g_queryTree", &[Int(group), Int(flag)]),
         Command::Status => ("/status", &[]),
-        Command::Export => return None,
+        Command::Export | Command::Recall { .. } => return None,
     };
     Some((address, List::of(arguments)))
 }

@@ -1,14 +1,15 @@
 use mathlib.Core.Logic.{⊎-elim}
 use Prim.Native.Nat.{_-_, _<_}
+use mathlib.Core.Path.{refl}
 use native.Mathlib.Omega.{arith}
 use Rattle.readable.specs.Entries.{entries-turn}
-use Rattle.readable.specs.Labels.{Labelling, labels-first, label-set, label-skip, labels-last}
+use Rattle.readable.specs.Labels.{each, Labelling, labels-first, label-set, label-skip, labels-last}
 use Rattle.format.specs.Reader.{mostParameters}
 use Rattle.readable.proofs.labelled.labels_from.Statement.{statement}
 use Rattle.readable.proofs.labelled.labels_from.Tie as tie
 
 abbrev Inv-loop : tie.InvT-loop
-Inv-loop s first count table₀ at₀ i₀ table at i = Labelling s first count i at table
+Inv-loop s first count table₀ at₀ i₀ table at i = Labelling each s first count i at table
 
 abbrev μ-loop : tie.MeasureT-loop
 μ-loop s first count table₀ at₀ i₀ table at i = count - i
@@ -16,7 +17,7 @@ abbrev μ-loop : tie.MeasureT-loop
 loop-holds : tie.Need-loop-holds Inv-loop μ-loop
 loop-holds c =
     let a = c .before in
-    labels-first (a .args .s .now) (a .args .first) (a .args .count) (a .pre .0) (a .pre .2)
+    labels-first each (a .args .s .now) (a .args .first) (a .args .count) (a .pre .0) (a .pre .2)
 
 shared-slice-read-size : tie.Need-shared-slice-read-size Inv-loop μ-loop
 shared-slice-read-size c =
@@ -89,16 +90,16 @@ loop-again c =
     let less : l .i < a .args .count = omega arith in
     let index = c .before .word-at .ensures in
     ⊎-elim
-    (λ w. rw (w .1, index) (label-set (a .args .s .now) (a .args .first) (a .args .count) (l .i) (l .at) (l .table) (l .inv) less (rw index at (w .0 .taken))))
+    (λ w. rw (w .1, index) (label-set each (a .args .s .now) (a .args .first) (a .args .count) (l .i) (l .at) (l .table) (l .inv) less refl (rw index at (w .0 .taken))))
     (λ w.
     let other = rw index at (w .0 .left) in
-    rw (w .1) (label-skip (a .args .s .now) (a .args .first) (a .args .count) (l .i) (l .at) (l .table) (l .inv) less (omega arith)))
+    rw (w .1) (label-skip each (a .args .s .now) (a .args .first) (a .args .count) (l .i) (l .at) (l .table) (l .inv) less (omega arith)))
     (c .if1 .came)
 
 returns : tie.Need-returns Inv-loop μ-loop
 returns c =
     let a = c .before .before .before .args in
-    labels-last (a .s .now) (a .first) (a .count) (c .before .loop .i) (c .before .loop .at) (c .before .loop .table) (c .before .loop .inv) (omega arith)
+    labels-last each (a .s .now) (a .first) (a .count) (c .before .loop .i) (c .before .loop .at) (c .before .loop .table) (c .before .loop .inv) (omega arith)
 
 pub labels-from-spec : {M : Type 1} → statement M
 labels-from-spec =
