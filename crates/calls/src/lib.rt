@@ -1,4 +1,6 @@
 // A call from another language: the command that an op and its five numbers name, and an answer as one number.
+#![tactic(auto)]
+
 ghost use Rattle.std.specs.Prelude.{◌≡◌, ◌<◌, ◌+◌, ◌*◌, ◌%◌};
 ghost use Rattle.values.specs.declared.Key.{Key};
 ghost use Rattle.calls.specs.Ops.{command_of, valued, setting, filling, bus_setting, bus_filling};
@@ -15,7 +17,7 @@ pub mod ops;
 pub const NO_COMMAND: u64 = 255;
 
 // The command that a call names, or none.
-#[derive(Drop)]
+#[derive(Clone, Copy)]
 pub enum Parsed {
     Call(Command),
     Nothing,

@@ -1,7 +1,7 @@
 -- A synth has no node below it, so that a change of its run is one of its own controls.
 use Rattle.std.specs.Prelude.{ℕ, zero, suc, ◌+◌, ◌-◌, ◌<◌, true, false, ◌≡◌, refl, take, drop, leb, ltb, eqb}
 use Rattle.std.proofs.Common.{true≢false, sym, ap, ◌∙◌, arith, leb-true, le-ltb}
-use mathlib.Core.List.{List, [], ◌∷◌, nil≢cons, head_eq_of_cons_eq, tail-eq_of_cons-eq}
+use mathlib.Core.List.{List, [], ◌∷◌, nil≢cons, head-eq_of_cons-eq, tail-eq_of_cons-eq}
 use Rattle.words.specs.Choice.{both}
 use Rattle.words.specs.ChoiceLaws.{both_true}
 use Rattle.words.specs.Parts.{region}
@@ -43,7 +43,7 @@ leaf : (most : ℕ) (t : List Node) (i : ℕ) (r : Node) (rest : List Node) → 
 leaf most [] zero r rest h e single = absurd (nil≢cons e)
 leaf most [] (suc i) r rest h e single = absurd (nil≢cons e)
 leaf most (x ∷ t) zero r rest h e single =
-    let here : x ≡ r = head_eq_of_cons_eq e in
+    let here : x ≡ r = head-eq_of_cons-eq e in
     none_deeper r.depth rest (rw (here, tail-eq_of_cons-eq e, single) at (step most x t h).1)
 leaf most (x ∷ t) (suc i) r rest h e single = leaf (reach x) t i r rest (step most x t h).1 e single
 
@@ -56,7 +56,7 @@ leaf_rooted (x ∷ t) i r rest h e single = go i e
     group = (both_true (eqb x.depth 0) (both (is_group x) (steps 1 t)) (both_true (eqb x.number 0) (both (eqb x.depth 0) (both (is_group x) (steps 1 t))) h).1).1
 
     go : (i : ℕ) → drop i (x ∷ t) ≡ r ∷ rest → deeper r.depth rest ≡ 0
-    go zero g = absurd (true≢false (sym (both_true (is_group x) (steps 1 t) group).0 ∙ ap is_group (head_eq_of_cons_eq g) ∙ single))
+    go zero g = absurd (true≢false (sym (both_true (is_group x) (steps 1 t) group).0 ∙ ap is_group (head-eq_of_cons-eq g) ∙ single))
     go (suc j) g = leaf 1 t j r rest (both_true (is_group x) (steps 1 t) group).1 g single
 
 -- the synth at a place

@@ -1,4 +1,6 @@
 // The commands of controls and of buses, behind the state check: each refuses by its row of the table, or changes its part of the words.
+#![tactic(auto)]
+
 mod buses;
 
 ghost use Rattle.std.specs.Prelude.{◌<◌, false, ◌≡◌, eqb};

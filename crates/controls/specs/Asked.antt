@@ -1,6 +1,6 @@
 -- What is asked of a node's controls: whether they are there, and what reading one gives.
 use Rattle.std.specs.Prelude.{ℕ, zero, suc, ◌+◌, ◌*◌, ◌≤◌, ◌<◌, Bool, true, false, not, ◌≡◌, refl, List, length, drop, get_or, leb}
-use Rattle.std.proofs.lemmas.Bool.{false≢true, not_false, lt-leb}
+use Rattle.std.proofs.lemmas.Bool.{false≢true, not-false, lt-leb}
 use Rattle.std.proofs.Common.{sym, ap, ap₂, ◌∙◌, arith, leb-true, get_or-drop}
 use Rattle.std.proofs.Math.Option.{Option, none, some}
 use Rattle.words.specs.Choice.{pick, either}
@@ -69,7 +69,7 @@ one_there key name slots r h = go (is_group r) (either_false (either (negative_k
 
     go : (b : Bool) → pick b false (not (has_controls (cover_of key name d) 1 d)) ≡ false → pick b false (past_width (cover_of key name d) 1) ≡ false
     go true k = refl
-    go false k = one_covered key name d (not_false (has_controls (cover_of key name d) 1 d) k)
+    go false k = one_covered key name d (not-false (has_controls (cover_of key name d) 1 d) k)
 
 -- the test of 21 alone
 abbrev pub is_missing : Asked → Bool

@@ -1,7 +1,7 @@
 -- What the functions on the words assume of them: sizes and bounds, which the state check has tested.
 use Rattle.std.specs.Prelude.{ℕ, zero, suc, ◌+◌, ◌≤◌, ◌<◌, Bool, true, false, ◌≡◌, refl, length, drop, get_or, leb, ltb, eqb}
 use Rattle.std.proofs.Common.{sym, ap, ◌∙◌, subst, arith, add-zero, zero-add, leb-true, ltb-true, eq-eqb, length-take, get_or-drop}
-use mathlib.Core.List.{List, [], ◌∷◌, nil≢cons, head_eq_of_cons_eq}
+use mathlib.Core.List.{List, [], ◌∷◌, nil≢cons, head-eq_of_cons-eq}
 use Rattle.std.proofs.lemmas.Bool.{eqb-false}
 use Rattle.words.specs.Choice.{both, either}
 use Rattle.words.specs.ChoiceLaws.{both_true}
@@ -44,7 +44,7 @@ pub fields_at : (next : ℕ) (t : List Node) (i : ℕ) (r : Node) (rest : List N
 unfolding all_formed
 fields_at next [] zero r rest e h = absurd (nil≢cons e)
 fields_at next [] (suc i) r rest e h = absurd (nil≢cons e)
-fields_at next (x ∷ t) zero r rest e h = ap (fields_formed next) (sym (head_eq_of_cons_eq e)) ∙ (both_true (fields_formed next x) (all_formed next t) h).0
+fields_at next (x ∷ t) zero r rest e h = ap (fields_formed next) (sym (head-eq_of_cons-eq e)) ∙ (both_true (fields_formed next x) (all_formed next t) h).0
 fields_at next (x ∷ t) (suc i) r rest e h = fields_at next t i r rest e (both_true (fields_formed next x) (all_formed next t) h).1
 
 pub either_true : (b : Bool) → either b true ≡ true
@@ -55,7 +55,7 @@ pub held_at : (t : List Node) (i : ℕ) (r : Node) (rest : List Node) → drop i
 unfolding held
 held_at [] zero r rest e = absurd (nil≢cons e)
 held_at [] (suc i) r rest e = absurd (nil≢cons e)
-held_at (x ∷ t) zero r rest e = rw (eq-eqb x.slot r.slot (ap (λ (y : Node). y.slot) (head_eq_of_cons_eq e)))
+held_at (x ∷ t) zero r rest e = rw (eq-eqb x.slot r.slot (ap (λ (y : Node). y.slot) (head-eq_of_cons-eq e)))
 held_at (x ∷ t) (suc i) r rest e = rw (held_at t i r rest e) (either_true (eqb x.slot r.slot))
 
 -- a slot that a synth holds is one definition

@@ -11,7 +11,7 @@ use values::{Control, Mapping};
 use words::wide;
 
 // What a command does to each control that it reaches.
-#[derive(Drop)]
+#[derive(Clone, Copy)]
 pub enum Change {
     Set(u32),
     Map(Mapping),

@@ -20,7 +20,7 @@ use values::Key;
 use words::wide;
 
 // Controls that are asked for: they are there, or some are not, or they are more than the key covers.
-#[derive(Drop)]
+#[derive(Clone, Copy)]
 pub enum Asked {
     There,
     Missing,

@@ -1,4 +1,6 @@
 // Controls and buses in the lent words: set, fill, map, read, and the state check's part on controls.
+#![tactic(auto)]
+
 mod asked;
 mod buses;
 mod control;

@@ -1,4 +1,6 @@
 // The commands of definitions and the export, behind the state check: each refuses by its row of the table, or changes the slots or the reply buffer.
+#![tactic(auto)]
+
 ghost use Rattle.std.specs.Prelude.{ℕ, ◌-◌, ◌≡◌, List, length, ltb};
 ghost use Rattle.definitions.specs.Files.{Accepted, definitions_on};
 ghost use Rattle.model.specs.declared.DefinitionCommand.{DefinitionCommand};

@@ -1,4 +1,6 @@
 // Definition slots in the lent state: 64 words, the slots' lengths and then their resident flags, and the arena with their bytes.
+#![tactic(auto)]
+
 ghost use Rattle.std.specs.Prelude.{ℕ, ◌+◌, ◌*◌, ◌≤◌, ◌<◌, true, false, not, ◌≡◌, List, ◌++◌, length, drop, get_or, set, leb, eqb};
 ghost use Rattle.words.specs.Choice.{both, either};
 ghost use Rattle.words.specs.Parts.{put};

@@ -1,4 +1,6 @@
 // How long a definition of a file is in version 2, in which the limit is measured.
+#![tactic(auto)]
+
 ghost use Rattle.std.specs.Prelude.{◌≡◌, ltb, length};
 ghost use Rattle.format.specs.Definition.{Definition};
 ghost use Rattle.format.specs.Read.{got};

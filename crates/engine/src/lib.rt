@@ -1,5 +1,7 @@
 // The engine: `fresh`, `apply`, which every command goes through, `message`, which takes it as bytes, and what other languages call, `engine_list`
 // among them, which is `lists::list`. Nothing here asks anything of what it is lent.
+#![tactic(auto)]
+
 mod commands;
 mod exports;
 mod saved;

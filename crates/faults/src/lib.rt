@@ -1,8 +1,10 @@
 // Why a file is refused: 2 to 11, each told with its place. The paper's number of each is `faultNumber`.
+#![tactic(auto)]
+
 ghost use Rattle.std.specs.Prelude.{◌≡◌};
 ghost use Rattle.faults.specs.Faults.{fault_number};
 
-#[derive(Drop)]
+#[derive(Clone, Copy)]
 pub enum Fault {
     Truncated,
     NotSynthDef,

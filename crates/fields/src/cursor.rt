@@ -9,27 +9,27 @@ use crate::name::name_bytes;
 use faults::Fault;
 use format::{HIGHEST_RATE, Width};
 
-#[derive(Drop)]
+#[derive(Clone, Copy)]
 pub struct Cursor {
     pub at: usize,
 }
 
 // A number and the next cursor, or the refusal and its place.
-#[derive(Drop)]
+#[derive(Clone, Copy)]
 pub enum Number {
     Value(u32, Cursor),
     Bad(Fault, usize),
 }
 
 // Where a name's bytes start and the cursor past them, or the refusal and its place.
-#[derive(Drop)]
+#[derive(Clone, Copy)]
 pub enum Text {
     Value(usize, Cursor),
     Bad(Fault, usize),
 }
 
 // The next cursor, or the refusal and its place.
-#[derive(Drop)]
+#[derive(Clone, Copy)]
 pub enum Step {
     Next(Cursor),
     Bad(Fault, usize),

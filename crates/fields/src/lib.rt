@@ -1,4 +1,6 @@
 // The fields of a SynthDef file, read one by one.
+#![tactic(auto)]
+
 mod cursor;
 mod name;
 

@@ -16,7 +16,7 @@ use units::{REMEMBERED, Run};
 use words::wide;
 
 // A file is accepted, and has so many definitions; or it is refused, at a place.
-#[derive(Drop)]
+#[derive(Clone, Copy)]
 pub enum Checked {
     Accepted(u32),
     Refused(Fault, usize),

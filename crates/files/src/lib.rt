@@ -1,4 +1,6 @@
 // SynthDef files: a definition whole, and a file whole.
+#![tactic(auto)]
+
 mod definition;
 mod file;
 

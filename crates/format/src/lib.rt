@@ -1,6 +1,8 @@
 // SynthDef files: the numbers of the format and the bounds of the paper. The format as read and written is in specs/.
 
 // "SCgf" as a number, the versions, and where the first definition starts.
+#![tactic(auto)]
+
 pub const FILE_TYPE: u32 = 0x5343_6766;
 
 pub const FIRST_VERSION: u32 = 1;
@@ -25,7 +27,7 @@ pub const HIGHEST_SHORT: u32 = 0x7FFF;
 pub const HIGHEST_RATE: u32 = 3;
 
 // How wide the field of a count or an index is: two bytes in version 1, four in version 2.
-#[derive(Drop)]
+#[derive(Clone, Copy)]
 pub enum Width {
     Short,
     Long,

@@ -1,4 +1,6 @@
 // The definition's front: its name, constants, initial values and parameter names.
+#![tactic(auto)]
+
 ghost use Rattle.std.specs.Prelude.{◌≡◌};
 ghost use Rattle.fields.specs.Answers.{step_of};
 ghost use Rattle.front.specs.Front.{entry_of, floats_of, counted_floats, front_of, counts_from_values, read_counts, counts_of};
@@ -12,28 +14,28 @@ use format::{HIGHEST, MOST_PARAMETERS, Width};
 use words::wide;
 
 // A parameter name: where its bytes start and end, its index and the next cursor, or the refusal and its place.
-#[derive(Drop)]
+#[derive(Clone, Copy)]
 pub enum Entry {
     Value(usize, usize, u32, Cursor),
     Bad(Fault, usize),
 }
 
 // A count of floats and where the first one starts.
-#[derive(Drop)]
+#[derive(Clone, Copy)]
 pub struct Floats {
     pub count: u32,
     pub at: usize,
 }
 
 // The floats and the next cursor, or the refusal and its place.
-#[derive(Drop)]
+#[derive(Clone, Copy)]
 pub enum FloatsRead {
     Value(Floats, Cursor),
     Bad(Fault, usize),
 }
 
 // What a definition's front tells: the place past its name, K, where the initial values start, P, where the first name starts, N.
-#[derive(Drop)]
+#[derive(Clone, Copy)]
 pub struct Counts {
     pub past: usize,
     pub constants: u32,
@@ -44,7 +46,7 @@ pub struct Counts {
 }
 
 // What the front tells and the next cursor, or the refusal and its place.
-#[derive(Drop)]
+#[derive(Clone, Copy)]
 pub enum FrontRead {
     Value(Counts, Cursor),
     Bad(Fault, usize),

@@ -3,7 +3,7 @@ ghost use Rattle.std.specs.Prelude.{◌≡◌};
 ghost use Rattle.index.specs.Lookup.{answer, compared, step};
 
 // What a lookup knows: the number can stand only at the entries from one on and below another; or it was found, at a place.
-#[derive(Drop)]
+#[derive(Clone, Copy)]
 pub enum Known {
     Between(usize, usize),
     Found(usize),

@@ -1,6 +1,8 @@
 // Where each part of the engine lies in the lent words and in the arena: docs/LAYOUT.md in code. The definitions are in `model/specs/Layout.antt`.
 
 // The first words: how many nodes, how long the running order, the next number to generate, the latest synth's number or 0.
+#![tactic(auto)]
+
 pub const COUNT: usize = 0;
 
 pub const ORDER_LENGTH: usize = 1;

@@ -1,4 +1,6 @@
 // A list of commands in one call: the list judged as a whole, the state check, and then its commands one by one up to the first refusal.
+#![tactic(auto)]
+
 mod item;
 mod judged;
 mod number;
@@ -13,7 +15,7 @@ pub const ITEM_WORDS: usize = 12;
 pub const MOST_COMMANDS: usize = 512;
 
 // A list as a whole: none, one that is refused with 34, or one whose commands are tried.
-#[derive(Drop)]
+#[derive(Clone, Copy)]
 pub enum Verdict {
     NoList,
     Unfit,
@@ -21,7 +23,7 @@ pub enum Verdict {
 }
 
 // One item: none, a command that no list holds (one that replies, a recall), or one that is tried.
-#[derive(Drop)]
+#[derive(Clone, Copy)]
 pub enum Kind {
     NoItem,
     Unlisted,
@@ -29,7 +31,7 @@ pub enum Kind {
 }
 
 // What a list ends in: that it is none; or an answer, and how many commands were accepted before it.
-#[derive(Drop)]
+#[derive(Clone, Copy)]
 pub enum Outcome {
     NoList,
     Ended(Answer, usize),

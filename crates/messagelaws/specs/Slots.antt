@@ -1,7 +1,7 @@
 -- The slots of a row: what is given to them is taken from them again, and the other way round.
 use Rattle.std.specs.Prelude.{ℕ, ◌≡◌, refl, Bool, true, false, not, List, [], ◌∷◌, length, eqb}
 use Rattle.std.proofs.Common.{ap₂, ◌∙◌, le-ltb, ltb-false}
-use Rattle.std.proofs.lemmas.Bool.{not-true, not_false}
+use Rattle.std.proofs.lemmas.Bool.{not-true, not-false}
 use Rattle.words.specs.Choice.{pick, both, either}
 use Rattle.words.specs.ChoiceLaws.{both_true, either_false}
 use Rattle.format.specs.Fields.{name_bytes, highest32}
@@ -150,7 +150,7 @@ well_given value g w h = by (eqb g.numbers.d 0)
     by : (b : Bool) → Well (pick b (float g.numbers.e) (int g.numbers.e))
     by true = w.e
     by false = w.e
-well_given name g w h = not_false (name_bytes g.bytes) h
+well_given name g w h = not-false (name_bytes g.bytes) h
 well_given file g w h = ltb-false highest32 (length g.bytes) h
 
 pub all_well : (slots : List Slot) (g : Given) → Words g.numbers → any_unfit g.bytes slots ≡ false → AllWell (give_all slots g)

@@ -7,20 +7,20 @@ ghost use Rattle.messageread.specs.Ends.{Ends};
 
 use fields::word_at;
 
-#[derive(Drop)]
+#[derive(Clone, Copy)]
 pub struct Cursor {
     pub at: usize,
 }
 
 // A number and the next cursor, or a fault of form.
-#[derive(Drop)]
+#[derive(Clone, Copy)]
 pub enum Number {
     Value(u32, Cursor),
     Faulty,
 }
 
 // Where the bytes of a string or a blob start and end, and the next cursor, or a fault of form.
-#[derive(Drop)]
+#[derive(Clone, Copy)]
 pub enum Text {
     Value(usize, usize, Cursor),
     Faulty,

@@ -7,7 +7,7 @@ ghost use Rattle.messageread.specs.Keep.{Keeps, Steps, taken, given};
 use crate::cursor::{Cursor, Number, Text};
 
 // The five numbers of a call, and where the name or the file beside it starts and ends in the message.
-#[derive(Drop)]
+#[derive(Clone, Copy)]
 pub struct Kept {
     pub a: u32,
     pub b: u32,
@@ -19,7 +19,7 @@ pub struct Kept {
 }
 
 // What was kept and the next cursor, or a fault of form.
-#[derive(Drop)]
+#[derive(Clone, Copy)]
 pub enum Step {
     Next(Kept, Cursor),
     Faulty,

@@ -1,4 +1,6 @@
 // Reading a message: its form, then the command that it stands for.
+#![tactic(auto)]
+
 ghost use Rattle.std.specs.Prelude.{◌-◌};
 ghost use Rattle.words.specs.Parts.{region};
 ghost use Rattle.messages.specs.Receive.{Reads, meaning_of};

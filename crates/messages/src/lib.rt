@@ -1,4 +1,6 @@
 // Commands as OSC messages, read and written.
+#![tactic(auto)]
+
 use model::Command;
 
 mod table;
@@ -9,7 +11,7 @@ pub use table::{
 };
 
 // A command by its op and its five numbers, as calls have them.
-#[derive(Drop)]
+#[derive(Clone, Copy)]
 pub struct Numbers {
     pub op: u32,
     pub a: u32,
@@ -20,7 +22,7 @@ pub struct Numbers {
 }
 
 // What a message stands for: a command, and where the name or the file beside it starts and ends in the message.
-#[derive(Drop)]
+#[derive(Clone, Copy)]
 pub enum Received {
     Malformed,
     Unknown,

@@ -9,7 +9,7 @@ use calls::ops;
 // An op's row. Codes of slots are digits of sixteen, the first slot's lowest: 1 to 3 for the numbers a to c, 4 a value, 5 a name, 6 a file.
 // Of its address the length, and four bytes at a time as a number, the first one the highest: the first four, the next and those behind them,
 // with zeros past its last byte, and its last four.
-#[derive(Drop)]
+#[derive(Clone, Copy)]
 pub struct Entry {
     pub codes: u32,
     pub size: usize,

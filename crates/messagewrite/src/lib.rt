@@ -1,4 +1,6 @@
 // A command written as an OSC message.
+#![tactic(auto)]
+
 ghost use Rattle.std.specs.Prelude.{◌≡◌};
 ghost use Rattle.messages.specs.Write.{Writes};
 ghost use Rattle.messagewrite.specs.Whole.{without_address};

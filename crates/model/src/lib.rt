@@ -1,10 +1,12 @@
 // The values that travel: commands and answers. What they mean stands in specs/.
+#![tactic(auto)]
+
 use faults::Fault;
 use refusals::Refusal;
 use values::{Key, NodeArgument, Value};
 
 // Of the definitions; the file or the name is in the bytes lent beside the command.
-#[derive(Drop)]
+#[derive(Clone, Copy)]
 pub enum DefinitionCommand {
     // /d_recv
     Receive,
@@ -13,7 +15,7 @@ pub enum DefinitionCommand {
 }
 
 // Of the tree. Numbers are the 32-bit patterns of signed ones.
-#[derive(Drop)]
+#[derive(Clone, Copy)]
 pub enum TreeCommand {
     // /s_new; the definition's name is in the bytes.
     NewSynth {
@@ -67,7 +69,7 @@ pub enum TreeCommand {
 }
 
 // Of controls; a key by name has the name in the bytes.
-#[derive(Drop)]
+#[derive(Clone, Copy)]
 pub enum ControlCommand {
     // /n_set
     Set {
@@ -91,7 +93,7 @@ pub enum ControlCommand {
 }
 
 // Of buses.
-#[derive(Drop)]
+#[derive(Clone, Copy)]
 pub enum BusCommand {
     // /c_set
     Set {
@@ -107,7 +109,7 @@ pub enum BusCommand {
 }
 
 // Questions, which change nothing.
-#[derive(Drop)]
+#[derive(Clone, Copy)]
 pub enum Query {
     // /n_query
     Node { node: NodeArgument },
@@ -123,7 +125,7 @@ pub enum Query {
     Export,
 }
 
-#[derive(Drop)]
+#[derive(Clone, Copy)]
 pub enum Command {
     Definitions(DefinitionCommand),
     Tree(TreeCommand),
@@ -133,7 +135,7 @@ pub enum Command {
 }
 
 // Done; done with a reply of so many bytes; refused; refused at a place in a file.
-#[derive(Drop)]
+#[derive(Clone, Copy)]
 pub enum Answer {
     Done,
     Replied(usize),

@@ -1,4 +1,6 @@
 // The node that an argument means, by its place, and whether the node at a place is a group.
+#![tactic(auto)]
+
 ghost use Rattle.std.specs.Prelude.{◌<◌, ◌≡◌, length};
 ghost use Rattle.nodes.specs.Place.{place, is_group};
 ghost use Rattle.nodes.specs.Formed.{most_nodes};
@@ -13,7 +15,7 @@ use values::{NodeArgument, Target, target_of};
 use words::wide;
 
 // What a node argument comes to: the place of the node that it means, or its refusal.
-#[derive(Drop)]
+#[derive(Clone, Copy)]
 pub enum NodePlace {
     At(usize),
     Refused(Refusal),

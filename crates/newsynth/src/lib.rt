@@ -1,4 +1,6 @@
 // The command that makes a synth, and every command of the tree kind by its own function.
+#![tactic(auto)]
+
 mod checks;
 mod numbers;
 mod rows;

@@ -2,8 +2,8 @@
 use Rattle.std.specs.Prelude.{ℕ, suc, ◌+◌, ◌*◌, ◌-◌, ◌≤◌, ◌<◌, Bool, true, false, ◌≡◌, refl, length, drop, get_or, ltb, eqb}
 use Rattle.std.proofs.Common.{sym, ap₂, ◌∙◌, arith, length-drop, lt-ltb, le-ltb, ltb-true}
 use Rattle.std.proofs.Math.Path.{ap}
-use mathlib.Core.List.{List, [], ◌∷◌, nil≢cons, head_eq_of_cons_eq, tail-eq_of_cons-eq}
-use Rattle.std.proofs.Math.Dec.{leb_suc-suc}
+use mathlib.Core.List.{List, [], ◌∷◌, nil≢cons, head-eq_of_cons-eq, tail-eq_of_cons-eq}
+use Rattle.std.proofs.Math.Dec.{leb-suc-suc}
 use Rattle.words.specs.Choice.{pick}
 use Rattle.nodes.specs.declared.Node.{Node}
 use Rattle.nodes.specs.Table.{width, rows}
@@ -17,7 +17,7 @@ lives_place n (r ∷ l) = go (lives_place n l) (eqb r.number n)
   where
     go : lives n l ≡ ltb (place n l) (length l) → (b : Bool) → pick b true (lives n l) ≡ ltb (pick b 0 (suc (place n l))) (suc (length l))
     go ih true = sym (lt-ltb 0 (suc (length l)) (omega arith))
-    go ih false = ih ∙ sym (leb_suc-suc (suc (place n l)) (length l))
+    go ih false = ih ∙ sym (leb-suc-suc (suc (place n l)) (length l))
 
 pub place_most : (n : ℕ) (l : List Node) → place n l ≤ length l
 unfolding place
@@ -36,7 +36,7 @@ search_at F G n turn [] r rest h = absurd (nil≢cons h)
 search_at F G n turn (x ∷ l) r rest h = turn x l ∙ go (search_at F G n turn l r rest) (eqb x.number n) h
   where
     go : (drop (place n l) l ≡ r ∷ rest → F l ≡ G r rest) → (b : Bool) → drop (pick b 0 (suc (place n l))) (x ∷ l) ≡ r ∷ rest → pick b (G x l) (F l) ≡ G r rest
-    go ih true e = ap₂ G (head_eq_of_cons_eq e) (tail-eq_of_cons-eq e)
+    go ih true e = ap₂ G (head-eq_of_cons-eq e) (tail-eq_of_cons-eq e)
     go ih false e = ih e
 
 pub deeper_most : (d : ℕ) (l : List Node) → deeper d l ≤ length l

@@ -2,7 +2,7 @@
 -- is.
 use Rattle.std.specs.Prelude.{ℕ, zero, suc, ◌+◌, ◌*◌, ◌<◌, Bool, true, false, ◌≡◌, refl, take, drop, get_or, ltb, eqb}
 use Rattle.std.proofs.Common.{sym, ap, ap₂, ◌∙◌, drop-drop, take-add}
-use mathlib.Core.List.{List, [], ◌∷◌, ◌++◌, append_assoc, nil≢cons, head_eq_of_cons_eq, tail-eq_of_cons-eq}
+use mathlib.Core.List.{List, [], ◌∷◌, ◌++◌, append_assoc, nil≢cons, head-eq_of_cons-eq, tail-eq_of_cons-eq}
 use Rattle.words.specs.Choice.{pick}
 use Rattle.words.specs.ChoiceLaws.{either_false}
 use Rattle.nodes.specs.declared.Node.{Node}
@@ -58,7 +58,7 @@ edit_first n at H t here = ap (λ (j : ℕ). edit_at j H t) here ∙ edit_place 
 edit_split : (at : ℕ) (H : Node → List Node → List Node) (t : List Node) (r : Node) (rest : List Node) → drop at t ≡ r ∷ rest → edit_at at H t ≡ take at t ++ H r rest
 unfolding edit_at
 edit_split zero H [] r rest h = absurd (nil≢cons h)
-edit_split zero H (x ∷ l) r rest h = ap₂ (λ (y : Node) (m : List Node). H y m) (head_eq_of_cons_eq h) (tail-eq_of_cons-eq h)
+edit_split zero H (x ∷ l) r rest h = ap₂ (λ (y : Node) (m : List Node). H y m) (head-eq_of_cons-eq h) (tail-eq_of_cons-eq h)
 edit_split (suc at) H [] r rest h = absurd (nil≢cons h)
 edit_split (suc at) H (x ∷ l) r rest h = ap (λ (m : List Node). x ∷ m) (edit_split at H l r rest h)
 
@@ -70,7 +70,7 @@ run_split n (x ∷ l) r rest h = go (run_split n l r rest) (eqb x.number n) h
     go : (drop (place n l) l ≡ r ∷ rest → run_of n l ≡ sink r.depth (r ∷ take_deeper r.depth rest)) → (b : Bool)
         → drop (pick b 0 (suc (place n l))) (x ∷ l) ≡ r ∷ rest
         → pick b (sink x.depth (x ∷ take_deeper x.depth l)) (run_of n l) ≡ sink r.depth (r ∷ take_deeper r.depth rest)
-    go ih true e = ap₂ (λ (y : Node) (m : List Node). sink y.depth (y ∷ take_deeper y.depth m)) (head_eq_of_cons_eq e) (tail-eq_of_cons-eq e)
+    go ih true e = ap₂ (λ (y : Node) (m : List Node). sink y.depth (y ∷ take_deeper y.depth m)) (head-eq_of_cons-eq e) (tail-eq_of_cons-eq e)
     go ih false e = ih e
 
 -- a record and a part of what follows it

@@ -2,7 +2,9 @@
 
 // A node: the 32-bit pattern of its number, its depth (the root's is 0), its run flag, the slot of its
 // definition (32 for a group) and its row of controls.
-#[derive(Drop)]
+#![tactic(auto)]
+
+#[derive(Clone, Copy)]
 pub struct Node {
     pub number: u32,
     pub depth: u32,

@@ -1,4 +1,6 @@
 // The running order and the rules of the state on nodes, over the node region in lent words.
+#![tactic(auto)]
+
 ghost use Rattle.std.specs.Prelude.{false, ◌≡◌, ◌+◌, ◌*◌, ◌≤◌, ◌<◌, length, take, drop};
 ghost use Rattle.format.specs.Reader.{same_name};
 ghost use Rattle.nodes.specs.Table.{width, rows};
@@ -14,7 +16,7 @@ ghost use Rattle.order.specs.Visits.{marks};
 use layout::{DEPTH, GROUP, MOST_NODES, MOST_ORDER, NUMBER, RECORD, ROW, ROWS, RUN, SLOT};
 
 // The running order: its numbers, with zeros past them, and how many they are.
-#[derive(Drop)]
+#[derive(Clone, Copy)]
 pub struct Order {
     pub numbers: [u32; MOST_ORDER],
     pub length: usize,

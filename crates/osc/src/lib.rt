@@ -1,4 +1,6 @@
 // Reply messages, written piece by piece into a lent buffer.
+#![tactic(auto)]
+
 ghost use Rattle.std.specs.Prelude.{◌≡◌, ◌+◌, ◌-◌, ◌%◌, ◌≤◌, ◌<◌, [], ◌∷◌, length, get_or, replicate};
 ghost use Rattle.words.specs.Bytes.{bytes32};
 ghost use Rattle.osc.specs.Message.{padded, decimal};

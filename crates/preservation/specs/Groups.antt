@@ -1,7 +1,7 @@
 -- A number that names a group is no synth's.
 use Rattle.std.specs.Prelude.{ℕ, Bool, true, false, ◌≡◌, refl, List, [], ◌∷◌, eqb}
 use Rattle.std.proofs.Common.{◌∙◌}
-use Rattle.std.proofs.lemmas.Bool.{not_false}
+use Rattle.std.proofs.lemmas.Bool.{not-false}
 use Rattle.words.specs.Choice.{pick}
 use Rattle.nodes.specs.declared.Node.{Node}
 use Rattle.nodes.specs.Place.{is_group}
@@ -23,4 +23,4 @@ group-named n (r ∷ l) = go (group-named n l) (eqb r.number n)
     go ih false = ih
 
 pub group_only : (a : NodeArgument) (e : Engine) → apart e.nodes ≡ true → not_group a e ≡ false → synth_lives (meant a e) e.nodes ≡ false
-group_only a e d h = group_nosynth (meant a e) e.nodes d (group-named (meant a e) e.nodes ∙ not_false (is_group (node a e)) h)
+group_only a e d h = group_nosynth (meant a e) e.nodes d (group-named (meant a e) e.nodes ∙ not-false (is_group (node a e)) h)

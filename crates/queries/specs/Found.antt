@@ -3,7 +3,7 @@ use Rattle.std.specs.Prelude.{ℕ, suc, Bool, ◌≡◌, refl, eqb}
 use Rattle.std.proofs.Math.Bool.{true, false}
 use Rattle.std.proofs.Common.{sym, ◌∙◌, eqb-true}
 use Rattle.std.proofs.Math.Path.{ap}
-use mathlib.Core.List.{List, [], ◌∷◌, nil≢cons, head_eq_of_cons_eq, tail-eq_of_cons-eq}
+use mathlib.Core.List.{List, [], ◌∷◌, nil≢cons, head-eq_of_cons-eq, tail-eq_of_cons-eq}
 use Rattle.std.proofs.Math.ListN.{drop}
 use Rattle.words.specs.Choice.{pick}
 use Rattle.nodes.specs.declared.Node.{Node}
@@ -18,7 +18,7 @@ number_found n [] r rest e = absurd (nil≢cons e)
 number_found n (x ∷ t) r rest e = go (number_found n t r rest) (eqb x.number n) refl e
   where
     go : (drop (place n t) t ≡ r ∷ rest → r.number ≡ n) → (b : Bool) → eqb x.number n ≡ b → drop (pick b 0 (suc (place n t))) (x ∷ t) ≡ r ∷ rest → r.number ≡ n
-    go ih true q f = ap (λ (y : Node). y.number) (sym (head_eq_of_cons_eq f)) ∙ eqb-true x.number n q
+    go ih true q f = ap (λ (y : Node). y.number) (sym (head-eq_of_cons-eq f)) ∙ eqb-true x.number n q
     go ih false q f = ih f
 
 module _ (slots : List Slot) (controls : List ℕ) where
@@ -29,7 +29,7 @@ module _ (slots : List Slot) (controls : List ℕ) where
     where
       go : (drop (place n t) t ≡ r ∷ rest → plain_named n (view_rows slots controls t) ≡ view_of slots controls r) → (b : Bool)
           → drop (pick b 0 (suc (place n t))) (x ∷ t) ≡ r ∷ rest → pick b (view_of slots controls x) (plain_named n (view_rows slots controls t)) ≡ view_of slots controls r
-      go ih true f = ap (view_of slots controls) (head_eq_of_cons_eq f)
+      go ih true f = ap (view_of slots controls) (head-eq_of_cons-eq f)
       go ih false f = ih f
 
   pub subtree_found : (n : ℕ) (t : List Node) (r : Node) (rest : List Node) → drop (place n t) t ≡ r ∷ rest
@@ -42,6 +42,6 @@ module _ (slots : List Slot) (controls : List ℕ) where
           → drop (pick b 0 (suc (place n t))) (x ∷ t) ≡ r ∷ rest
           → pick b (rows_below x.depth (view_rows slots controls t)) (subtree_rows n (view_rows slots controls t)) ≡ rows_below r.depth (view_rows slots controls rest)
       go ih true f =
-          ap (λ (y : Node). rows_below y.depth (view_rows slots controls t)) (head_eq_of_cons_eq f)
+          ap (λ (y : Node). rows_below y.depth (view_rows slots controls t)) (head-eq_of_cons-eq f)
           ∙ ap (λ (l : List Node). rows_below r.depth (view_rows slots controls l)) (tail-eq_of_cons-eq f)
       go ih false f = ih f

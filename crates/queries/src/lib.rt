@@ -1,4 +1,6 @@
 // The queries, behind the state check: they take the state as `&` and write nothing but the reply.
+#![tactic(auto)]
+
 mod bus;
 mod control;
 mod node;

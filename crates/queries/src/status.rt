@@ -20,7 +20,7 @@ use words::wide;
 const COUNTS: usize = SLOTS + 1;
 
 // Units over live synths, and how many groups there are, the root among them.
-#[derive(Drop)]
+#[derive(Clone, Copy)]
 struct Sums {
     units: usize,
     groups: u32,

@@ -1,4 +1,6 @@
 // Lookups in a definition whose front is known to be readable. They go straight to a place, and validate nothing.
+#![tactic(auto)]
+
 mod cover;
 mod entries;
 mod found;

@@ -1,4 +1,6 @@
 // A reader that holds the lent file and its place, and walks the definitions.
+#![tactic(auto)]
+
 mod places;
 mod reader;
 

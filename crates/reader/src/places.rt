@@ -9,7 +9,7 @@ use files::{Checked, read_definition, width_of};
 use format::FIRST_PLACE;
 
 // Where a definition starts, and the place past it; or none.
-#[derive(Drop)]
+#[derive(Clone, Copy)]
 pub enum Span {
     Between(usize, usize),
     Nowhere,

@@ -6,14 +6,14 @@ ghost use Rattle.reader.specs.Spans.{definition_span};
 use crate::places::{Span, bytes_at, ended_at, place_past, span_at, start_of};
 use files::{Checked, check_file};
 
-#[derive(Drop)]
+#[derive(Clone, Copy)]
 pub struct Reader<'a> {
     file: &'a [u8],
     place: usize,
 }
 
 // A reader of a file, and what the check of the whole file said. Where the file is refused the reader is at its end.
-#[derive(Drop)]
+#[derive(Clone, Copy)]
 pub struct Opened<'a> {
     pub reader: Reader<'a>,
     pub checked: Checked,

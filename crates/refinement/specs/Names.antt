@@ -3,7 +3,7 @@ use Prim.{Unit, tt}
 use Rattle.std.specs.Prelude.{ℕ, suc, ◌+◌, ◌≤◌, Bool, true, false, ◌≡◌, refl, List, [], ◌∷◌, ◌++◌, length, eqb}
 use Rattle.std.proofs.Common.{sym, ap, ap₂, ◌∙◌, arith, lt-ltb, eq-eqb, eqb-true}
 use Rattle.std.proofs.Math.Option.{Option, none, some}
-use Rattle.std.proofs.Math.Dec.{leb_suc-suc}
+use Rattle.std.proofs.Math.Dec.{leb-suc-suc}
 use Rattle.words.specs.Choice.{pick, both}
 use Rattle.words.specs.ChoiceLaws.{both_true}
 use Rattle.format.specs.Definition.{Definition}
@@ -72,7 +72,7 @@ from_shift k m (s ∷ more) = go (both s.resident (same_name (name_in s) m)) (fr
 shifted : (s : Slot) (more : List Slot) (j : ℕ) → definition_at_slot (s ∷ more) (j + 1) ≡ definition_at_slot more j
 shifted s more j =
     let e : j + 1 ≡ suc j = omega arith in
-    rw (e, leb_suc-suc (suc j) (length more))
+    rw (e, leb-suc-suc (suc j) (length more))
 
 -- the resident of a name is what the name means
 pub meaning_means : (m : List ℕ) (slots : List Slot) → definition_at_slot slots (resident_of m slots) ≡ means m slots

@@ -2,7 +2,7 @@
 use Rattle.std.specs.Prelude.{ℕ, zero, suc, ◌+◌, ◌-◌, ◌*◌, ◌≤◌, Bool, true, false, not, ◌≡◌, refl, List, [], ◌∷◌, ◌++◌, map, length, take, drop, set, replicate, ltb, leb, eqb}
 use Rattle.std.proofs.Common.{sym, ap, ap₂, ◌∙◌, subst, arith, lt-ltb, le-ltb, le-leb, ltb-false, leb-true, leb-false, ne_eqb, length-drop}
 use Rattle.std.proofs.Math.Option.{Option, none, some}
-use Rattle.std.proofs.lemmas.Bool.{eqb-false, not_false}
+use Rattle.std.proofs.lemmas.Bool.{eqb-false, not-false}
 use Rattle.words.specs.Choice.{pick, both, either}
 use Rattle.words.specs.ChoiceLaws.{both_true, either_false}
 use Rattle.words.specs.PartsLaws.{region-length}
@@ -235,7 +235,7 @@ definitions_replayed definitions.Free bytes clean e p k apart many h = record {
 
 -- a value that is in bounds is a float
 of_value : {t : Engine} (value : Value) (next : ℕ → Option Plain) → not (in_bounds value) ≡ false → Replayed t (next (pattern value)) → Replayed t (and_then (float_of value) (λ float. next float))
-of_value {t} value next h r = subst (λ (b : Bool). Replayed t (and_then (only_if b (pattern value)) (λ float. next float))) (sym (not_false (in_bounds value) h)) r
+of_value {t} value next h r = subst (λ (b : Bool). Replayed t (and_then (only_if b (pattern value)) (λ float. next float))) (sym (not-false (in_bounds value) h)) r
 
 -- commands of controls
 module _ (bytes sizes : List ℕ) (e : Engine) (p : Plain) (s : Sound sizes e) (k : Kept e p) where
@@ -260,7 +260,7 @@ module _ (bytes sizes : List ℕ) (e : Engine) (p : Plain) (s : Sound sizes e) (
           → has_asked key bytes count (pick g group (synth d (controls_of e.slots e.controls (node_of n e)))) ≡ true
       go true a b = refl
       go false a b =
-          asked_there key bytes count d _ (controls_many (length d.front.values) (drop (row_words * (node_of n e).row) e.controls)) (not_false (has_controls (cover_of key bytes d) count d) a) b
+          asked_there key bytes count d _ (controls_many (length d.front.values) (drop (row_words * (node_of n e).row) e.controls)) (not-false (has_controls (cover_of key bytes d) count d) a) b
 
   -- one control is never past a name's width
   one_asked : (key : Key) (n : NodeArgument) → no_controls key 1 bytes n e ≡ false → past_name key 1 bytes n e ≡ false
@@ -271,7 +271,7 @@ module _ (bytes sizes : List ℕ) (e : Engine) (p : Plain) (s : Sound sizes e) (
 
       go : (g : Bool) → pick g false (not (has_controls (cover_of key bytes d) 1 d)) ≡ false → pick g false (past_width (cover_of key bytes d) 1) ≡ false
       go true a = refl
-      go false a = one_covered key bytes d (not_false (has_controls (cover_of key bytes d) 1 d) a)
+      go false a = one_covered key bytes d (not-false (has_controls (cover_of key bytes d) 1 d) a)
 
   change_replayed : {f : ControlValue → ControlValue} {n : NodeArgument} {key : Key} {count : ℕ} {bad_value : Bool} → ChangeAccepted f n key count bad_value bytes e
       → past_name key count bytes n e ≡ false → Replayed (changed f n key count bytes e) (step_changed f n key count bytes p)
@@ -286,7 +286,7 @@ module _ (bytes sizes : List ℕ) (e : Engine) (p : Plain) (s : Sound sizes e) (
   controls_replayed (controls.Set n key value) h = of_value value (λ float. step_changed (stored float) n key 1 bytes p) h.good_value (change_replayed h (one_asked key n h.controls))
   controls_replayed (controls.Fill n key count value) h = of_value value (λ float. step_changed (stored float) n key count bytes p) h.change.good_value (change_replayed h.change h.in_width)
   controls_replayed (controls.Map n key bus) h =
-      subst (λ (b : Bool). Replayed (control_effect (controls.Map n key bus) bytes e) (pick b (step_changed (mapped_to bus) n key 1 bytes p) none)) (sym (not_false (either (eqb bus minus_one) (is_bus bus)) h.good_value))
+      subst (λ (b : Bool). Replayed (control_effect (controls.Map n key bus) bytes e) (pick b (step_changed (mapped_to bus) n key 1 bytes p) none)) (sym (not-false (either (eqb bus minus_one) (is_bus bus)) h.good_value))
       (change_replayed h (one_asked key n h.controls))
 
 -- commands of buses: one float, or a run of them

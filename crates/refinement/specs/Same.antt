@@ -5,7 +5,7 @@ use Rattle.std.proofs.Math.Path.{◌≡◌, ap, ap₂}
 use Rattle.std.proofs.Common.{sym, ◌∙◌, arith, leb-true, eqb-true, ne_eqb}
 use mathlib.Core.List.{List, [], ◌∷◌}
 use Rattle.std.proofs.Math.Option.{Option, none, some}
-use Rattle.std.proofs.lemmas.Bool.{not_false}
+use Rattle.std.proofs.lemmas.Bool.{not-false}
 use Rattle.words.specs.Choice.{pick, either}
 use Rattle.words.specs.ChoiceLaws.{either_false}
 use Rattle.format.specs.Definition.{Definition}
@@ -140,7 +140,7 @@ module _ (e : Engine) (p : Plain) (k : Kept e p) where
       fits : has_controls (cover_of key bytes d) 1 d ≡ true
       fits =
           let w = either_false (either (negative_key key) (is_negative 1)) _ has-control in
-          not_false (has_controls (cover_of key bytes d) 1 d) (sym (ap (λ (g : Bool). pick g false (not (has_controls (cover_of key bytes d) 1 d))) single) ∙ w.1)
+          not-false (has_controls (cover_of key bytes d) 1 d) (sym (ap (λ (g : Bool). pick g false (not (has_controls (cover_of key bytes d) 1 d))) single) ∙ w.1)
 
       sent : control_reply n key bytes (view e) e.buses ≡ replied (key_argument key bytes) (read_at e.buses cs (cover_of key bytes d))
       sent =
@@ -169,7 +169,7 @@ module _ (e : Engine) (p : Plain) (k : Kept e p) where
     tree : (flag : ℕ) → not_group a e ≡ false → plain_reply (query.Tree a flag) [] p ≡ some (tree_reply n (not (eqb flag 0)) (view e))
     tree flag g =
         about (λ y. tree_shown flag p.tree y.number y.kind)
-        ∙ ap₂ (λ (m : ℕ) (b : Bool). tree_shown flag p.tree m (pick b group (synth d cs))) number (not_false (is_group (node_of a e)) g)
+        ∙ ap₂ (λ (m : ℕ) (b : Bool). tree_shown flag p.tree m (pick b group (synth d cs))) number (not-false (is_group (node_of a e)) g)
         ∙ ap (λ (bs : List ℕ). some bs)
         (ap₂ (λ (address : List ℕ) (f : ℕ). message address (int f ∷ (int n ∷ (int (length (children number_in n p.tree)) ∷ nodes_shown flag (below number_in n p.tree))))) tree-address (sym (same_flag flag))
         ∙ sym (ap (λ (l : List Row). tree_reply n (not (eqb flag 0)) l) rows ∙ tree_rows (not (eqb flag 0)) flag (same_included flag) n p.tree there))

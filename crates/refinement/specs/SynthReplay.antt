@@ -5,7 +5,7 @@ use Rattle.std.proofs.Common.{sym, ap₂, ◌∙◌, subst, ltb-true, eqb-true, 
 use Rattle.std.proofs.Math.Path.{ap}
 use Rattle.std.proofs.Math.Option.{Option, none, some}
 use native.Mathlib.Omega.{arith}
-use Rattle.std.proofs.lemmas.Bool.{not_false, eqb-false}
+use Rattle.std.proofs.lemmas.Bool.{not-false, eqb-false}
 use Rattle.words.specs.Choice.{pick, both, either}
 use Rattle.words.specs.ChoiceLaws.{both_true, either_false}
 use Rattle.format.specs.Definition.{Definition}
@@ -179,13 +179,13 @@ module _ (e : Engine) (p : Plain) (k : Kept e p) (number action n slot next : �
         other true a b = refl
         other false a b =
             let w = either_false (eqb y.row row) (not (ltb y.row most_rows)) b in
-            ap (λ (cs : List ControlValue). synth (definition_of e.slots y) cs) (other_controls y (ltb-true y.row most_rows (not_false (ltb y.row most_rows) w.1)) (eqb-false y.row row w.0))
+            ap (λ (cs : List ControlValue). synth (definition_of e.slots y) cs) (other_controls y (ltb-true y.row most_rows (not-false (ltb y.row most_rows) w.1)) (eqb-false y.row row w.0))
 
         go : (b : Bool) → eqb y.number fresh ≡ b
             → pick b (not (both (eqb y.slot slot) (both (eqb y.row row) (eqb y.run 1)))) (pick (is_group y) false (either (eqb y.row row) (not (ltb y.row most_rows)))) ≡ false
             → pick b new_node (view_of e.slots e.controls y) ≡ view_of e.slots controls' y
         go true a b =
-            let w = both_true (eqb y.slot slot) _ (not_false _ b) in
+            let w = both_true (eqb y.slot slot) _ (not-false _ b) in
             let v = both_true (eqb y.row row) (eqb y.run 1) w.1 in
             let own : PlainNode = record { number = fresh; run = 1; kind = pick (eqb slot group_slot) group (synth d (controls_from (length d.front.values) (drop (row_words * row) controls'))) } in
             let mine : new_node ≡ own = ap₂ (λ (g : Bool) (cs : List ControlValue). record { number = fresh; run = 1; kind = pick g group (synth d cs) }) (sym single) (sym own_row) in

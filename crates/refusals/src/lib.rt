@@ -1,8 +1,10 @@
 // Why a command is refused, faults of a file aside. The paper's number of each is `number_of`.
+#![tactic(auto)]
+
 ghost use Rattle.std.specs.Prelude.{◌≡◌};
 ghost use Rattle.refusals.specs.Refusals.{number_of};
 
-#[derive(Drop)]
+#[derive(Clone, Copy)]
 pub enum Refusal {
     BadState,
     NoSlot,

@@ -1,7 +1,7 @@
 // Edits of the table of nodes, by places.
 
 // What an edit does with the nodes.
-#[derive(Drop)]
+#[derive(Clone, Copy)]
 pub enum Edit {
     // Those from one place up to another are taken out.
     Cut(usize, usize),

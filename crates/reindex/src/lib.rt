@@ -1,4 +1,6 @@
 // The index after an edit of the table, in place: each entry goes where its node went, and a new node's is put in.
+#![tactic(auto)]
+
 mod edit;
 mod follow;
 mod kept;

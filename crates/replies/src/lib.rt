@@ -1,4 +1,6 @@
 // Replies sent whole, or refused where they have no room.
+#![tactic(auto)]
+
 ghost use Rattle.std.specs.Prelude.{◌+◌, ◌*◌, ◌≤◌, ◌≡◌, length};
 ghost use Rattle.words.specs.Parts.{over};
 ghost use Rattle.replies.specs.Words.{word_bytes};

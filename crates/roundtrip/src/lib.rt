@@ -1,1 +1,2 @@
 // The laws of SynthDef2 files stand in specs/.
+#![tactic(auto)]

@@ -2,7 +2,7 @@
 use Rattle.std.specs.Prelude.{ℕ, Bool, true, false, ◌≡◌, refl, List, [], ◌∷◌}
 use Rattle.std.proofs.Math.Option.{Option, none, some}
 use Rattle.std.proofs.Common.{arith}
-use Rattle.std.proofs.lemmas.Bool.{not_false}
+use Rattle.std.proofs.lemmas.Bool.{not-false}
 use Rattle.words.specs.Choice.{pick}
 use Rattle.refusals.specs.declared.Refusal.TheVariants.{NoNode, WrongKind, VersionsFull, StoreUnformed, NoVersion, StoreFull}
 use Rattle.nodes.specs.Place.{is_group}
@@ -82,8 +82,8 @@ recall_accepted name number a store ws bs h k =
     let last = first_passed (version_check name number store) [] Done refl kind.1 in
     let version = there (version_in name number (entries_of store)) last.0 in
     record {
-      read = not_false (store_formed store) stored.0;
-      node_known = not_false (known a e) found.0;
+      read = not-false (store_formed store) stored.0;
+      node_known = not-false (known a e) found.0;
       node_kind = kind.0;
       version = version.version;
       there = version.is;

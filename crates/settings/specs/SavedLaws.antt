@@ -1,7 +1,7 @@
 -- What an accepted save and an accepted drop passed, and the stores that they leave.
 use Rattle.std.specs.Prelude.{ℕ, ◌+◌, ◌≤◌, ◌<◌, Bool, true, false, ◌≡◌, refl, List, [], length, leb, ltb, eqb}
 use Rattle.std.proofs.Common.{sym, ap, ◌∙◌, subst, arith, leb-false, ltb-false}
-use Rattle.std.proofs.lemmas.Bool.{not_false, eqb-false}
+use Rattle.std.proofs.lemmas.Bool.{not-false, eqb-false}
 use Rattle.words.specs.Choice.{pick}
 use Rattle.words.specs.ChoiceLaws.{either_false}
 use Rattle.refusals.specs.declared.Refusal.TheVariants.{BadState, VersionsFull, StoreFull}
@@ -56,8 +56,8 @@ save_accepted a ws bs store h =
     (eqb (highest_for name (entries_of store)) last_version) last.0 in
     record {
       whole = whole;
-      read = not_false (store_formed store) stored.0;
-      node_known = not_false (known a e) found.0;
+      read = not-false (store_formed store) stored.0;
+      node_known = not-false (known a e) found.0;
       node_kind = kind.0;
       few = leb-false most_versions (length (versions_for name (entries_of store))) count.0;
       room = ltb-false (length store) (length (writing (saved name (own_settings a ws bs) (entries_of store)))) free.0;
@@ -101,7 +101,7 @@ version_accepted a ws bs store v store' s = by (save_judged a ws bs store) s.ans
 -- an accepted drop
 pub drop_accepted : (name : List ℕ) (number : ℕ) (store : List ℕ) → is_accepted (drop_answer name number store) ≡ true → store_formed store ≡ true
 unfolding drop_answer
-drop_accepted name number store h = not_false (store_formed store) (first_passed (store_check store) _ Done refl h).0
+drop_accepted name number store h = not-false (store_formed store) (first_passed (store_check store) _ Done refl h).0
 
 pub drop_left : (name : List ℕ) (number : ℕ) (store : List ℕ) (r : Answer) (store' : List ℕ) → Drops name number store r store'
     → is_accepted (drop_answer name number store) ≡ true → StoreKept store' (dropped name number (entries_of store))

@@ -1,4 +1,6 @@
 // Saved settings at the engine: a save of a synth's own floats, a recall into a synth, a drop of a version.
+#![tactic(auto)]
+
 mod dropping;
 mod number;
 mod recalling;
@@ -8,7 +10,7 @@ mod taken;
 use refusals::Refusal;
 
 // What a save answers: the new version, or a refusal.
-#[derive(Drop)]
+#[derive(Clone, Copy)]
 pub enum Saved {
     Version(u32),
     Refused(Refusal),

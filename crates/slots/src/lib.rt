@@ -1,5 +1,7 @@
 // The slots of definitions: the bytes of the definition in a slot, which lie in the arena where only this crate and a load know, and how many are
 // resident.
+#![tactic(auto)]
+
 ghost use Rattle.std.specs.Prelude.{ℕ, ◌<◌, min, ◌≡◌, List, length};
 ghost use Rattle.model.specs.Layout.{slot_count, words_length, start_of};
 ghost use Rattle.model.specs.Engine.{residents};

@@ -4,7 +4,7 @@ use Rattle.std.specs.Prelude.{ℕ, ◌+◌, ◌≤◌, Bool, not, refl, List, lt
 use Rattle.std.proofs.Math.Bool.{true, false}
 use Rattle.std.proofs.Math.Path.{◌≡◌}
 use native.Mathlib.Omega.{arith}
-use borrow.Author.Tests.{ltb-true, leb-true, not_false}
+use borrow.Author.Tests.{ltb-true, leb-true, not-false}
 use Rattle.words.specs.Choice.{pick, both, either}
 use Rattle.words.specs.ChoiceLaws.{both_true}
 use Rattle.format.specs.Read.{Read, got, bad}
@@ -153,24 +153,24 @@ module _ (bytes : List ℕ) (e : Engine) where
   tree_facts : (c : TreeCommand) → Passed (tree_checks c bytes e) → TreeAccepted c bytes e
   unfolding Passed
   tree_facts (tree.NewSynth number action target) (a, (b, (f, (d, (n, (k, (l, (r, end)))))))) =
-      record { place = record { good_action = a; target_known = not_false _ n; target_kind = k; room = r }; good_number = b; free_number = f; number_left = l; resident = d }
+      record { place = record { good_action = a; target_known = not-false _ n; target_kind = k; room = r }; good_number = b; free_number = f; number_left = l; resident = d }
   tree_facts (tree.NewGroup number action target) (a, (b, (f, (n, (k, (r, end)))))) =
-      record { place = record { good_action = a; target_known = not_false _ n; target_kind = k; room = r }; good_number = b; free_number = f }
-  tree_facts (tree.Free n) (k, (w, end)) = record { node_known = not_false _ k; node_kind = w }
-  tree_facts (tree.FreeAll g) (k, (w, end)) = record { node_known = not_false _ k; node_kind = w }
-  tree_facts (tree.DeepFree g) (k, (w, end)) = record { node_known = not_false _ k; node_kind = w }
-  tree_facts (tree.Before a b) (k, (l, (m, (p, (i, end))))) = record { moved_known = not_false _ k; place_known = not_false _ l; moved_kind = m; place_kind = p; outside = i }
-  tree_facts (tree.After a b) (k, (l, (m, (p, (i, end))))) = record { moved_known = not_false _ k; place_known = not_false _ l; moved_kind = m; place_kind = p; outside = i }
-  tree_facts (tree.Head g a) (l, (k, (p, (m, (i, end))))) = record { moved_known = not_false _ k; place_known = not_false _ l; moved_kind = m; place_kind = p; outside = i }
-  tree_facts (tree.Tail g a) (l, (k, (p, (m, (i, end))))) = record { moved_known = not_false _ k; place_known = not_false _ l; moved_kind = m; place_kind = p; outside = i }
-  tree_facts (tree.Run n flag) (f, (k, end)) = record { good_flag = f; node_known = not_false _ k }
+      record { place = record { good_action = a; target_known = not-false _ n; target_kind = k; room = r }; good_number = b; free_number = f }
+  tree_facts (tree.Free n) (k, (w, end)) = record { node_known = not-false _ k; node_kind = w }
+  tree_facts (tree.FreeAll g) (k, (w, end)) = record { node_known = not-false _ k; node_kind = w }
+  tree_facts (tree.DeepFree g) (k, (w, end)) = record { node_known = not-false _ k; node_kind = w }
+  tree_facts (tree.Before a b) (k, (l, (m, (p, (i, end))))) = record { moved_known = not-false _ k; place_known = not-false _ l; moved_kind = m; place_kind = p; outside = i }
+  tree_facts (tree.After a b) (k, (l, (m, (p, (i, end))))) = record { moved_known = not-false _ k; place_known = not-false _ l; moved_kind = m; place_kind = p; outside = i }
+  tree_facts (tree.Head g a) (l, (k, (p, (m, (i, end))))) = record { moved_known = not-false _ k; place_known = not-false _ l; moved_kind = m; place_kind = p; outside = i }
+  tree_facts (tree.Tail g a) (l, (k, (p, (m, (i, end))))) = record { moved_known = not-false _ k; place_known = not-false _ l; moved_kind = m; place_kind = p; outside = i }
+  tree_facts (tree.Run n flag) (f, (k, end)) = record { good_flag = f; node_known = not-false _ k }
 
   control_facts : (c : ControlCommand) → Passed (control_checks c bytes e) → ControlAccepted c bytes e
   unfolding Passed
-  control_facts (controls.Set n key value) (k, (v, (c, end))) = record { node_known = not_false _ k; good_value = v; bus_low = λ x. omega arith; controls = c }
+  control_facts (controls.Set n key value) (k, (v, (c, end))) = record { node_known = not-false _ k; good_value = v; bus_low = λ x. omega arith; controls = c }
   control_facts (controls.Fill n key count value) (k, (v, (c, (w, end)))) =
-      record { change = record { node_known = not_false _ k; good_value = v; bus_low = λ x. omega arith; controls = c }; in_width = w }
-  control_facts (controls.Map n key bus) (k, (v, (c, end))) = record { node_known = not_false _ k; good_value = v; bus_low = λ x. low (eqb bus minus_one) (not_false _ v); controls = c }
+      record { change = record { node_known = not-false _ k; good_value = v; bus_low = λ x. omega arith; controls = c }; in_width = w }
+  control_facts (controls.Map n key bus) (k, (v, (c, end))) = record { node_known = not-false _ k; good_value = v; bus_low = λ x. low (eqb bus minus_one) (not-false _ v); controls = c }
     where
       low : (b : Bool) → either b (is_bus bus) ≡ true → mapping_word (pick b Unmapped (Bus bus)) ≤ bus_count
       low true q = omega arith
@@ -178,9 +178,9 @@ module _ (bytes : List ℕ) (e : Engine) where
 
   bus_facts : (c : BusCommand) → Passed (bus_checks c e) → BusAccepted c
   unfolding Passed
-  bus_facts (buses.Set bus value) (b, (v, end)) = record { low = omega (arith, ltb-true bus bus_count (not_false _ b)); good_value = not_false _ v }
+  bus_facts (buses.Set bus value) (b, (v, end)) = record { low = omega (arith, ltb-true bus bus_count (not-false _ b)); good_value = not-false _ v }
   bus_facts (buses.Fill start count value) (b, (v, end)) =
-      record { low = leb-true (start + count) bus_count (both_true (not (is_negative count)) _ (not_false _ b)).1; good_value = not_false _ v }
+      record { low = leb-true (start + count) bus_count (both_true (not (is_negative count)) _ (not-false _ b)).1; good_value = not-false _ v }
 
   definition_facts : (c : DefinitionCommand) → Passed (definition_checks c bytes e) → DefinitionAccepted c bytes e
   unfolding Passed
@@ -193,10 +193,10 @@ module _ (bytes : List ℕ) (e : Engine) where
 
   query_facts : (q : Query) → Passed (query_checks q bytes e) → QueryAccepted q bytes e
   unfolding Passed
-  query_facts (query.Node n) (k, end) = not_false _ k
-  query_facts (query.Control n key) (k, (w, (c, end))) = record { node_known = not_false _ k; node_kind = w; controls = c }
-  query_facts (query.Bus bus) (b, end) = not_false _ b
-  query_facts (query.Tree g flag) (k, (w, end)) = record { node_known = not_false _ k; node_kind = w }
+  query_facts (query.Node n) (k, end) = not-false _ k
+  query_facts (query.Control n key) (k, (w, (c, end))) = record { node_known = not-false _ k; node_kind = w; controls = c }
+  query_facts (query.Bus bus) (b, end) = not-false _ b
+  query_facts (query.Tree g flag) (k, (w, end)) = record { node_known = not-false _ k; node_kind = w }
   query_facts query.Status end = tt
   query_facts query.Export end = tt
 

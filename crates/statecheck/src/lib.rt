@@ -1,4 +1,6 @@
 // The state check: refusal 1's test of any words and any arena at all.
+#![tactic(auto)]
+
 ghost use Rattle.std.specs.Prelude.{◌≤◌, ◌≡◌, length};
 ghost use Rattle.nodes.specs.Formed.{most_nodes};
 ghost use Rattle.model.specs.Layout.{words_length, arena_length, count_in};

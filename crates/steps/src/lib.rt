@@ -1,4 +1,6 @@
 // Commands behind the state check, each kind by its own step.
+#![tactic(auto)]
+
 mod commands;
 mod query;
 

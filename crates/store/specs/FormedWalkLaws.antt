@@ -4,7 +4,7 @@ use Rattle.std.proofs.Math.Bool.{true, false}
 use Rattle.std.proofs.Math.Path.{refl}
 use Rattle.std.proofs.Common.{ap, subst, ◌∙◌, arith}
 use borrow.Author.Tests.{lt-ltb, le-ltb, le-leb, lt-leb, ltb-true, ne_eqb, eqb-true, not-true}
-use Rattle.std.proofs.Math.Dec.{leb-zero, leb-suc-zero, leb_suc-suc}
+use Rattle.std.proofs.Math.Dec.{leb-zero, leb-suc-zero, leb-suc-suc}
 use Rattle.words.specs.Choice.{pick, both}
 use Rattle.words.specs.ChoiceLaws.{both_true}
 use Rattle.format.specs.Fields.{word}
@@ -28,7 +28,7 @@ one_fewer : (n m : ℕ) → 0 < m → leb (suc n) m ≡ leb n (m - 1)
 one_fewer n zero h = absurd (omega arith)
 one_fewer n (suc m) h =
     let e : m ≡ suc m - 1 = omega arith in
-    leb_suc-suc n m ∙ ap (λ (k : ℕ). leb n k) e
+    leb-suc-suc n m ∙ ap (λ (k : ℕ). leb n k) e
 
 -- no setting stands directly behind a highest version, and a name stands first
 not_setting : (t : ℕ) → may_follow t highest_tag ≡ true → eqb t setting_tag ≡ false

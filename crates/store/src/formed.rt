@@ -15,7 +15,7 @@ use fields::{name_bytes, part, same_name, word_at};
 use tagged::{HEAD_SIZE, size_at};
 
 // What stands at a place: a whole field, up to an end; a cut one; or what closes the store.
-#[derive(Drop)]
+#[derive(Clone, Copy)]
 pub enum NextField {
     Whole(usize),
     Cut,
@@ -24,7 +24,7 @@ pub enum NextField {
 
 // What is known on the walk along the fields: the tag of the field before, 0 at the start; under the name of the last tag 1 the last version,
 // the highest version and how many versions more it may have.
-#[derive(Drop)]
+#[derive(Clone, Copy)]
 pub struct Walk {
     pub before: u8,
     pub last: u32,
@@ -33,7 +33,7 @@ pub struct Walk {
 }
 
 // One field further, or a field that is not so formed.
-#[derive(Drop)]
+#[derive(Clone, Copy)]
 pub enum Step {
     Next(Walk),
     Unformed,

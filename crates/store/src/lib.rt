@@ -1,4 +1,6 @@
 // The store of saved settings: whether its bytes are formed, and what a save, a recall and a drop do to them.
+#![tactic(auto)]
+
 mod drop;
 mod find;
 mod formed;
@@ -16,14 +18,14 @@ pub use measuring::measure;
 pub use open::open_version;
 
 // Where the entry of a name stands; or where the contents end, which no entry of the name is among.
-#[derive(Drop)]
+#[derive(Clone, Copy)]
 pub enum EntryPlace {
     At(usize),
     Nothing(usize),
 }
 
 // Where the settings of a version stand: their fields fill the part from the first place up to the second. Or there is no such version.
-#[derive(Drop)]
+#[derive(Clone, Copy)]
 pub enum VersionPlace {
     At(usize, usize),
     Nothing,
@@ -31,7 +33,7 @@ pub enum VersionPlace {
 
 // What is known of a name before a save: the length of the store's contents with a new version that has no settings, how many versions stand
 // under the name, and the highest ever given, 0 where there was none.
-#[derive(Drop)]
+#[derive(Clone, Copy)]
 pub struct NameMeasure {
     pub length: usize,
     pub versions: usize,

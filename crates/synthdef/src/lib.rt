@@ -1,4 +1,6 @@
 // SynthDef files, for Rust and C.
+#![tactic(auto)]
+
 mod twin;
 
 ghost use Rattle.std.specs.Prelude.{◌≡◌};

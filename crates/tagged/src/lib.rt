@@ -1,4 +1,6 @@
 // Tagged fields: a one-byte tag, a two-byte length, and so many bytes.
+#![tactic(auto)]
+
 ghost use Rattle.std.specs.Prelude.{◌+◌, ◌*◌, ◌≤◌, ◌≡◌, length, drop};
 ghost use Rattle.tagged.specs.Fields.{head_size, size_in};
 

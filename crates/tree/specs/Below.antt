@@ -1,7 +1,7 @@
 -- Whether a node lies below another, by their places.
 use Rattle.std.specs.Prelude.{ℕ, zero, suc, ◌+◌, ◌*◌, ◌≤◌, ◌<◌, Bool, true, false, ◌≡◌, refl, List, [], ◌∷◌, length, take, drop, ltb, eqb}
 use Rattle.std.proofs.Common.{sym, ap, ap₂, ◌∙◌, arith, length-drop, ltb-true, ltb-false, lt-ltb, le-ltb, le-leb, eqb-true}
-use Rattle.std.proofs.Math.Dec.{leb_suc-suc}
+use Rattle.std.proofs.Math.Dec.{leb-suc-suc}
 use Rattle.std.proofs.lemmas.Bool.{lt-leb}
 use Rattle.words.specs.Choice.{pick}
 use Rattle.words.specs.ChoiceLaws.{either_false}
@@ -26,7 +26,7 @@ lives_front n (suc k) (r ∷ l) h = go (lives_front n k l (omega arith)) (eqb r.
   where
     go : lives n (take k l) ≡ ltb (place n l) k → (b : Bool) → pick b true (lives n (take k l)) ≡ ltb (pick b 0 (suc (place n l))) (suc k)
     go ih true = sym (lt-ltb 0 (suc k) (omega arith))
-    go ih false = ih ∙ sym (leb_suc-suc (suc (place n l)) k)
+    go ih false = ih ∙ sym (leb-suc-suc (suc (place n l)) k)
 
 -- a number that does not stand in a list does not stand in a part of it
 lives-drop : (n k : ℕ) (l : List Node) → lives n l ≡ false → lives n (drop k l) ≡ false

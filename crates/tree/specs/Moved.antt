@@ -4,7 +4,7 @@ use Rattle.std.specs.Prelude.{Bool, ◌≡◌, leb}
 use Rattle.std.proofs.Math.Bool.{true, false}
 use Rattle.std.proofs.Math.Path.{refl, sym, ap, ap₂}
 use Rattle.std.proofs.Common.{◌∙◌, length-append, length-take-le, ltb-true, ltb-false, le-leb}
-use mathlib.Core.List.{List, ◌∷◌, ◌++◌, head_eq_of_cons_eq}
+use mathlib.Core.List.{List, ◌∷◌, ◌++◌, head-eq_of_cons-eq}
 use native.Mathlib.Omega.{arith}
 use Rattle.std.proofs.Math.ListN.{length, take, drop, length-take, length-drop}
 use Rattle.std.proofs.Math.Seq.{drop-drop, drop-append-le, drop-append-add}
@@ -123,7 +123,7 @@ module _ (c : ℕ) (us : List ℕ) (m n a b : ℕ) (here-a : a ≡ place m (rows
   found : (r : Node) (l : List Node) → drop b' left ≡ r ∷ l → (node_from us' (width * b') ≡ r) × (rest ≡ l)
   unfolding rest
   found r l h = (
-    head_eq_of_cons_eq (sym (row-from c' us' b' live_left) ∙ ap (λ (x : List Node). drop b' x) table ∙ h),
+    head-eq_of_cons-eq (sym (row-from c' us' b' live_left) ∙ ap (λ (x : List Node). drop b' x) table ∙ h),
     sym (drop-drop 1 b' left) ∙ ap (λ (x : List Node). drop 1 x) h,
   )
 

@@ -1,7 +1,7 @@
 -- What a well-formed table gives to the functions here: no record is deeper than its place, so that the sizes that they ask hold.
 use Rattle.std.specs.Prelude.{ℕ, zero, suc, ◌+◌, ◌*◌, ◌-◌, ◌≤◌, ◌<◌, Bool, true, false, ◌≡◌, refl, length, drop, ltb, leb, eqb}
 use Rattle.std.proofs.Common.{sym, ap, ◌∙◌, arith, drop-drop, leb-true, eqb-true, ltb-true, ltb-false}
-use mathlib.Core.List.{List, [], ◌∷◌, nil≢cons, head_eq_of_cons_eq, tail-eq_of_cons-eq}
+use mathlib.Core.List.{List, [], ◌∷◌, nil≢cons, head-eq_of_cons-eq, tail-eq_of_cons-eq}
 use Rattle.words.specs.Choice.{pick}
 use Rattle.words.specs.ChoiceLaws.{both_true}
 use Rattle.nodes.specs.declared.Node.{Node}
@@ -26,7 +26,7 @@ unfolding steps
 steps_most most zero [] r rest h e = absurd (nil≢cons e)
 steps_most most zero (x ∷ l) r rest h e =
     let deep = both_true (leb x.depth most) (steps (reach x) l) (both_true (ltb 0 x.depth) _ h).1 in
-    let same : x.depth ≡ r.depth = ap (λ (y : Node). y.depth) (head_eq_of_cons_eq e) in
+    let same : x.depth ≡ r.depth = ap (λ (y : Node). y.depth) (head-eq_of_cons-eq e) in
     omega (arith, leb-true x.depth most deep.0)
 steps_most most (suc k) [] r rest h e = absurd (nil≢cons e)
 steps_most most (suc k) (x ∷ l) r rest h e =
@@ -38,7 +38,7 @@ unfolding rooted
 rooted-list [] r l e h = absurd (nil≢cons e)
 rooted-list (x ∷ k) r l e h =
     let inner = both_true (eqb x.depth 0) _ (both_true (eqb x.number 0) _ h).1 in (
-      ap (λ (y : Node). y.depth) (sym (head_eq_of_cons_eq e)) ∙ eqb-true x.depth 0 inner.0,
+      ap (λ (y : Node). y.depth) (sym (head-eq_of_cons-eq e)) ∙ eqb-true x.depth 0 inner.0,
       ap (λ (m : List Node). steps 1 m) (sym (tail-eq_of_cons-eq e)) ∙ (both_true (is_group x) (steps 1 k) inner.1).1,
     )
 

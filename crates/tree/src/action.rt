@@ -5,7 +5,7 @@ ghost use Rattle.tree.specs.Action.{action_of};
 use refusals::Refusal;
 
 // Where a node goes by another: to the head or the tail of a group, or before or after a node.
-#[derive(Drop)]
+#[derive(Clone, Copy)]
 pub enum Position {
     Head,
     Tail,
@@ -14,14 +14,14 @@ pub enum Position {
 }
 
 // An add action: a node is put in at a position, or in the place of the target.
-#[derive(Drop)]
+#[derive(Clone, Copy)]
 pub enum Action {
     Put(Position),
     Replace,
 }
 
 // What a number asks for, or its refusal.
-#[derive(Drop)]
+#[derive(Clone, Copy)]
 pub enum Asked {
     Add(Action),
     Refused(Refusal),

@@ -14,7 +14,7 @@ use layout::{DEPTH, RECORD};
 use nodes::Node;
 
 // Where a record goes, and the depth that it has there.
-#[derive(Drop)]
+#[derive(Clone, Copy)]
 pub struct Place {
     pub at: usize,
     pub depth: u32,
@@ -60,7 +60,7 @@ fn at_depth(node: Node, depth: u32) -> Node
 }
 
 // What a new record comes for, the records from `at` up to `end`, and the depth that it has there.
-#[derive(Drop)]
+#[derive(Clone, Copy)]
 pub struct Gap {
     pub at: usize,
     pub end: usize,

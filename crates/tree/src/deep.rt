@@ -11,7 +11,7 @@ use crate::runs::{node_at, put_node};
 use layout::{DEPTH, GROUP, RECORD, SLOT};
 
 // The place to read next, and the place to write to next.
-#[derive(Drop)]
+#[derive(Clone, Copy)]
 pub struct Places {
     pub read: usize,
     pub write: usize,

@@ -1,4 +1,6 @@
 // The node table in the lent node region: looking at it and changing it, with the count by value in and out.
+#![tactic(auto)]
+
 mod action;
 mod add;
 mod change;

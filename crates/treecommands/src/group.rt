@@ -21,7 +21,7 @@ use values::NodeArgument;
 use words::wide;
 
 // The place of a new node's target, or the first refusal.
-#[derive(Drop)]
+#[derive(Clone, Copy)]
 pub enum TargetPlace {
     At(usize),
     Refused(Refusal),

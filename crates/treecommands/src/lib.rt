@@ -1,4 +1,6 @@
 // The commands of the tree, behind the state check: each refuses by its row of the table, or changes the tree's parts of the words.
+#![tactic(auto)]
+
 mod adding;
 mod finish;
 mod free;

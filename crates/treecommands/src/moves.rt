@@ -18,7 +18,7 @@ use values::NodeArgument;
 use words::wide;
 
 // The places of two nodes, or the first refusal.
-#[derive(Drop)]
+#[derive(Clone, Copy)]
 pub enum Pair {
     At(usize, usize),
     Refused(Refusal),

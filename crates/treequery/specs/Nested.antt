@@ -1,7 +1,7 @@
 -- The depths of a part of the table: how deep a record is, and how much deeper than the one before it.
 use Rattle.std.specs.Prelude.{ℕ, zero, suc, ◌+◌, ◌*◌, ◌-◌, ◌≤◌, ◌<◌, Bool, true, false, ◌≡◌, length, drop, get_or, ltb, leb, eqb}
 use Rattle.std.proofs.Common.{sym, ap, ap₂, subst, ◌∙◌, arith, ltb-true, leb-true}
-use mathlib.Core.List.{List, [], ◌∷◌, nil≢cons, head_eq_of_cons_eq, tail-eq_of_cons-eq}
+use mathlib.Core.List.{List, [], ◌∷◌, nil≢cons, head-eq_of_cons-eq, tail-eq_of_cons-eq}
 use Rattle.words.specs.Choice.{pick}
 use Rattle.words.specs.ChoiceLaws.{both_true}
 use Rattle.words.specs.Parts.{region}
@@ -53,7 +53,7 @@ steps_after most (suc k) [] r s rest h e = absurd (nil≢cons e)
 steps_after most zero (x ∷ l) r s rest h e =
     let more = (both_true (leb x.depth most) (steps (reach x) l) (both_true (ltb 0 x.depth) _ h).1).1 in
     first_after (reach r) r s rest (reach_most (is_group r) r.depth)
-    (ap₂ (λ (y : Node) (m : List Node). steps (reach y) m) (sym (head_eq_of_cons_eq e)) (sym (tail-eq_of_cons-eq e)) ∙ more)
+    (ap₂ (λ (y : Node) (m : List Node). steps (reach y) m) (sym (head-eq_of_cons-eq e)) (sym (tail-eq_of_cons-eq e)) ∙ more)
 steps_after most (suc k) (x ∷ l) r s rest h e =
     steps_after (reach x) k l r s rest (both_true (leb x.depth most) (steps (reach x) l) (both_true (ltb 0 x.depth) _ h).1).1 e
 

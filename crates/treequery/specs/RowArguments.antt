@@ -1,7 +1,7 @@
 -- The rows of /g_queryTree's reply, and the arguments of each.
 use Rattle.std.specs.Prelude.{ℕ, zero, suc, ◌+◌, ◌*◌, ◌≤◌, ◌<◌, Bool, true, false, ◌≡◌, refl, length, drop, get_or, leb}
 use Rattle.std.proofs.Common.{sym, ap, ◌∙◌, arith, get_or-drop, leb-true}
-use mathlib.Core.List.{List, [], ◌∷◌, ◌++◌, nil≢cons, head_eq_of_cons_eq}
+use mathlib.Core.List.{List, [], ◌∷◌, ◌++◌, nil≢cons, head-eq_of_cons-eq}
 use Rattle.words.specs.Choice.{pick}
 use Rattle.words.specs.ChoiceLaws.{both_true}
 use Rattle.words.specs.Parts.{region}
@@ -90,7 +90,7 @@ unfolding controls_formed
 formed_at slots controls [] zero r rest e h = absurd (nil≢cons e)
 formed_at slots controls [] (suc i) r rest e h = absurd (nil≢cons e)
 formed_at slots controls (x ∷ t) zero r rest e h =
-    ap (λ (y : Node). pick (is_group y) true (mappings_formed (length (definition_of slots y).front.values) (drop (row_words * y.row) controls))) (sym (head_eq_of_cons_eq e))
+    ap (λ (y : Node). pick (is_group y) true (mappings_formed (length (definition_of slots y).front.values) (drop (row_words * y.row) controls))) (sym (head-eq_of_cons-eq e))
     ∙ (both_true (pick (is_group x) true (mappings_formed (length (definition_of slots x).front.values) (drop (row_words * x.row) controls))) _ h).0
 formed_at slots controls (x ∷ t) (suc i) r rest e h =
     formed_at slots controls t i r rest e (both_true (pick (is_group x) true (mappings_formed (length (definition_of slots x).front.values) (drop (row_words * x.row) controls))) _ h).1

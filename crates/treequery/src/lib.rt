@@ -1,4 +1,6 @@
 // /g_queryTree, behind the state check.
+#![tactic(auto)]
+
 mod children;
 mod count;
 mod piece;

@@ -8,7 +8,7 @@ use fields::part;
 use osc::{decimal_length, padded_length, put_byte, put_decimal, put_int, put_padded, put_zeros};
 
 // An integer; a float; a name, a part of a definition's bytes; 'c' and the decimal bus.
-#[derive(Drop)]
+#[derive(Clone, Copy)]
 pub enum Piece {
     Whole(u32),
     Pattern(u32),

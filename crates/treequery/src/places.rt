@@ -9,7 +9,7 @@ use crate::piece::{Piece, piece_size, piece_tag, put_piece};
 use osc::{put_byte, put_int};
 
 // The place of the next tag, and of the next argument's first byte.
-#[derive(Drop)]
+#[derive(Clone, Copy)]
 pub struct Places {
     pub tag: usize,
     pub byte: usize,

@@ -18,7 +18,7 @@ const SHAPE: usize = 33;
 pub const SHAPES: usize = 1056;
 
 // A synth: the row of its controls, the place of its definition's shape, P.
-#[derive(Drop)]
+#[derive(Clone, Copy)]
 pub struct Synth {
     pub row: u32,
     pub first: usize,

@@ -1,4 +1,6 @@
 // Units: each is read against the outputs of the units before it.
+#![tactic(auto)]
+
 mod outputs;
 mod run;
 mod shape;

@@ -13,7 +13,7 @@ use format::Width;
 use words::wide;
 
 // How many counts and indices the units have that were read, and the next cursor; or the refusal and its place.
-#[derive(Drop)]
+#[derive(Clone, Copy)]
 pub enum Run {
     Next(usize, Cursor),
     Bad(Fault, usize),

@@ -14,7 +14,7 @@ use format::{HIGHEST, Width};
 use words::{MINUS_ONE, wide};
 
 // How many inputs and outputs a unit has, and the next cursor; or the refusal and its place.
-#[derive(Drop)]
+#[derive(Clone, Copy)]
 pub enum UnitRead {
     Value(u32, u32, Cursor),
     Bad(Fault, usize),

@@ -3,7 +3,7 @@ use Rattle.std.specs.Prelude.{ℕ, zero, suc, ◌+◌, ◌%◌, ◌<◌, ◌≤�
 use Rattle.std.proofs.Common.{sym, ap, ◌∙◌, subst, arith, lt-ltb, le-ltb, eq-eqb, ne_eqb}
 use Rattle.std.specs.Float.{nan, inf, fin, binary32}
 use Rattle.std.specs.Float.Ieee.{is_nan, to_bits, of_bits, nan_bits, ne}
-use Rattle.std.specs.Float.Ieee.Bits.{to_bits_of_bits, nan_bits_is, nan_bits_above}
+use Rattle.std.specs.Float.Ieee.Bits.{to_bits-of_bits, nan_bits_is, nan_bits_above}
 use Rattle.std.specs.Float.Ieee.Compare.{differs_from_itself}
 use Rattle.values.specs.declared.Control.{Control}
 use Rattle.values.specs.declared.Mapping.{Mapping}
@@ -30,7 +30,7 @@ unfolding seen control_of
 holds_number p m l h =
     let no : nan_bits binary32 p ≡ false = number_below p h in
     let back : to_bits binary32 (of_bits binary32 p) ≡ p =
-    to_bits_of_bits binary32 p l (subst (λ (b : Bool). T (not b)) (sym no ∙ nan_bits_is binary32 p) tt) in
+    to_bits-of_bits binary32 p l (subst (λ (b : Bool). T (not b)) (sym no ∙ nan_bits_is binary32 p) tt) in
     record { struct = rw no; value = ap (λ (x : ℕ). record { own = x; mapping = m }) back }
 
 pub no_nan_below : (p : ℕ) → p % 2147483648 ≤ 2139095040 → T (not (nan_bits binary32 p))

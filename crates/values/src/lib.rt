@@ -1,4 +1,6 @@
 // Small types by value: a control, a value and a node argument of a command.
+#![tactic(auto)]
+
 ghost use Rattle.std.specs.Prelude.{◌≡◌};
 ghost use Rattle.values.specs.Controls.{Holds, control_at, seen, mapping_of, mapping_word, set_to, map_to, shown_by, bus_at};
 ghost use Rattle.values.specs.Targets.{argument, target_of};
@@ -7,7 +9,7 @@ ghost use Rattle.values.specs.Values.{pattern_of};
 use words::{MINUS_ONE, wide};
 
 // "an enum Unmapped or Bus(number), matched when read and when shown"
-#[derive(Drop)]
+#[derive(Clone, Copy)]
 pub enum Mapping {
     Unmapped,
     Bus(u32),
@@ -15,7 +17,7 @@ pub enum Mapping {
 
 // "a control is a struct by value with an f32 beside its mapping". An own float that is a number is in `own`, and `nan` is 0.
 // A NaN is kept by its pattern, in `nan`, and `own` is 0.0: so every float is kept bit for bit, and equal controls are equal structs.
-#[derive(Drop)]
+#[derive(Clone, Copy)]
 pub struct Control {
     pub own: f32,
     pub nan: u32,
@@ -23,34 +25,34 @@ pub struct Control {
 }
 
 // A value in a command: a float by its pattern, or an integer by its pattern.
-#[derive(Drop)]
+#[derive(Clone, Copy)]
 pub enum Value {
     Float(u32),
     Integer(u32),
 }
 
 // The pattern of the float that a value becomes; or it is out of bounds, refusal 23.
-#[derive(Drop)]
+#[derive(Clone, Copy)]
 pub enum ValuePattern {
     Pattern(u32),
     OutOfBounds,
 }
 
 // A control by its index, or by the name in the bytes beside the command.
-#[derive(Drop)]
+#[derive(Clone, Copy)]
 pub enum Key {
     Index(u32),
     Name,
 }
 
 // A node as a command names it: by the pattern of its signed number.
-#[derive(Drop)]
+#[derive(Clone, Copy)]
 pub struct NodeArgument {
     pub number: u32,
 }
 
 // What a node argument names.
-#[derive(Drop)]
+#[derive(Clone, Copy)]
 pub enum Target {
     Latest,
     Number(u32),

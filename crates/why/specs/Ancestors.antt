@@ -3,7 +3,7 @@ use Rattle.std.specs.Prelude.{ℕ, ◌+◌, ◌≤◌, ◌<◌, Bool, ◌≡◌}
 use Rattle.std.proofs.Math.Bool.{true, false}
 use Rattle.std.proofs.Math.Path.{refl, subst}
 use Rattle.std.proofs.Common.{ap, arith, eq-eqb}
-use mathlib.Core.List.{List, [], ◌∷◌, ◌++◌, nil≢cons, head_eq_of_cons_eq, tail-eq_of_cons-eq}
+use mathlib.Core.List.{List, [], ◌∷◌, ◌++◌, nil≢cons, head-eq_of_cons-eq, tail-eq_of_cons-eq}
 use Rattle.std.proofs.Math.Option.{some}
 use Rattle.std.proofs.Math.Dec.{eqb}
 use Rattle.words.specs.Choice.{pick}
@@ -80,7 +80,7 @@ module _ {A : Type 0} (key : A → ℕ) where
             → ((up : List A) → ancestors key n a ≡ up ++ y ∷ under → AncestorIn n a up y)
             → AncestorIn n (node x b a) up y
         go true q h up k i j = absurd (empty up y under k)
-        go false true h [] k i j = first h (head_eq_of_cons_eq k)
+        go false true h [] k i j = first h (head-eq_of_cons-eq k)
         go false true h (z ∷ up) k i j =
-            subst (λ (w : A). AncestorIn n (node x b a) (w ∷ up) y) (head_eq_of_cons_eq k) (inner x b a up y (once (key y)) (i up (tail-eq_of_cons-eq k)))
+            subst (λ (w : A). AncestorIn n (node x b a) (w ∷ up) y) (head-eq_of_cons-eq k) (inner x b a up y (once (key y)) (i up (tail-eq_of_cons-eq k)))
         go false false h up k i j = later x b a up y (once (key y)) (j up k)

@@ -1,7 +1,7 @@
 -- A node's row in the table.
 use Rattle.std.specs.Prelude.{ℕ, suc, Bool, true, false, ◌≡◌, refl, drop, eqb}
 use Rattle.std.proofs.Common.{sym, ap, ◌∙◌}
-use mathlib.Core.List.{List, [], ◌∷◌, ◌++◌, append_assoc, append-nil, nil≢cons, head_eq_of_cons_eq}
+use mathlib.Core.List.{List, [], ◌∷◌, ◌++◌, append_assoc, append-nil, nil≢cons, head-eq_of_cons-eq}
 use Rattle.std.proofs.Math.Option.{Option, none, some}
 use Rattle.words.specs.Choice.{pick}
 use Rattle.nodes.specs.declared.Node.{Node}
@@ -52,5 +52,5 @@ number_row n [] r rest e = absurd (nil≢cons e)
 number_row n (x ∷ l) r rest e = go (eqb x.number n) refl e (number_row n l r rest)
   where
     go : (p : Bool) → eqb x.number n ≡ p → drop (pick p 0 (suc (place n l))) (x ∷ l) ≡ r ∷ rest → (drop (place n l) l ≡ r ∷ rest → eqb r.number n ≡ true) → eqb r.number n ≡ true
-    go true h k ih = ap (λ (y : Node). eqb y.number n) (sym (head_eq_of_cons_eq k)) ∙ h
+    go true h k ih = ap (λ (y : Node). eqb y.number n) (sym (head-eq_of_cons-eq k)) ∙ h
     go false h k ih = ih k

@@ -1,4 +1,6 @@
 // Why a node is silent: the state check, and then the reason of the node that a number names.
+#![tactic(auto)]
+
 mod number;
 mod place;
 mod reasons;
@@ -8,7 +10,7 @@ use refusals::Refusal;
 
 // The first of these that is true: no such node, a group, off by its own flag, the number of the ancestor nearest the root that is off,
 // or the place in the running order, from 1.
-#[derive(Drop)]
+#[derive(Clone, Copy)]
 pub enum Reason {
     NoNode,
     Group,
@@ -18,7 +20,7 @@ pub enum Reason {
 }
 
 // What is answered: refusal 1, or the reason.
-#[derive(Drop)]
+#[derive(Clone, Copy)]
 pub enum WhyAnswer {
     Refused(Refusal),
     Because(Reason),

@@ -6,7 +6,7 @@ ghost use Rattle.why.specs.Seen.{SeenBefore};
 use layout::{DEPTH, GROUP, RECORD, RUN, SLOT};
 
 // How deep a row may be with every node above it on, how many synths ran so far, and the number of the last row that had every node above it on.
-#[derive(Drop)]
+#[derive(Clone, Copy)]
 pub struct SeenSoFar {
     pub limit: u32,
     pub many: u32,

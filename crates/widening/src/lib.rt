@@ -1,4 +1,6 @@
 // The version 2 encoding of a definition, from the bytes of either version that it was read from.
+#![tactic(auto)]
+
 mod definition;
 mod fronts;
 mod places;

@@ -9,7 +9,7 @@ use format::Width;
 use osc::{put_bytes, put_int};
 
 // A place in the version 1 bytes, and one in what is written.
-#[derive(Drop)]
+#[derive(Clone, Copy)]
 pub struct Places {
     pub from: usize,
     pub to: usize,

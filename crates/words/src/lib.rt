@@ -1,4 +1,6 @@
 // What every crate stands on: runs of words and bytes.
+#![tactic(auto)]
+
 ghost use Rattle.std.specs.Prelude.{◌≡◌, length, replicate};
 
 // The pattern of -1.

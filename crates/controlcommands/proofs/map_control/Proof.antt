@@ -2,7 +2,7 @@
 use mathlib.Core.Bool.{not}
 use mathlib.Core.Path.{sym, ap, ◌∙◌}
 use borrow.Author.Rules.{rules}
-use borrow.Author.Tests.{not_false}
+use borrow.Author.Tests.{not-false}
 use Rattle.model.specs.declared.ControlCommand.TheVariants as controls
 use Rattle.names.specs.Named.{findable}
 use Rattle.names.specs.Judged.{NodeFound, NodeRefused}
@@ -60,7 +60,7 @@ returns-3 c =
     let mappable = c.before.before.before.before.before.before.before.can-map in
     let mapping = c.before.before.before.before.before.mapping-to in
     rw c.answer-to.ensures
-    (map_ran a.node a.key a.bytes.now ws bs here found _ _ a.bus (sym mappable.ensures ∙ not_false mappable.result c.before.before.before.before.before.before.if1.false) (rw mapping.ensures at run.ensures))
+    (map_ran a.node a.key a.bytes.now ws bs here found _ _ a.bus (sym mappable.ensures ∙ not-false mappable.result c.before.before.before.before.before.before.if1.false) (rw mapping.ensures at run.ensures))
 
 pub map-control-spec : {M : Type 1} → statement M
 map-control-spec =

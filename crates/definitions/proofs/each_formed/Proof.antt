@@ -1,4 +1,4 @@
-use borrow.Author.Tests.{not-true, not_false}
+use borrow.Author.Tests.{not-true, not-false}
 use Rattle.definitions.specs.Checking.{formed_on, formed_turn, formed_end}
 use Rattle.slots.specs.Slots.{lengths_on, slots_on}
 use Rattle.definitions.specs.Holders.{holders, held-holders}
@@ -40,7 +40,7 @@ loop-again c = let a = c.before.before.before.before.before.before.args in
     let table = a.table.now in
     let arena = a.arena.now in
     let t = holders a.t3 in
-    let good : formed_on table arena t k ≡ true = sym (c.before.slot-formed.ensures t (sym (held-holders a.t3 k))) ∙ not_false c.before.slot-formed.result c.if1.false in
+    let good : formed_on table arena t k ≡ true = sym (c.before.slot-formed.ensures t (sym (held-holders a.t3 k))) ∙ not-false c.before.slot-formed.result c.if1.false in
     let rest = slots_formed (k + 1) (drop (k + 1) (lengths_on table)) (drop (k + 1) (slots_on table arena)) t in
     (omega arith, sym (formed_turn table arena t k (omega arith) ∙ ap (λ (b : Bool). both b rest) good) ∙ c.before.before.before.loop.invariant.1)
 

@@ -2,7 +2,7 @@ use Rattle.model.specs.Engine as engine
 use Rattle.slots.specs.Slots.{resident_on, slots_on}
 use Rattle.words.specs.Choice.{pick, either}
 use mathlib.Core.Logic.{⊎_elim}
-use borrow.Author.Tests.{not-true, not_false}
+use borrow.Author.Tests.{not-true, not-false}
 use Rattle.definitions.specs.Slots.{free_turn, free_end}
 use Rattle.definitions.specs.Holders.{holders, held-holders}
 use Rattle.model.specs.Effects.{free_from}
@@ -44,7 +44,7 @@ loop-again c = (
       let next = free_from (k + 1) (drop (k + 1) (slots_on table arena)) (holders held) in
       let taken : either (resident_on table k) (engine.held k (holders held)) ≡ true =
       ⊎_elim
-      (λ w. rw (held-holders held k, not_false (get_or held k false) w.1.left) (or_true (resident_on table k)))
+      (λ w. rw (held-holders held k, not-false (get_or held k false) w.1.left) (or_true (resident_on table k)))
       (λ w. rw (eq-eqb (get_or table (32 + k) 0) 1 w.left))
       c.if1.branch in
       sym (free_turn table arena (holders held) k (omega arith) ∙ ap (λ (b : Bool). pick b next k) taken) ∙ c.before.before.before.loop.invariant.1 arena,

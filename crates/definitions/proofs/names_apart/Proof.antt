@@ -1,4 +1,4 @@
-use borrow.Author.Tests.{not-true, not_false}
+use borrow.Author.Tests.{not-true, not-false}
 use mathlib.Core.Logic.{⊎_elim}
 use Rattle.definitions.specs.Checking.{apart_turn, apart_end}
 use Rattle.definitions.specs.Names.{name_on}
@@ -57,7 +57,7 @@ loop-again c = let s = c.before.before.before.before.before.before in
     ⊎_elim
     (λ w.
     let in-slot : resident_on table k ≡ true = eq-eqb (get_or table (32 + k) 0) 1 w.0.taken in
-    rw in-slot (ap (λ (n : List ℕ). not (name_resident n (drop (k + 1) (slots_on table arena)))) (sym w.1.ensures) ∙ sym w.2.ensures ∙ not_false w.2.result w.3.left))
+    rw in-slot (ap (λ (n : List ℕ). not (name_resident n (drop (k + 1) (slots_on table arena)))) (sym w.1.ensures) ∙ sym w.2.ensures ∙ not-false w.2.result w.3.left))
     (λ w. rw (ne_eqb (get_or table (32 + k) 0) 1 w.left))
     c.if1.branch in
     (omega arith, sym (apart_turn table arena k less ∙ ap (λ (b : Bool). both b rest) test) ∙ c.before.before.before.loop.invariant.1)

@@ -3,7 +3,7 @@ use Rattle.model.specs.Formed.{is_whole}
 use Rattle.model.specs.Engine as engine
 use Rattle.format.specs.Reader.{read_definition, size_limit}
 use Rattle.words.specs.Choice.{pick, both, either}
-use borrow.Author.Tests.{not-true, not_false}
+use borrow.Author.Tests.{not-true, not-false}
 use mathlib.Core.Logic.{⊎_elim}
 use lib.Dec.{leb}
 use Prim.Native.Nat.{◌+◌}
@@ -30,7 +30,7 @@ returns-2 c = λ t e.
     let a = c.before.before.before.before.before.args in
     let taken : either (resident_on a.table.now a.k) (engine.held a.k t) ≡ true =
     ⊎_elim
-    (λ w. rw (sym e, not_false a.held w.1.left) (or_true (resident_on a.table.now a.k)))
+    (λ w. rw (sym e, not-false a.held w.1.left) (or_true (resident_on a.table.now a.k)))
     (λ w. rw (eq-eqb (get_or a.table.now (32 + a.k) 0) 1 w.left))
     c.before.if1.branch in
     c.bytes-formed.ensures

@@ -3,7 +3,7 @@ use mathlib.Core.Bool.{true, false}
 use mathlib.Core.Path.{◌≡◌, sym, ◌∙◌}
 use native.Mathlib.Omega.{arith}
 use borrow.Author.Rules.{rules}
-use borrow.Author.Tests.{le-leb, lt-leb, eq-eqb, ne_eqb, not-true, not_false}
+use borrow.Author.Tests.{le-leb, lt-leb, eq-eqb, ne_eqb, not-true, not-false}
 use Rattle.nodes.specs.Table.{rows}
 use Rattle.nodes.specs.TableLaws.{rows-length}
 use Rattle.nodes.specs.Formed.{rooted, all_formed, none_left, first_given}
@@ -41,7 +41,7 @@ returns-4 c =
     let t = rows a.count a.nodes.now in
     let size = rows-length a.count a.nodes.now in
     let root : rooted t ≡ true =
-    sym c.before.before.before.root-holds.ensures ∙ not_false c.before.before.before.root-holds.result c.before.before.if3.false in
+    sym c.before.before.before.root-holds.ensures ∙ not-false c.before.before.before.root-holds.result c.before.before.if3.false in
     let fields : all_formed a.next t ≡ false =
     sym c.before.records-hold.ensures ∙ not-true c.before.records-hold.result c.if4.true in
     sym (rw (root, fields) at (hold_some a.next a.latest t (omega arith) (omega arith)))
@@ -54,8 +54,8 @@ returns-5 c =
     let a = root-known.before.before.before.before.args in
     let t = rows a.count a.nodes.now in
     let size = rows-length a.count a.nodes.now in
-    let root : rooted t ≡ true = sym root-known.root-holds.ensures ∙ not_false root-known.root-holds.result fields-known.before.if3.false in
-    let fields : all_formed a.next t ≡ true = sym fields-known.records-hold.ensures ∙ not_false fields-known.records-hold.result rows-known.before.if4.false in
+    let root : rooted t ≡ true = sym root-known.root-holds.ensures ∙ not-false root-known.root-holds.result fields-known.before.if3.false in
+    let fields : all_formed a.next t ≡ true = sym fields-known.records-hold.ensures ∙ not-false fields-known.records-hold.result rows-known.before.if4.false in
     let held : rows_hold t ≡ false = sym rows-known.rows_apart.ensures ∙ not-true rows-known.rows_apart.result c.if5.true in
     sym (rw (root, fields, held) at (hold_some a.next a.latest t (omega arith) (omega arith)))
 
@@ -67,9 +67,9 @@ returns-6 c =
     let a = root-known.before.before.before.before.args in
     let t = rows a.count a.nodes.now in
     let size = rows-length a.count a.nodes.now in
-    let root : rooted t ≡ true = sym root-known.root-holds.ensures ∙ not_false root-known.root-holds.result fields-known.before.if3.false in
-    let fields : all_formed a.next t ≡ true = sym fields-known.records-hold.ensures ∙ not_false fields-known.records-hold.result rows-known.before.if4.false in
-    let held : rows_hold t ≡ true = sym rows-known.rows_apart.ensures ∙ not_false rows-known.rows_apart.result c.before.if5.false in
+    let root : rooted t ≡ true = sym root-known.root-holds.ensures ∙ not-false root-known.root-holds.result fields-known.before.if3.false in
+    let fields : all_formed a.next t ≡ true = sym fields-known.records-hold.ensures ∙ not-false fields-known.records-hold.result rows-known.before.if4.false in
+    let held : rows_hold t ≡ true = sym rows-known.rows_apart.ensures ∙ not-false rows-known.rows_apart.result c.before.if5.false in
     sym (rw (root, fields, held, lt-leb none_left a.next c.if6.true) at (hold_some a.next a.latest t (omega arith) (omega arith)))
 
 returns-7 : tie.Need-returns-7
@@ -80,9 +80,9 @@ returns-7 c =
     let a = root-known.before.before.before.before.args in
     let t = rows a.count a.nodes.now in
     let size = rows-length a.count a.nodes.now in
-    let root : rooted t ≡ true = sym root-known.root-holds.ensures ∙ not_false root-known.root-holds.result fields-known.before.if3.false in
-    let fields : all_formed a.next t ≡ true = sym fields-known.records-hold.ensures ∙ not_false fields-known.records-hold.result rows-known.before.if4.false in
-    let held : rows_hold t ≡ true = sym rows-known.rows_apart.ensures ∙ not_false rows-known.rows_apart.result c.before.before.if5.false in
+    let root : rooted t ≡ true = sym root-known.root-holds.ensures ∙ not-false root-known.root-holds.result fields-known.before.if3.false in
+    let fields : all_formed a.next t ≡ true = sym fields-known.records-hold.ensures ∙ not-false fields-known.records-hold.result rows-known.before.if4.false in
+    let held : rows_hold t ≡ true = sym rows-known.rows_apart.ensures ∙ not-false rows-known.rows_apart.result c.before.before.if5.false in
     sym (rw (root, fields, held, le-leb none_left a.next (omega arith), lt-leb a.next first_given c.if7.true) at (hold_some a.next a.latest t (omega arith) (omega arith)))
 
 returns-8 : tie.Need-returns-8
@@ -93,9 +93,9 @@ returns-8 c =
     let a = root-known.before.before.before.before.args in
     let t = rows a.count a.nodes.now in
     let size = rows-length a.count a.nodes.now in
-    let root : rooted t ≡ true = sym root-known.root-holds.ensures ∙ not_false root-known.root-holds.result fields-known.before.if3.false in
-    let fields : all_formed a.next t ≡ true = sym fields-known.records-hold.ensures ∙ not_false fields-known.records-hold.result rows-known.before.if4.false in
-    let held : rows_hold t ≡ true = sym rows-known.rows_apart.ensures ∙ not_false rows-known.rows_apart.result c.before.before.before.if5.false in
+    let root : rooted t ≡ true = sym root-known.root-holds.ensures ∙ not-false root-known.root-holds.result fields-known.before.if3.false in
+    let fields : all_formed a.next t ≡ true = sym fields-known.records-hold.ensures ∙ not-false fields-known.records-hold.result rows-known.before.if4.false in
+    let held : rows_hold t ≡ true = sym rows-known.rows_apart.ensures ∙ not-false rows-known.rows_apart.result c.before.before.before.if5.false in
     sym (rw (root, fields, held, le-leb none_left a.next (omega arith), le-leb a.next first_given (omega arith), eq-eqb a.latest 0 c.if8.true) at (hold_some a.next a.latest t (omega arith) (omega arith)))
 
 returns-9 : tie.Need-returns-9
@@ -106,9 +106,9 @@ returns-9 c =
     let a = root-known.before.before.before.before.args in
     let t = rows a.count a.nodes.now in
     let size = rows-length a.count a.nodes.now in
-    let root : rooted t ≡ true = sym root-known.root-holds.ensures ∙ not_false root-known.root-holds.result fields-known.before.if3.false in
-    let fields : all_formed a.next t ≡ true = sym fields-known.records-hold.ensures ∙ not_false fields-known.records-hold.result rows-known.before.if4.false in
-    let held : rows_hold t ≡ true = sym rows-known.rows_apart.ensures ∙ not_false rows-known.rows_apart.result c.before.before.before.before.if5.false in
+    let root : rooted t ≡ true = sym root-known.root-holds.ensures ∙ not-false root-known.root-holds.result fields-known.before.if3.false in
+    let fields : all_formed a.next t ≡ true = sym fields-known.records-hold.ensures ∙ not-false fields-known.records-hold.result rows-known.before.if4.false in
+    let held : rows_hold t ≡ true = sym rows-known.rows_apart.ensures ∙ not-false rows-known.rows_apart.result c.before.before.before.before.if5.false in
     c.synth-lives.ensures
     ∙ sym (rw (root, fields, held, le-leb none_left a.next (omega arith), le-leb a.next first_given (omega arith), ne_eqb a.latest 0 c.before.if8.false) at (hold_some a.next a.latest t (omega arith) (omega arith)))
 

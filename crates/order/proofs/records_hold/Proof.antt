@@ -3,7 +3,7 @@ use Prim.Native.Nat.{◌+◌, ◌*◌, ◌-◌, ◌≤◌}
 use mathlib.Core.Bool.{true, false}
 use mathlib.Core.Path.{◌≡◌, refl, sym, ◌∙◌}
 use native.Mathlib.Omega.{arith}
-use borrow.Author.Tests.{not-true, not_false}
+use borrow.Author.Tests.{not-true, not-false}
 use lib.ListN.{drop, get_or}
 use Rattle.nodes.specs.Table.{width, rows, run_field, slot_field, row_field}
 use Rattle.nodes.specs.Formed.{all_formed}
@@ -44,7 +44,7 @@ returns-2 c =
     let us = a.nodes.now in
     let i = b.loop.i in
     let good : number_holds a.next (get_or us (width * i) 0) (get_or us (width * i + slot_field) 0) ≡ true =
-    sym d.before.number-holds.ensures ∙ not_false d.before.number-holds.result d.if1.false in
+    sym d.before.number-holds.ensures ∙ not-false d.before.number-holds.result d.if1.false in
     let bad : fields_hold (get_or us (width * i + run_field) 0) (get_or us (width * i + slot_field) 0) (get_or us (width * i + row_field) 0) ≡ false =
     sym c.before.fields-hold.ensures ∙ not-true c.before.fields-hold.result c.if2.true in
     sym (rw (good, bad) at (fields_turn a.count us a.next i (omega arith))) ∙ b.loop.invariant.1
@@ -57,9 +57,9 @@ loop-again c =
     let us = a.nodes.now in
     let i = b.loop.i in
     let good : number_holds a.next (get_or us (width * i) 0) (get_or us (width * i + slot_field) 0) ≡ true =
-    sym d.before.number-holds.ensures ∙ not_false d.before.number-holds.result d.if1.false in
+    sym d.before.number-holds.ensures ∙ not-false d.before.number-holds.result d.if1.false in
     let whole : fields_hold (get_or us (width * i + run_field) 0) (get_or us (width * i + slot_field) 0) (get_or us (width * i + row_field) 0) ≡ true =
-    sym c.before.fields-hold.ensures ∙ not_false c.before.fields-hold.result c.if2.false in
+    sym c.before.fields-hold.ensures ∙ not-false c.before.fields-hold.result c.if2.false in
     (omega arith, sym (rw (good, whole) at (fields_turn a.count us a.next i (omega arith))) ∙ b.loop.invariant.1)
 
 returns-3 : tie.Need-returns-3 invariant-loop decreases-loop

@@ -3,7 +3,7 @@ use mathlib.Core.Bool.{true}
 use mathlib.Core.Path.{◌≡◌, sym, ◌∙◌}
 use native.Mathlib.Omega.{arith}
 use borrow.Author.Rules.{rules}
-use borrow.Author.Tests.{not-true, not_false}
+use borrow.Author.Tests.{not-true, not-false}
 use Rattle.statecheck.specs.Parts.{hold_part, index_part, index_fits, tree_many, tree_nodes, tree_index, tree_order}
 use Rattle.statecheck.proofs.tree_formed.Statement.{statement}
 use Rattle.statecheck.proofs.tree_formed.Tie as tie
@@ -26,14 +26,14 @@ index-formed-requires c κs =
 returns-3 : tie.Need-returns-3
 returns-3 c =
     let a = c.before.before.before.before.before.before.before.before.before.before.before.before.before.args in
-    let nodes : hold_part c.before.before.before.before.before.before.before.before.before.before.wide.result a.words.now ≡ true = sym c.before.before.before.before.before.nodes-hold.ensures ∙ not_false c.before.before.before.before.before.nodes-hold.result c.before.before.before.before.if2.false in
+    let nodes : hold_part c.before.before.before.before.before.before.before.before.before.before.wide.result a.words.now ≡ true = sym c.before.before.before.before.before.nodes-hold.ensures ∙ not-false c.before.before.before.before.before.nodes-hold.result c.before.before.before.before.if2.false in
     sym (tree_index a.words.now c.before.before.before.before.before.before.before.before.before.before.wide.result c.before.before.before.before.before.before.before.before.before.before.wide.ensures (omega arith) nodes (sym c.before.index-formed.ensures ∙ not-true c.before.index-formed.result c.if3.true))
 
 returns-4 : tie.Need-returns-4
 returns-4 c =
     let a = c.before.before.before.before.before.before.before.before.before.before.before.before.before.before.before.before.before.before.args in
-    let nodes : hold_part c.before.before.before.before.before.before.before.before.before.before.before.before.before.before.before.wide.result a.words.now ≡ true = sym c.before.before.before.before.before.before.before.before.before.before.nodes-hold.ensures ∙ not_false c.before.before.before.before.before.before.before.before.before.before.nodes-hold.result c.before.before.before.before.before.before.before.before.before.if2.false in
-    let index : index_part c.before.before.before.before.before.before.before.before.before.before.before.before.before.before.before.wide.result a.words.now ≡ true = sym c.before.before.before.before.before.before.index-formed.ensures ∙ not_false c.before.before.before.before.before.before.index-formed.result c.before.before.before.before.before.if3.false in
+    let nodes : hold_part c.before.before.before.before.before.before.before.before.before.before.before.before.before.before.before.wide.result a.words.now ≡ true = sym c.before.before.before.before.before.before.before.before.before.before.nodes-hold.ensures ∙ not-false c.before.before.before.before.before.before.before.before.before.before.nodes-hold.result c.before.before.before.before.before.before.before.before.before.if2.false in
+    let index : index_part c.before.before.before.before.before.before.before.before.before.before.before.before.before.before.before.wide.result a.words.now ≡ true = sym c.before.before.before.before.before.before.index-formed.ensures ∙ not-false c.before.before.before.before.before.before.index-formed.result c.before.before.before.before.before.if3.false in
     c.same-order.ensures ∙ sym (tree_order a.words.now c.before.before.before.before.before.before.before.before.before.before.before.before.before.before.before.wide.result c.before.before.before.before.before.before.before.before.before.before.before.before.before.before.before.wide.ensures (omega arith) nodes c.before.before.before.wide2.result c.before.before.before.wide2.ensures index)
 
 pub tree-formed-spec : {M : Type 1} → statement M

@@ -1,7 +1,7 @@
 -- `controlcommands::set_one` meets its contract: each refusal by the check that fires.
 use mathlib.Core.Path.{sym, ◌∙◌}
 use borrow.Author.Rules.{rules}
-use borrow.Author.Tests.{not-true, not_false}
+use borrow.Author.Tests.{not-true, not-false}
 use Rattle.controlcommands.specs.Buses.{Steps, set_no_bus, set_done, set_bad_value}
 use Rattle.model.specs.declared.BusCommand.TheVariants as buses
 use Rattle.model.specs.declared.Answer.TheVariants.{Done}
@@ -16,7 +16,7 @@ returns c =
 returns-2 : tie.Need-returns-2
 returns-2 c =
     let a = c.before.before.before.before.before.before.before.before.before.before.before.args in
-    let there = sym c.before.before.before.before.before.before.before.before.before.is-bus.ensures ∙ not_false c.before.before.before.before.before.before.before.before.before.is-bus.result c.before.before.before.before.before.before.before.before.if1.false in
+    let there = sym c.before.before.before.before.before.before.before.before.before.is-bus.ensures ∙ not-false c.before.before.before.before.before.before.before.before.before.is-bus.result c.before.before.before.before.before.before.before.before.if1.false in
     let fact = sym c.before.before.before.before.before.before.before.value-pattern.ensures ∙ c.before.before.before.before.before.pattern.given.1 in
     let done : Steps (buses.Set a.bus a.value) a.words.now Done _ = set_done a.bus a.value a.words.now there c.before.before.before.before.before.pattern.given.0.0 fact in
     rw c.before.before.set-bus.ensures done
@@ -24,7 +24,7 @@ returns-2 c =
 returns-3 : tie.Need-returns-3
 returns-3 c =
     let a = c.before.before.before.before.before.before.args in
-    let there = sym c.before.before.before.before.is-bus.ensures ∙ not_false c.before.before.before.before.is-bus.result c.before.before.before.if1.false in
+    let there = sym c.before.before.before.before.is-bus.ensures ∙ not-false c.before.before.before.before.is-bus.result c.before.before.before.if1.false in
     set_bad_value a.bus a.value a.words.now there (sym c.before.before.value-pattern.ensures ∙ c.enum_told.given.1)
 
 pub set-one-spec : {M : Type 1} → statement M

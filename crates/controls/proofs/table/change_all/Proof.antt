@@ -4,7 +4,7 @@ use Prim.Native.Nat.{ℕ, ◌-◌, ◌<◌}
 use mathlib.Core.Path.{◌≡◌, refl, sym, ap, ◌∙◌}
 use mathlib.Core.List.{List}
 use native.Mathlib.Omega.{arith}
-use borrow.Author.Tests.{not-true, not_false}
+use borrow.Author.Tests.{not-true, not-false}
 use borrow.Author.Rules.{rules}
 use lib.ListN.{length, take, drop}
 use Rattle.model.specs.Layout.{words_length, count_in, nodes_in, controls_in, put_controls, record_in}
@@ -134,7 +134,7 @@ loop-again c =
     let more = noted_more _ _ l.covers l.invariant.3 slot w.5.result (rw here e.slot) noted in
     (rw w.10 t.size, rw w.10 t.rest, rw w.10 (t.left ∙ l.invariant.2), rw w.11 more))
     (λ w.
-    let whole = sym group.ensures ∙ not_false group.result w.0.left in
+    let whole = sym group.ensures ∙ not-false group.result w.0.left in
     let t =
     turned f a.key a.name.now a.count a.words.now a.arena.now a.to l.i l.words l.words
     s.requires.0 (omega arith) s.requires.1 l.invariant.0 l.invariant.1 refl (no_change f a.key a.name.now a.count l.words a.arena.now l.i whole) in

@@ -7,7 +7,7 @@ use Prim.Native.Nat.{◌-◌}
 use mathlib.Core.Bool.{true, false}
 use mathlib.Core.Path.{◌≡◌, refl, sym, ◌∙◌}
 use native.Mathlib.Omega.{arith}
-use borrow.Author.Tests.{not-true, not_false}
+use borrow.Author.Tests.{not-true, not-false}
 use lib.ListN.{drop}
 use Rattle.model.specs.Layout.{controls_place, controls_words, nodes_in, controls_in, record_in}
 use Rattle.model.specs.Engine.{decode}
@@ -147,11 +147,11 @@ loop-again c =
     h.test
     ∙ sym (ap₂ (λ (n row : ℕ). mappings_formed n (drop (64 * row) (controls_in ws))) (w.2.ensures ∙ ap (controls_on ws arena) here) w.4.ensures)
     ∙ sym w.5.ensures
-    ∙ not_false w.5.result w.6.left in
+    ∙ not-false w.5.result w.6.left in
     let noted = noted_more _ _ l.known l.invariant.1 w.1.result w.2.result (rw here (h.bounds.slot single)) w.2.ensures in
     (sym (rw more at turn) ∙ l.invariant.0, rw w.7 noted))
     (λ w.
-    let whole = sym group.ensures ∙ not_false group.result w.0.left in
+    let whole = sym group.ensures ∙ not-false group.result w.0.left in
     (sym (rw whole at turn) ∙ l.invariant.0, rw w.1 l.invariant.1))
     c.if1.branch
 

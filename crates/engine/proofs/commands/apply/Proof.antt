@@ -1,7 +1,7 @@
 -- `engine::commands::apply` meets its contract: the check, and then the step.
 use mathlib.Core.Path.{sym, ◌∙◌}
 use borrow.Author.Rules.{rules}
-use borrow.Author.Tests.{not-true, not_false}
+use borrow.Author.Tests.{not-true, not-false}
 use Rattle.state.specs.Does.{does_bad}
 use Rattle.engine.proofs.commands.apply.Statement.{statement}
 use Rattle.engine.proofs.commands.apply.Tie as tie
@@ -17,7 +17,7 @@ returns c =
 step-requires : tie.Need-step-requires
 step-requires c κs =
     let check = c.before.before.before.before.well-formed in
-    sym check.ensures ∙ not_false check.result c.before.before.before.if1.left
+    sym check.ensures ∙ not-false check.result c.before.before.before.if1.left
 
 returns-2 : tie.Need-returns-2
 returns-2 c = c.before.before.before.before.before.before.step.ensures

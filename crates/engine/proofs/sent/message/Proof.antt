@@ -1,7 +1,7 @@
 -- `engine::sent::message` meets its contract: what was read, the check, and then the step.
 use mathlib.Core.Path.{sym, ◌∙◌, subst}
 use borrow.Author.Rules.{rules}
-use borrow.Author.Tests.{not-true, not_false}
+use borrow.Author.Tests.{not-true, not-false}
 use Rattle.messages.specs.declared.Received.{Received}
 use Rattle.messages.specs.Receive.{Within}
 use Rattle.engine.specs.Messages.{sends_bad, sends_malformed, sends_unknown, sends_command}
@@ -43,7 +43,7 @@ part-step-end c =
 step-requires : tie.Need-step-requires
 step-requires c κs =
     let check = c.before.before.before.before.before.before.before.before.well-formed in
-    sym check.ensures ∙ not_false check.result c.before.before.before.before.before.before.before.if1.left
+    sym check.ensures ∙ not-false check.result c.before.before.before.before.before.before.before.if1.left
 
 returns-2 : tie.Need-returns-2
 returns-2 c =
@@ -52,7 +52,7 @@ returns-2 c =
     let check = c.before.before.before.well-formed in
     let lent = c.before.before.before.before.before.before.before.before.before.before.shared-slice-known.given in
     let kept = c.before.before.before.before.before.before.before.before.slice-known2.given in
-    sends_malformed a.message.now a.words.now a.arena.now a.reply.now (λ i. (lent i).fits) (λ i. (kept i).fits) read.result read.ensures c.enum_told.given.1 (sym check.ensures ∙ not_false check.result c.before.before.if1.left)
+    sends_malformed a.message.now a.words.now a.arena.now a.reply.now (λ i. (lent i).fits) (λ i. (kept i).fits) read.result read.ensures c.enum_told.given.1 (sym check.ensures ∙ not-false check.result c.before.before.if1.left)
 
 returns-3 : tie.Need-returns-3
 returns-3 c =
@@ -61,7 +61,7 @@ returns-3 c =
     let check = c.before.before.before.well-formed in
     let lent = c.before.before.before.before.before.before.before.before.before.before.shared-slice-known.given in
     let kept = c.before.before.before.before.before.before.before.before.slice-known2.given in
-    sends_unknown a.message.now a.words.now a.arena.now a.reply.now (λ i. (lent i).fits) (λ i. (kept i).fits) read.result read.ensures c.enum-told2.given.1 (sym check.ensures ∙ not_false check.result c.before.before.if1.left)
+    sends_unknown a.message.now a.words.now a.arena.now a.reply.now (λ i. (lent i).fits) (λ i. (kept i).fits) read.result read.ensures c.enum-told2.given.1 (sym check.ensures ∙ not-false check.result c.before.before.if1.left)
 
 returns-4 : tie.Need-returns-4
 returns-4 c =

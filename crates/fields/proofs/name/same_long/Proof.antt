@@ -3,7 +3,7 @@ use Prim.Native.Nat.{◌-◌, ◌≤◌}
 use mathlib.Core.Bool.{true}
 use mathlib.Core.Path.{◌≡◌, sym, ◌∙◌}
 use native.Mathlib.Omega.{arith}
-use borrow.Author.Tests.{not-true, not_false}
+use borrow.Author.Tests.{not-true, not-false}
 use lib.ListN.{length, drop, length-take, length-drop}
 use Rattle.format.specs.Reader.{same_name}
 use Rattle.fields.specs.SameLaws.{same_lengths, same_end, same_front, part_differs, part_same}
@@ -43,7 +43,7 @@ loop-again c =
     let l = c.before.before.before.before.before.loop in (
       omega arith,
       part_same a.a.now a.b.now (l.i - 16) (omega arith) (omega arith) l.i (omega arith) (omega arith) (omega arith)
-          (sym c.before.same-part.ensures ∙ not_false c.before.same-part.result c.if2.false) l.invariant.1,
+          (sym c.before.same-part.ensures ∙ not-false c.before.same-part.result c.if2.false) l.invariant.1,
     )
 
 same-run-requires : tie.Need-same-run-requires invariant-loop decreases-loop

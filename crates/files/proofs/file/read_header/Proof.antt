@@ -1,7 +1,7 @@
 use native.Mathlib.Omega.{arith}
 use mathlib.Core.Path.{sym, ◌∙◌}
 use borrow.Author.Rules.{rules}
-use borrow.Author.Tests.{eq-eqb, ne_eqb, not-true, not_false}
+use borrow.Author.Tests.{eq-eqb, ne_eqb, not-true, not-false}
 use Rattle.format.specs.Writer.{file_type}
 use Rattle.files.specs.FileLaws.{head_count}
 use Rattle.files.proofs.file.read_header.Statement.{statement}
@@ -26,7 +26,7 @@ returns-3 c =
     let e1 = sym (rw c.before.before.before.before.before.before.before.before.before.kind.given.1 at c.before.before.before.before.before.before.before.before.before.before.before.int32.ensures) in
     let q1 = eq-eqb c.before.before.before.before.before.before.before.before.before.kind.given.0.0 file_type c.before.before.before.before.before.before.before.if1.false in
     let e2 = sym (rw c.before.before.before.before.version.given.1 at c.before.before.before.before.before.before.int322.ensures) in
-    let q2 = sym c.before.before.is-version.ensures ∙ not_false c.before.before.is-version.result c.before.if2.false in
+    let q2 = sym c.before.before.is-version.ensures ∙ not-false c.before.before.is-version.result c.before.if2.false in
     rw (e1, q1, e2, q2) (c.short-count-to.ensures ∙ sym (head_count c.before.before.before.before.version.given.0.0 _))
 
 returns-4 : tie.Need-returns-4

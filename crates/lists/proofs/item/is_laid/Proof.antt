@@ -1,5 +1,5 @@
 -- `lists::item::is_laid` meets its contract.
-use borrow.Author.Tests.{not-true, not_false}
+use borrow.Author.Tests.{not-true, not-false}
 use Rattle.lists.specs.Lent.{item_in}
 use Rattle.lists.specs.Laid.{laid_later, laid_past, laid_by}
 use mathlib.Core.Path.{sym, ◌∙◌}
@@ -17,14 +17,14 @@ returns-2 c =
     let later = c.before.before.before.before.later-zero in
     let start = c.before.before.part-start.ensures in
     let less = c.if2.true in
-    laid_past c.before.before.before.before.before.before.args.room (item_in (drop c.before.before.before.before.before.before.args.at c.before.before.before.before.before.before.args.items.now)) (sym later.ensures ∙ not_false later.result c.before.before.before.if1.false) (omega arith)
+    laid_past c.before.before.before.before.before.before.args.room (item_in (drop c.before.before.before.before.before.before.args.at c.before.before.before.before.before.before.args.items.now)) (sym later.ensures ∙ not-false later.result c.before.before.before.if1.false) (omega arith)
 
 returns-3 : tie.Need-returns-3
 returns-3 c =
     let later = c.before.before.before.before.later-zero in
     let start = c.before.before.part-start.ensures in
     let low = c.if2.false in
-    rw (c.before.part_size.ensures, start) (laid_by c.before.before.before.before.before.before.args.room (item_in (drop c.before.before.before.before.before.before.args.at c.before.before.before.before.before.before.args.items.now)) (sym later.ensures ∙ not_false later.result c.before.before.before.if1.false) (omega arith))
+    rw (c.before.part_size.ensures, start) (laid_by c.before.before.before.before.before.before.args.room (item_in (drop c.before.before.before.before.before.before.args.at c.before.before.before.before.before.before.args.items.now)) (sym later.ensures ∙ not-false later.result c.before.before.before.if1.false) (omega arith))
 
 pub is-laid-spec : {M : Type 1} → statement M
 is-laid-spec =

@@ -1,7 +1,7 @@
 -- `lists::item::item_kind` meets its contract.
 use mathlib.Core.Path.{sym, ap, ◌∙◌}
 use borrow.Author.Rules.{rules}
-use borrow.Author.Tests.{eq-eqb, ne_eqb, not-true, not_false}
+use borrow.Author.Tests.{eq-eqb, ne_eqb, not-true, not-false}
 use lib.ListN.{drop, get_or}
 use Rattle.calls.specs.Ops.{recall}
 use Rattle.lists.specs.Lent.{of_parsed}
@@ -16,7 +16,7 @@ returns-2 c =
     let laid = c.before.before.before.is-laid in
     let a = c.before.before.before.before.before.args in
     rw (
-      sym laid.ensures ∙ not_false laid.result c.before.before.if1.false,
+      sym laid.ensures ∙ not-false laid.result c.before.before.if1.false,
       eq-eqb (get_or (drop a.at a.items.now) 0 0) recall (sym c.before.word.ensures ∙ c.if2.true),
     )
 
@@ -25,7 +25,7 @@ returns-3 c =
     let laid = c.before.before.before.before.before.is-laid in
     let a = c.before.before.before.before.before.before.before.args in
     rw (
-      sym laid.ensures ∙ not_false laid.result c.before.before.before.before.if1.false,
+      sym laid.ensures ∙ not-false laid.result c.before.before.before.before.if1.false,
       ne_eqb (get_or (drop a.at a.items.now) 0 0) recall (λ z. c.before.before.if2.false (c.before.before.before.word.ensures ∙ z)),
     )
     (c.kind-of.ensures ∙ ap of_parsed c.before.command-at.ensures)

@@ -5,7 +5,7 @@ use Rattle.lists.specs.Lent.{is_item, acts, kind_of}
 use Rattle.lists.specs.declared.Kind.{Kind}
 use Rattle.lists.specs.declared.Verdict.TheVariants.{Unfit, Fit}
 use Rattle.words.specs.Choice.{pick, both}
-use borrow.Author.Tests.{not-true, not_false}
+use borrow.Author.Tests.{not-true, not-false}
 use mathlib.Core.Path.{subst}
 use Prim.{tt}
 use Prim.Native.Nat.{◌+◌, ◌-◌}
@@ -66,7 +66,7 @@ loop-again c =
     let l = c.before.before.before.before.before.loop in
     let kind = c.before.before.before.item-kind.ensures in
     let one = c.before.before.is-item in
-    let yes : is_item (kind_of (length a.bytes.now) (item_at a.items.now l.i)) ≡ true = sym (ap is_item kind) ∙ sym one.ensures ∙ not_false one.result c.before.if2.false in
+    let yes : is_item (kind_of (length a.bytes.now) (item_at a.items.now l.i)) ≡ true = sym (ap is_item kind) ∙ sym one.ensures ∙ not-false one.result c.before.if2.false in
     let fit = c.still-fit.ensures ∙ ap (λ (k : Kind). both l.fit (acts k)) kind in
     subst (λ (b : Bool). Judging a.items.now (length a.bytes.now) (l.i + 1) b) (sym fit)
     (judge_goes a.items.now (length a.bytes.now) l.i l.fit l.invariant c.before.before.before.before.loop-test.true yes)

@@ -1,6 +1,6 @@
 -- `lists::run::run` meets its contract.
 use Rattle.lists.specs.Running.{Running, same_size, run_begins, run_kind, run_goes, run_stops, run_ends}
-use borrow.Author.Tests.{not-true, not_false}
+use borrow.Author.Tests.{not-true, not-false}
 use Prim.{tt}
 use Prim.Native.Nat.{◌-◌}
 use mathlib.Core.Path.{sym, ◌∙◌}
@@ -68,7 +68,7 @@ loop-again c =
     let l = c.before.before.before.before.before.before.before.before.before.before.loop in
     let g = c.before.before.before.before.before.before.item-step in
     let one = c.before.is-accepted in
-    run_goes a.items.now a.bytes.now a.words.now a.arena.now l.i l.words l.arena l.invariant c.before.before.before.before.before.before.before.before.before.loop-test.true g.result _ _ g.ensures (sym one.ensures ∙ not_false one.result c.if1.false)
+    run_goes a.items.now a.bytes.now a.words.now a.arena.now l.i l.words l.arena l.invariant c.before.before.before.before.before.before.before.before.before.loop-test.true g.result _ _ g.ensures (sym one.ensures ∙ not-false one.result c.if1.false)
 
 same-length-3 : tie.Need-same-length-3 invariant-loop decreases-loop
 same-length-3 c =

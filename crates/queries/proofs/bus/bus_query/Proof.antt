@@ -2,7 +2,7 @@ use Prim.Native.Nat.{ℕ}
 use mathlib.Core.Path.{sym, ap, ◌∙◌}
 use mathlib.Core.List.{[], ◌∷◌}
 use borrow.Author.Rules.{rules}
-use borrow.Author.Tests.{not-true, not_false}
+use borrow.Author.Tests.{not-true, not-false}
 use Rattle.refusals.specs.declared.Refusal.TheVariants.{NoBus}
 use Rattle.model.specs.declared.Query.TheVariants as query
 use Rattle.model.specs.Engine.{decode}
@@ -28,7 +28,7 @@ returns-2 c =
     let value = c.before.before.before.before.before.before.before.bus-at in
     let sent = c.before.before.send-words in
     reply-sent (query.Bus a.bus) a.bytes.now ws a.arena.now a.out.now (word_message bus_address bus_tags (a.bus ∷ (value.result ∷ []))) sent.result sent.new.0
-    (bus_passes a.bus a.bytes.now (decode ws a.arena.now) (sym b.ensures ∙ not_false b.result c.before.before.before.before.before.before.before.before.before.if1.false))
+    (bus_passes a.bus a.bytes.now (decode ws a.arena.now) (sym b.ensures ∙ not-false b.result c.before.before.before.before.before.before.before.before.before.if1.false))
     (ap (λ (v : ℕ). word_message bus_address bus_tags (a.bus ∷ (v ∷ []))) value.ensures ∙ bus-reply a.bus a.bytes.now ws a.arena.now)
     sent.ensures
 

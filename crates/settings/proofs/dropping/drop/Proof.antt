@@ -1,7 +1,7 @@
 -- `settings::dropping::drop` meets its contract.
 use mathlib.Core.Path.{sym, ◌∙◌}
 use borrow.Author.Rules.{rules}
-use borrow.Author.Tests.{not-true, not_false}
+use borrow.Author.Tests.{not-true, not-false}
 use Rattle.settings.specs.Dropping.{drop-unformed, drop_done, drop_none}
 use Rattle.settings.proofs.dropping.drop.Statement.{statement}
 use Rattle.settings.proofs.dropping.drop.Tie as tie
@@ -15,21 +15,21 @@ returns c =
 drop-version-requires : tie.Need-drop-version-requires
 drop-version-requires c κs =
     let check = c.before.before.store-formed in
-    sym check.ensures ∙ not_false check.result c.before.if1.false
+    sym check.ensures ∙ not-false check.result c.before.if1.false
 
 returns-2 : tie.Need-returns-2
 returns-2 c =
     let a = c.before.before.before.before.before.before.before.before.before.before.args in
     let check = c.before.before.before.before.before.before.store-formed in
     let drops = c.before.before.before.drop-version in
-    drop_done a.name.now a.number a.store.now (λ i. (c.before.before.before.before.before.before.before.before.slice-known.given i).fits) (sym check.ensures ∙ not_false check.result c.before.before.before.before.before.if1.false) _ drops.result c.if2.true drops.ensures
+    drop_done a.name.now a.number a.store.now (λ i. (c.before.before.before.before.before.before.before.before.slice-known.given i).fits) (sym check.ensures ∙ not-false check.result c.before.before.before.before.before.if1.false) _ drops.result c.if2.true drops.ensures
 
 returns-3 : tie.Need-returns-3
 returns-3 c =
     let a = c.before.before.before.before.before.before.before.before.before.before.args in
     let check = c.before.before.before.before.before.before.store-formed in
     let drops = c.before.before.before.drop-version in
-    drop_none a.name.now a.number a.store.now (λ i. (c.before.before.before.before.before.before.before.before.slice-known.given i).fits) (sym check.ensures ∙ not_false check.result c.before.before.before.before.before.if1.false) _ drops.result c.if2.false drops.ensures
+    drop_none a.name.now a.number a.store.now (λ i. (c.before.before.before.before.before.before.before.before.slice-known.given i).fits) (sym check.ensures ∙ not-false check.result c.before.before.before.before.before.if1.false) _ drops.result c.if2.false drops.ensures
 
 pub drop_spec : {M : Type 1} → statement M
 drop_spec =

@@ -2,7 +2,7 @@
 use mathlib.Core.Path.{sym, ◌∙◌}
 use native.Mathlib.Omega.{arith}
 use borrow.Author.Rules.{rules}
-use borrow.Author.Tests.{not-true, not_false}
+use borrow.Author.Tests.{not-true, not-false}
 use Rattle.state.specs.Known.{known}
 use Rattle.names.specs.Named.{findable}
 use Rattle.names.specs.Judged.{NodeFound, NodeRefused}
@@ -23,13 +23,13 @@ returns-2 c =
     let kept = c.before.before.before.before.before.shared-slice-known3.given in
     let state = c.before.before.before.well-formed in
     let store = c.before.store-formed in
-    recall-unformed a.name.now a.number a.node a.store.now a.words.now a.arena.now (λ i. (kept i).fits) (sym state.ensures ∙ not_false state.result c.before.before.if1.left) (sym store.ensures ∙ not-true store.result c.if2.taken)
+    recall-unformed a.name.now a.number a.node a.store.now a.words.now a.arena.now (λ i. (kept i).fits) (sym state.ensures ∙ not-false state.result c.before.before.if1.left) (sym store.ensures ∙ not-true store.result c.if2.taken)
 
 node-place-requires : tie.Need-node-place-requires
 node-place-requires c κs =
     let a = c.before.before.before.before.before.before.before.before.before.before.args in
     let state = c.before.before.before.before.well-formed in
-    findable a.words.now a.arena.now (known a.words.now a.arena.now (sym state.ensures ∙ not_false state.result c.before.before.before.if1.left))
+    findable a.words.now a.arena.now (known a.words.now a.arena.now (sym state.ensures ∙ not-false state.result c.before.before.before.if1.left))
 
 returns-3 : tie.Need-returns-3
 returns-3 c =
@@ -39,13 +39,13 @@ returns-3 c =
     let store = c.before.before.before.before.before.before.store-formed in
     let refusal = c.before.refusal.given in
     let refused : NodeRefused a.node a.words.now refusal.0.0 = rw refusal.1 at c.before.before.before.node-place.ensures in
-    recall_no_node a.name.now a.number a.node a.store.now a.words.now a.arena.now (λ i. (kept i).fits) (sym state.ensures ∙ not_false state.result c.before.before.before.before.before.before.before.if1.left) (sym store.ensures ∙ not_false store.result c.before.before.before.before.before.if2.left) refusal.0.0 refused
+    recall_no_node a.name.now a.number a.node a.store.now a.words.now a.arena.now (λ i. (kept i).fits) (sym state.ensures ∙ not-false state.result c.before.before.before.before.before.before.before.if1.left) (sym store.ensures ∙ not-false store.result c.before.before.before.before.before.if2.left) refusal.0.0 refused
 
 node-is-group-requires : tie.Need-node-is-group-requires
 node-is-group-requires c κs =
     let a = c.before.before.before.before.before.before.before.before.before.before.before.before.before.before.before.args in
     let state = c.before.before.before.before.before.before.before.before.before.well-formed in
-    let k = known a.words.now a.arena.now (sym state.ensures ∙ not_false state.result c.before.before.before.before.before.before.before.before.if1.left) in
+    let k = known a.words.now a.arena.now (sym state.ensures ∙ not-false state.result c.before.before.before.before.before.before.before.before.if1.left) in
     let here = c.before.before.at.given in
     let found : NodeFound a.node a.words.now here.0.0 = rw here.1 at c.before.before.before.before.node-place.ensures in
     (k.size, omega (arith, k.few, found.live))
@@ -59,13 +59,13 @@ returns-4 c =
     let here = c.before.before.before.before.at.given in
     let found : NodeFound a.node a.words.now here.0.0 = rw here.1 at c.before.before.before.before.before.before.node-place.ensures in
     let group = c.before.node-is-group in
-    recall_group a.name.now a.number a.node a.store.now a.words.now a.arena.now (λ i. (kept i).fits) (sym state.ensures ∙ not_false state.result c.before.before.before.before.before.before.before.before.before.before.if1.left) (sym store.ensures ∙ not_false store.result c.before.before.before.before.before.before.before.before.if2.left) here.0.0 found (sym group.ensures ∙ c.if3.taken)
+    recall_group a.name.now a.number a.node a.store.now a.words.now a.arena.now (λ i. (kept i).fits) (sym state.ensures ∙ not-false state.result c.before.before.before.before.before.before.before.before.before.before.if1.left) (sym store.ensures ∙ not-false store.result c.before.before.before.before.before.before.before.before.if2.left) here.0.0 found (sym group.ensures ∙ c.if3.taken)
 
 recall-version-requires : tie.Need-recall-version-requires
 recall-version-requires c κs =
     let state = c.before.before.before.before.before.before.before.before.before.before.before.before.well-formed in
     let store = c.before.before.before.before.before.before.before.before.before.before.store-formed in
-    ((sym store.ensures ∙ not_false store.result c.before.before.before.before.before.before.before.before.before.if2.left), (sym state.ensures ∙ not_false state.result c.before.before.before.before.before.before.before.before.before.before.before.if1.left))
+    ((sym store.ensures ∙ not-false store.result c.before.before.before.before.before.before.before.before.before.if2.left), (sym state.ensures ∙ not-false state.result c.before.before.before.before.before.before.before.before.before.before.before.if1.left))
 
 returns-5 : tie.Need-returns-5
 returns-5 c =
@@ -77,7 +77,7 @@ returns-5 c =
     let found : NodeFound a.node a.words.now here.0.0 = rw here.1 at c.before.before.before.before.before.before.before.before.before.before.node-place.ensures in
     let group = c.before.before.before.before.before.node-is-group in
     let sets = c.before.before.recall-version in
-    recall-set a.name.now a.number a.node a.store.now a.words.now a.arena.now (λ i. (kept i).fits) (sym state.ensures ∙ not_false state.result c.before.before.before.before.before.before.before.before.before.before.before.before.before.before.if1.left) (sym store.ensures ∙ not_false store.result c.before.before.before.before.before.before.before.before.before.before.before.before.if2.left) here.0.0 found (sym group.ensures ∙ c.before.before.before.before.if3.left) sets.result _ sets.ensures
+    recall-set a.name.now a.number a.node a.store.now a.words.now a.arena.now (λ i. (kept i).fits) (sym state.ensures ∙ not-false state.result c.before.before.before.before.before.before.before.before.before.before.before.before.before.before.if1.left) (sym store.ensures ∙ not-false store.result c.before.before.before.before.before.before.before.before.before.before.before.before.if2.left) here.0.0 found (sym group.ensures ∙ c.before.before.before.before.if3.left) sets.result _ sets.ensures
 
 pub recall-spec : {M : Type 1} → statement M
 recall-spec =

@@ -3,7 +3,7 @@ use mathlib.Core.Path.{◌≡◌, sym, ap, ap₂, subst, ◌∙◌}
 use mathlib.Core.List.{List}
 use native.Mathlib.Omega.{arith}
 use borrow.Author.Rules.{rules}
-use borrow.Author.Tests.{not-true, not_false}
+use borrow.Author.Tests.{not-true, not-false}
 use lib.ListN.{length-take, length-drop}
 use Rattle.state.specs.Known.{known}
 use Rattle.model.specs.Layout.{record_in}
@@ -37,7 +37,7 @@ returns-2 c =
     let ws = a.words.now in
     let bs = a.arena.now in
     let store = a.store.now in
-    let whole = sym c.before.before.before.before.well-formed-2.ensures ∙ not_false c.before.before.before.before.well-formed-2.result c.before.before.before.if1.false in
+    let whole = sym c.before.before.before.before.well-formed-2.ensures ∙ not-false c.before.before.before.before.well-formed-2.result c.before.before.before.if1.false in
     saves_unformed a.node ws bs store (λ i. (c.before.before.before.before.before.slice-known.given i).fits) (record { words = λ i. (c.before.before.before.before.before.before.before.shared-slice-known.given i).fits; arena = λ i. (c.before.before.before.before.before.before.shared-slice-known2.given i).fits }) whole (sym c.before.store-formed.ensures ∙ not-true c.before.store-formed.result c.if2.true)
 
 node-place-requires : tie.Need-node-place-requires
@@ -47,7 +47,7 @@ node-place-requires c κs =
     let ws = a.words.now in
     let bs = a.arena.now in
     let store = a.store.now in
-    let whole = sym c.before.before.before.before.well-formed-2.ensures ∙ not_false c.before.before.before.before.well-formed-2.result c.before.before.before.if1.false in
+    let whole = sym c.before.before.before.before.well-formed-2.ensures ∙ not-false c.before.before.before.before.well-formed-2.result c.before.before.before.if1.false in
     findable ws bs (known ws bs whole)
 
 returns-3 : tie.Need-returns-3
@@ -57,8 +57,8 @@ returns-3 c =
     let ws = a.words.now in
     let bs = a.arena.now in
     let store = a.store.now in
-    let whole = sym c.before.before.before.before.before.before.before.before.well-formed-2.ensures ∙ not_false c.before.before.before.before.before.before.before.before.well-formed-2.result c.before.before.before.before.before.before.before.if1.false in
-    let stands = sym c.before.before.before.before.before.store-formed.ensures ∙ not_false c.before.before.before.before.before.store-formed.result c.before.before.before.before.if2.false in
+    let whole = sym c.before.before.before.before.before.before.before.before.well-formed-2.ensures ∙ not-false c.before.before.before.before.before.before.before.before.well-formed-2.result c.before.before.before.before.before.before.before.if1.false in
+    let stands = sym c.before.before.before.before.before.store-formed.ensures ∙ not-false c.before.before.before.before.before.store-formed.result c.before.before.before.before.if2.false in
     let refusal = c.before.refusal.given.0.0 in
     let refused : NodeRefused a.node ws refusal = rw c.before.refusal.given.1 at c.before.before.before.node-place.ensures in
     saves_unknown a.node ws bs store (λ i. (c.before.before.before.before.before.before.before.before.before.slice-known.given i).fits) (record { words = λ i. (c.before.before.before.before.before.before.before.before.before.before.before.shared-slice-known.given i).fits; arena = λ i. (c.before.before.before.before.before.before.before.before.before.before.shared-slice-known2.given i).fits }) whole stands refusal refused
@@ -70,8 +70,8 @@ node-is-group-requires c κs =
     let ws = a.words.now in
     let bs = a.arena.now in
     let store = a.store.now in
-    let whole = sym c.before.before.before.before.before.before.before.before.well-formed-2.ensures ∙ not_false c.before.before.before.before.before.before.before.before.well-formed-2.result c.before.before.before.before.before.before.before.if1.false in
-    let stands = sym c.before.before.before.before.before.store-formed.ensures ∙ not_false c.before.before.before.before.before.store-formed.result c.before.before.before.before.if2.false in
+    let whole = sym c.before.before.before.before.before.before.before.before.well-formed-2.ensures ∙ not-false c.before.before.before.before.before.before.before.before.well-formed-2.result c.before.before.before.before.before.before.before.if1.false in
+    let stands = sym c.before.before.before.before.before.store-formed.ensures ∙ not-false c.before.before.before.before.before.store-formed.result c.before.before.before.before.if2.false in
     let here : ℕ = c.before.at.given.0.0 in
     let found : NodeFound a.node ws here = rw c.before.at.given.1 at c.before.before.before.node-place.ensures in
     let k = known ws bs whole in
@@ -84,8 +84,8 @@ returns-4 c =
     let ws = a.words.now in
     let bs = a.arena.now in
     let store = a.store.now in
-    let whole = sym c.before.before.before.before.before.before.before.before.before.before.well-formed-2.ensures ∙ not_false c.before.before.before.before.before.before.before.before.before.before.well-formed-2.result c.before.before.before.before.before.before.before.before.before.if1.false in
-    let stands = sym c.before.before.before.before.before.before.before.store-formed.ensures ∙ not_false c.before.before.before.before.before.before.before.store-formed.result c.before.before.before.before.before.before.if2.false in
+    let whole = sym c.before.before.before.before.before.before.before.before.before.before.well-formed-2.ensures ∙ not-false c.before.before.before.before.before.before.before.before.before.before.well-formed-2.result c.before.before.before.before.before.before.before.before.before.if1.false in
+    let stands = sym c.before.before.before.before.before.before.before.store-formed.ensures ∙ not-false c.before.before.before.before.before.before.before.store-formed.result c.before.before.before.before.before.before.if2.false in
     let here : ℕ = c.before.before.before.at.given.0.0 in
     let found : NodeFound a.node ws here = rw c.before.before.before.at.given.1 at c.before.before.before.before.before.node-place.ensures in
     let k = known ws bs whole in
@@ -98,8 +98,8 @@ node-definition-requires c κs =
     let ws = a.words.now in
     let bs = a.arena.now in
     let store = a.store.now in
-    let whole = sym c.before.before.before.before.before.before.before.before.before.before.well-formed-2.ensures ∙ not_false c.before.before.before.before.before.before.before.before.before.before.well-formed-2.result c.before.before.before.before.before.before.before.before.before.if1.false in
-    let stands = sym c.before.before.before.before.before.before.before.store-formed.ensures ∙ not_false c.before.before.before.before.before.before.before.store-formed.result c.before.before.before.before.before.before.if2.false in
+    let whole = sym c.before.before.before.before.before.before.before.before.before.before.well-formed-2.ensures ∙ not-false c.before.before.before.before.before.before.before.before.before.before.well-formed-2.result c.before.before.before.before.before.before.before.before.before.if1.false in
+    let stands = sym c.before.before.before.before.before.before.before.store-formed.ensures ∙ not-false c.before.before.before.before.before.before.before.store-formed.result c.before.before.before.before.before.before.if2.false in
     let here : ℕ = c.before.before.before.at.given.0.0 in
     let found : NodeFound a.node ws here = rw c.before.before.before.at.given.1 at c.before.before.before.before.before.node-place.ensures in
     let k = known ws bs whole in
@@ -114,8 +114,8 @@ node-row-requires c κs =
     let ws = a.words.now in
     let bs = a.arena.now in
     let store = a.store.now in
-    let whole = sym c.before.before.before.before.before.before.before.before.before.before.before.well-formed-2.ensures ∙ not_false c.before.before.before.before.before.before.before.before.before.before.before.well-formed-2.result c.before.before.before.before.before.before.before.before.before.before.if1.false in
-    let stands = sym c.before.before.before.before.before.before.before.before.store-formed.ensures ∙ not_false c.before.before.before.before.before.before.before.before.store-formed.result c.before.before.before.before.before.before.before.if2.false in
+    let whole = sym c.before.before.before.before.before.before.before.before.before.before.before.well-formed-2.ensures ∙ not-false c.before.before.before.before.before.before.before.before.before.before.before.well-formed-2.result c.before.before.before.before.before.before.before.before.before.before.if1.false in
+    let stands = sym c.before.before.before.before.before.before.before.before.store-formed.ensures ∙ not-false c.before.before.before.before.before.before.before.before.store-formed.result c.before.before.before.before.before.before.before.if2.false in
     let here : ℕ = c.before.before.before.before.at.given.0.0 in
     let found : NodeFound a.node ws here = rw c.before.before.before.before.at.given.1 at c.before.before.before.before.before.before.node-place.ensures in
     let k = known ws bs whole in
@@ -130,8 +130,8 @@ sub-save-taken c =
     let ws = a.words.now in
     let bs = a.arena.now in
     let store = a.store.now in
-    let whole = sym c.before.before.before.before.before.before.before.before.before.before.before.before.before.well-formed-2.ensures ∙ not_false c.before.before.before.before.before.before.before.before.before.before.before.before.before.well-formed-2.result c.before.before.before.before.before.before.before.before.before.before.before.before.if1.false in
-    let stands = sym c.before.before.before.before.before.before.before.before.before.before.store-formed.ensures ∙ not_false c.before.before.before.before.before.before.before.before.before.before.store-formed.result c.before.before.before.before.before.before.before.before.before.if2.false in
+    let whole = sym c.before.before.before.before.before.before.before.before.before.before.before.before.before.well-formed-2.ensures ∙ not-false c.before.before.before.before.before.before.before.before.before.before.before.before.before.well-formed-2.result c.before.before.before.before.before.before.before.before.before.before.before.before.if1.false in
+    let stands = sym c.before.before.before.before.before.before.before.before.before.before.store-formed.ensures ∙ not-false c.before.before.before.before.before.before.before.before.before.before.store-formed.result c.before.before.before.before.before.before.before.before.before.if2.false in
     let here : ℕ = c.before.before.before.before.before.before.at.given.0.0 in
     let found : NodeFound a.node ws here = rw c.before.before.before.before.before.before.at.given.1 at c.before.before.before.before.before.before.before.before.node-place.ensures in
     let k = known ws bs whole in
@@ -149,8 +149,8 @@ part-save-taken-start c =
     let ws = a.words.now in
     let bs = a.arena.now in
     let store = a.store.now in
-    let whole = sym c.before.before.before.before.before.before.before.before.before.before.before.before.before.well-formed-2.ensures ∙ not_false c.before.before.before.before.before.before.before.before.before.before.before.before.before.well-formed-2.result c.before.before.before.before.before.before.before.before.before.before.before.before.if1.false in
-    let stands = sym c.before.before.before.before.before.before.before.before.before.before.store-formed.ensures ∙ not_false c.before.before.before.before.before.before.before.before.before.before.store-formed.result c.before.before.before.before.before.before.before.before.before.if2.false in
+    let whole = sym c.before.before.before.before.before.before.before.before.before.before.before.before.before.well-formed-2.ensures ∙ not-false c.before.before.before.before.before.before.before.before.before.before.before.before.before.well-formed-2.result c.before.before.before.before.before.before.before.before.before.before.before.before.if1.false in
+    let stands = sym c.before.before.before.before.before.before.before.before.before.before.store-formed.ensures ∙ not-false c.before.before.before.before.before.before.before.before.before.before.store-formed.result c.before.before.before.before.before.before.before.before.before.if2.false in
     let here : ℕ = c.before.before.before.before.before.before.at.given.0.0 in
     let found : NodeFound a.node ws here = rw c.before.before.before.before.before.before.at.given.1 at c.before.before.before.before.before.before.before.before.node-place.ensures in
     let k = known ws bs whole in
@@ -168,8 +168,8 @@ part-save-taken-end c =
     let ws = a.words.now in
     let bs = a.arena.now in
     let store = a.store.now in
-    let whole = sym c.before.before.before.before.before.before.before.before.before.before.before.before.before.well-formed-2.ensures ∙ not_false c.before.before.before.before.before.before.before.before.before.before.before.before.before.well-formed-2.result c.before.before.before.before.before.before.before.before.before.before.before.before.if1.false in
-    let stands = sym c.before.before.before.before.before.before.before.before.before.before.store-formed.ensures ∙ not_false c.before.before.before.before.before.before.before.before.before.before.store-formed.result c.before.before.before.before.before.before.before.before.before.if2.false in
+    let whole = sym c.before.before.before.before.before.before.before.before.before.before.before.before.before.well-formed-2.ensures ∙ not-false c.before.before.before.before.before.before.before.before.before.before.before.before.before.well-formed-2.result c.before.before.before.before.before.before.before.before.before.before.before.before.if1.false in
+    let stands = sym c.before.before.before.before.before.before.before.before.before.before.store-formed.ensures ∙ not-false c.before.before.before.before.before.before.before.before.before.before.store-formed.result c.before.before.before.before.before.before.before.before.before.if2.false in
     let here : ℕ = c.before.before.before.before.before.before.at.given.0.0 in
     let found : NodeFound a.node ws here = rw c.before.before.before.before.before.before.at.given.1 at c.before.before.before.before.before.before.before.before.node-place.ensures in
     let k = known ws bs whole in
@@ -188,8 +188,8 @@ save-taken-requires c κs =
     let ws = a.words.now in
     let bs = a.arena.now in
     let store = a.store.now in
-    let whole = sym c.before.before.before.before.before.before.before.before.before.before.before.before.before.before.before.well-formed-2.ensures ∙ not_false c.before.before.before.before.before.before.before.before.before.before.before.before.before.before.before.well-formed-2.result c.before.before.before.before.before.before.before.before.before.before.before.before.before.before.if1.false in
-    let stands = sym c.before.before.before.before.before.before.before.before.before.before.before.before.store-formed.ensures ∙ not_false c.before.before.before.before.before.before.before.before.before.before.before.before.store-formed.result c.before.before.before.before.before.before.before.before.before.before.before.if2.false in
+    let whole = sym c.before.before.before.before.before.before.before.before.before.before.before.before.before.before.before.well-formed-2.ensures ∙ not-false c.before.before.before.before.before.before.before.before.before.before.before.before.before.before.before.well-formed-2.result c.before.before.before.before.before.before.before.before.before.before.before.before.before.before.if1.false in
+    let stands = sym c.before.before.before.before.before.before.before.before.before.before.before.before.store-formed.ensures ∙ not-false c.before.before.before.before.before.before.before.before.before.before.before.before.store-formed.result c.before.before.before.before.before.before.before.before.before.before.before.if2.false in
     let here : ℕ = c.before.before.before.before.before.before.before.before.at.given.0.0 in
     let found : NodeFound a.node ws here = rw c.before.before.before.before.before.before.before.before.at.given.1 at c.before.before.before.before.before.before.before.before.before.before.node-place.ensures in
     let k = known ws bs whole in
@@ -211,8 +211,8 @@ returns-5 c =
     let ws = a.words.now in
     let bs = a.arena.now in
     let store = a.store.now in
-    let whole = sym c.before.before.before.before.before.before.before.before.before.before.before.before.before.before.before.before.before.before.well-formed-2.ensures ∙ not_false c.before.before.before.before.before.before.before.before.before.before.before.before.before.before.before.before.before.before.well-formed-2.result c.before.before.before.before.before.before.before.before.before.before.before.before.before.before.before.before.before.if1.false in
-    let stands = sym c.before.before.before.before.before.before.before.before.before.before.before.before.before.before.before.store-formed.ensures ∙ not_false c.before.before.before.before.before.before.before.before.before.before.before.before.before.before.before.store-formed.result c.before.before.before.before.before.before.before.before.before.before.before.before.before.before.if2.false in
+    let whole = sym c.before.before.before.before.before.before.before.before.before.before.before.before.before.before.before.before.before.before.well-formed-2.ensures ∙ not-false c.before.before.before.before.before.before.before.before.before.before.before.before.before.before.before.before.before.before.well-formed-2.result c.before.before.before.before.before.before.before.before.before.before.before.before.before.before.before.before.before.if1.false in
+    let stands = sym c.before.before.before.before.before.before.before.before.before.before.before.before.before.before.before.store-formed.ensures ∙ not-false c.before.before.before.before.before.before.before.before.before.before.before.before.before.before.before.store-formed.result c.before.before.before.before.before.before.before.before.before.before.before.before.before.before.if2.false in
     let here : ℕ = c.before.before.before.before.before.before.before.before.before.before.before.at.given.0.0 in
     let found : NodeFound a.node ws here = rw c.before.before.before.before.before.before.before.before.before.before.before.at.given.1 at c.before.before.before.before.before.before.before.before.before.before.before.before.before.node-place.ensures in
     let k = known ws bs whole in

@@ -5,7 +5,7 @@ use mathlib.Core.Path.{◌≡◌, sym, ap, ◌∙◌}
 use mathlib.Core.List.{List}
 use native.Mathlib.Omega.{arith}
 use borrow.Author.Rules.{rules}
-use borrow.Author.Tests.{not-true, not_false}
+use borrow.Author.Tests.{not-true, not-false}
 use lib.ListN.{length}
 use Rattle.format.specs.Fields.{word}
 use Rattle.tagged.specs.Fields.{head_size}
@@ -20,7 +20,7 @@ use Rattle.store.proofs.formed.past_field.Tie as tie
 
 -- a test that was passed, and one that wasn't
 holds : {r t : Bool} → r ≡ t → not r ≡ false → t ≡ true
-holds {r} e h = sym e ∙ not_false r h
+holds {r} e h = sym e ∙ not-false r h
 
 fails : {r t : Bool} → r ≡ t → not r ≡ true → t ≡ false
 fails {r} e h = sym e ∙ not-true r h

@@ -4,7 +4,7 @@ use mathlib.Core.Bool.{true, false}
 use mathlib.Core.Path.{◌≡◌, sym, ap, ◌∙◌}
 use native.Mathlib.Omega.{arith}
 use borrow.Author.Count.{below_more}
-use borrow.Author.Tests.{not-true, not_false}
+use borrow.Author.Tests.{not-true, not-false}
 use lib.ListN.{get_or}
 use Rattle.tree.proofs.rows.first_free.Statement.{statement}
 use Rattle.tree.proofs.rows.first_free.Tie as tie
@@ -38,7 +38,7 @@ loop-again c =
     let marks = l.before.args.marks.now in (
       omega arith,
       omega arith,
-      below_more _ _ l.loop.invariant.2 (λ h. ap (λ (k : ℕ). get_or marks k false) (sym c.before.before.wide.ensures) ∙ not_false _ c.if1.false),
+      below_more _ _ l.loop.invariant.2 (λ h. ap (λ (k : ℕ). get_or marks k false) (sym c.before.before.wide.ensures) ∙ not-false _ c.if1.false),
     )
 
 returns-2 : tie.Need-returns-2 invariant-loop decreases-loop

@@ -3,7 +3,7 @@ use Prim.Native.Nat.{suc, ◌+◌, ◌*◌, ◌-◌, ◌≤◌}
 use mathlib.Core.Path.{◌≡◌, refl, sym, ◌∙◌}
 use native.Mathlib.Omega.{arith}
 use borrow.Author.Rules.{rules}
-use borrow.Author.Tests.{not-true, not_false}
+use borrow.Author.Tests.{not-true, not-false}
 use lib.ListN.{drop, get_or}
 use Rattle.nodes.specs.Table.{width, rows, depth_field}
 use Rattle.nodes.specs.Place.{deeper}
@@ -35,7 +35,7 @@ loop-again c =
     let d = get_or a.nodes.now (width * a.at + depth_field) 0 in
     let i = c.before.before.before.before.loop.i in
     let on : deeper d (drop i (rows a.count a.nodes.now)) ≡ suc (deeper d (drop (i + 1) (rows a.count a.nodes.now))) =
-    rw (sym c.before.is-deeper.ensures ∙ not_false c.before.is-deeper.result c.if1.false) at (deeper_turn a.count a.nodes.now d i (omega arith)) in (omega arith, omega arith)
+    rw (sym c.before.is-deeper.ensures ∙ not-false c.before.is-deeper.result c.if1.false) at (deeper_turn a.count a.nodes.now d i (omega arith)) in (omega arith, omega arith)
 
 returns-2 : tie.Need-returns-2 invariant-loop decreases-loop
 returns-2 c =

@@ -3,7 +3,7 @@ use Prim.Native.Nat.{ℕ}
 use mathlib.Core.Path.{◌≡◌, sym, ap, ◌∙◌}
 use native.Mathlib.Omega.{arith}
 use borrow.Author.Rules.{rules}
-use borrow.Author.Tests.{not-true, not_false}
+use borrow.Author.Tests.{not-true, not-false}
 use Rattle.words.specs.Parts.{region}
 use Rattle.refusals.specs.declared.Refusal.TheVariants.{WrongKind}
 use Rattle.nodes.specs.Sizes.{end_at}
@@ -89,7 +89,7 @@ returns-3 c =
     let count = c.before.before.before.before.before.before.before.wide in
     let ends : end.result ≡ end_at (count_in ws) us here = end.ensures ∙ ap (λ (k : ℕ). end_at k us here) count.ensures in
     let kind = c.before.before.before.before.before.before.before.before.before.before.node-is-group in
-    let group = sym kind.ensures ∙ not_false kind.result c.before.before.before.before.before.before.before.before.before.if1.false in
+    let group = sym kind.ensures ∙ not-false kind.result c.before.before.before.before.before.before.before.before.before.if1.false in
     reply-sent (query.Tree a.group a.flag) a.bytes.now ws bs a.out.now (tree_message shown.result ws bs end.result here) sent.result sent.new.0
     (tree_passes a.group a.bytes.now ws bs here found there a.flag (group))
     (tree-reply a.group a.bytes.now ws bs here found there a.flag end.result shown.result shown.ensures ends)
