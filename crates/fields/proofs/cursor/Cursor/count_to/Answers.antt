@@ -1,0 +1,5 @@
+use borrow.Author.Rules.{rules}
+use Rattle.fields.proofs.cursor.Cursor.count_to.Goals as goal
+
+pub returns : goal.returns
+returns c = rw c.integer.ensures at c.at_most.ensures

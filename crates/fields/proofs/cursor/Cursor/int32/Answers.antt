@@ -1,0 +1,21 @@
+use Prim.Native.Nat.{◌+◌}
+use native.Mathlib.Omega.{arith}
+use borrow.Author.Rules.{rules}
+use borrow.Author.Tests.{le-leb, lt-leb}
+use lib.ListN.{length}
+use Rattle.fields.proofs.cursor.Cursor.int32.Goals as goal
+
+pub returns-then-s-lt4 : goal.returns-then-s-lt4
+returns-then-s-lt4 c =
+    let a = c.args in
+    rw (lt-leb (a.self.at + 4) (length a.s.now) (omega arith))
+
+pub returns-then-s-at : goal.returns-then-s-at
+returns-then-s-at c =
+    let a = c.args in
+    rw (lt-leb (a.self.at + 4) (length a.s.now) (omega arith))
+
+pub returns : goal.returns
+returns c =
+    let a = c.args in
+    rw (le-leb (a.self.at + 4) (length a.s.now) (omega arith), c.word_at.ensures)
