@@ -1,0 +1,16 @@
+-- `order::visit` meets its contract. The invariant: the marks set so far with those of the rest are the marks of the whole walk (`Walked`).
+use Prim.Native.Nat.{◌+◌, ◌-◌, ◌≤◌}
+use mathlib.Core.Path.{◌∙◌}
+use mathlib.Core.Logic.{⊎_elim}
+use native.Mathlib.Omega.{arith}
+use Rattle.nodes.specs.Table.{rows}
+use Rattle.nodes.specs.TableLaws.{rows_end, rows-length}
+use Rattle.order.specs.Visits.{Walked, walked_none, walked_all, walked_under, walked_off, walked_on, walked_same}
+use lib.ListN.{drop}
+use Rattle.order.proofs.visit.Given as goal
+
+abbrev pub invariant-loop-i : goal.invariant-loop-i
+invariant-loop-i l = (l.i ≤ l.count) × (l.limit ≤ l.i) × Walked (rows l.count l.nodes) (drop l.i (rows l.count l.nodes)) l.limit l.i l.visited
+
+abbrev pub decreases-loop-i : goal.decreases-loop-i
+decreases-loop-i l = l.count - l.i

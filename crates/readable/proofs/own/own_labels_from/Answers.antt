@@ -1,0 +1,91 @@
+use mathlib.Core.Logic.{⊎_elim}
+use Prim.Native.Nat.{◌-◌, ◌<◌}
+use mathlib.Core.Path.{sym, ◌∙◌}
+use native.Mathlib.Omega.{arith}
+use Rattle.readable.specs.Entries.{entries_turn}
+use Rattle.readable.specs.Labels.{Labelling, labels_first, label_set, label_skip, label_pass, labels_last}
+use Rattle.readable.specs.OwnLabels.{looks_up}
+use Rattle.format.specs.Reader.{most_parameters}
+use Rattle.readable.proofs.own.own_labels_from.Goals as goal
+use Rattle.readable.proofs.own.own_labels_from.Goals.{then-table-index-eq0+then-looks_up, then-table-index-eq0+else-looks_up, else-table-index-eq0}
+
+pub loop-i-init : goal.loop-i-init
+loop-i-init c =
+    labels_first (looks_up c.args.s.now c.args.count c.args.first) c.args.s.now c.args.first c.args.count c.requires.0 c.requires.2
+
+pub bounds-s-at : goal.bounds-s-at
+bounds-s-at c =
+    let t = entries_turn c.args.s.now most_parameters c.args.count c.loop-i.i c.loop-i.at (omega arith) c.loop-i.invariant.left in
+    omega (arith, t.within)
+
+pub overflow_cast-size : goal.overflow_cast-size
+overflow_cast-size c =
+    omega (arith, c.type_inv.s c.loop-i.at)
+
+pub overflow_add-end : goal.overflow_add-end
+overflow_add-end c =
+    let t = entries_turn c.args.s.now most_parameters c.args.count c.loop-i.i c.loop-i.at (omega arith) c.loop-i.invariant.left in
+    let size = c.requires.1 in
+    omega (arith, t.within)
+
+pub overflow_add-end-in-loop-i : goal.overflow_add-end-in-loop-i
+overflow_add-end-in-loop-i c =
+    let t = entries_turn c.args.s.now most_parameters c.args.count c.loop-i.i c.loop-i.at (omega arith) c.loop-i.invariant.left in
+    let size = c.requires.1 in
+    omega (arith, t.within)
+
+pub word_at-index-requires : goal.word_at-index-requires
+word_at-index-requires c =
+    let t = entries_turn c.args.s.now most_parameters c.args.count c.loop-i.i c.loop-i.at (omega arith) c.loop-i.invariant.left in
+    t.within
+
+pub bounds-table-index : goal.bounds-table-index
+bounds-table-index c =
+    let t = entries_turn c.args.s.now most_parameters c.args.count c.loop-i.i c.loop-i.at (omega arith) c.loop-i.invariant.left in
+    rw c.word_at-index.ensures t.below
+
+pub looks_up-requires : goal.looks_up-requires
+looks_up-requires c =
+    let t = entries_turn c.args.s.now most_parameters c.args.count c.loop-i.i c.loop-i.at (omega arith) c.loop-i.invariant.left in
+    (c.requires.1, c.requires.2, t.within)
+
+pub overflow_cast-table : goal.overflow_cast-table
+overflow_cast-table c =
+    let t = entries_turn c.args.s.now most_parameters c.args.count c.loop-i.i c.loop-i.at (omega arith) c.loop-i.invariant.left in
+    let size = c.requires.1 in
+    omega (arith, t.within)
+
+pub bounds-table-index-then-looks_up : goal.bounds-table-index-then-looks_up
+bounds-table-index-then-looks_up c =
+    let t = entries_turn c.args.s.now most_parameters c.args.count c.loop-i.i c.loop-i.at (omega arith) c.loop-i.invariant.left in
+    rw c.word_at-index.ensures t.below
+
+pub overflow_add-at : goal.overflow_add-at
+overflow_add-at c =
+    let t = entries_turn c.args.s.now most_parameters c.args.count c.loop-i.i c.loop-i.at (omega arith) c.loop-i.invariant.left in
+    let size = c.requires.1 in
+    omega (arith, t.within)
+
+pub loop-i-preserved : goal.loop-i-preserved
+loop-i-preserved c =
+    let a = c.args in
+    let less : c.loop-i.i < a.count = omega arith in
+    let counts = looks_up a.s.now a.count a.first in
+    let index = c.word_at-index.ensures in
+    ⊎_elim
+    (λ w.
+    rw (w.3, index)
+    (label_set counts a.s.now a.first a.count c.loop-i.i c.loop-i.at c.loop-i.table c.loop-i.invariant less (sym w.1.ensures ∙ w.2.taken) (rw index at w.0.taken)))
+    (λ v.
+    ⊎_elim
+    (λ w. rw w.3 (label_pass counts a.s.now a.first a.count c.loop-i.i c.loop-i.at c.loop-i.table c.loop-i.invariant less (sym w.1.ensures ∙ w.2.left)))
+    (λ w.
+    let other = rw index at w.0.left in
+    rw w.1 (label_skip counts a.s.now a.first a.count c.loop-i.i c.loop-i.at c.loop-i.table c.loop-i.invariant less (omega arith)))
+    v)
+    c.if-table-index-eq0.branch
+
+pub returns : goal.returns
+returns c =
+    let a = c.args in
+    labels_last (looks_up a.s.now a.count a.first) a.s.now a.first a.count c.loop-i.i c.loop-i.at c.loop-i.table c.loop-i.invariant (omega arith)

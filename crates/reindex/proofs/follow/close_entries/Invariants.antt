@@ -1,0 +1,15 @@
+-- `reindex::follow::close_entries` meets its contract. The invariant: the entries gone over are followed.
+use Prim.Native.Nat.{ℕ, ◌-◌, ◌≤◌, ◌<◌}
+use mathlib.Core.Path.{◌≡◌, refl, ap, ◌∙◌, subst}
+use native.Mathlib.Omega.{arith}
+use borrow.Author.Rules.{rules}
+use lib.ListN.{length, get_or, length-set}
+use Rattle.reindex.specs.FollowWords.{Followed, follow_first, follow_read, follow_gone, follow_kept}
+use Rattle.reindex.specs.Edits.{closed}
+use Rattle.reindex.proofs.follow.close_entries.Given as goal
+
+abbrev pub invariant-loop-i : goal.invariant-loop-i
+invariant-loop-i l = (l.i ≤ l.count) × (l.left ≤ l.i) × Followed (closed l.from l.to l.by) l.initial.index l.i l.index l.left × (length l.index ≡ length l.initial.index)
+
+abbrev pub decreases-loop-i : goal.decreases-loop-i
+decreases-loop-i l = l.count - l.i

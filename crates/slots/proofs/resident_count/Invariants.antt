@@ -1,0 +1,16 @@
+use Rattle.slots.specs.Slots.{count_from, count_turn, count_end}
+use native.Mathlib.Nat.{zero-add}
+use mathlib.Core.Logic.{⊎_elim}
+use Prim.Native.Nat.{ℕ, ◌+◌, ◌-◌, ◌≤◌}
+use mathlib.Core.Path.{◌≡◌}
+use mathlib.Core.List.{List}
+use native.Mathlib.Omega.{arith}
+use borrow.Author.Tests.{eq-eqb, ne_eqb}
+use lib.ListN.{get_or}
+use Rattle.slots.proofs.resident_count.Given as goal
+
+abbrev pub invariant-loop-k : goal.invariant-loop-k
+invariant-loop-k l = (l.k ≤ 32) × ((l.n ≤ l.k) × ((arena : List ℕ) → l.n + count_from l.table arena l.k ≡ count_from l.table arena 0))
+
+abbrev pub decreases-loop-k : goal.decreases-loop-k
+decreases-loop-k l = 32 - l.k

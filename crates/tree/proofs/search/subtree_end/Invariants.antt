@@ -1,0 +1,17 @@
+-- `tree::search::subtree_end` meets its contract. The invariant is that of `find`, with depths.
+use Prim.Native.Nat.{suc, ◌+◌, ◌*◌, ◌-◌, ◌≤◌}
+use mathlib.Core.Path.{◌≡◌, refl, sym, ◌∙◌}
+use native.Mathlib.Omega.{arith}
+use borrow.Author.Rules.{rules}
+use borrow.Author.Tests.{not-true, not-false}
+use lib.ListN.{drop, get_or}
+use Rattle.nodes.specs.Table.{width, rows, depth_field}
+use Rattle.nodes.specs.Place.{deeper}
+use Rattle.nodes.specs.PlaceLaws.{deeper_turn, deeper_end}
+use Rattle.tree.proofs.search.subtree_end.Given as goal
+
+abbrev pub invariant-loop-i : goal.invariant-loop-i
+invariant-loop-i l = (l.i ≤ l.count) × (l.i + deeper l.depth (drop l.i (rows l.count l.nodes)) ≡ l.at + 1 + deeper l.depth (drop (l.at + 1) (rows l.count l.nodes)))
+
+abbrev pub decreases-loop-i : goal.decreases-loop-i
+decreases-loop-i l = l.count - l.i

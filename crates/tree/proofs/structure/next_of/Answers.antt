@@ -1,0 +1,30 @@
+-- `tree::structure::next_of` meets its contract: what follows the run, where it is at the node's depth.
+use Prim.Native.Nat.{ℕ}
+use mathlib.Core.Path.{sym, ap, ◌∙◌}
+use native.Mathlib.Omega.{arith}
+use borrow.Author.Rules.{rules}
+use borrow.Author.Tests.{eq-eqb, ne_eqb}
+use lib.ListN.{drop}
+use Rattle.nodes.specs.Table.{rows}
+use Rattle.nodes.specs.Structure.{first_beside}
+use Rattle.tree.specs.Around.{beside_turn, beside_end}
+use Rattle.nodes.specs.Sizes.{depth_at}
+use Rattle.tree.proofs.structure.next_of.Goals as goal
+
+pub returns-then-nodes-end : goal.returns-then-nodes-end
+returns-then-nodes-end c =
+    let a = c.args in
+    let us = a.nodes.now in
+    sym (ap (λ (k : ℕ). first_beside (depth_at us a.at) (drop k (rows a.count us))) (sym c.subtree_end-end.ensures) ∙ rw (eq-eqb (depth_at us c.subtree_end-end.result) (depth_at us a.at) c.if-nodes-end.true) at (beside_turn a.count us (depth_at us a.at) c.subtree_end-end.result (omega arith)))
+
+pub returns-else-nodes-end : goal.returns-else-nodes-end
+returns-else-nodes-end c =
+    let a = c.args in
+    let us = a.nodes.now in
+    sym (ap (λ (k : ℕ). first_beside (depth_at us a.at) (drop k (rows a.count us))) (sym c.subtree_end-end.ensures) ∙ rw (ne_eqb (depth_at us c.subtree_end-end.result) (depth_at us a.at) c.if-nodes-end.false) at (beside_turn a.count us (depth_at us a.at) c.subtree_end-end.result (omega arith)))
+
+pub returns-else-end-count : goal.returns-else-end-count
+returns-else-end-count c =
+    let a = c.args in
+    let us = a.nodes.now in
+    sym (ap (λ (k : ℕ). first_beside (depth_at us a.at) (drop k (rows a.count us))) (sym c.subtree_end-end.ensures) ∙ beside_end a.count us (depth_at us a.at) c.subtree_end-end.result (omega arith))

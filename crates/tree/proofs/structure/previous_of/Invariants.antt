@@ -1,0 +1,16 @@
+-- `tree::structure::previous_of` meets its contract. The invariant: every record from i up to the node's place is deeper.
+use Prim.Native.Nat.{ℕ, ◌+◌, ◌*◌, ◌-◌, ◌≤◌}
+use mathlib.Core.Path.{◌≡◌, refl, sym, ap, ◌∙◌}
+use native.Mathlib.Omega.{arith}
+use borrow.Author.Tests.{lt-ltb, le-ltb, eq-eqb, ne_eqb}
+use lib.ListN.{get_or}
+use Rattle.nodes.specs.Table.{width, rows, depth_field}
+use Rattle.nodes.specs.Structure.{no_node}
+use Rattle.tree.specs.Around.{along, beside, along_start, along_back}
+use Rattle.tree.proofs.structure.previous_of.Given as goal
+
+abbrev pub invariant-loop-i : goal.invariant-loop-i
+invariant-loop-i l = (l.i ≤ l.at) × (along (beside l.depth) no_node (rows l.i l.nodes) ≡ along (beside l.depth) no_node (rows l.at l.nodes))
+
+abbrev pub decreases-loop-i : goal.decreases-loop-i
+decreases-loop-i l = l.i

@@ -1,0 +1,17 @@
+-- `tree::structure::tail_of` meets its contract. The invariant: the last child so far, and those from i on, give the last of all.
+use mathlib.Core.Logic.{⊎_elim}
+use Prim.Native.Nat.{ℕ, ◌+◌, ◌*◌, ◌-◌, ◌≤◌}
+use mathlib.Core.Path.{◌≡◌, refl, sym, ap, ◌∙◌}
+use mathlib.Core.List.{List}
+use native.Mathlib.Omega.{arith}
+use lib.ListN.{drop, get_or}
+use Rattle.nodes.specs.Table.{width, rows, depth_field}
+use Rattle.nodes.specs.Structure.{no_node, last_or}
+use Rattle.tree.specs.Around.{child_numbers, child_numbers_stop, child_numbers_child, child_numbers_skip, child_numbers_end}
+use Rattle.tree.proofs.structure.tail_of.Given as goal
+
+abbrev pub invariant-loop-i : goal.invariant-loop-i
+invariant-loop-i l = (l.i ≤ l.count) × (last_or l.last (child_numbers l.depth (drop l.i (rows l.count l.nodes))) ≡ last_or no_node (child_numbers l.depth (drop (l.at + 1) (rows l.count l.nodes))))
+
+abbrev pub decreases-loop-i : goal.decreases-loop-i
+decreases-loop-i l = l.count - l.i

@@ -1,0 +1,13 @@
+use Prim.Native.Nat.{suc, ◌-◌, ◌≤◌}
+use mathlib.Core.Path.{◌≡◌, refl, ap, ◌∙◌}
+use native.Mathlib.Omega.{arith}
+use native.Mathlib.Numerals.{add-one}
+use Rattle.units.specs.Marks.{unit_outputs, unit_end, unit_place, place_up}
+use native.Mathlib.Nat.{le_trans}
+use Rattle.units.proofs.outputs.outputs_behind.Given as goal
+
+abbrev pub invariant-loop-i : goal.invariant-loop-i
+invariant-loop-i l = (l.i ≤ l.unit) × (l.at ≡ unit_place l.width l.s l.start l.i)
+
+abbrev pub decreases-loop-i : goal.decreases-loop-i
+decreases-loop-i l = l.unit - l.i

@@ -1,0 +1,15 @@
+use Prim.Native.Nat.{◌-◌}
+use mathlib.Core.Path.{◌≡◌, refl, sym, ◌∙◌}
+use native.Mathlib.Omega.{arith}
+use borrow.Author.Rules.{rules}
+use lib.ListN.{length}
+use lib.Seq.{length-take-le}
+use Rattle.units.specs.Marks.{unit_place, place_up, marking_same}
+use Rattle.units.specs.Units.{Standing, stands_first, stands_marked, stands_next, stands_bad, stands_done}
+use Rattle.units.proofs.run.read_marked.Given as goal
+
+abbrev pub invariant-loop-i : goal.invariant-loop-i
+invariant-loop-i l = Standing l.width l.constants l.s l.start l.count l.outs l.stride l.marks l.known l.at l.i l.fields × (length l.marks ≡ length l.initial.marks)
+
+abbrev pub decreases-loop-i : goal.decreases-loop-i
+decreases-loop-i l = l.count - l.i

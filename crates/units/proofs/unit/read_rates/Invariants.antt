@@ -1,0 +1,16 @@
+use Prim.Native.Nat.{◌-◌, ◌≤◌}
+use mathlib.Core.Path.{◌≡◌, sym, ◌∙◌}
+use native.Mathlib.Omega.{arith}
+use borrow.Author.Rules.{rules}
+use Rattle.format.specs.Endings.{repeat_next, repeat_bad}
+use Rattle.format.specs.RepeatLaws.{ending_none}
+use Rattle.format.specs.Read.{ending, repeat}
+use native.Mathlib.Nat.{sub-zero}
+use Rattle.format.specs.Fields.{rate}
+use Rattle.units.proofs.unit.read_rates.Given as goal
+
+abbrev pub invariant-loop-i : goal.invariant-loop-i
+invariant-loop-i l = (l.i ≤ l.count) × (ending (repeat (rate l.s) (l.count - l.i) l.at) ≡ ending (repeat (rate l.s) l.count l.initial.at))
+
+abbrev pub decreases-loop-i : goal.decreases-loop-i
+decreases-loop-i l = l.count - l.i
