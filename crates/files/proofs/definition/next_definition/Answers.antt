@@ -6,14 +6,11 @@ use Rattle.encoding.specs.Encoding.{fields_in}
 use Rattle.files.specs.Skips.{kept_bad, skip_definition, count_definition, units_few}
 use Rattle.files.proofs.definition.next_definition.Goals as goal
 
-pub overflow_add-result : goal.overflow_add-result
-overflow_add-result c = search (rules, c.known_told-1.given)
-
 pub overflow_add-result-in-Next-counted_variants : goal.overflow_add-result-in-Next-counted_variants
 overflow_add-result-in-Next-counted_variants c =
     let a = c.args in
     let e2 = sym (rw c.in-Next.is at c.counted_units.ensures.0) in
-    omega (arith, c.known_told-1.given, units_few a.width _ a.s.now _ e2)
+    omega (arith, units_few a.width _ a.s.now _ e2)
 
 pub returns-in-Next-counted_variants : goal.returns-in-Next-counted_variants
 returns-in-Next-counted_variants c =

@@ -1,4 +1,3 @@
-use mathlib.Core.Logic.{⊎_elim}
 use Prim.Native.Nat.{◌-◌, ◌<◌}
 use mathlib.Core.Path.{sym, ◌∙◌}
 use native.Mathlib.Omega.{arith}
@@ -72,18 +71,15 @@ loop-i-preserved c =
     let less : c.loop-i.i < a.count = omega arith in
     let counts = looks_up a.s.now a.count a.first in
     let index = c.word_at-index.ensures in
-    ⊎_elim
-    (λ w.
-    rw (w.3, index)
-    (label_set counts a.s.now a.first a.count c.loop-i.i c.loop-i.at c.loop-i.table c.loop-i.invariant less (sym w.1.ensures ∙ w.2.taken) (rw index at w.0.taken)))
-    (λ v.
-    ⊎_elim
-    (λ w. rw w.3 (label_pass counts a.s.now a.first a.count c.loop-i.i c.loop-i.at c.loop-i.table c.loop-i.invariant less (sym w.1.ensures ∙ w.2.left)))
-    (λ w.
-    let other = rw index at w.0.left in
-    rw w.1 (label_skip counts a.s.now a.first a.count c.loop-i.i c.loop-i.at c.loop-i.table c.loop-i.invariant less (omega arith)))
-    v)
-    c.if-table-index-eq0.branch
+    elim c.if-table-index-eq0.branch [
+      then-table-index-eq0+then-looks_up w ↦ rw (w.table-is, index)
+        (label_set counts a.s.now a.first a.count c.loop-i.i c.loop-i.at c.loop-i.table c.loop-i.invariant less (sym w.looks_up.ensures ∙ w.if-looks_up.true) (rw index at w.if-table-index-eq0.true))
+    | then-table-index-eq0+else-looks_up w ↦ rw w.table-is
+        (label_pass counts a.s.now a.first a.count c.loop-i.i c.loop-i.at c.loop-i.table c.loop-i.invariant less (sym w.looks_up.ensures ∙ w.if-looks_up.false))
+    | else-table-index-eq0 w ↦
+        let other = rw index at w.if-table-index-eq0.false in
+        rw w.table-is (label_skip counts a.s.now a.first a.count c.loop-i.i c.loop-i.at c.loop-i.table c.loop-i.invariant less (omega arith))
+    ]
 
 pub returns : goal.returns
 returns c =

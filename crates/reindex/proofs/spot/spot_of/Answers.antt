@@ -5,20 +5,6 @@ use Rattle.nodes.specs.Table.{width}
 use Rattle.reindex.specs.Spot.{Between, between_all, between_down, between_up, between_met}
 use Rattle.reindex.proofs.spot.spot_of.Goals as goal
 
--- the bounds are those of entries that are there
-inside : (c : goal.At-loop-low invariant-loop decreases-loop) → (c.loop.high < 256) × (c.loop.high < length c.before.before.before.before.args.index.now)
-inside c =
-    let s = c.before.before.before.before in
-    (omega (arith, s.requires.0.few, c.loop.invariant.1.near), omega (arith, s.requires.0.entries, c.loop.invariant.1.near))
-
--- and the middle one holds the place of a record
-below : (c : goal.After-wide-place invariant-loop decreases-loop) → (c.wide.result < 256) × (width * c.wide.result < length c.before.before.before.before.before.before.before.args.nodes.now)
-below c =
-    let s = c.before.before.before.before.before.before.before in
-    let l = c.before.before.before.loop in
-    let place = s.requires.0.below (l.low + (l.high - l.low) / 2) (omega (arith, l.invariant.1.near)) in
-    (omega (arith, c.wide.ensures, s.requires.0.few), omega (arith, c.wide.ensures, s.requires.0.room))
-
 pub loop-low-init : goal.loop-low-init
 loop-low-init c =
     let a = c.args in
@@ -51,22 +37,28 @@ pub bounds-nodes-at : goal.bounds-nodes-at
 bounds-nodes-at c = omega (arith, c.requires.0.room)
 
 pub overflow_add-middle : goal.overflow_add-middle
-overflow_add-middle c = omega (arith, inside c)
+overflow_add-middle c = omega (arith, c.requires.0.few, c.requires.0.entries, c.loop-low.invariant.1.near)
 
 pub offset_bounds-index-middle : goal.offset_bounds-index-middle
-offset_bounds-index-middle c = omega (arith, inside c)
+offset_bounds-index-middle c = omega (arith, c.requires.0.few, c.requires.0.entries, c.loop-low.invariant.1.near)
 
 pub bounds-index-middle : goal.bounds-index-middle
-bounds-index-middle c = omega (arith, inside c)
+bounds-index-middle c = omega (arith, c.requires.0.few, c.requires.0.entries, c.loop-low.invariant.1.near)
 
 pub overflow_mul-place : goal.overflow_mul-place
-overflow_mul-place c = omega (arith, below c)
+overflow_mul-place c =
+    let place = c.requires.0.below (c.loop-low.low + (c.loop-low.high - c.loop-low.low) / 2) (omega (arith, c.loop-low.invariant.1.near)) in
+    omega (arith, place, c.wide-place.ensures, c.requires.0.few, c.requires.0.room)
 
 pub offset_bounds-nodes-place : goal.offset_bounds-nodes-place
-offset_bounds-nodes-place c = omega (arith, below c)
+offset_bounds-nodes-place c =
+    let place = c.requires.0.below (c.loop-low.low + (c.loop-low.high - c.loop-low.low) / 2) (omega (arith, c.loop-low.invariant.1.near)) in
+    omega (arith, place, c.wide-place.ensures, c.requires.0.few, c.requires.0.room)
 
 pub bounds-nodes-place : goal.bounds-nodes-place
-bounds-nodes-place c = (below c).1
+bounds-nodes-place c =
+    let place = c.requires.0.below (c.loop-low.low + (c.loop-low.high - c.loop-low.low) / 2) (omega (arith, c.loop-low.invariant.1.near)) in
+    omega (arith, place, c.wide-place.ensures, c.requires.0.few, c.requires.0.room)
 
 pub overflow_add-low : goal.overflow_add-low
-overflow_add-low c = omega (arith, inside c)
+overflow_add-low c = omega (arith, c.requires.0.few, c.requires.0.entries, c.loop-low.invariant.1.near)
