@@ -1,6 +1,6 @@
 -- The slots that live synths hold, as a list of 32 tests beside the nodes.
 use Rattle.std.specs.Prelude.{ℕ, zero, suc, ◌+◌, ◌*◌, ◌≤◌, ◌<◌, Bool, true, false, ◌≡◌, length, drop, get_or, set, eqb}
-use Rattle.std.proofs.Math.Path.{refl, ap}
+use Rattle.std.proofs.Math.Path.{refl, ap, subst}
 use Rattle.std.proofs.Common.{sym, ◌∙◌, arith, add-zero, get_or-set_same, get_or-set_other, eq-eqb, ne_eqb, eqb-true}
 use mathlib.Core.List.{List, [], ◌∷◌}
 use Rattle.std.proofs.lemmas.Bool.{eqb-false}
@@ -47,10 +47,10 @@ held_from k (true ∷ tests) zero = rw (eq-eqb k (k + 0) (omega arith))
 held_from k (false ∷ tests) zero = rw add-zero (held_before k (k + 1) tests (omega arith))
 held_from k (true ∷ tests) (suc j) =
     let next : k + suc j ≡ k + 1 + j = omega arith in
-    rw (ne_eqb k (k + suc j) (λ e. omega arith), next) (held_from (k + 1) tests j)
+    rw (ne_eqb k (k + suc j) (λ e. omega arith)) (subst (λ (m : ℕ). held m (holders_from (k + 1) tests) ≡ get_or tests j false) (sym next) (held_from (k + 1) tests j))
 held_from k (false ∷ tests) (suc j) =
     let next : k + suc j ≡ k + 1 + j = omega arith in
-    rw next (held_from (k + 1) tests j)
+    subst (λ (m : ℕ). held m (holders_from (k + 1) tests) ≡ get_or tests j false) (sym next) (held_from (k + 1) tests j)
 
 pub held-holders : (tests : List Bool) (k : ℕ) → held k (holders tests) ≡ get_or tests k false
 held-holders tests k =

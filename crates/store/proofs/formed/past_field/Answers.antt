@@ -18,11 +18,11 @@ use Rattle.store.specs.FormedWalkLaws.{left_name_again, left_name, left_highest_
 use Rattle.store.proofs.formed.past_field.Goals as goal
 
 -- a test that was passed, and one that wasn't
-holds : {r t : Bool} → r ≡ t → not r ≡ false → t ≡ true
-holds {r} e h = sym e ∙ not-false r h
+holds : {r t : Bool} → r ≡ t → r ≡ true → t ≡ true
+holds e h = sym e ∙ h
 
-fails : {r t : Bool} → r ≡ t → not r ≡ true → t ≡ false
-fails {r} e h = sym e ∙ not-true r h
+fails : {r t : Bool} → r ≡ t → r ≡ false → t ≡ false
+fails e h = sym e ∙ h
 
 pub returns-then-not-may_follow : goal.returns-then-not-may_follow
 returns-then-not-may_follow c =
@@ -97,8 +97,7 @@ word_at-number-requires c =
     let fs = fields_at s a.end in
     let placed = holds c.may_follow.ensures c.if-not-may_follow.false in
     let formed = holds c.contents_formed.ensures c.if-not-contents_formed.false in
-    let other = c in
-    let size : length f.contents ≡ number_size = number_length f other.before.if3.false other.if5.false formed in
+    let size : length f.contents ≡ number_size = number_length f c.if-tag-eq-NAME_TAG.false c.if-tag-eq-SETTING_TAG.false formed in
     let room : number_size ≤ a.end - (a.at + head_size) = omega (arith, contents_length s a.at a.end c.requires) in
     omega (arith, c.requires)
 

@@ -1,0 +1,50 @@
+use Prim.Native.Nat.{ℕ, suc, ◌+◌, ◌*◌, ◌-◌, ◌≤◌}
+use mathlib.Core.Path.{◌≡◌, refl, sym, ap, ap₂, ◌∙◌}
+use native.Mathlib.Omega.{arith}
+use borrow.Author.Rules.{rules}
+use lib.ListN.{length}
+use Rattle.model.specs.Effects.{change_row}
+use Rattle.controls.specs.Change.{change_of, change_from_place, changed_at, change_turn, changed-length, change_none}
+use Rattle.controls.proofs.control.change_row.Goals as goal
+
+pub wide-requires : goal.wide-requires
+wide-requires c = tt
+
+pub wide-requires-2 : goal.wide-requires-2
+wide-requires-2 c = tt
+
+pub loop-i-init : goal.loop-i-init
+loop-i-init c =
+    let a = c.args in
+    let place : 64 * c.wide.result + 2 * c.wide-2.result ≡ 64 * a.row + 2 * a.start = omega arith in
+    let all : a.many - 0 ≡ a.many = omega arith in (
+      omega arith,
+      omega arith,
+      refl,
+      ap₂ (λ (k n : ℕ). change_from_place (change_of a.change) k n a.controls.now) place all,
+    )
+
+pub loop-i-preserved : goal.loop-i-preserved
+loop-i-preserved c =
+    let a = c.args in
+    let m = a.many in
+    let f = change_of a.change in
+    let fact : c.change_one.new.controls ≡ changed_at f c.loop-i.at c.loop-i.controls = c.change_one.ensures in
+    let room : c.loop-i.at + 2 ≤ length c.loop-i.controls = omega arith in
+    let more : m - c.loop-i.i ≡ suc (m - (c.loop-i.i + 1)) = omega arith in (
+      omega arith,
+      omega arith,
+      ap length fact ∙ changed-length f c.loop-i.controls c.loop-i.at room ∙ c.loop-i.invariant.2,
+      ap (change_from_place f (c.loop-i.at + 2) (m - (c.loop-i.i + 1))) fact
+          ∙ change_turn f c.loop-i.controls c.loop-i.at (m - (c.loop-i.i + 1)) room
+          ∙ ap (λ (n : ℕ). change_from_place f c.loop-i.at n c.loop-i.controls) (sym more)
+          ∙ c.loop-i.invariant.3,
+    )
+
+pub returns : goal.returns
+returns c =
+    let a = c.args in
+    let done : a.many - c.loop-i.i ≡ 0 = omega arith in
+    sym (change_none (change_of a.change) c.loop-i.controls c.loop-i.at)
+    ∙ ap (λ (n : ℕ). change_from_place (change_of a.change) c.loop-i.at n c.loop-i.controls) (sym done)
+    ∙ c.loop-i.invariant.3

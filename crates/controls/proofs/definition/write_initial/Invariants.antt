@@ -1,0 +1,15 @@
+use Prim.Native.Nat.{ℕ, ◌+◌, ◌*◌, ◌-◌, ◌≤◌}
+use mathlib.Core.Path.{◌≡◌, refl, sym, ap, ◌∙◌}
+use mathlib.Core.List.{List}
+use native.Mathlib.Omega.{arith}
+use lib.ListN.{length, get_or, set, length-set}
+use lib.Seq.{paste, paste-zero}
+use Rattle.model.specs.Effects.{initial_words}
+use Rattle.controls.specs.Initial.{floats_from, floats_length, float_of, words-length, own_of, mapping-of, pasted, pasted_two}
+use Rattle.controls.proofs.definition.write_initial.Given as goal
+
+abbrev pub invariant-loop-i : goal.invariant-loop-i
+invariant-loop-i l = (l.i ≤ l.count) × (l.controls ≡ paste l.initial.controls l.at (initial_words (floats_from l.s l.count l.start)) (2 * l.i)) × (length l.controls ≡ length l.initial.controls)
+
+abbrev pub decreases-loop-i : goal.decreases-loop-i
+decreases-loop-i l = l.count - l.i

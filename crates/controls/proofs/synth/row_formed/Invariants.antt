@@ -1,0 +1,19 @@
+use Prim.{tt}
+use native.Mathlib.Nat.{sub-zero}
+use lib.Seq.{get_or-drop}
+use lib.Dec.{leb}
+use Rattle.words.specs.Choice.{both}
+use Rattle.model.specs.Formed.{mappings_formed}
+use Rattle.controls.specs.Synth.{mappings_turn, mappings_none}
+use Prim.Native.Nat.{ℕ, ◌+◌, ◌*◌, ◌-◌, ◌≤◌}
+use mathlib.Core.Bool.{Bool, true, false}
+use mathlib.Core.Path.{◌≡◌, refl, sym, ap, ◌∙◌}
+use native.Mathlib.Omega.{arith}
+use lib.ListN.{drop, get_or}
+use Rattle.controls.proofs.synth.row_formed.Given as goal
+
+abbrev pub invariant-loop-i : goal.invariant-loop-i
+invariant-loop-i l = (l.i ≤ l.end) × (both l.formed (mappings_formed (l.end - l.i) (drop (2 * l.i) (drop (64 * l.row) l.controls))) ≡ mappings_formed l.end (drop (64 * l.row) l.controls))
+
+abbrev pub decreases-loop-i : goal.decreases-loop-i
+decreases-loop-i l = l.end - l.i

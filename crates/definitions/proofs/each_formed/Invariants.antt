@@ -1,0 +1,18 @@
+use borrow.Author.Tests.{not-true, not-false}
+use Rattle.definitions.specs.Checking.{formed_on, formed_turn, formed_end}
+use Rattle.slots.specs.Slots.{lengths_on, slots_on}
+use Rattle.definitions.specs.Holders.{holders, held-holders}
+use Rattle.model.specs.Formed.{slots_formed}
+use Rattle.words.specs.Choice.{both}
+use Prim.Native.Nat.{◌+◌, ◌-◌, ◌≤◌}
+use mathlib.Core.Bool.{Bool, true, false}
+use mathlib.Core.Path.{◌≡◌, refl, sym, ap, ◌∙◌}
+use native.Mathlib.Omega.{arith}
+use lib.ListN.{drop}
+use Rattle.definitions.proofs.each_formed.Given as goal
+
+abbrev pub invariant-loop-k : goal.invariant-loop-k
+invariant-loop-k l = (l.k ≤ 32) × (slots_formed l.k (drop l.k (lengths_on l.table)) (drop l.k (slots_on l.table l.arena)) (holders l.held) ≡ slots_formed 0 (lengths_on l.table) (slots_on l.table l.arena) (holders l.held))
+
+abbrev pub decreases-loop-k : goal.decreases-loop-k
+decreases-loop-k l = 32 - l.k

@@ -1,0 +1,15 @@
+use Rattle.definitions.specs.Exporting.{body_from, size_turn, body_end, export_size}
+use mathlib.Core.Logic.{⊎_elim}
+use Prim.Native.Nat.{◌+◌, ◌*◌, ◌-◌, ◌≤◌}
+use mathlib.Core.Path.{◌≡◌, refl, ap}
+use native.Mathlib.Omega.{arith}
+use borrow.Author.Tests.{eq-eqb, ne_eqb}
+use lib.ListN.{length, get_or}
+use Rattle.format.specs.Reader.{size_limit}
+use Rattle.definitions.proofs.export_length.Given as goal
+
+abbrev pub invariant-loop-k : goal.invariant-loop-k
+invariant-loop-k l = (l.k ≤ 32) × ((l.n ≤ 10 + size_limit * l.k) × (l.n + length (body_from l.table l.arena l.k) ≡ 10 + length (body_from l.table l.arena 0)))
+
+abbrev pub decreases-loop-k : goal.decreases-loop-k
+decreases-loop-k l = 32 - l.k
