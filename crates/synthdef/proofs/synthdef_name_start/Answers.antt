@@ -1,0 +1,17 @@
+use mathlib.Core.Path.{sym, ap}
+use native.Mathlib.Omega.{arith}
+use Rattle.reader.specs.Spans.{name_start}
+use Rattle.reader.specs.SpanLaws.{span_inside}
+use Rattle.synthdef.proofs.synthdef_name_start.Goals as goal
+
+pub overflow_add-result : goal.overflow_add-result
+overflow_add-result c =
+    let a = c.args in
+    let inside = span_inside a.file.now a.index (sym (rw c.in-Between.is at c.definition_span.ensures)) in
+    omega arith
+
+pub returns-in-Between : goal.returns-in-Between
+returns-in-Between c = ap name_start (rw c.in-Between.is at c.definition_span.ensures)
+
+pub returns-in-Nowhere : goal.returns-in-Nowhere
+returns-in-Nowhere c = ap name_start (rw c.in-Nowhere.is at c.definition_span.ensures)
