@@ -30,14 +30,14 @@ returns-then-not-cover c =
     let a = c.args in
     let p = c.requires in
     let said = c.key_cover-cover.ensures ∙ ap (λ (s : List ℕ). cover_of a.key a.name.now (front_only s)) c.node_definition.ensures in
-    sym (read_none a.words.now a.arena.now p.0 a.place p.1 p.2 a.key a.name.now c.key_cover-cover.result said (c.if-not-cover.true))
+    sym (read_none a.words.now a.arena.now p.0 a.place p.1 p.2 a.key a.name.now c.key_cover-cover.result said (not-true c.key_cover-cover.result.found c.if-not-cover.true))
 
 pub returns-then-cover-eq0 : goal.returns-then-cover-eq0
 returns-then-cover-eq0 c =
     let a = c.args in
     let p = c.requires in
     let said = c.key_cover-cover.ensures ∙ ap (λ (s : List ℕ). cover_of a.key a.name.now (front_only s)) c.node_definition.ensures in
-    sym (read_past a.words.now a.arena.now p.0 a.place p.1 p.2 a.key a.name.now c.key_cover-cover.result said (c.if-not-cover.false) c.if-cover-eq0.true)
+    sym (read_past a.words.now a.arena.now p.0 a.place p.1 p.2 a.key a.name.now c.key_cover-cover.result said (not-false c.key_cover-cover.result.found c.if-not-cover.false) c.if-cover-eq0.true)
 
 pub read_control-requires : goal.read_control-requires
 read_control-requires c =
@@ -45,7 +45,7 @@ read_control-requires c =
     let p = c.requires in
     let row = (synth_ready a.words.now a.arena.now p.0 a.place p.1 p.2).row in
     let covered : 0 < c.key_cover-cover.result.width = omega (arith, c.if-cover-eq0.false) in
-    let inside = cover_inside a.key a.name.now c.node_definition.result.now c.key_cover-cover.result c.key_cover-cover.ensures (c.if-not-cover.false) covered in
+    let inside = cover_inside a.key a.name.now c.node_definition.result.now c.key_cover-cover.result c.key_cover-cover.ensures (not-false c.key_cover-cover.result.found c.if-not-cover.false) covered in
     (p.0.size, rw c.node_row.ensures row, omega (arith, inside, covered))
 
 pub returns : goal.returns
@@ -55,4 +55,4 @@ returns c =
     let said = c.key_cover-cover.ensures ∙ ap (λ (s : List ℕ). cover_of a.key a.name.now (front_only s)) c.node_definition.ensures in
     c.read_control.ensures
     ∙ ap (λ (row : ℕ). shown_by (buses_in a.words.now) (control_in (controls_in a.words.now) row c.key_cover-cover.result.index)) c.node_row.ensures
-    ∙ sym (read_there a.words.now a.arena.now p.0 a.place p.1 p.2 a.key a.name.now c.key_cover-cover.result said (c.if-not-cover.false) (omega (arith, c.if-cover-eq0.false)))
+    ∙ sym (read_there a.words.now a.arena.now p.0 a.place p.1 p.2 a.key a.name.now c.key_cover-cover.result said (not-false c.key_cover-cover.result.found c.if-not-cover.false) (omega (arith, c.if-cover-eq0.false)))

@@ -44,7 +44,7 @@ loop-i-preserved c =
     get_or-drop (64 * a.row) a.controls.now (2 * c.loop-i.i + 1) 0 ∙ ap (λ (k : ℕ). get_or a.controls.now k 0) place in
     let rest = mappings_formed (c.wide-end.result - (c.loop-i.i + 1)) (drop (2 * (c.loop-i.i + 1)) us) in
     let test = leb (get_or us (2 * c.loop-i.i + 1) 0) 4096 in
-    let now : c.still_Is_formed.result ≡ both c.loop-i.formed test = c.still_Is_formed.ensures ∙ ap (λ (k : ℕ). both c.loop-i.formed (leb k 4096)) (sym word) in
+    let now : c.still_formed-formed.result ≡ both c.loop-i.formed test = c.still_formed-formed.ensures ∙ ap (λ (k : ℕ). both c.loop-i.formed (leb k 4096)) (sym word) in
     let goes = ap (λ (t : Bool). both t rest) now
     ∙ one_more c.loop-i.formed test rest
     ∙ ap (λ (t : Bool). both c.loop-i.formed t) (sym (mappings_turn us c.wide-end.result c.loop-i.i (omega arith)))

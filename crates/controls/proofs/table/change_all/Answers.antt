@@ -91,16 +91,16 @@ loop-i-preserved c =
     elim c.if-not-node_is_group.branch [
       then-not-node_is_group b ↦ let single = sym c.node_is_group.ensures ∙ b.if-not-node_is_group.true in
     let e = synth_lent a.words.now a.arena.now c.loop-i.words c.loop-i.i c.requires.0 c.loop-i.invariant.0 c.loop-i.invariant.1 live single in
-    let slot = b.slot_cover-arg-1.result in
-    let here : slot ≡ (record_in c.loop-i.words c.loop-i.i).slot = b.slot_cover-arg-1.ensures in
-    let cover = b.change_node.ensures ∙ ap (cover_on a.key a.name.now c.loop-i.words a.arena.now) here in
-    let fact = b.slice_known-then-not-node_is_group-1.ensures ∙ ap (λ (cs : List ℕ). put_controls cs c.loop-i.words) (cover-change f a.key a.name.now a.count c.loop-i.words a.arena.now c.loop-i.i single b.change_node.result cover) in
+    let slot = b.node_slot-slot.result in
+    let here : slot ≡ (record_in c.loop-i.words c.loop-i.i).slot = b.node_slot-slot.ensures in
+    let cover = b.slot_cover-cover.ensures ∙ ap (cover_on a.key a.name.now c.loop-i.words a.arena.now) here in
+    let fact = b.change_node.ensures ∙ ap (λ (cs : List ℕ). put_controls cs c.loop-i.words) (cover-change f a.key a.name.now a.count c.loop-i.words a.arena.now c.loop-i.i single b.slot_cover-cover.result cover) in
     let t =
-    turned f a.key a.name.now a.count a.words.now a.arena.now a.to c.loop-i.i c.loop-i.words b.slice_known-then-not-node_is_group-1.last.0
-    c.requires.0 (omega arith) c.requires.1 c.loop-i.invariant.0 c.loop-i.invariant.1 b.slice_known-then-not-node_is_group-1.kept.0 fact in
+    turned f a.key a.name.now a.count a.words.now a.arena.now a.to c.loop-i.i c.loop-i.words b.change_node.new.words
+    c.requires.0 (omega arith) c.requires.1 c.loop-i.invariant.0 c.loop-i.invariant.1 b.change_node.auto.words fact in
     let noted = cover ∙ ap (λ (d : List ℕ). cover_of a.key a.name.now (front_only d)) (e.kept ∙ ap (slot_bytes a.words.now a.arena.now) (sym here)) in
-    let more = noted_more _ _ c.loop-i.covers c.loop-i.invariant.3 slot b.change_node.result (rw here e.slot) noted in
-    (rw w.10 t.size, rw w.10 t.rest, rw w.10 (t.left ∙ c.loop-i.invariant.2), rw w.11 more)
+    let more = noted_more _ _ c.loop-i.covers c.loop-i.invariant.3 slot b.slot_cover-cover.result (rw here e.slot) noted in
+    (rw b.words-is t.size, rw b.words-is t.rest, rw b.words-is (t.left ∙ c.loop-i.invariant.2), rw b.covers-is more)
     | else-not-node_is_group b ↦ let whole = sym c.node_is_group.ensures ∙ b.if-not-node_is_group.false in
     let t =
     turned f a.key a.name.now a.count a.words.now a.arena.now a.to c.loop-i.i c.loop-i.words c.loop-i.words

@@ -118,4 +118,4 @@ returns-in-26 c = entry_is ops.status c.args.op c.row-in-26.result c.in-26.is c.
 
 pub returns-in_default : goal.returns-in_default
 unfolding packed Others
-returns-in_default c = entry_past c.args.op c.row-in_default.result (past ops.last_with_address c.args.op c.in_default.rest) c.row-in_default.ensures
+returns-in_default c = entry_past c.args.op c.row-in_default.result (past ops.last_with_address c.args.op c.in_default.in_default-own.rest) c.row-in_default.ensures

@@ -32,4 +32,4 @@ pub returns-in_default : goal.returns-in_default
 unfolding Others
 returns-in_default c =
     let a = c.args in
-    slot_none a.op a.k (past 3 a.k c.in_default.rest)
+    slot_none a.op a.k (past 3 a.k c.in_default.in_default-own.rest)

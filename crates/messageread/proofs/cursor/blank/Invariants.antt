@@ -1,0 +1,16 @@
+use Prim.Native.Nat.{◌-◌}
+use mathlib.Core.Path.{◌≡◌, refl, sym, ◌∙◌}
+use native.Mathlib.Omega.{arith}
+use borrow.Author.Tests.{eq-eqb, ne_eqb}
+use lib.ListN.{get_or}
+use Rattle.words.specs.Parts.{region}
+use Rattle.format.specs.NameLaws.{region_past, region_none}
+use Rattle.messages.specs.Form.{zeros}
+use Rattle.messageread.specs.FormLaws.{zeros_turn}
+use Rattle.messageread.proofs.cursor.blank.Given as goal
+
+abbrev pub invariant-loop-i : goal.invariant-loop-i
+invariant-loop-i l = zeros (region l.i (l.to - l.i) l.message) ≡ zeros (region l.from (l.to - l.from) l.message)
+
+abbrev pub decreases-loop-i : goal.decreases-loop-i
+decreases-loop-i l = l.to - l.i

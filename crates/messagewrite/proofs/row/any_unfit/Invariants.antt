@@ -1,0 +1,16 @@
+use Prim.Native.Nat.{ℕ, ◌-◌, ◌≤◌}
+use mathlib.Core.Bool.{true, false}
+use mathlib.Core.Path.{◌≡◌, refl, sym, ap, ◌∙◌}
+use native.Mathlib.Omega.{arith}
+use lib.ListN.{drop}
+use Rattle.messages.specs.Write.{any_unfit}
+use Rattle.messages.specs.Rows.{code_at, slots_of}
+use Rattle.messagewrite.specs.Codes.{unfit_by}
+use Rattle.messagewrite.specs.Slots.{unfit_past, unfit_turn}
+use Rattle.messagewrite.proofs.row.any_unfit.Given as goal
+
+abbrev pub invariant-loop-k : goal.invariant-loop-k
+invariant-loop-k l = (l.k ≤ l.count) × (any_unfit l.bytes (drop l.k (slots_of l.op)) ≡ any_unfit l.bytes (slots_of l.op))
+
+abbrev pub decreases-loop-k : goal.decreases-loop-k
+decreases-loop-k l = l.count - l.k
