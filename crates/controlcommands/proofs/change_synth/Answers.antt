@@ -1,0 +1,71 @@
+-- `controlcommands::change_synth` meets its contract: refusal 21 or 28, or the synth changed.
+use mathlib.Core.Path.{◌≡◌, refl, sym, ap, ◌∙◌}
+use native.Mathlib.Omega.{arith}
+use borrow.Author.Rules.{rules}
+use Rattle.controls.specs.declared.definition.Asked.TheVariants.{There, Missing, PastWidth}
+use Rattle.controls.specs.Cover.{cover_within, cover_inside}
+use Rattle.controls.specs.Ready.{ready_known, synth_ready, synth_readable}
+use Rattle.controlcommands.specs.Steps.{answer_to}
+use Rattle.controlcommands.specs.Alone.{asked_alone, changed_alone}
+use Rattle.controlcommands.proofs.change_synth.Goals as goal
+
+pub node_definition-definition-requires : goal.node_definition-definition-requires
+node_definition-definition-requires c =
+    let a = c.args in
+    let p = c.requires in
+    let ready = ready_known a.words.now a.arena.now p.0 in
+    (ready.size, omega (arith, ready.few, p.1), (synth_ready a.words.now a.arena.now ready a.at p.1 p.2).slot)
+
+pub key_cover-cover-requires : goal.key_cover-cover-requires
+key_cover-cover-requires c =
+    let a = c.args in
+    let p = c.requires in
+    synth_readable a.words.now a.arena.now (ready_known a.words.now a.arena.now p.0) a.at p.1 p.2 c.node_definition-definition.ensures
+
+pub asked_by-requires : goal.asked_by-requires
+asked_by-requires c =
+    let a = c.args in
+    let p = c.requires in (
+      synth_readable a.words.now a.arena.now (ready_known a.words.now a.arena.now p.0) a.at p.1 p.2 c.node_definition-definition.ensures,
+      cover_within a.key a.bytes.now c.node_definition-definition.result.now c.key_cover-cover.result c.key_cover-cover.ensures,
+    )
+
+pub change_node-requires : goal.change_node-requires
+change_node-requires c =
+    let a = c.args in
+    let p = c.requires in
+    let ready = ready_known a.words.now a.arena.now p.0 in
+    (
+      ready.size,
+      omega (arith, ready.few, p.1),
+      (synth_ready a.words.now a.arena.now ready a.at p.1 p.2).row,
+      cover_inside a.key a.bytes.now c.node_definition-definition.result.now c.key_cover-cover.result c.key_cover-cover.ensures,
+    )
+
+pub returns-in-There : goal.returns-in-There
+returns-in-There c =
+    let a = c.args in
+    let p = c.requires in
+    let told : c.asked_by.result ≡ There = c.in-There.is in
+    changed_alone a.words.now a.arena.now p.0 a.at p.1 p.2 a.key a.bytes.now a.count c.node_definition-definition.result.now c.node_definition-definition.ensures c.key_cover-cover.result c.key_cover-cover.ensures
+    a.change c.change_node.new.words (sym told ∙ c.asked_by.ensures) c.change_node.ensures
+
+pub returns-in-Missing : goal.returns-in-Missing
+returns-in-Missing c =
+    let a = c.args in
+    let p = c.requires in
+    let told : c.asked_by.result ≡ Missing = c.in-Missing.is in
+    record {
+      answers = ap answer_to (sym told ∙ c.asked_by.ensures ∙ asked_alone a.words.now a.arena.now p.0 a.at p.1 p.2 a.key a.bytes.now a.count c.node_definition-definition.result.now c.node_definition-definition.ensures c.key_cover-cover.result c.key_cover-cover.ensures);
+      words = refl;
+    }
+
+pub returns-in-PastWidth : goal.returns-in-PastWidth
+returns-in-PastWidth c =
+    let a = c.args in
+    let p = c.requires in
+    let told : c.asked_by.result ≡ PastWidth = c.in-PastWidth.is in
+    record {
+      answers = ap answer_to (sym told ∙ c.asked_by.ensures ∙ asked_alone a.words.now a.arena.now p.0 a.at p.1 p.2 a.key a.bytes.now a.count c.node_definition-definition.result.now c.node_definition-definition.ensures c.key_cover-cover.result c.key_cover-cover.ensures);
+      words = refl;
+    }

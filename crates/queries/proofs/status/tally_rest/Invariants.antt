@@ -1,0 +1,13 @@
+use Prim.{tt}
+use Prim.Native.Nat.{ℕ, ◌+◌, ◌-◌, ◌≤◌}
+use mathlib.Core.Path.{◌≡◌, subst}
+use native.Mathlib.Omega.{arith}
+use Rattle.model.specs.Layout.{count_in}
+use Rattle.queries.specs.Tally.{Tallied, tallied_more, tallied_few}
+use Rattle.queries.proofs.status.tally_rest.Given as goal
+
+abbrev pub invariant-loop-i : goal.invariant-loop-i
+invariant-loop-i l = (l.from + l.i ≤ count_in l.words) × Tallied l.words l.from l.i l.counts
+
+abbrev pub decreases-loop-i : goal.decreases-loop-i
+decreases-loop-i l = count_in l.words - (l.from + l.i)

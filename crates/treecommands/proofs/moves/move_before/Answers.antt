@@ -1,0 +1,14 @@
+-- `treecommands::moves::move_before` meets its contract, by the law of every move.
+use borrow.Author.Rules.{rules}
+use Rattle.treecommands.specs.Moving.{before_moves, before_goes}
+use Rattle.treecommands.proofs.moves.move_before.Goals as goal
+
+pub move_pair-requires : goal.move_pair-requires
+move_pair-requires c =
+    let a = c.args in
+    (c.requires, before_moves a.node a.place a.words.now c.requires c.beside-pair.result c.beside-pair.ensures)
+
+pub returns : goal.returns
+returns c =
+    let a = c.args in
+    before_goes a.node a.place a.words.now c.requires c.beside-pair.result c.beside-pair.ensures c.move_pair.result c.move_pair.new.words c.move_pair.ensures
