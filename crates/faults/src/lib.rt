@@ -1,4 +1,4 @@
-// Why a file is refused: 2 to 11, each told with its place. The paper's number of each is `faultNumber`.
+// Why a file is refused: 2 to 11, each told with its place. The paper's number of each is `fault_number`.
 #![tactic(auto)]
 
 ghost use Rattle.std.specs.Prelude.{◌≡◌};

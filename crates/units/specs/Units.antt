@@ -147,7 +147,7 @@ skip_units w k s n outs at =
 
 -- The outputs of the last so many units are remembered while a definition is read. In version 2 a unit takes at least 12 bytes, and a definition 20
 -- besides: a name of
--- one byte, four counts of four bytes and one of two. So a definition within the size limit has fewer units than this (`units-remembered` of
+-- one byte, four counts of four bytes and one of two. So a definition within the size limit has fewer units than this (`units_remembered` of
 -- `files`).
 abbrev pub remembered : ℕ
 remembered = 256
