@@ -76,12 +76,6 @@ initial_row-requires c =
       subst Readable (sym bytes) (definition_readable a.number a.action p.target a.at a.slot p.bytes a.words.now a.arena.now p.ground (get_or a.words.now (4 + a.slot) 0) refl),
     )
 
-pub shape_of-words : goal.shape_of-words
-shape_of-words c =
-    let a = c.args in
-    let p = c.requires in
-    c.words5.given.1 ∙ mid_size a.number a.action p.target a.at a.slot p.bytes a.words.now a.arena.now p.ground c.wide-count.result c.wide-count.ensures c.row_for-row.result c.row_for-row.ensures (get_or a.words.now 2 0) refl c.number_for-given.result c.number_for-given.ensures c.gap_by-gap.result c.gap_by-gap.ensures c.fill_gap-many.new.nodes c.fill_gap-many.result c.fill_gap-many.ensures c.next_after-after.result c.next_after-after.ensures c.settle.new.words c.settle.ensures ∙ sym p.ground.known.size
-
 pub returns : goal.returns
 returns c =
     λ target bytes g.

@@ -20,7 +20,7 @@ bounds-a-first c =
 pub overflow_add-a : goal.overflow_add-a
 overflow_add-a c =
     let part = c.args.part in
-    omega (arith, tallied_few c.args.words.now 0 c.loop-i.i c.requires.0 c.loop-i.a c.loop-i.invariant.1.first c.node_slot-first.result (element-copy-out-a c))
+    omega (arith, tallied_few c.args.words.now 0 c.loop-i.i c.requires.0 c.loop-i.a c.loop-i.invariant.1.first c.node_slot-first.result (bounds-a-first c))
 
 pub node_slot-second-requires : goal.node_slot-second-requires
 node_slot-second-requires c = (c.requires.0.size, omega (arith, c.requires.0.few, c.requires.1))
@@ -33,7 +33,7 @@ bounds-b-second c =
 pub overflow_add-b : goal.overflow_add-b
 overflow_add-b c =
     let part = c.args.part in
-    omega (arith, tallied_few c.args.words.now part c.loop-i.i c.requires.0 c.loop-i.b c.loop-i.invariant.1.second c.node_slot-second.result (element-copy-out-b c))
+    omega (arith, tallied_few c.args.words.now part c.loop-i.i c.requires.0 c.loop-i.b c.loop-i.invariant.1.second c.node_slot-second.result (bounds-b-second c))
 
 pub node_slot-third-requires : goal.node_slot-third-requires
 node_slot-third-requires c = (c.requires.0.size, omega (arith, c.requires.0.few, c.requires.1))
@@ -46,7 +46,7 @@ bounds-c-third c =
 pub overflow_add-c : goal.overflow_add-c
 overflow_add-c c =
     let part = c.args.part in
-    omega (arith, tallied_few c.args.words.now (2 * part) c.loop-i.i c.requires.0 c.loop-i.c c.loop-i.invariant.1.third c.node_slot-third.result (element-copy-out-c c))
+    omega (arith, tallied_few c.args.words.now (2 * part) c.loop-i.i c.requires.0 c.loop-i.c c.loop-i.invariant.1.third c.node_slot-third.result (bounds-c-third c))
 
 pub node_slot-fourth-requires : goal.node_slot-fourth-requires
 node_slot-fourth-requires c = (c.requires.0.size, omega (arith, c.requires.0.few, c.requires.1))
@@ -59,7 +59,7 @@ bounds-d-fourth c =
 pub overflow_add-d : goal.overflow_add-d
 overflow_add-d c =
     let part = c.args.part in
-    omega (arith, tallied_few c.args.words.now (3 * part) c.loop-i.i c.requires.0 c.loop-i.d c.loop-i.invariant.1.fourth c.node_slot-fourth.result (element-copy-out-d c))
+    omega (arith, tallied_few c.args.words.now (3 * part) c.loop-i.i c.requires.0 c.loop-i.d c.loop-i.invariant.1.fourth c.node_slot-fourth.result (bounds-d-fourth c))
 
 pub loop-i-preserved : goal.loop-i-preserved
 loop-i-preserved c =
@@ -68,10 +68,10 @@ loop-i-preserved c =
     (
       omega arith,
       record {
-        c.node_slot-first = tallied_more ws 0 c.loop-i.i c.requires.0 (omega (arith, c.requires.1)) c.loop-i.a c.loop-i.invariant.1.first c.node_slot-first.result (c.node_slot-first.ensures ∙ ap (λ (n : ℕ). (record_in ws n).slot) (sym (zero-add c.loop-i.i)));
-        c.node_slot-second = tallied_more ws part c.loop-i.i c.requires.0 (omega (arith, c.requires.1)) c.loop-i.b c.loop-i.invariant.1.second c.node_slot-second.result c.node_slot-second.ensures;
-        c.node_slot-third = tallied_more ws (2 * part) c.loop-i.i c.requires.0 (omega (arith, c.requires.1)) c.loop-i.c c.loop-i.invariant.1.third c.node_slot-third.result c.node_slot-third.ensures;
-        c.node_slot-fourth = tallied_more ws (3 * part) c.loop-i.i c.requires.0 (omega (arith, c.requires.1)) c.loop-i.d c.loop-i.invariant.1.fourth c.node_slot-fourth.result c.node_slot-fourth.ensures;
+        first = tallied_more ws 0 c.loop-i.i c.requires.0 (omega (arith, c.requires.1)) c.loop-i.a c.loop-i.invariant.1.first c.node_slot-first.result (c.node_slot-first.ensures ∙ ap (λ (n : ℕ). (record_in ws n).slot) (sym (zero-add c.loop-i.i)));
+        second = tallied_more ws part c.loop-i.i c.requires.0 (omega (arith, c.requires.1)) c.loop-i.b c.loop-i.invariant.1.second c.node_slot-second.result c.node_slot-second.ensures;
+        third = tallied_more ws (2 * part) c.loop-i.i c.requires.0 (omega (arith, c.requires.1)) c.loop-i.c c.loop-i.invariant.1.third c.node_slot-third.result c.node_slot-third.ensures;
+        fourth = tallied_more ws (3 * part) c.loop-i.i c.requires.0 (omega (arith, c.requires.1)) c.loop-i.d c.loop-i.invariant.1.fourth c.node_slot-fourth.result c.node_slot-fourth.ensures;
       },
     )
 
@@ -81,19 +81,19 @@ returns c =
     subst (λ (n : ℕ). PartsTallied c.args.words.now c.args.part n c.loop-i.a c.loop-i.b c.loop-i.c c.loop-i.d) end c.loop-i.invariant.1
 
 pub offset_bounds-a-first : goal.offset_bounds-a-first
-offset_bounds-a-first c = omega (arith, element-copy-out-a c)
+offset_bounds-a-first c = omega (arith, bounds-a-first c)
 
 pub bounds-a-first-in-loop-i : goal.bounds-a-first-in-loop-i
-bounds-a-first-in-loop-i c = element-copy-out-a c
+bounds-a-first-in-loop-i c = bounds-a-first c
 
 pub overflow_add-part : goal.overflow_add-part
 overflow_add-part c = omega (arith, c.requires.0.few, c.requires.1)
 
 pub offset_bounds-b-second : goal.offset_bounds-b-second
-offset_bounds-b-second c = omega (arith, element-copy-out-b c)
+offset_bounds-b-second c = omega (arith, bounds-b-second c)
 
 pub bounds-b-second-in-loop-i : goal.bounds-b-second-in-loop-i
-bounds-b-second-in-loop-i c = element-copy-out-b c
+bounds-b-second-in-loop-i c = bounds-b-second c
 
 pub overflow_mul-part : goal.overflow_mul-part
 overflow_mul-part c = omega (arith, c.requires.0.few, c.requires.1)
@@ -102,10 +102,10 @@ pub overflow_add-part-in-loop-i : goal.overflow_add-part-in-loop-i
 overflow_add-part-in-loop-i c = omega (arith, c.requires.0.few, c.requires.1)
 
 pub offset_bounds-c-third : goal.offset_bounds-c-third
-offset_bounds-c-third c = omega (arith, element-copy-out-c c)
+offset_bounds-c-third c = omega (arith, bounds-c-third c)
 
 pub bounds-c-third-in-loop-i : goal.bounds-c-third-in-loop-i
-bounds-c-third-in-loop-i c = element-copy-out-c c
+bounds-c-third-in-loop-i c = bounds-c-third c
 
 pub overflow_mul-part-in-loop-i : goal.overflow_mul-part-in-loop-i
 overflow_mul-part-in-loop-i c = omega (arith, c.requires.0.few, c.requires.1)
@@ -114,10 +114,10 @@ pub overflow_add-part-in-loop-i-2 : goal.overflow_add-part-in-loop-i-2
 overflow_add-part-in-loop-i-2 c = omega (arith, c.requires.0.few, c.requires.1)
 
 pub offset_bounds-d-fourth : goal.offset_bounds-d-fourth
-offset_bounds-d-fourth c = omega (arith, element-copy-out-d c)
+offset_bounds-d-fourth c = omega (arith, bounds-d-fourth c)
 
 pub bounds-d-fourth-in-loop-i : goal.bounds-d-fourth-in-loop-i
-bounds-d-fourth-in-loop-i c = element-copy-out-d c
+bounds-d-fourth-in-loop-i c = bounds-d-fourth c
 
 pub overflow_add-i : goal.overflow_add-i
 overflow_add-i c = omega (arith, c.requires.0.few, c.requires.1)

@@ -46,10 +46,10 @@ pub overflow_mul-part : goal.overflow_mul-part
 overflow_mul-part c = omega (arith, c.wide-part.ensures, c.requires.few)
 
 pub overflow_add-groups : goal.overflow_add-groups
-overflow_add-groups c = omega (arith, add-groups-3 c)
+overflow_add-groups c = omega (arith, overflow_add-groups-3 c)
 
 pub overflow_add-groups-2 : goal.overflow_add-groups-2
-overflow_add-groups-2 c = omega (arith, add-groups-3 c)
+overflow_add-groups-2 c = omega (arith, overflow_add-groups-3 c)
 
 pub bounds-words-0-2 : goal.bounds-words-0-2
 bounds-words-0-2 c = omega (arith, c.requires.size)

@@ -80,4 +80,4 @@ pub loop-k-init : goal.loop-k-init
 loop-k-init c = c.requires.2
 
 pub overflow_mul-units : goal.overflow_mul-units
-overflow_mul-units c = omega (arith, add-units c)
+overflow_mul-units c = omega (arith, overflow_add-units c)
