@@ -15,7 +15,7 @@ bounds-counts-slot c =
 
 pub overflow_add-counts : goal.overflow_add-counts
 overflow_add-counts c =
-    omega (arith, tallied_few c.args.words.now c.args.from c.loop-i.i c.requires.0 c.loop-i.counts c.loop-i.invariant.1 c.node_slot-slot.result (bounds-counts-slot c))
+    omega (arith, tallied_few c.args.words.now c.args.from c.loop-i.i c.requires.0 c.loop-i.counts c.loop-i.invariant.1 c.node_slot-slot.result (omega (arith, c.node_slot-slot.ensures, c.requires.0.low (c.args.from + c.loop-i.i) (omega (arith, c.wide-count.ensures)))))
 
 pub loop-i-preserved : goal.loop-i-preserved
 loop-i-preserved c =
@@ -40,10 +40,11 @@ pub overflow_add-from-in-loop-i : goal.overflow_add-from-in-loop-i
 overflow_add-from-in-loop-i c = omega (arith, c.requires.0.few)
 
 pub offset_bounds-counts-slot : goal.offset_bounds-counts-slot
-offset_bounds-counts-slot c = omega (arith, bounds-counts-slot c)
+offset_bounds-counts-slot c = omega (arith, c.node_slot-slot.ensures, c.requires.0.low (c.args.from + c.loop-i.i) (omega (arith, c.wide-count.ensures)))
 
 pub bounds-counts-slot-in-loop-i : goal.bounds-counts-slot-in-loop-i
-bounds-counts-slot-in-loop-i c = bounds-counts-slot c
+bounds-counts-slot-in-loop-i c =
+    omega (arith, c.node_slot-slot.ensures, c.requires.0.low (c.args.from + c.loop-i.i) (omega (arith, c.wide-count.ensures)))
 
 pub overflow_add-i : goal.overflow_add-i
 overflow_add-i c = omega (arith, c.requires.0.few)
