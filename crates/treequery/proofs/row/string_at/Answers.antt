@@ -5,16 +5,11 @@ use borrow.Author.Rules.{rules}
 use lib.ListN.{get_or}
 use Rattle.words.specs.Parts.{region}
 use Rattle.osc.specs.Message.{text}
-use Rattle.treequery.proofs.row.string_at.Statement.{statement}
-use Rattle.treequery.proofs.row.string_at.Tie as tie
+use Rattle.treequery.proofs.row.string_at.Goals as goal
 
-returns : tie.Need-returns
+pub returns : goal.returns
 returns c =
-    let s = c.before.args.definition.now in
-    let at = c.before.args.at in
+    let s = c.args.definition.now in
+    let at = c.args.at in
     let size : at + 1 + get_or s at 0 - (at + 1) ≡ get_or s at 0 = omega arith in
     (ap (λ (k : ℕ). text (region (at + 1) k s)) size, refl)
-
-pub string-at-spec : {M : Type 1} → statement M
-string-at-spec =
-    tie.close (tie.spec (λ c. search rules) (λ c. search rules) (λ c. search rules) (λ c. search rules) returns)

@@ -1,0 +1,17 @@
+use Prim.{tt}
+use Prim.Native.Nat.{ℕ, ◌+◌, ◌-◌, ◌≤◌, ◌<◌}
+use mathlib.Core.Path.{◌≡◌, ap, ◌∙◌}
+use mathlib.Core.List.{List}
+use native.Mathlib.Omega.{arith}
+use lib.ListN.{length, get_or, length-set, length-replicate}
+use Rattle.treequery.specs.RowArguments.{depth_at}
+use Rattle.treequery.specs.Nested.{depth_word}
+use Rattle.treequery.specs.Children.{Families, children_from, PerDepth, families_more, known_none, few_above, known_more}
+use Rattle.treequery.proofs.children.tree_children.Given as goal
+
+-- the records behind i were gone over
+abbrev pub invariant-loop-i : goal.invariant-loop-i
+invariant-loop-i l = (l.at ≤ l.i) × (l.i < l.end) × (length l.children ≡ 256) × ((bs : List ℕ) → Families l.words bs (l.i + 1) l.end l.children) × PerDepth l.words l.end (l.i + 1) l.below
+
+abbrev pub decreases-loop-i : goal.decreases-loop-i
+decreases-loop-i l = l.i

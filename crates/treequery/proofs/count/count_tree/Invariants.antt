@@ -1,0 +1,16 @@
+use Prim.Native.Nat.{◌+◌, ◌-◌, ◌≤◌, ◌<◌}
+use native.Mathlib.Omega.{arith}
+use Rattle.treequery.specs.RowArguments.{row_arguments, rows_turn, rows_none}
+use Rattle.treequery.specs.Places.{nowhere}
+use Rattle.treequery.specs.Counting.{counts_first, counted_all, Counting, counting_all, counting_some, counting_less, counting_none}
+use Rattle.treequery.specs.Rows.{left_rows, row_of, rows_few}
+use Rattle.treequery.proofs.count.count_tree.Given as goal
+
+abbrev pub invariant-loop-i : goal.invariant-loop-i
+invariant-loop-i l =
+    (l.from ≤ l.i)
+    × (l.i ≤ l.end)
+    × Counting nowhere (left_rows l.shown l.words l.arena l.end l.from) l.next (left_rows l.shown l.words l.arena l.end l.i)
+
+abbrev pub decreases-loop-i : goal.decreases-loop-i
+decreases-loop-i l = l.end - l.i

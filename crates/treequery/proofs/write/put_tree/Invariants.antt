@@ -1,0 +1,16 @@
+use Prim.Native.Nat.{◌+◌, ◌-◌, ◌≤◌, ◌<◌}
+use native.Mathlib.Omega.{arith}
+use borrow.Author.Rules.{rules}
+use Rattle.treequery.specs.RowArguments.{row_arguments, rows_turn, rows_none}
+use Rattle.treequery.specs.Writing.{Left, left_all, left_some, left_less, left_none}
+use Rattle.treequery.specs.Rows.{left_rows, row_of}
+use Rattle.treequery.proofs.write.put_tree.Given as goal
+
+abbrev pub invariant-loop-i : goal.invariant-loop-i
+invariant-loop-i l =
+    (l.from ≤ l.i)
+    × (l.i ≤ l.end)
+    × Left l.initial.next (left_rows l.shown l.words l.arena l.end l.from) l.initial.out l.next (left_rows l.shown l.words l.arena l.end l.i) l.out
+
+abbrev pub decreases-loop-i : goal.decreases-loop-i
+decreases-loop-i l = l.end - l.i
