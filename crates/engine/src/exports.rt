@@ -1,4 +1,4 @@
-// What Rust and C call: slices as a pointer and a length, integers and floats as their 32-bit patterns.
+// What Rust and C call, through `engine_c`, which exports each of these under its name: integers and floats as their 32-bit patterns.
 ghost use Rattle.std.specs.Prelude.{◌≡◌};
 ghost use Rattle.model.specs.Layout.{words_length, arena_length};
 ghost use Rattle.calls.specs.Ops.{command_of};
@@ -18,32 +18,28 @@ use messagewrite::write;
 use why::{told_number, why};
 
 // The length of the words.
-#[unsafe(no_mangle)]
-pub extern "C" fn engine_words() -> u64
+pub fn engine_words() -> u64
     ensures { result ≡ words_length }
 {
     WORDS as u64
 }
 
 // The length of the arena in bytes.
-#[unsafe(no_mangle)]
-pub extern "C" fn engine_arena() -> u64
+pub fn engine_arena() -> u64
     ensures { result ≡ arena_length }
 {
     ARENA as u64
 }
 
 // A fresh engine: 0, or the refusal's number.
-#[unsafe(no_mangle)]
-pub extern "C" fn engine_fresh(words: &mut [u32], arena: &mut [u8]) -> u32
+pub fn engine_fresh(words: &mut [u32], arena: &mut [u8]) -> u32
     ensures { Made words.old arena.old result words.new arena.new }
 {
     call_number(fresh(words, arena)) as u32
 }
 
 // One call: the command of `op` with its numbers, on what is lent.
-#[unsafe(no_mangle)]
-pub extern "C" fn engine_apply(
+pub fn engine_apply(
     op: u32,
     a: u32,
     b: u32,
@@ -64,42 +60,28 @@ pub extern "C" fn engine_apply(
 }
 
 // One call: a message, on what is lent.
-#[unsafe(no_mangle)]
-pub extern "C" fn engine_message(
-    sent: &[u8],
-    words: &mut [u32],
-    arena: &mut [u8],
-    reply: &mut [u8],
-) -> u64
+pub fn engine_message(sent: &[u8], words: &mut [u32], arena: &mut [u8], reply: &mut [u8]) -> u64
     ensures { Sent sent.now words.old arena.old reply.old result words.new arena.new reply.new }
 {
     call_number(message(sent, words, arena, reply))
 }
 
 // One call: a list of commands, on what is lent. `NO_COMMAND` where it is no list.
-#[unsafe(no_mangle)]
-pub extern "C" fn engine_list(
-    items: &[u32],
-    bytes: &[u8],
-    words: &mut [u32],
-    arena: &mut [u8],
-) -> u64
+pub fn engine_list(items: &[u32], bytes: &[u8], words: &mut [u32], arena: &mut [u8]) -> u64
     ensures { Listed items.now bytes.now words.old arena.old result words.new arena.new }
 {
     list_number(list(items, bytes, words, arena))
 }
 
 // Why the node that a number names is silent, or where it runs.
-#[unsafe(no_mangle)]
-pub extern "C" fn engine_why(number: u32, words: &[u32], arena: &[u8]) -> u64
+pub fn engine_why(number: u32, words: &[u32], arena: &[u8]) -> u64
     ensures { result ≡ told_number (why_told number words.now arena.now) }
 {
     told_number(why(number, words, arena))
 }
 
 // The command of `op` with its numbers as a message in the lent buffer.
-#[unsafe(no_mangle)]
-pub extern "C" fn message_write(
+pub fn message_write(
     op: u32,
     a: u32,
     b: u32,

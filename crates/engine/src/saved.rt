@@ -1,4 +1,4 @@
-// What Rust and C call for saved settings: a save, a recall and a drop, on what is lent. A node is named by its number.
+// What Rust and C call for saved settings, through `engine_c`: a save, a recall and a drop, on what is lent. A node is named by its number.
 ghost use Rattle.values.specs.Targets.{argument};
 ghost use Rattle.engine.specs.Calls.{Stored, Recalled, Dropped};
 
@@ -7,16 +7,14 @@ use settings::{drop, recall, save, saved_number};
 use values::by_number;
 
 // The settings of a synth saved under its definition's name: 256 times the new version, or the refusal's number.
-#[unsafe(no_mangle)]
-pub extern "C" fn settings_save(node: u32, words: &[u32], arena: &[u8], store: &mut [u8]) -> u64
+pub fn settings_save(node: u32, words: &[u32], arena: &[u8], store: &mut [u8]) -> u64
     ensures { Stored (argument node) words.now arena.now store.old result store.new }
 {
     saved_number(save(by_number(node), words, arena, store))
 }
 
 // A version of a definition name recalled into a synth: 0, or the refusal's number.
-#[unsafe(no_mangle)]
-pub extern "C" fn settings_recall(
+pub fn settings_recall(
     name: &[u8],
     version: u32,
     node: u32,
@@ -30,8 +28,7 @@ pub extern "C" fn settings_recall(
 }
 
 // A version of a definition name dropped: 0, or the refusal's number.
-#[unsafe(no_mangle)]
-pub extern "C" fn settings_drop(name: &[u8], version: u32, store: &mut [u8]) -> u32
+pub fn settings_drop(name: &[u8], version: u32, store: &mut [u8]) -> u32
     ensures { Dropped name.now version store.old result store.new }
 {
     refusal_in(drop(name, version, store))
