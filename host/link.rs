@@ -1,5 +1,5 @@
-//! The build script of each package that links a proved static library: `libraries.txt` has its crate,
-//! and `host/archives PACKAGE` builds it.
+//! The build script of each package that links a proved static library: `libraries.txt` lists it,
+//! and `host/archives PACKAGE` builds it, under the package's name.
 
 use std::env;
 use std::fs;
@@ -12,19 +12,19 @@ fn main() {
     let host = Path::new(&manifest).join("..");
     let libraries = host.join("libraries.txt");
     let listed = fs::read_to_string(&libraries).expect("host/libraries.txt is there");
-    let name = listed
+    let is_listed = listed
         .lines()
         .filter_map(|line| line.split_once(": "))
-        .find_map(|(of, name)| (of == package).then_some(name.trim()))
-        .expect("host/libraries.txt has the package");
+        .any(|(of, _)| of == package);
+    assert!(is_listed, "host/libraries.txt has the package");
     let folder = host.join("../target/staticlib");
-    let archive = folder.join(format!("lib{name}.a"));
+    let archive = folder.join(format!("lib{package}.a"));
     println!("cargo:rerun-if-changed={}", libraries.display());
     println!("cargo:rerun-if-changed={}", archive.display());
     if !archive.exists() {
-        eprintln!("no target/staticlib/lib{name}.a: run `host/archives {package}`");
+        eprintln!("no target/staticlib/lib{package}.a: run `host/archives {package}`");
         exit(1);
     }
     println!("cargo:rustc-link-search=native={}", folder.display());
-    println!("cargo:rustc-link-lib=static={name}");
+    println!("cargo:rustc-link-lib=static={package}");
 }
