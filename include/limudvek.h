@@ -1,5 +1,5 @@
-/* The proved static libraries for C: libsynthdef.a and libengine.a, which `rt staticlib synthdef`
- * and `rt staticlib engine` write to target/staticlib/.
+/* The proved static libraries for C: libsynthdef.a and libengine.a, which `host/archives` writes to
+ * target/staticlib/.
  *
  * A run passes as a pointer to its first element and its length in elements. The pointer is not
  * null, also where the length is 0, and runs that are written lie apart from all others. Nothing is
