@@ -25,7 +25,7 @@ use Rattle.model.specs.declared.Answer.TheVariants.{Done, Replied, Refused, Refu
 use Rattle.model.specs.Layout.{slot_count, lengths_place, nodes_place, nodes_words, count_in, nodes_in}
 use Rattle.model.specs.Engine.{Slot, decode, resident_of}
 use Rattle.model.specs.Checks.{first_of, fault_of, definitions_of, names_of, staying, no_slot, no_resident}
-use Rattle.model.specs.Replies.{export_file, reply_to, reply}
+use Rattle.model.specs.Replies.{export_file, reply_to}
 use Rattle.model.specs.After.{words_after, arena_after}
 use Rattle.model.specs.Apply.{query_answer, answer_in}
 use Rattle.state.specs.Known.{Known}

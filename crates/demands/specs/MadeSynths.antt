@@ -9,8 +9,6 @@ use Rattle.nodes.specs.Edit.{cut, cut_below, deep_free, set_run, move_before, mo
 use Rattle.treerefinement.specs.Tally.{same_within, cut_within, cut_below_within, deep_free_within, move_before_same, move_after_same, move_head_same, move_tail_same}
 use Rattle.treerefinement.specs.Keep.{within_lives, within_apart}
 use Rattle.state.specs.Accepted.{TreeAccepted}
-use Rattle.preservation.specs.Numbers.{given}
-use Rattle.preservation.specs.Adds.{added}
 use Rattle.preservation.specs.Every.{Fewer, within_fewer, run_fewer}
 use Rattle.preservation.specs.TreeSteps.{Sound, place_stays, synth_for, comes, synth_comes}
 use Rattle.model.specs.declared.TreeCommand.{TreeCommand}

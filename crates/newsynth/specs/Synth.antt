@@ -24,7 +24,6 @@ use Rattle.model.specs.declared.Command.TheVariants as command
 use Rattle.model.specs.declared.Answer.TheVariants.{Done, Refused}
 use Rattle.model.specs.Layout.{slot_count, row_words, words_length, lengths_place, nodes_place, nodes_words, controls_place, controls_words, count_in, next_in, lengths_in, nodes_in, controls_in, put_header, put_controls, put_index, put_order, put_nodes, slot_in, node_words}
 use Rattle.model.specs.Engine.{Engine, decode, definition_in, no_definition, value_or, definition_of, resident_of, slot_at}
-use Rattle.model.specs.Meaning.{meant, known}
 use Rattle.model.specs.Checks.{first_of, tree_checks}
 use Rattle.model.specs.Effects.{staying_nodes, new_synth, number_for, next_after, initial_words, synth_made, effect}
 use Rattle.model.specs.After.{put_tree, words_after}

@@ -6,7 +6,7 @@ use Rattle.words.specs.Bytes.{AreBytes}
 use Rattle.faults.specs.declared.Fault.TheVariants.{BadName}
 use Rattle.format.specs.declared.Width.TheVariants.{Long}
 use Rattle.format.specs.Read.{got}
-use Rattle.format.specs.Fields.{name_bytes, string_at, pstring, name}
+use Rattle.format.specs.Fields.{name_bytes, string_at, pstring}
 use Rattle.format.specs.FieldLaws.{checked_got}
 use Rattle.format.specs.NameLaws.{full}
 use Rattle.format.specs.Sizes.{string_got}

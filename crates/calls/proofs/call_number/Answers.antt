@@ -3,7 +3,6 @@ use Prim.Native.Nat.{ℕ, ◌+◌, ◌*◌, ◌%◌}
 use mathlib.Core.Path.{sym, ap, ◌∙◌}
 use native.Mathlib.Omega.{arith}
 use native.Mathlib.Nat.{zero-add}
-use borrow.Author.Rules.{rules}
 use Rattle.faults.specs.FaultsLaws.{fault_high}
 use Rattle.calls.specs.Numbers.{room, call_number}
 use Rattle.calls.proofs.call_number.Goals as goal

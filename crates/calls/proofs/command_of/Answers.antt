@@ -1,6 +1,5 @@
 -- `calls::command_of` meets its contract: the arm of each number, and the numbers past the last.
 use mathlib.Core.Path.{◌∙◌}
-use borrow.Author.Rules.{rules}
 use Rattle.calls.specs.Ops as ops
 use Rattle.calls.specs.Ops.{Others}
 use Rattle.calls.specs.OpsLaws.{op_is, op_past, past}

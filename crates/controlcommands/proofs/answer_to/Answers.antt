@@ -1,6 +1,5 @@
 -- `controlcommands::answer_to` meets its contract.
 use mathlib.Core.Path.{sym, ap}
-use borrow.Author.Rules.{rules}
 use Rattle.controlcommands.specs.Steps.{answer_to}
 use Rattle.controlcommands.proofs.answer_to.Goals as goal
 

@@ -1,6 +1,5 @@
 -- `controlcommands::can_map` meets its contract.
 use mathlib.Core.Path.{sym}
-use borrow.Author.Rules.{rules}
 use borrow.Author.Tests.{eq-eqb, ne_eqb}
 use Rattle.controlcommands.proofs.can_map.Goals as goal
 

@@ -1,7 +1,6 @@
 -- `controlcommands::change_synth` meets its contract: refusal 21 or 28, or the synth changed.
 use mathlib.Core.Path.{◌≡◌, refl, sym, ap, ◌∙◌}
 use native.Mathlib.Omega.{arith}
-use borrow.Author.Rules.{rules}
 use Rattle.controls.specs.declared.definition.Asked.TheVariants.{There, Missing, PastWidth}
 use Rattle.controls.specs.Cover.{cover_within, cover_inside}
 use Rattle.controls.specs.Ready.{ready_known, synth_ready, synth_readable}
@@ -34,8 +33,7 @@ pub change_node-requires : goal.change_node-requires
 change_node-requires c =
     let a = c.args in
     let p = c.requires in
-    let ready = ready_known a.words.now a.arena.now p.0 in
-    (
+    let ready = ready_known a.words.now a.arena.now p.0 in (
       ready.size,
       omega (arith, ready.few, p.1),
       (synth_ready a.words.now a.arena.now ready a.at p.1 p.2).row,

@@ -1,5 +1,4 @@
 -- `controlcommands::control_step` meets its contract: each arm hands on what its function ensures.
-use borrow.Author.Rules.{rules}
 use Rattle.controlcommands.specs.Steps.{set_filled}
 use Rattle.controlcommands.proofs.control_step.Goals as goal
 

@@ -1,7 +1,6 @@
 -- `controlcommands::fill_controls` meets its contract: each refusal by the check that fires.
 use mathlib.Core.Bool.{not}
 use mathlib.Core.Path.{sym, ap, ◌∙◌}
-use borrow.Author.Rules.{rules}
 use Rattle.model.specs.declared.ControlCommand.TheVariants as controls
 use Rattle.values.specs.ValueLaws.{bounds_fact}
 use Rattle.names.specs.Named.{findable}

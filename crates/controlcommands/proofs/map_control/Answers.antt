@@ -1,8 +1,6 @@
 -- `controlcommands::map_control` meets its contract: each refusal by the check that fires.
 use mathlib.Core.Bool.{not}
 use mathlib.Core.Path.{sym, ap, ◌∙◌}
-use borrow.Author.Rules.{rules}
-use borrow.Author.Tests.{not-false}
 use Rattle.model.specs.declared.ControlCommand.TheVariants as controls
 use Rattle.names.specs.Named.{findable}
 use Rattle.names.specs.Judged.{NodeFound, NodeRefused}

@@ -1,5 +1,4 @@
 -- `definitioncommands::definition_step` meets its contract: each arm hands on what its function ensures.
-use borrow.Author.Rules.{rules}
 use Rattle.definitioncommands.proofs.definition_step.Goals as goal
 
 pub returns-in-Receive : goal.returns-in-Receive

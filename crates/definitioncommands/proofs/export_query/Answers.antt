@@ -1,6 +1,5 @@
 -- `definitioncommands::export_query` meets its contract: refusal 24, or the export.
 use native.Mathlib.Omega.{arith}
-use borrow.Author.Rules.{rules}
 use Rattle.definitioncommands.specs.Steps.{formed_table, export-long, export_done}
 use Rattle.definitioncommands.proofs.export_query.Goals as goal
 

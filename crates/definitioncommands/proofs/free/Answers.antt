@@ -1,6 +1,5 @@
 -- `definitioncommands::free` meets its contract: refusal 16, or one resident retired.
 use native.Mathlib.Omega.{arith}
-use borrow.Author.Rules.{rules}
 use Rattle.definitioncommands.specs.Steps.{formed_table, free_none, free_done}
 use Rattle.definitioncommands.proofs.free.Goals as goal
 

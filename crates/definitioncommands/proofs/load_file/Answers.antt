@@ -1,6 +1,5 @@
 -- `definitioncommands::load_file` meets its contract: refusal 12, or the file loaded.
 use mathlib.Core.Path.{sym, ◌∙◌}
-use borrow.Author.Rules.{rules}
 use Rattle.definitions.specs.Lent.{receive_lent}
 use Rattle.definitioncommands.specs.Steps.{formed_table, receive-full, receive_done, full-fact, held_here}
 use Rattle.definitioncommands.proofs.load_file.Goals as goal

@@ -1,6 +1,5 @@
 -- `definitioncommands::receive` meets its contract: the file's own faults, or what follows them.
 use mathlib.Core.Path.{sym, ◌∙◌}
-use borrow.Author.Rules.{rules}
 use Rattle.format.specs.Reader.{read_file}
 use Rattle.definitioncommands.specs.Steps.{verdict_bad, verdict_got, receive_fault}
 use Rattle.definitioncommands.proofs.receive.Goals as goal

@@ -1,5 +1,4 @@
 use mathlib.Core.Path.{ap}
-use borrow.Author.Rules.{rules}
 use Prim.{tt}
 use mathlib.Core.Path.{subst}
 use Rattle.messages.specs.declared.Received.TheVariants.{Malformed, Unknown, Command}

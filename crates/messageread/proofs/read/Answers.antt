@@ -1,5 +1,4 @@
 use Prim.Native.Nat.{◌-◌}
-use borrow.Author.Rules.{rules}
 use Rattle.words.specs.Parts.{region}
 use Rattle.messageread.specs.FinishLaws.{no_address, addressed}
 use Rattle.messageread.proofs.read.Goals as goal

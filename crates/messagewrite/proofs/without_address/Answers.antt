@@ -1,6 +1,5 @@
 -- `messagewrite::without_address` meets its contract.
 use mathlib.Core.Path.{sym, ◌∙◌}
-use borrow.Author.Rules.{rules}
 use borrow.Author.Tests.{eq-eqb, ne_eqb}
 use Rattle.calls.specs.Ops.{recall}
 use Rattle.messagewrite.specs.Codes.{unfit_by}

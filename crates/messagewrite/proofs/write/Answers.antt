@@ -1,9 +1,7 @@
 use Prim.Native.Nat.{◌<◌}
 use mathlib.Core.Path.{◌≡◌, sym, ◌∙◌}
 use native.Mathlib.Omega.{arith}
-use borrow.Author.Rules.{rules}
 use lib.ListN.{length}
-use Rattle.messages.specs.Table.{Words}
 use Rattle.messages.specs.Rows.{address_of}
 use Rattle.messagewrite.specs.Codes.{given, fitting_none, fitting_some}
 use Rattle.messagewrite.specs.Whole.{whole_size, writes_none, writes_unfit, writes_short, writes_whole}

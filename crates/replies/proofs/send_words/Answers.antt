@@ -1,6 +1,5 @@
 use Prim.Native.Nat.{◌+◌, ◌*◌}
 use native.Mathlib.Omega.{arith}
-use borrow.Author.Rules.{rules}
 use lib.ListN.{length}
 use Rattle.replies.specs.Sent.{word_message, word_message_size, sends_none, sends_all}
 use Rattle.replies.proofs.send_words.Goals as goal

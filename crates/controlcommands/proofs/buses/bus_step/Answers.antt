@@ -1,5 +1,4 @@
 -- `controlcommands::bus_step` meets its contract: each arm hands on what its function ensures.
-use borrow.Author.Rules.{rules}
 use Rattle.controlcommands.proofs.buses.bus_step.Goals as goal
 
 pub returns-in-Set : goal.returns-in-Set

@@ -1,7 +1,5 @@
 -- `controlcommands::fill_range` meets its contract: each refusal by the check that fires.
 use mathlib.Core.Path.{sym, ◌∙◌}
-use borrow.Author.Rules.{rules}
-use borrow.Author.Tests.{not-true, not-false}
 use Rattle.controlcommands.specs.Buses.{Steps, fill_no_bus, fill_done, fill_bad_value}
 use Rattle.model.specs.declared.BusCommand.TheVariants as buses
 use Rattle.model.specs.declared.Answer.TheVariants.{Done}

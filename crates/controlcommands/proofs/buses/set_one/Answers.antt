@@ -1,7 +1,5 @@
 -- `controlcommands::set_one` meets its contract: each refusal by the check that fires.
 use mathlib.Core.Path.{sym, ◌∙◌}
-use borrow.Author.Rules.{rules}
-use borrow.Author.Tests.{not-true, not-false}
 use Rattle.controlcommands.specs.Buses.{Steps, set_no_bus, set_done, set_bad_value}
 use Rattle.model.specs.declared.BusCommand.TheVariants as buses
 use Rattle.model.specs.declared.Answer.TheVariants.{Done}

@@ -1,7 +1,5 @@
 -- `engine::commands::apply` meets its contract: the check, and then the step.
 use mathlib.Core.Path.{sym, ◌∙◌}
-use borrow.Author.Rules.{rules}
-use borrow.Author.Tests.{not-true, not-false}
 use Rattle.state.specs.Does.{does_bad}
 use Rattle.engine.proofs.commands.apply.Goals as goal
 

@@ -1,6 +1,5 @@
 -- `engine::exports::engine_apply` meets its contract.
 use mathlib.Core.Path.{◌≡◌, refl, sym, ◌∙◌}
-use borrow.Author.Rules.{rules}
 use Rattle.calls.specs.declared.Parsed.TheVariants.{Nothing}
 use Rattle.engine.proofs.exports.engine_apply.Goals as goal
 

@@ -1,7 +1,6 @@
 -- `engine::exports::engine_fresh` meets its contract.
 use mathlib.Core.Path.{◌≡◌, ap, ◌∙◌}
 use native.Mathlib.Omega.{arith}
-use borrow.Author.Rules.{rules}
 use Rattle.model.specs.Apply.{fresh_answer}
 use Rattle.calls.specs.Numbers.{call_number}
 use Rattle.engine.specs.CallsLaws.{fresh_small}

@@ -1,5 +1,4 @@
 -- `engine::exports::engine_list` meets its contract.
-use borrow.Author.Rules.{rules}
 use Rattle.engine.proofs.exports.engine_list.Goals as goal
 
 pub returns : goal.returns

@@ -1,5 +1,4 @@
 -- `engine::exports::engine_message` meets its contract.
-use borrow.Author.Rules.{rules}
 use Rattle.engine.proofs.exports.engine_message.Goals as goal
 
 pub returns : goal.returns

@@ -1,6 +1,5 @@
 -- `engine::exports::engine_why` meets its contract.
 use mathlib.Core.Path.{ap, ◌∙◌}
-use borrow.Author.Rules.{rules}
 use Rattle.why.specs.Numbers.{told_number}
 use Rattle.engine.proofs.exports.engine_why.Goals as goal
 

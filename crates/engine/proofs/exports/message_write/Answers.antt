@@ -1,6 +1,5 @@
 -- `engine::exports::message_write` meets its contract.
 use mathlib.Core.Path.{◌≡◌, refl, sym, ◌∙◌}
-use borrow.Author.Rules.{rules}
 use borrow.Author.Tests.{eq-eqb, ne_eqb}
 use Rattle.calls.specs.declared.Parsed.TheVariants.{Nothing}
 use Rattle.calls.specs.Ops.{recall}

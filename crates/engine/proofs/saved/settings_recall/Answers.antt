@@ -1,5 +1,4 @@
 -- `engine::saved::settings_recall` meets its contract.
-use borrow.Author.Rules.{rules}
 use Rattle.engine.specs.CallsLaws.{recalled}
 use Rattle.engine.proofs.saved.settings_recall.Goals as goal
 

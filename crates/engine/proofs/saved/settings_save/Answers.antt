@@ -1,5 +1,4 @@
 -- `engine::saved::settings_save` meets its contract.
-use borrow.Author.Rules.{rules}
 use Rattle.engine.specs.CallsLaws.{stored}
 use Rattle.engine.proofs.saved.settings_save.Goals as goal
 

@@ -1,7 +1,6 @@
 -- `engine::sent::message` meets its contract: what was read, the check, and then the step.
 use mathlib.Core.Path.{sym, ◌∙◌, subst}
 use borrow.Author.Rules.{rules}
-use borrow.Author.Tests.{not-true, not-false}
 use Rattle.messages.specs.declared.Received.{Received}
 use Rattle.messages.specs.Receive.{Within}
 use Rattle.engine.specs.Messages.{sends_bad, sends_malformed, sends_unknown, sends_command}

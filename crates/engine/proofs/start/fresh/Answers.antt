@@ -1,6 +1,5 @@
 -- `engine::fresh` meets its contract.
 use native.Mathlib.Omega.{arith}
-use borrow.Author.Rules.{rules}
 use Rattle.engine.specs.Fresh.{refused_size, refused_room, made}
 use Rattle.engine.proofs.start.fresh.Goals as goal
 

@@ -2,7 +2,6 @@
 use Prim.Native.Nat.{ℕ}
 use mathlib.Core.Path.{ap, ◌∙◌}
 use native.Mathlib.Omega.{arith}
-use borrow.Author.Rules.{rules}
 use lib.ListN.{replicate, length-set}
 use Rattle.engine.specs.Zeros.{fresh-words}
 use Rattle.engine.proofs.start.fresh_words.Goals as goal

@@ -1,11 +1,8 @@
 -- `engine::zero_bytes` meets its contract. The invariant: the first i items are zero, and the others as they were.
-use Prim.Native.Nat.{ℕ, ◌≤◌, ◌-◌}
-use mathlib.Core.Path.{◌≡◌, refl, ap, ◌∙◌}
-use mathlib.Core.List.{List}
-use native.Mathlib.Omega.{arith}
-use borrow.Author.Rules.{rules}
-use lib.ListN.{length, set, length-set}
-use Rattle.words.specs.Zeros.{zeroed, zero_turn, zero_end}
+use Prim.Native.Nat.{◌≤◌, ◌-◌}
+use mathlib.Core.Path.{◌≡◌}
+use lib.ListN.{length}
+use Rattle.words.specs.Zeros.{zeroed}
 use Rattle.engine.proofs.start.zero_bytes.Given as goal
 
 abbrev pub invariant-loop-i : goal.invariant-loop-i

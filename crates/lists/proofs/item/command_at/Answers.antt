@@ -1,6 +1,5 @@
 -- `lists::item::command_at` meets its contract.
 use mathlib.Core.Path.{sym}
-use borrow.Author.Rules.{rules}
 use Rattle.lists.proofs.item.command_at.Goals as goal
 
 pub returns : goal.returns

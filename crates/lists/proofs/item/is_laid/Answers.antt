@@ -1,10 +1,8 @@
 -- `lists::item::is_laid` meets its contract.
-use borrow.Author.Tests.{not-true, not-false}
 use Rattle.lists.specs.Lent.{item_in}
 use Rattle.lists.specs.Laid.{laid_later, laid_past, laid_by}
 use mathlib.Core.Path.{sym, ◌∙◌}
 use native.Mathlib.Omega.{arith}
-use borrow.Author.Rules.{rules}
 use lib.ListN.{drop}
 use Rattle.lists.proofs.item.is_laid.Goals as goal
 

@@ -1,7 +1,6 @@
 -- `lists::item::item_kind` meets its contract.
 use mathlib.Core.Path.{sym, ap, ◌∙◌}
-use borrow.Author.Rules.{rules}
-use borrow.Author.Tests.{eq-eqb, ne_eqb, not-true, not-false}
+use borrow.Author.Tests.{eq-eqb, ne_eqb}
 use lib.ListN.{drop, get_or}
 use Rattle.calls.specs.Ops.{recall}
 use Rattle.lists.specs.Lent.{of_parsed}

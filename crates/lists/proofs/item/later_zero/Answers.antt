@@ -3,7 +3,6 @@ use lib.Dec.{eqb}
 use Rattle.lists.specs.Laid.{zeros_1, zeros_2, zeros_3, zeros_4}
 use Prim.Native.Nat.{ℕ}
 use mathlib.Core.Path.{sym, ap, ◌∙◌}
-use borrow.Author.Rules.{rules}
 use lib.ListN.{drop, get_or}
 use Rattle.lists.proofs.item.later_zero.Goals as goal
 

@@ -1,7 +1,6 @@
 -- `lists::item::word` meets its contract.
 use lib.Seq.{get_or-drop}
 use mathlib.Core.Path.{sym}
-use borrow.Author.Rules.{rules}
 use Rattle.lists.proofs.item.word.Goals as goal
 
 pub returns : goal.returns

@@ -4,10 +4,9 @@ use Rattle.lists.specs.Lent.{is_item, acts, kind_of}
 use Rattle.lists.specs.declared.Kind.{Kind}
 use Rattle.lists.specs.declared.Verdict.TheVariants.{Unfit, Fit}
 use Rattle.words.specs.Choice.{pick, both}
-use borrow.Author.Tests.{not-true, not-false}
 use mathlib.Core.Path.{subst}
 use Prim.{tt}
-use Prim.Native.Nat.{◌+◌, ◌-◌}
+use Prim.Native.Nat.{◌+◌}
 use mathlib.Core.Bool.{Bool, true, false}
 use mathlib.Core.Path.{◌≡◌, sym, ap, ◌∙◌}
 use native.Mathlib.Omega.{arith}

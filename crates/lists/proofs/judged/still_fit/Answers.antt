@@ -4,7 +4,6 @@ use Rattle.lists.specs.Lent.{acts}
 use Rattle.lists.specs.declared.Kind.{Kind}
 use Rattle.words.specs.Choice.{both}
 use mathlib.Core.Path.{sym, ap, ◌∙◌}
-use borrow.Author.Rules.{rules}
 use Rattle.lists.proofs.judged.still_fit.Goals as goal
 
 pub returns-in-NoItem : goal.returns-in-NoItem

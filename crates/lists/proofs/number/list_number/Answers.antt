@@ -4,7 +4,6 @@ use Prim.Native.Nat.{◌%◌}
 use mathlib.Core.Path.{ap₂}
 use Prim.Native.Nat.{ℕ, ◌+◌, ◌*◌}
 use mathlib.Core.Path.{sym, ap, ◌∙◌}
-use borrow.Author.Rules.{rules}
 use Rattle.lists.proofs.number.list_number.Goals as goal
 
 pub returns-in-Ended : goal.returns-in-Ended

@@ -1,7 +1,6 @@
 -- `lists::number::refusal_in` meets its contract.
 use Rattle.model.specs.Demands.{refusal_in}
 use mathlib.Core.Path.{sym, ap, ◌∙◌}
-use borrow.Author.Rules.{rules}
 use Rattle.lists.proofs.number.refusal_in.Goals as goal
 
 pub returns-in-Refused : goal.returns-in-Refused

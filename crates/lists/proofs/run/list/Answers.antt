@@ -1,8 +1,6 @@
 -- `lists::run::list` meets its contract.
 use Rattle.lists.specs.Ending.{lists_none, lists_unfit, lists_unfit_bad, lists_fit_bad, lists_fit}
-use borrow.Author.Tests.{not-true, not-false}
 use mathlib.Core.Path.{sym, ◌∙◌}
-use borrow.Author.Rules.{rules}
 use Rattle.lists.proofs.run.list.Goals as goal
 
 pub returns-then-not-well_formed : goal.returns-then-not-well_formed

@@ -1,7 +1,5 @@
-use Rattle.lists.specs.Running.{Running, same_size, run_begins, run_kind, run_goes, run_stops, run_ends}
-use borrow.Author.Tests.{not-true, not-false}
+use Rattle.lists.specs.Running.{same_size, run_begins, run_kind, run_goes, run_stops, run_ends}
 use Prim.{tt}
-use Prim.Native.Nat.{◌-◌}
 use mathlib.Core.Path.{sym, ◌∙◌}
 use native.Mathlib.Omega.{arith}
 use borrow.Author.Rules.{rules}

@@ -1,11 +1,6 @@
 -- `lists::run::run` meets its contract.
-use Rattle.lists.specs.Running.{Running, same_size, run_begins, run_kind, run_goes, run_stops, run_ends}
-use borrow.Author.Tests.{not-true, not-false}
-use Prim.{tt}
+use Rattle.lists.specs.Running.{Running}
 use Prim.Native.Nat.{◌-◌}
-use mathlib.Core.Path.{sym, ◌∙◌}
-use native.Mathlib.Omega.{arith}
-use borrow.Author.Rules.{rules}
 use Rattle.lists.proofs.run.run.Given as goal
 
 abbrev pub invariant-loop-i : goal.invariant-loop-i

@@ -1,12 +1,7 @@
 use Prim.Native.Nat.{◌-◌}
-use mathlib.Core.Path.{◌≡◌, refl, sym, ◌∙◌}
-use native.Mathlib.Omega.{arith}
-use borrow.Author.Tests.{eq-eqb, ne_eqb}
-use lib.ListN.{get_or}
+use mathlib.Core.Path.{◌≡◌}
 use Rattle.words.specs.Parts.{region}
-use Rattle.format.specs.NameLaws.{region_past, region_none}
 use Rattle.messages.specs.Form.{zeros}
-use Rattle.messageread.specs.FormLaws.{zeros_turn}
 use Rattle.messageread.proofs.cursor.blank.Given as goal
 
 abbrev pub invariant-loop-i : goal.invariant-loop-i

@@ -1,7 +1,5 @@
-use Prim.Native.Nat.{◌-◌}
 use native.Mathlib.Omega.{arith}
-use lib.ListN.{length}
-use Rattle.messageread.specs.EndLaws.{Passed, none_passed, one_passed, ends_zero, ends_high, ends_cut}
+use Rattle.messageread.specs.EndLaws.{none_passed, one_passed, ends_zero, ends_high, ends_cut}
 use Rattle.messageread.proofs.cursor.text_end.Goals as goal
 
 pub loop-i-init : goal.loop-i-init

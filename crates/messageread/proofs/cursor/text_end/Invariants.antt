@@ -1,7 +1,6 @@
 use Prim.Native.Nat.{◌-◌}
-use native.Mathlib.Omega.{arith}
 use lib.ListN.{length}
-use Rattle.messageread.specs.EndLaws.{Passed, none_passed, one_passed, ends_zero, ends_high, ends_cut}
+use Rattle.messageread.specs.EndLaws.{Passed}
 use Rattle.messageread.proofs.cursor.text_end.Given as goal
 
 abbrev pub invariant-loop-i : goal.invariant-loop-i

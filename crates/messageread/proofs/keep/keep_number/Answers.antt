@@ -1,5 +1,4 @@
 use mathlib.Core.Path.{sym, ap}
-use borrow.Author.Rules.{rules}
 use Rattle.messageread.specs.Answers.{number_of}
 use Rattle.messageread.specs.Keep.{given}
 use Rattle.messageread.specs.StepLaws.{number_step, no_step, number_taken}

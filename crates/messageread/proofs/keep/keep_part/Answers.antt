@@ -1,5 +1,4 @@
 use mathlib.Core.Path.{sym, ap}
-use borrow.Author.Rules.{rules}
 use mathlib.Core.Path.{subst}
 use Rattle.messageread.specs.declared.cursor.Text.{Text}
 use Rattle.messageread.specs.Answers.{text_of, Inside}

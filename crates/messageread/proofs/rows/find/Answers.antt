@@ -1,6 +1,5 @@
 use mathlib.Core.Path.{sym, ◌∙◌}
 use native.Mathlib.Omega.{arith}
-use borrow.Author.Rules.{rules}
 use Rattle.messageread.specs.FindLaws.{few_candidate, find_first, find_second, find_none}
 use Rattle.messageread.proofs.rows.find.Goals as goal
 

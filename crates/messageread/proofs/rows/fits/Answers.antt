@@ -1,12 +1,10 @@
-use Prim.Native.Nat.{ℕ, ◌-◌, ◌/◌, ◌%◌, ◌≤◌}
+use Prim.Native.Nat.{ℕ, ◌/◌, ◌%◌}
 use mathlib.Core.Bool.{true, false}
 use mathlib.Core.Path.{◌≡◌, refl, sym, ap, ◌∙◌}
 use native.Mathlib.Omega.{arith}
-use borrow.Author.Rules.{rules}
-use lib.ListN.{length, drop, get_or}
+use lib.ListN.{get_or}
 use lib.Dec.{eqb}
-use Rattle.messages.specs.Table.{fit_all}
-use Rattle.messages.specs.Rows.{slots_of, code_at, packed}
+use Rattle.messages.specs.Rows.{slots_of, code_at}
 use Rattle.messages.specs.Entries.{packed_code, packed_next}
 use Rattle.messageread.specs.Lookup.{takes_by}
 use Rattle.messageread.specs.LookupLaws.{fit_turn, fit_end}

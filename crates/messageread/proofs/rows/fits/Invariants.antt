@@ -1,15 +1,8 @@
-use Prim.Native.Nat.{ℕ, ◌-◌, ◌/◌, ◌%◌, ◌≤◌}
-use mathlib.Core.Bool.{true, false}
-use mathlib.Core.Path.{◌≡◌, refl, sym, ap, ◌∙◌}
-use native.Mathlib.Omega.{arith}
-use borrow.Author.Rules.{rules}
-use lib.ListN.{length, drop, get_or}
-use lib.Dec.{eqb}
+use Prim.Native.Nat.{◌-◌, ◌≤◌}
+use mathlib.Core.Path.{◌≡◌}
+use lib.ListN.{length, drop}
 use Rattle.messages.specs.Table.{fit_all}
-use Rattle.messages.specs.Rows.{slots_of, code_at, packed}
-use Rattle.messages.specs.Entries.{packed_code, packed_next}
-use Rattle.messageread.specs.Lookup.{takes_by}
-use Rattle.messageread.specs.LookupLaws.{fit_turn, fit_end}
+use Rattle.messages.specs.Rows.{slots_of, packed}
 use Rattle.messageread.proofs.rows.fits.Given as goal
 
 abbrev pub invariant-loop-k : goal.invariant-loop-k

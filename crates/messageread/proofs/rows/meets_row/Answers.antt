@@ -1,7 +1,6 @@
 use Prim.Native.Nat.{ℕ}
 use mathlib.Core.Path.{◌≡◌, sym, ap, ◌∙◌}
 use native.Mathlib.Omega.{arith}
-use borrow.Author.Rules.{rules}
 use Rattle.messages.specs.Write.{row_of}
 use Rattle.messageread.specs.Lookup.{meets}
 use Rattle.messageread.specs.LookupLaws.{meets_parts, meets_past, meets-zero}

@@ -1,4 +1,3 @@
-use borrow.Author.Rules.{rules}
 use Rattle.messages.specs.Form.{and_then, parsed, argument_at}
 use Rattle.messages.specs.Rows.{code_at}
 use Rattle.messageread.specs.Answers.{number_of, text_of}

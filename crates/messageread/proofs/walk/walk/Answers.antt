@@ -1,13 +1,10 @@
-use Prim.Native.Nat.{ℕ, ◌-◌, ◌/◌, ◌%◌}
-use native.Mathlib.Omega.{arith}
-use borrow.Author.Rules.{rules}
-use lib.ListN.{length, drop}
-use mathlib.Core.Path.{◌≡◌, ap, ◌∙◌, subst}
-use Rattle.messages.specs.Rows.{slots_of, packed}
+use Prim.Native.Nat.{ℕ, ◌/◌, ◌%◌}
+use mathlib.Core.Path.{ap, ◌∙◌, subst}
+use Rattle.messages.specs.Rows.{slots_of}
 use Rattle.messages.specs.Entries.{packed_code, packed_next}
 use Rattle.messageread.specs.declared.keep.Step.{Step}
 use Rattle.messageread.specs.Keep.{StepHolds}
-use Rattle.messageread.specs.WalkLaws.{Walking, walk_begins, walk_stops, walk_goes, walk_ends}
+use Rattle.messageread.specs.WalkLaws.{walk_begins, walk_stops, walk_goes, walk_ends}
 use Rattle.messageread.proofs.walk.walk.Goals as goal
 
 pub loop-k-init : goal.loop-k-init

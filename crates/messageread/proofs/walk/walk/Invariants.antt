@@ -1,13 +1,8 @@
-use Prim.Native.Nat.{ℕ, ◌-◌, ◌/◌, ◌%◌}
-use native.Mathlib.Omega.{arith}
-use borrow.Author.Rules.{rules}
+use Prim.Native.Nat.{◌-◌}
 use lib.ListN.{length, drop}
-use mathlib.Core.Path.{◌≡◌, ap, ◌∙◌, subst}
+use mathlib.Core.Path.{◌≡◌}
 use Rattle.messages.specs.Rows.{slots_of, packed}
-use Rattle.messages.specs.Entries.{packed_code, packed_next}
-use Rattle.messageread.specs.declared.keep.Step.{Step}
-use Rattle.messageread.specs.Keep.{StepHolds}
-use Rattle.messageread.specs.WalkLaws.{Walking, walk_begins, walk_stops, walk_goes, walk_ends}
+use Rattle.messageread.specs.WalkLaws.{Walking}
 use Rattle.messageread.proofs.walk.walk.Given as goal
 
 abbrev pub invariant-loop-k : goal.invariant-loop-k

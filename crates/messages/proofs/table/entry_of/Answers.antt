@@ -1,5 +1,4 @@
 -- `messages::entry_of` meets its contract: the arm of each op, and the ops past the last.
-use borrow.Author.Rules.{rules}
 use Rattle.calls.specs.Ops as ops
 use Rattle.calls.specs.Ops.{Others}
 use Rattle.calls.specs.OpsLaws.{past}

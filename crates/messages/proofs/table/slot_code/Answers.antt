@@ -1,7 +1,6 @@
 -- `messages::slot_code` meets its contract: a digit of the codes by the slot's place.
 use Prim.Native.Nat.{ℕ, ◌/◌, ◌%◌}
 use mathlib.Core.Path.{ap, ◌∙◌}
-use borrow.Author.Rules.{rules}
 use Rattle.calls.specs.Ops.{Others}
 use Rattle.calls.specs.OpsLaws.{past}
 use Rattle.messages.specs.Rows.{slots_of}

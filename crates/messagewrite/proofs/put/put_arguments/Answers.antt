@@ -1,9 +1,7 @@
-use Prim.Native.Nat.{ℕ, ◌+◌, ◌-◌, ◌≤◌, ◌<◌}
-use mathlib.Core.Bool.{false}
+use Prim.Native.Nat.{ℕ, ◌+◌, ◌-◌, ◌<◌}
 use mathlib.Core.Path.{◌≡◌, refl, sym, ap, ◌∙◌}
 use mathlib.Core.List.{List, ◌++◌}
 use native.Mathlib.Omega.{arith}
-use borrow.Author.Rules.{rules}
 use lib.ListN.{length, take, drop, length-append}
 use Rattle.words.specs.ChoiceLaws.{either_false}
 use Rattle.osc.specs.Message.{arguments, argument_bytes, Argument}
@@ -14,7 +12,7 @@ use Rattle.messages.specs.Table.{give_all}
 use Rattle.messages.specs.Write.{any_unfit}
 use Rattle.messages.specs.Rows.{code_at, slots_of}
 use Rattle.messagewrite.specs.Codes.{given, argument_by, unfit_by, size_by, size-by, fits}
-use Rattle.messagewrite.specs.Slots.{next_bytes, taken_all, sizes, sizes_turn, unfit_turn}
+use Rattle.messagewrite.specs.Slots.{next_bytes, taken_all, sizes_turn, unfit_turn}
 use Rattle.messagewrite.specs.Pieces.{two_parts}
 use Rattle.messagewrite.proofs.put.put_arguments.Goals as goal
 

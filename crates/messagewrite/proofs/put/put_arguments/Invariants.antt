@@ -1,21 +1,14 @@
-use Prim.Native.Nat.{ℕ, ◌+◌, ◌-◌, ◌≤◌, ◌<◌}
+use Prim.Native.Nat.{◌+◌, ◌-◌, ◌≤◌}
 use mathlib.Core.Bool.{false}
-use mathlib.Core.Path.{◌≡◌, refl, sym, ap, ◌∙◌}
-use mathlib.Core.List.{List, ◌++◌}
-use native.Mathlib.Omega.{arith}
-use borrow.Author.Rules.{rules}
-use lib.ListN.{length, take, drop, length-append}
-use Rattle.words.specs.ChoiceLaws.{either_false}
-use Rattle.osc.specs.Message.{arguments, argument_bytes, Argument}
+use mathlib.Core.Path.{◌≡◌}
+use lib.ListN.{length, take, drop}
+use Rattle.osc.specs.Message.{arguments}
 use Rattle.words.specs.Parts.{over}
-use Rattle.osc.specs.Over.{over_length}
-use Rattle.replies.specs.Words.{over_none}
 use Rattle.messages.specs.Table.{give_all}
 use Rattle.messages.specs.Write.{any_unfit}
-use Rattle.messages.specs.Rows.{code_at, slots_of}
-use Rattle.messagewrite.specs.Codes.{given, argument_by, unfit_by, size_by, size-by, fits}
-use Rattle.messagewrite.specs.Slots.{next_bytes, taken_all, sizes, sizes_turn, unfit_turn}
-use Rattle.messagewrite.specs.Pieces.{two_parts}
+use Rattle.messages.specs.Rows.{slots_of}
+use Rattle.messagewrite.specs.Codes.{given}
+use Rattle.messagewrite.specs.Slots.{sizes}
 use Rattle.messagewrite.proofs.put.put_arguments.Given as goal
 
 abbrev pub invariant-loop-k : goal.invariant-loop-k

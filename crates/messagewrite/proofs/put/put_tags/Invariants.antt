@@ -1,18 +1,12 @@
-use Prim.Native.Nat.{ℕ, ◌+◌, ◌-◌, ◌≤◌, ◌<◌}
-use mathlib.Core.Path.{◌≡◌, refl, sym, ap, ◌∙◌}
-use mathlib.Core.List.{List, [], ◌∷◌}
-use native.Mathlib.Omega.{arith}
-use borrow.Author.Rules.{rules}
+use Prim.Native.Nat.{ℕ, ◌-◌, ◌≤◌}
+use mathlib.Core.Path.{◌≡◌}
+use mathlib.Core.List.{List}
 use lib.ListN.{length, take}
-use Rattle.osc.specs.Message.{tag_of, tags, Argument}
+use Rattle.osc.specs.Message.{tags}
 use Rattle.words.specs.Parts.{over}
-use Rattle.osc.specs.Over.{over_length}
-use Rattle.replies.specs.Words.{over_none}
 use Rattle.messages.specs.Table.{give_all}
-use Rattle.messages.specs.Rows.{code_at, slots_of}
-use Rattle.messagewrite.specs.Codes.{given, argument_by}
-use Rattle.messagewrite.specs.Slots.{next_tag, tags_taken, taken_all}
-use Rattle.messagewrite.specs.Pieces.{two_parts}
+use Rattle.messages.specs.Rows.{slots_of}
+use Rattle.messagewrite.specs.Codes.{given}
 use Rattle.messagewrite.proofs.put.put_tags.Given as goal
 
 abbrev pub invariant-loop-k : goal.invariant-loop-k

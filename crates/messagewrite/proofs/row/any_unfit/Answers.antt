@@ -1,9 +1,7 @@
-use Prim.Native.Nat.{ℕ, ◌-◌, ◌≤◌}
+use Prim.Native.Nat.{ℕ}
 use mathlib.Core.Bool.{true, false}
 use mathlib.Core.Path.{◌≡◌, refl, sym, ap, ◌∙◌}
 use native.Mathlib.Omega.{arith}
-use lib.ListN.{drop}
-use Rattle.messages.specs.Write.{any_unfit}
 use Rattle.messages.specs.Rows.{code_at, slots_of}
 use Rattle.messagewrite.specs.Codes.{unfit_by}
 use Rattle.messagewrite.specs.Slots.{unfit_past, unfit_turn}

@@ -1,12 +1,8 @@
-use Prim.Native.Nat.{ℕ, ◌-◌, ◌≤◌}
-use mathlib.Core.Bool.{true, false}
-use mathlib.Core.Path.{◌≡◌, refl, sym, ap, ◌∙◌}
-use native.Mathlib.Omega.{arith}
+use Prim.Native.Nat.{◌-◌, ◌≤◌}
+use mathlib.Core.Path.{◌≡◌}
 use lib.ListN.{drop}
 use Rattle.messages.specs.Write.{any_unfit}
-use Rattle.messages.specs.Rows.{code_at, slots_of}
-use Rattle.messagewrite.specs.Codes.{unfit_by}
-use Rattle.messagewrite.specs.Slots.{unfit_past, unfit_turn}
+use Rattle.messages.specs.Rows.{slots_of}
 use Rattle.messagewrite.proofs.row.any_unfit.Given as goal
 
 abbrev pub invariant-loop-k : goal.invariant-loop-k

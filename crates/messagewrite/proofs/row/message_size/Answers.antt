@@ -1,7 +1,7 @@
-use Prim.Native.Nat.{ℕ, ◌+◌, ◌-◌, ◌%◌, ◌≤◌}
+use Prim.Native.Nat.{ℕ, ◌+◌, ◌-◌, ◌%◌}
 use mathlib.Core.Path.{◌≡◌, sym, ap, ap₂, ◌∙◌}
 use native.Mathlib.Omega.{arith}
-use lib.ListN.{length, drop}
+use lib.ListN.{length}
 use Rattle.osc.specs.Lengths.{front_size}
 use Rattle.messages.specs.Rows.{code_at, slots_of, address_of}
 use Rattle.messagewrite.specs.Codes.{size_by, size_some, fits, exceeds, fitting_none, fitting_some}

@@ -1,10 +1,6 @@
 use Prim.Native.Nat.{◌-◌, ◌≤◌}
-use mathlib.Core.Path.{sym, ◌∙◌}
-use native.Mathlib.Omega.{arith}
 use lib.ListN.{length}
 use Rattle.messages.specs.Rows.{slots_of}
-use Rattle.messagewrite.specs.Slots.{code_none, code_more}
-use Rattle.messages.specs.TableRows.{few_slots}
 use Rattle.messagewrite.proofs.row.slot_count.Given as goal
 
 abbrev pub invariant-loop-k : goal.invariant-loop-k

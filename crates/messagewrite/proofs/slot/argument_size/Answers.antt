@@ -1,6 +1,5 @@
 use mathlib.Core.Path.{sym, ◌∙◌}
 use native.Mathlib.Omega.{arith}
-use borrow.Author.Rules.{rules}
 use Rattle.messagewrite.specs.Codes.{size_by, size_some, size_name, size_file, size_number, fits, exceeds}
 use Rattle.messagewrite.proofs.slot.argument_size.Goals as goal
 

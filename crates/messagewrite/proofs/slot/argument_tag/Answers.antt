@@ -1,6 +1,5 @@
 use mathlib.Core.Bool.{true, false}
 use mathlib.Core.Path.{◌≡◌, sym, ap, ◌∙◌}
-use borrow.Author.Rules.{rules}
 use Rattle.osc.specs.Message.{tag_of}
 use Rattle.messagewrite.specs.Codes.{given, is_float, argument_name, argument-file, argument_number}
 use Rattle.messagewrite.proofs.slot.argument_tag.Goals as goal

@@ -1,6 +1,5 @@
 -- `newsynth::checks::synth_spot` meets its contract: each refusal by the check that fires.
 use native.Mathlib.Omega.{arith}
-use borrow.Author.Rules.{rules}
 use mathlib.Core.Path.{sym, ◌∙◌}
 use Rattle.names.specs.Judged.{NodeFound, NodeRefused}
 use Rattle.newsynth.specs.Checks.{synth_number, synth_live, synth_absent, synth-unknown, synth_kind, synth-spent, synth-full, synth_clear}

@@ -1,5 +1,4 @@
 -- `newsynth::numbers::is_live` meets its contract: a lookup by the index.
-use borrow.Author.Rules.{rules}
 use borrow.Author.Tests.{eq-eqb, ne_eqb}
 use Rattle.newsynth.specs.Checks.{lives_found}
 use Rattle.newsynth.proofs.numbers.is_live.Goals as goal

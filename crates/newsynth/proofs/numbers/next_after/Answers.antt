@@ -1,5 +1,4 @@
 -- `newsynth::numbers::next_after` meets its contract.
-use borrow.Author.Rules.{rules}
 use borrow.Author.Tests.{eq-eqb, ne_eqb}
 use Rattle.newsynth.proofs.numbers.next_after.Goals as goal
 

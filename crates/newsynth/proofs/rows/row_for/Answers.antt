@@ -1,6 +1,5 @@
 -- `newsynth::rows::row_for` meets its contract: each case is the definition's.
 use native.Mathlib.Omega.{arith}
-use borrow.Author.Rules.{rules}
 use mathlib.Core.Path.{◌≡◌}
 use Rattle.tree.specs.declared.action.Action.TheVariants.{Put, Replace}
 use Rattle.newsynth.proofs.rows.row_for.Goals as goal

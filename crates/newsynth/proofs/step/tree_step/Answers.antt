@@ -1,5 +1,4 @@
 -- `newsynth::step::tree_step` meets its contract: each command by its own function.
-use borrow.Author.Rules.{rules}
 use Rattle.treecommands.specs.Ready.{ready}
 use Rattle.newsynth.proofs.step.tree_step.Goals as goal
 

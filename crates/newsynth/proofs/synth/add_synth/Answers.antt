@@ -1,6 +1,5 @@
 -- `newsynth::synth::add_synth` meets its contract: the checks' refusal, or the new synth.
 use native.Mathlib.Omega.{arith}
-use borrow.Author.Rules.{rules}
 use mathlib.Core.Path.{◌≡◌}
 use Rattle.treecommands.specs.declared.group.TargetPlace.TheVariants as spot
 use Rattle.treecommands.specs.Ready.{ready}

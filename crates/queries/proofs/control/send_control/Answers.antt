@@ -1,7 +1,6 @@
 use Prim.Native.Nat.{ℕ}
 use mathlib.Core.Path.{sym, subst}
 use mathlib.Core.List.{List, [], ◌∷◌}
-use borrow.Author.Rules.{rules}
 use Rattle.osc.specs.Message.{int, float, message}
 use Rattle.values.specs.declared.Key.{Key}
 use Rattle.model.specs.Replies.{set_address, key_argument}

@@ -1,7 +1,6 @@
 use Prim.Native.Nat.{ℕ}
 use mathlib.Core.Path.{subst}
 use mathlib.Core.List.{List, []}
-use borrow.Author.Rules.{rules}
 use Rattle.replies.specs.Sent.{Sends}
 use Rattle.queries.specs.Control.{index_message}
 use Rattle.queries.proofs.control.send_index.Goals as goal

@@ -1,4 +1,4 @@
-use Prim.Native.Nat.{ℕ, ◌+◌, ◌*◌, ◌-◌, ◌≤◌}
+use Prim.Native.Nat.{ℕ, ◌+◌, ◌*◌}
 use mathlib.Core.Path.{◌≡◌, sym, ap, ◌∙◌, subst}
 use native.Mathlib.Nat.{zero-add}
 use native.Mathlib.Omega.{arith}
@@ -20,8 +20,11 @@ bounds-a-first c =
 pub overflow_add-a : goal.overflow_add-a
 overflow_add-a c =
     let part = c.args.part in
-    omega (arith, tallied_few c.args.words.now 0 c.loop-i.i c.requires.0 c.loop-i.a c.loop-i.invariant.1.first c.node_slot-first.result (let part = c.args.part in
-    omega (arith, c.node_slot-first.ensures, c.requires.0.low c.loop-i.i (omega (arith, c.requires.1)))))
+    omega (
+      arith,
+      tallied_few c.args.words.now 0 c.loop-i.i c.requires.0 c.loop-i.a c.loop-i.invariant.1.first c.node_slot-first.result (let part = c.args.part in
+          omega (arith, c.node_slot-first.ensures, c.requires.0.low c.loop-i.i (omega (arith, c.requires.1)))),
+    )
 
 pub node_slot-second-requires : goal.node_slot-second-requires
 node_slot-second-requires c = (c.requires.0.size, omega (arith, c.requires.0.few, c.requires.1))
@@ -34,8 +37,11 @@ bounds-b-second c =
 pub overflow_add-b : goal.overflow_add-b
 overflow_add-b c =
     let part = c.args.part in
-    omega (arith, tallied_few c.args.words.now part c.loop-i.i c.requires.0 c.loop-i.b c.loop-i.invariant.1.second c.node_slot-second.result (let part = c.args.part in
-    omega (arith, c.node_slot-second.ensures, c.requires.0.low (part + c.loop-i.i) (omega (arith, c.requires.1)))))
+    omega (
+      arith,
+      tallied_few c.args.words.now part c.loop-i.i c.requires.0 c.loop-i.b c.loop-i.invariant.1.second c.node_slot-second.result (let part = c.args.part in
+          omega (arith, c.node_slot-second.ensures, c.requires.0.low (part + c.loop-i.i) (omega (arith, c.requires.1)))),
+    )
 
 pub node_slot-third-requires : goal.node_slot-third-requires
 node_slot-third-requires c = (c.requires.0.size, omega (arith, c.requires.0.few, c.requires.1))
@@ -48,8 +54,11 @@ bounds-c-third c =
 pub overflow_add-c : goal.overflow_add-c
 overflow_add-c c =
     let part = c.args.part in
-    omega (arith, tallied_few c.args.words.now (2 * part) c.loop-i.i c.requires.0 c.loop-i.c c.loop-i.invariant.1.third c.node_slot-third.result (let part = c.args.part in
-    omega (arith, c.node_slot-third.ensures, c.requires.0.low (2 * part + c.loop-i.i) (omega (arith, c.requires.1)))))
+    omega (
+      arith,
+      tallied_few c.args.words.now (2 * part) c.loop-i.i c.requires.0 c.loop-i.c c.loop-i.invariant.1.third c.node_slot-third.result (let part = c.args.part in
+          omega (arith, c.node_slot-third.ensures, c.requires.0.low (2 * part + c.loop-i.i) (omega (arith, c.requires.1)))),
+    )
 
 pub node_slot-fourth-requires : goal.node_slot-fourth-requires
 node_slot-fourth-requires c = (c.requires.0.size, omega (arith, c.requires.0.few, c.requires.1))
@@ -62,14 +71,16 @@ bounds-d-fourth c =
 pub overflow_add-d : goal.overflow_add-d
 overflow_add-d c =
     let part = c.args.part in
-    omega (arith, tallied_few c.args.words.now (3 * part) c.loop-i.i c.requires.0 c.loop-i.d c.loop-i.invariant.1.fourth c.node_slot-fourth.result (let part = c.args.part in
-    omega (arith, c.node_slot-fourth.ensures, c.requires.0.low (3 * part + c.loop-i.i) (omega (arith, c.requires.1)))))
+    omega (
+      arith,
+      tallied_few c.args.words.now (3 * part) c.loop-i.i c.requires.0 c.loop-i.d c.loop-i.invariant.1.fourth c.node_slot-fourth.result (let part = c.args.part in
+          omega (arith, c.node_slot-fourth.ensures, c.requires.0.low (3 * part + c.loop-i.i) (omega (arith, c.requires.1)))),
+    )
 
 pub loop-i-preserved : goal.loop-i-preserved
 loop-i-preserved c =
     let ws = c.args.words.now in
-    let part = c.args.part in
-    (
+    let part = c.args.part in (
       omega arith,
       record {
         first = tallied_more ws 0 c.loop-i.i c.requires.0 (omega (arith, c.requires.1)) c.loop-i.a c.loop-i.invariant.1.first c.node_slot-first.result (c.node_slot-first.ensures ∙ ap (λ (n : ℕ). (record_in ws n).slot) (sym (zero-add c.loop-i.i)));

@@ -1,9 +1,5 @@
-use Prim.Native.Nat.{ℕ, ◌+◌, ◌*◌, ◌-◌, ◌≤◌}
-use mathlib.Core.Path.{◌≡◌, sym, ap, ◌∙◌, subst}
-use native.Mathlib.Nat.{zero-add}
-use native.Mathlib.Omega.{arith}
-use Rattle.model.specs.Layout.{record_in}
-use Rattle.queries.specs.Tally.{PartsTallied, tallied_more, tallied_few}
+use Prim.Native.Nat.{◌-◌, ◌≤◌}
+use Rattle.queries.specs.Tally.{PartsTallied}
 use Rattle.queries.proofs.status.tally_parts.Given as goal
 
 abbrev pub invariant-loop-i : goal.invariant-loop-i

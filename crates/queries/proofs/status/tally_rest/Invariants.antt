@@ -1,9 +1,6 @@
-use Prim.{tt}
-use Prim.Native.Nat.{ℕ, ◌+◌, ◌-◌, ◌≤◌}
-use mathlib.Core.Path.{◌≡◌, subst}
-use native.Mathlib.Omega.{arith}
+use Prim.Native.Nat.{◌+◌, ◌-◌, ◌≤◌}
 use Rattle.model.specs.Layout.{count_in}
-use Rattle.queries.specs.Tally.{Tallied, tallied_more, tallied_few}
+use Rattle.queries.specs.Tally.{Tallied}
 use Rattle.queries.proofs.status.tally_rest.Given as goal
 
 abbrev pub invariant-loop-i : goal.invariant-loop-i

@@ -1,4 +1,3 @@
-use Prim.{tt}
 use Prim.Native.Nat.{◌*◌, ◌-◌, ◌/◌}
 use native.Mathlib.Omega.{arith}
 use Rattle.nodes.specs.Place.{group_slot}

@@ -1,5 +1,4 @@
-use Prim.{tt}
-use Prim.Native.Nat.{ℕ, ◌+◌, ◌*◌, ◌-◌, ◌<◌}
+use Prim.Native.Nat.{ℕ, ◌+◌, ◌*◌, ◌<◌}
 use mathlib.Core.Path.{refl, sym, ap, ◌∙◌, subst}
 use mathlib.Core.List.{List}
 use native.Mathlib.Nat.{pos_of_ne-zero}
@@ -7,9 +6,9 @@ use native.Mathlib.Omega.{arith}
 use lib.ListN.{get_or}
 use Rattle.readable.specs.Lookup.{units_in}
 use Rattle.readable.specs.Readable.{ReadableWhole}
-use Rattle.model.specs.Layout.{slot_count, count_in}
+use Rattle.model.specs.Layout.{count_in}
 use Rattle.controls.specs.Encoded.{number_or}
-use Rattle.queries.specs.Tally.{Summed, slotted, tallies_few, held_slot, summed_last, summed_all, summed_left, summed_same, summed_few, summed_more}
+use Rattle.queries.specs.Tally.{slotted, tallies_few, held_slot, summed_last, summed_all, summed_left, summed_same, summed_few, summed_more}
 use Rattle.queries.proofs.status.units_held.Goals as goal
 use Rattle.queries.proofs.status.units_held.Goals.{then-many-ne0+else-left-eq0, else-many-ne0}
 
@@ -66,10 +65,10 @@ loop-k-preserved c =
     let many : ℕ = get_or a.a.now c.loop-k.k 0 + get_or a.b.now c.loop-k.k 0 + get_or a.c.now c.loop-k.k 0 + get_or a.d.now c.loop-k.k 0 in
     let held = c.requires.1 c.loop-k.k (omega arith) in
     elim c.if-many-ne0.branch [
-      then-many-ne0+else-left-eq0 b ↦ let low : b.wide-then-many-ne0.result < 4294967296 = omega (arith, b.wide-then-many-ne0.ensures, b.units) in
-    let units = b.wide-then-many-ne0.ensures ∙ ap number_or b.units.ensures ∙ ap (λ (d : List ℕ). number_or (units_in d)) b.slot_bytes.ensures in
-    summed_more ws bs c.requires.0 c.loop-k.k c.loop-k.left c.loop-k.units c.loop-k.invariant (omega arith) b.wide.result (b.wide.ensures ∙ held) b.wide-then-many-ne0.result low units c.if-many-ne0.left c.if-many-ne0.units (omega (arith, b.left-is, b.wide.ensures)) b.units-is
-    | else-many-ne0 b ↦ summed_same ws bs c.requires.0 c.loop-k.k c.loop-k.left c.loop-k.units c.loop-k.invariant (omega arith) many held b.if-many-ne0.false c.if-many-ne0.left c.if-many-ne0.units b.left-is b.units-is
+      | then-many-ne0+else-left-eq0 b ↦ let low : b.wide-then-many-ne0.result < 4294967296 = omega (arith, b.wide-then-many-ne0.ensures, b.units) in
+          let units = b.wide-then-many-ne0.ensures ∙ ap number_or b.units.ensures ∙ ap (λ (d : List ℕ). number_or (units_in d)) b.slot_bytes.ensures in
+          summed_more ws bs c.requires.0 c.loop-k.k c.loop-k.left c.loop-k.units c.loop-k.invariant (omega arith) b.wide.result (b.wide.ensures ∙ held) b.wide-then-many-ne0.result low units c.if-many-ne0.left c.if-many-ne0.units (omega (arith, b.left-is, b.wide.ensures)) b.units-is
+      | else-many-ne0 b ↦ summed_same ws bs c.requires.0 c.loop-k.k c.loop-k.left c.loop-k.units c.loop-k.invariant (omega arith) many held b.if-many-ne0.false c.if-many-ne0.left c.if-many-ne0.units b.left-is b.units-is
     ]
 
 pub returns : goal.returns

@@ -1,7 +1,5 @@
 -- `settings::dropping::drop` meets its contract.
 use mathlib.Core.Path.{sym, ◌∙◌}
-use borrow.Author.Rules.{rules}
-use borrow.Author.Tests.{not-true, not-false}
 use Rattle.settings.specs.Dropping.{drop-unformed, drop_done, drop_none}
 use Rattle.settings.proofs.dropping.drop.Goals as goal
 

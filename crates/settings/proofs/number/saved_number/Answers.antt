@@ -1,6 +1,5 @@
 -- `settings::number::saved_number` meets its contract.
 use mathlib.Core.Path.{sym, ap, ◌∙◌}
-use borrow.Author.Rules.{rules}
 use Rattle.settings.specs.Numbers.{saved_number}
 use Rattle.settings.proofs.number.saved_number.Goals as goal
 

@@ -1,8 +1,6 @@
 -- `settings::recalling::recall` meets its contract: each refusal by the check that fires, and the settings of the version.
 use mathlib.Core.Path.{sym, ◌∙◌}
 use native.Mathlib.Omega.{arith}
-use borrow.Author.Rules.{rules}
-use borrow.Author.Tests.{not-true, not-false}
 use Rattle.state.specs.Known.{known}
 use Rattle.names.specs.Named.{findable}
 use Rattle.names.specs.Judged.{NodeFound, NodeRefused}

@@ -1,4 +1,3 @@
-use Prim.Native.Nat.{◌-◌}
 use mathlib.Core.Path.{refl}
 use native.Mathlib.Omega.{arith}
 use borrow.Author.Rules.{rules}
@@ -6,7 +5,7 @@ use lib.ListN.{drop}
 use Rattle.lists.specs.Running.{same_size}
 use Rattle.tagged.specs.Fields.{size_in}
 use Rattle.store.specs.Places.{VersionStands}
-use Rattle.settings.specs.Recalled.{RestToSet, no_version, set_begins, set_ends, next_long, next_past, next_inside, set_next}
+use Rattle.settings.specs.Recalled.{no_version, set_begins, set_ends, next_long, next_past, next_inside, set_next}
 use Rattle.settings.proofs.recalling.recall_version.Goals as goal
 
 pub version_place-requires : goal.version_place-requires
@@ -29,8 +28,7 @@ pub set_at-requires : goal.set_at-requires
 set_at-requires c =
     let a = c.args in
     let end = c.in-At.end in
-    let less = c.loop-at-test.true in
-    (
+    let less = c.loop-at-test.true in (
       next_long a.name.now a.number a.node a.store.now a.words.now a.arena.now end c.loop-at.at c.loop-at.words c.loop-at.invariant less c.size_at-size.result c.size_at-size.ensures,
       (next_inside a.name.now a.number a.node a.store.now a.words.now a.arena.now end c.loop-at.at c.loop-at.words c.loop-at.invariant less c.size_at-size.result c.size_at-size.ensures, c.loop-at.invariant.whole),
     )

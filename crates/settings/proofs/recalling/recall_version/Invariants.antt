@@ -1,13 +1,6 @@
 -- `settings::recalling::recall_version` meets its contract.
 use Prim.Native.Nat.{◌-◌}
-use mathlib.Core.Path.{refl}
-use native.Mathlib.Omega.{arith}
-use borrow.Author.Rules.{rules}
-use lib.ListN.{drop}
-use Rattle.lists.specs.Running.{same_size}
-use Rattle.tagged.specs.Fields.{size_in}
-use Rattle.store.specs.Places.{VersionStands}
-use Rattle.settings.specs.Recalled.{RestToSet, no_version, set_begins, set_ends, next_long, next_past, next_inside, set_next}
+use Rattle.settings.specs.Recalled.{RestToSet}
 use Rattle.settings.proofs.recalling.recall_version.Given as goal
 
 abbrev pub invariant-loop-at : goal.invariant-loop-at

@@ -1,5 +1,4 @@
 -- `settings::recalling::set_at` meets its contract.
-use borrow.Author.Rules.{rules}
 use Rattle.state.specs.Known.{known}
 use Rattle.settings.specs.Recalled.{set_done}
 use Rattle.settings.proofs.recalling.set_at.Goals as goal

@@ -1,8 +1,7 @@
-use Prim.Native.Nat.{◌-◌}
 use mathlib.Core.Path.{◌∙◌}
 use native.Mathlib.Omega.{arith}
 use lib.ListN.{get_or}
-use Rattle.settings.specs.OwnFieldsLaws.{Sizing, parameters_many, control_short, sizing_starts, sizing_turn, sizing_ends}
+use Rattle.settings.specs.OwnFieldsLaws.{parameters_many, control_short, sizing_starts, sizing_turn, sizing_ends}
 use Rattle.settings.proofs.taken.settings_size.Goals as goal
 
 pub loop-i-init : goal.loop-i-init

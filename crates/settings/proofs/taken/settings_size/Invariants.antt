@@ -1,8 +1,5 @@
 use Prim.Native.Nat.{◌-◌}
-use mathlib.Core.Path.{◌∙◌}
-use native.Mathlib.Omega.{arith}
-use lib.ListN.{get_or}
-use Rattle.settings.specs.OwnFieldsLaws.{Sizing, parameters_many, control_short, sizing_starts, sizing_turn, sizing_ends}
+use Rattle.settings.specs.OwnFieldsLaws.{Sizing}
 use Rattle.settings.proofs.taken.settings_size.Given as goal
 
 abbrev pub invariant-loop-i : goal.invariant-loop-i

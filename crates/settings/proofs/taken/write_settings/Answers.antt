@@ -1,8 +1,7 @@
-use Prim.Native.Nat.{◌-◌}
 use mathlib.Core.Path.{ap, ◌∙◌}
 use native.Mathlib.Omega.{arith}
 use lib.ListN.{length}
-use Rattle.settings.specs.OwnFieldsLaws.{Filling, parameters_many, filling_starts, filling-room, filling_turn, filling_ends}
+use Rattle.settings.specs.OwnFieldsLaws.{parameters_many, filling_starts, filling-room, filling_turn, filling_ends}
 use Rattle.settings.proofs.taken.write_settings.Goals as goal
 
 pub loop-i-init : goal.loop-i-init

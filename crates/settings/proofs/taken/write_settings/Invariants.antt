@@ -1,8 +1,5 @@
 use Prim.Native.Nat.{◌-◌}
-use mathlib.Core.Path.{ap, ◌∙◌}
-use native.Mathlib.Omega.{arith}
-use lib.ListN.{length}
-use Rattle.settings.specs.OwnFieldsLaws.{Filling, parameters_many, filling_starts, filling-room, filling_turn, filling_ends}
+use Rattle.settings.specs.OwnFieldsLaws.{Filling}
 use Rattle.settings.proofs.taken.write_settings.Given as goal
 
 abbrev pub invariant-loop-i : goal.invariant-loop-i

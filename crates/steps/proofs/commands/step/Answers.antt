@@ -1,5 +1,4 @@
 -- `steps::commands::step` meets its contract: each kind's step is what the door asks.
-use borrow.Author.Rules.{rules}
 use Rattle.state.specs.Known.{known}
 use Rattle.state.specs.Does.{definitions_do, tree_does, controls_do, buses_do, query_does}
 use Rattle.steps.proofs.commands.step.Goals as goal

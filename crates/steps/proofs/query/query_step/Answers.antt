@@ -1,6 +1,5 @@
 -- `steps::query::query_step` meets its contract: each arm hands on what its function ensures.
 use mathlib.Core.Path.{◌≡◌}
-use borrow.Author.Rules.{rules}
 use Rattle.model.specs.declared.Query.TheVariants.{Status, Export}
 use Rattle.steps.proofs.query.query_step.Goals as goal
 

@@ -2,7 +2,6 @@
 use mathlib.Core.Path.{◌≡◌}
 use Rattle.tree.specs.declared.action.Action.TheVariants.{Put, Replace}
 use Rattle.tree.specs.declared.action.Position.TheVariants.{Head, Tail, Before, After}
-use borrow.Author.Rules.{rules}
 use Rattle.treecommands.proofs.adding.bad_target.Goals as goal
 
 pub returns-in-Head : goal.returns-in-Head

@@ -1,7 +1,6 @@
 -- `treecommands::adding::is_full` meets its contract: each case is the definition's.
 use mathlib.Core.Path.{◌≡◌}
 use Rattle.tree.specs.declared.action.Action.TheVariants.{Put}
-use borrow.Author.Rules.{rules}
 use Rattle.treecommands.proofs.adding.is_full.Goals as goal
 
 pub returns-in-Put : goal.returns-in-Put

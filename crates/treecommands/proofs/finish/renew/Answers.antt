@@ -1,5 +1,4 @@
 -- `treecommands::finish::renew` meets its contract: the parts one after the other.
-use borrow.Author.Rules.{rules}
 use Rattle.treecommands.specs.Settle.{order_changed, edited_sorted, renewed_by}
 use Rattle.treecommands.proofs.finish.renew.Goals as goal
 

@@ -1,5 +1,4 @@
 -- `treecommands::finish::renew_header` meets its contract: the latest stays where its number was found.
-use borrow.Author.Rules.{rules}
 use native.Mathlib.Omega.{arith}
 use mathlib.Core.Path.{◌∙◌}
 use Rattle.nodes.specs.PlaceLaws.{found, not_found}

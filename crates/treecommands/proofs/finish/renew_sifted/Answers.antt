@@ -1,5 +1,4 @@
 -- `treecommands::finish::renew_sifted` meets its contract: the parts one after the other.
-use borrow.Author.Rules.{rules}
 use Rattle.treecommands.specs.Settle.{order_sifted, sifted_sorted, renewed_by}
 use Rattle.treecommands.proofs.finish.renew_sifted.Goals as goal
 

@@ -1,5 +1,4 @@
 -- `treecommands::finish::settle` meets its contract: the parts one after the other.
-use borrow.Author.Rules.{rules}
 use native.Mathlib.Omega.{arith}
 use Rattle.treecommands.specs.Settle.{order_changed, settled_by}
 use Rattle.treecommands.proofs.finish.settle.Goals as goal

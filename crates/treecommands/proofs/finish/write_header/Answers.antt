@@ -1,6 +1,5 @@
 -- `treecommands::finish::write_header` meets its contract: four stores are the first words put in.
 use native.Mathlib.Omega.{arith}
-use borrow.Author.Rules.{rules}
 use lib.ListN.{length-set}
 use Rattle.treecommands.specs.Settle.{header-sets}
 use Rattle.treecommands.proofs.finish.write_header.Goals as goal

@@ -2,7 +2,6 @@
 -- is freed, the latest synth is told by its number.
 use Prim.Native.Nat.{◌+◌, ◌*◌}
 use native.Mathlib.Omega.{arith}
-use borrow.Author.Rules.{rules}
 use lib.ListN.{get_or}
 use Rattle.nodes.specs.Table.{width}
 use Rattle.model.specs.Layout.{nodes_place, node_words}

@@ -1,6 +1,5 @@
 -- `treecommands::free::run_node` meets its contract: each refusal by the check that fires, the rest by the law of the edit.
 use native.Mathlib.Omega.{arith}
-use borrow.Author.Rules.{rules}
 use Rattle.names.specs.Judged.{NodeFound, NodeRefused}
 use Rattle.treecommands.specs.Finding.{placed}
 use Rattle.treecommands.specs.Freeing.{run_flag, run_unknown, run_sorted, run_done}

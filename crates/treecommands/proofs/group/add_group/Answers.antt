@@ -1,5 +1,4 @@
 -- `treecommands::group::add_group` meets its contract: the checks' refusal, or the law of the add action.
-use borrow.Author.Rules.{rules}
 use mathlib.Core.Path.{◌≡◌}
 use Rattle.model.specs.Layout.{count_in, node_words}
 use Rattle.tree.specs.Gaps.{gap_fits}

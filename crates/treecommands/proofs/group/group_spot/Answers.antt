@@ -1,6 +1,5 @@
 -- `treecommands::group::group_spot` meets its contract: each refusal by the check that fires.
 use native.Mathlib.Omega.{arith}
-use borrow.Author.Rules.{rules}
 use mathlib.Core.Path.{sym, ◌∙◌}
 use Rattle.names.specs.Judged.{NodeFound, NodeRefused}
 use Rattle.treecommands.specs.Grouping.{group_negative, group_live, group_unknown, group_kind, group_full, group_ground}

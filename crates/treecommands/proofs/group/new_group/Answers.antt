@@ -1,5 +1,4 @@
 -- `treecommands::group::new_group` meets its contract: by the action that the number asks for, or refused.
-use borrow.Author.Rules.{rules}
 use mathlib.Core.Path.{◌≡◌}
 use Rattle.tree.specs.declared.action.Asked.TheVariants.{Add, Refused}
 use Rattle.tree.specs.Action.{action_of, asked_number, asked_refused}

@@ -1,5 +1,4 @@
 -- `treecommands::group::renew_added` meets its contract: by each action.
-use borrow.Author.Rules.{rules}
 use mathlib.Core.Path.{◌≡◌}
 use Rattle.tree.specs.declared.action.Action.TheVariants.{Put}
 use Rattle.treecommands.proofs.group.renew_added.Goals as goal

@@ -1,5 +1,4 @@
 -- `treecommands::indexing::sift_index` meets its contract: the entries follow their nodes in the region.
-use borrow.Author.Rules.{rules}
 use Rattle.treecommands.specs.Indexing.{sifted_index}
 use Rattle.treecommands.proofs.indexing.sift_index.Goals as goal
 

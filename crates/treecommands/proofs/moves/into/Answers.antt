@@ -1,5 +1,4 @@
 -- `treecommands::moves::into` meets its contract: each refusal by the check that fires.
-use borrow.Author.Rules.{rules}
 use mathlib.Core.Path.{sym, ◌∙◌}
 use borrow.Author.Tests.{eq-eqb, ne_eqb}
 use Rattle.model.specs.Checks.{into_checks}

@@ -1,5 +1,4 @@
 -- `treecommands::moves::move_after` meets its contract, by the law of every move.
-use borrow.Author.Rules.{rules}
 use Rattle.treecommands.specs.Moving.{after_moves, after_goes}
 use Rattle.treecommands.proofs.moves.move_after.Goals as goal
 

@@ -1,5 +1,4 @@
 -- `treecommands::moves::move_before` meets its contract, by the law of every move.
-use borrow.Author.Rules.{rules}
 use Rattle.treecommands.specs.Moving.{before_moves, before_goes}
 use Rattle.treecommands.proofs.moves.move_before.Goals as goal
 

@@ -1,5 +1,4 @@
 -- `treecommands::moves::move_head` meets its contract, by the law of every move.
-use borrow.Author.Rules.{rules}
 use Rattle.treecommands.specs.Moving.{head_moves, head_goes}
 use Rattle.treecommands.proofs.moves.move_head.Goals as goal
 

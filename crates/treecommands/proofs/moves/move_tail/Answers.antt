@@ -1,5 +1,4 @@
 -- `treecommands::moves::move_tail` meets its contract, by the law of every move.
-use borrow.Author.Rules.{rules}
 use Rattle.treecommands.specs.Moving.{tail_moves, tail_goes}
 use Rattle.treecommands.proofs.moves.move_tail.Goals as goal
 

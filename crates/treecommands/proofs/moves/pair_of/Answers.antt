@@ -1,5 +1,4 @@
 -- `treecommands::moves::pair_of` meets its contract: each argument as it was judged.
-use borrow.Author.Rules.{rules}
 use Rattle.names.specs.Judged.{NodeFound, NodeRefused}
 use Rattle.treecommands.specs.Sighting.{first_refused, second_refused}
 use Rattle.treecommands.proofs.moves.pair_of.Goals as goal

@@ -3,7 +3,6 @@ use Prim.Native.Nat.{ℕ}
 use mathlib.Core.Path.{ap, ◌∙◌}
 use mathlib.Core.List.{List}
 use native.Mathlib.Omega.{arith}
-use borrow.Author.Rules.{rules}
 use Rattle.words.specs.Parts.{put}
 use Rattle.model.specs.Layout.{order_place, order_words, node_words}
 use Rattle.treecommands.specs.Ordering.{order-region, order-short}
@@ -15,8 +14,7 @@ overflow_cast-result c =
 
 pub returns : goal.returns
 returns c =
-    let a = c.args in
-    (
+    let a = c.args in (
       ap (λ (l : List ℕ). put order_place order_words l a.words.now)
           (c.write_order.ensures ∙ order-region a.count (node_words a.words.now) c.running_order-fresh.result c.running_order-fresh.ensures),
       c.running_order-fresh.ensures.many,

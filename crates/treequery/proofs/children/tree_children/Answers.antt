@@ -1,12 +1,11 @@
 use Prim.{tt}
-use Prim.Native.Nat.{ℕ, ◌+◌, ◌-◌, ◌≤◌, ◌<◌}
+use Prim.Native.Nat.{ℕ, ◌+◌, ◌-◌}
 use mathlib.Core.Path.{◌≡◌, ap, ◌∙◌}
-use mathlib.Core.List.{List}
 use native.Mathlib.Omega.{arith}
-use lib.ListN.{length, get_or, length-set, length-replicate}
+use lib.ListN.{get_or, length-set, length-replicate}
 use Rattle.treequery.specs.RowArguments.{depth_at}
 use Rattle.treequery.specs.Nested.{depth_word}
-use Rattle.treequery.specs.Children.{Families, children_from, PerDepth, families_more, known_none, few_above, known_more}
+use Rattle.treequery.specs.Children.{children_from, families_more, known_none, few_above, known_more}
 use Rattle.treequery.proofs.children.tree_children.Goals as goal
 
 pub loop-i-init : goal.loop-i-init

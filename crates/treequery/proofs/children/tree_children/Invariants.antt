@@ -1,12 +1,8 @@
-use Prim.{tt}
-use Prim.Native.Nat.{ℕ, ◌+◌, ◌-◌, ◌≤◌, ◌<◌}
-use mathlib.Core.Path.{◌≡◌, ap, ◌∙◌}
+use Prim.Native.Nat.{ℕ, ◌+◌, ◌≤◌, ◌<◌}
+use mathlib.Core.Path.{◌≡◌}
 use mathlib.Core.List.{List}
-use native.Mathlib.Omega.{arith}
-use lib.ListN.{length, get_or, length-set, length-replicate}
-use Rattle.treequery.specs.RowArguments.{depth_at}
-use Rattle.treequery.specs.Nested.{depth_word}
-use Rattle.treequery.specs.Children.{Families, children_from, PerDepth, families_more, known_none, few_above, known_more}
+use lib.ListN.{length}
+use Rattle.treequery.specs.Children.{Families, PerDepth}
 use Rattle.treequery.proofs.children.tree_children.Given as goal
 
 -- the records behind i were gone over

@@ -1,8 +1,7 @@
-use Prim.Native.Nat.{◌+◌, ◌-◌, ◌≤◌, ◌<◌}
+use Prim.Native.Nat.{◌+◌, ◌<◌}
 use native.Mathlib.Omega.{arith}
 use Rattle.treequery.specs.RowArguments.{row_arguments, rows_turn, rows_none}
-use Rattle.treequery.specs.Places.{nowhere}
-use Rattle.treequery.specs.Counting.{counts_first, counted_all, Counting, counting_all, counting_some, counting_less, counting_none}
+use Rattle.treequery.specs.Counting.{counts_first, counted_all, counting_all, counting_some, counting_less, counting_none}
 use Rattle.treequery.specs.Rows.{left_rows, row_of, rows_few}
 use Rattle.treequery.proofs.count.count_tree.Goals as goal
 

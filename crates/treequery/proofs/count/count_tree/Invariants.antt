@@ -1,9 +1,7 @@
-use Prim.Native.Nat.{◌+◌, ◌-◌, ◌≤◌, ◌<◌}
-use native.Mathlib.Omega.{arith}
-use Rattle.treequery.specs.RowArguments.{row_arguments, rows_turn, rows_none}
+use Prim.Native.Nat.{◌-◌, ◌≤◌}
 use Rattle.treequery.specs.Places.{nowhere}
-use Rattle.treequery.specs.Counting.{counts_first, counted_all, Counting, counting_all, counting_some, counting_less, counting_none}
-use Rattle.treequery.specs.Rows.{left_rows, row_of, rows_few}
+use Rattle.treequery.specs.Counting.{Counting}
+use Rattle.treequery.specs.Rows.{left_rows}
 use Rattle.treequery.proofs.count.count_tree.Given as goal
 
 abbrev pub invariant-loop-i : goal.invariant-loop-i

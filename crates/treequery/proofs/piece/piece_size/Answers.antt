@@ -1,7 +1,6 @@
 use Prim.Native.Nat.{◌+◌, ◌-◌}
 use mathlib.Core.Path.{ap}
 use native.Mathlib.Omega.{arith}
-use borrow.Author.Rules.{rules}
 use lib.ListN.{length}
 use Rattle.words.specs.Parts.{region}
 use Rattle.treequery.specs.Pieces.{piece_argument, mapped_text, digits_few, part_short, sized_text}

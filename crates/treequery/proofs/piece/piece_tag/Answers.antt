@@ -1,5 +1,4 @@
 use mathlib.Core.Path.{sym, ap}
-use borrow.Author.Rules.{rules}
 use Rattle.osc.specs.Message.{tag_of}
 use Rattle.treequery.specs.declared.piece.Piece.{Piece}
 use Rattle.treequery.specs.Pieces.{piece_argument}

@@ -1,5 +1,4 @@
 use native.Mathlib.Omega.{arith}
-use borrow.Author.Rules.{rules}
 use Rattle.osc.specs.Lengths.{padded_size}
 use Rattle.treequery.specs.Pieces.{mapped_text, digits_few, mapped_put}
 use Rattle.treequery.proofs.piece.put_mapped.Goals as goal

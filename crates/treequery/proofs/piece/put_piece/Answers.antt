@@ -2,7 +2,6 @@ use Prim.Native.Nat.{ℕ}
 use mathlib.Core.Path.{sym, ap, ◌∙◌}
 use mathlib.Core.List.{List}
 use native.Mathlib.Omega.{arith}
-use borrow.Author.Rules.{rules}
 use borrow.Author.Tests.{ltb-true}
 use lib.ListN.{length}
 use Rattle.osc.specs.Message.{padded}
@@ -22,9 +21,9 @@ put_padded-requires c = omega (arith, ap (length {A = ℕ}) (ap (piece_bytes c.a
 pub put_mapped-requires : goal.put_mapped-requires
 put_mapped-requires c =
     record {
-  small = ltb-true c.in-Mapped.bus 10000 (sym (ap is_small c.in-Mapped.is) ∙ c.requires.small);
-  room = omega (arith, ap (length {A = ℕ}) (ap (piece_bytes c.args.definition.now) c.in-Mapped.is));
-}
+      small = ltb-true c.in-Mapped.bus 10000 (sym (ap is_small c.in-Mapped.is) ∙ c.requires.small);
+      room = omega (arith, ap (length {A = ℕ}) (ap (piece_bytes c.args.definition.now) c.in-Mapped.is));
+    }
 
 pub returns-in-Whole : goal.returns-in-Whole
 returns-in-Whole c =

@@ -1,5 +1,4 @@
 use native.Mathlib.Omega.{arith}
-use borrow.Author.Rules.{rules}
 use Rattle.treequery.specs.Places.{piece_bytes_size}
 use Rattle.treequery.specs.Writing.{wrote_piece}
 use Rattle.treequery.proofs.places.put_argument.Goals as goal

@@ -1,5 +1,4 @@
 use native.Mathlib.Omega.{arith}
-use borrow.Author.Rules.{rules}
 use Rattle.treequery.specs.Places.{pair_size}
 use Rattle.treequery.specs.Writing.{wrote_pair}
 use Rattle.treequery.proofs.places.put_pair.Goals as goal

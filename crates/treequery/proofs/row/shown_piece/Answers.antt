@@ -1,5 +1,4 @@
 use mathlib.Core.Path.{◌∙◌}
-use borrow.Author.Rules.{rules}
 use Rattle.values.specs.Controls.{seen}
 use Rattle.values.specs.ControlLaws.{seen_mapping}
 use Rattle.treequery.specs.Shown.{shown-own, shown_bus}

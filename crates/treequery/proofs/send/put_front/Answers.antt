@@ -1,7 +1,6 @@
 use Prim.Native.Nat.{ℕ, ◌+◌}
 use mathlib.Core.Path.{ap, ◌∙◌}
 use mathlib.Core.List.{List, [], ◌∷◌}
-use borrow.Author.Rules.{rules}
 use Rattle.words.specs.Parts.{over}
 use Rattle.replies.specs.Words.{word_bytes}
 use Rattle.treequery.specs.TreeMessage.{first_tags, tag_zeros, tree_front}

@@ -36,9 +36,9 @@ count_tree-size-requires c =
       run = c.requires;
       fact = λ on.
           elim c.if-shown.branch [
-      then-shown b ↦ subst (λ (l : List ℕ). Shapes c.args.words.now c.args.arena.now (c.args.at + 1) c.args.end l) (sym b.shapes-is) b.tree_shapes.ensures
-    | else-shown b ↦ absurd (false≢true (sym b.if-shown.false ∙ on))
-    ];
+            | then-shown b ↦ subst (λ (l : List ℕ). Shapes c.args.words.now c.args.arena.now (c.args.at + 1) c.args.end l) (sym b.shapes-is) b.tree_shapes.ensures
+            | else-shown b ↦ absurd (false≢true (sym b.if-shown.false ∙ on))
+          ];
     }
 
 pub returns-then-out-whole : goal.returns-then-out-whole
@@ -102,13 +102,13 @@ put_tree-requires c =
     let e = c.count_tree-size.ensures.tag in
     let long : length c.tree_children-children.result ≡ 256 = search rules in (
       record {
-      run = c.requires;
-      fact = λ on.
-          elim c.if-shown.branch [
-      then-shown b ↦ subst (λ (l : List ℕ). Shapes c.args.words.now c.args.arena.now (c.args.at + 1) c.args.end l) (sym b.shapes-is) b.tree_shapes.ensures
-    | else-shown b ↦ absurd (false≢true (sym b.if-shown.false ∙ on))
-    ];
-    },
+        run = c.requires;
+        fact = λ on.
+            elim c.if-shown.branch [
+              | then-shown b ↦ subst (λ (l : List ℕ). Shapes c.args.words.now c.args.arena.now (c.args.at + 1) c.args.end l) (sym b.shapes-is) b.tree_shapes.ensures
+              | else-shown b ↦ absurd (false≢true (sym b.if-shown.false ∙ on))
+            ];
+      },
       omega (arith, c.requires.ends, c.requires.state.few),
       λ i h l. c.tree_children-children.ensures bs i (omega arith) l,
       record { apart = omega (arith, tags_size left); room = omega (arith, c.if-out-whole.false) },

@@ -2,8 +2,6 @@
 use Prim.Native.Nat.{ℕ}
 use mathlib.Core.Path.{◌≡◌, sym, ap, ◌∙◌}
 use native.Mathlib.Omega.{arith}
-use borrow.Author.Rules.{rules}
-use borrow.Author.Tests.{not-true, not-false}
 use Rattle.words.specs.Parts.{region}
 use Rattle.refusals.specs.declared.Refusal.TheVariants.{WrongKind}
 use Rattle.nodes.specs.Sizes.{end_at}

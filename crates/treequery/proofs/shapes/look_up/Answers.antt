@@ -1,9 +1,9 @@
-use Prim.Native.Nat.{◌+◌, ◌*◌, ◌-◌, ◌≤◌}
+use Prim.Native.Nat.{◌+◌, ◌*◌}
 use mathlib.Core.Path.{◌≡◌, ◌∙◌}
 use native.Mathlib.Omega.{arith}
 use lib.ListN.{set, length-set}
 use Rattle.controls.specs.Encoded.{values_few}
-use Rattle.treequery.specs.Filling.{Filling, filling_none, filling_turn, filling_done}
+use Rattle.treequery.specs.Filling.{filling_none, filling_turn, filling_done}
 use Rattle.treequery.proofs.shapes.look_up.Goals as goal
 
 pub labels-places-requires : goal.labels-places-requires

@@ -1,9 +1,5 @@
-use Prim.Native.Nat.{◌+◌, ◌*◌, ◌-◌, ◌≤◌}
-use mathlib.Core.Path.{◌≡◌, ◌∙◌}
-use native.Mathlib.Omega.{arith}
-use lib.ListN.{set, length-set}
-use Rattle.controls.specs.Encoded.{values_few}
-use Rattle.treequery.specs.Filling.{Filling, filling_none, filling_turn, filling_done}
+use Prim.Native.Nat.{◌-◌, ◌≤◌}
+use Rattle.treequery.specs.Filling.{Filling}
 use Rattle.treequery.proofs.shapes.look_up.Given as goal
 
 abbrev pub invariant-loop-j : goal.invariant-loop-j

@@ -1,13 +1,10 @@
 use Prim.Native.Nat.{ℕ, ◌*◌, ◌-◌, ◌≤◌, ◌<◌}
 use mathlib.Core.Bool.{false}
 use mathlib.Core.Path.{◌≡◌}
-use native.Mathlib.Omega.{arith}
 use lib.ListN.{get_or}
 use Rattle.nodes.specs.Place.{is_group}
 use Rattle.model.specs.Layout.{record_in}
 use Rattle.treequery.specs.Shapes.{ShapesKnown}
-use Rattle.treequery.specs.LookUp.{looked_more, looked_all}
-use Rattle.treequery.specs.Rows.{run_at, run_slot}
 use Rattle.treequery.proofs.shapes.tree_shapes.Given as goal
 
 abbrev pub invariant-loop-i : goal.invariant-loop-i

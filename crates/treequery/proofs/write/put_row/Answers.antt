@@ -2,7 +2,6 @@ use Prim.Native.Nat.{◌+◌, ◌*◌}
 use mathlib.Core.Bool.{true}
 use mathlib.Core.Path.{refl, sym, ap, ◌∙◌}
 use mathlib.Core.List.{[], ◌∷◌, append-nil}
-use borrow.Author.Rules.{rules}
 use lib.ListN.{get_or}
 use Rattle.format.specs.Fields.{string_at}
 use Rattle.nodes.specs.Structure.{no_node}

@@ -1,8 +1,7 @@
-use Prim.Native.Nat.{◌+◌, ◌-◌, ◌≤◌, ◌<◌}
+use Prim.Native.Nat.{◌+◌, ◌<◌}
 use native.Mathlib.Omega.{arith}
-use borrow.Author.Rules.{rules}
 use Rattle.treequery.specs.RowArguments.{row_arguments, rows_turn, rows_none}
-use Rattle.treequery.specs.Writing.{Left, left_all, left_some, left_less, left_none}
+use Rattle.treequery.specs.Writing.{left_all, left_some, left_less, left_none}
 use Rattle.treequery.specs.Rows.{left_rows, row_of}
 use Rattle.treequery.proofs.write.put_tree.Goals as goal
 

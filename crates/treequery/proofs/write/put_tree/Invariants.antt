@@ -1,9 +1,6 @@
-use Prim.Native.Nat.{◌+◌, ◌-◌, ◌≤◌, ◌<◌}
-use native.Mathlib.Omega.{arith}
-use borrow.Author.Rules.{rules}
-use Rattle.treequery.specs.RowArguments.{row_arguments, rows_turn, rows_none}
-use Rattle.treequery.specs.Writing.{Left, left_all, left_some, left_less, left_none}
-use Rattle.treequery.specs.Rows.{left_rows, row_of}
+use Prim.Native.Nat.{◌-◌, ◌≤◌}
+use Rattle.treequery.specs.Writing.{Left}
+use Rattle.treequery.specs.Rows.{left_rows}
 use Rattle.treequery.proofs.write.put_tree.Given as goal
 
 abbrev pub invariant-loop-i : goal.invariant-loop-i

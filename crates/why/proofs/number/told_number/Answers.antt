@@ -1,7 +1,6 @@
 -- `why::number::told_number` meets its contract.
 use Prim.Native.Nat.{ℕ, ◌+◌, ◌*◌}
 use mathlib.Core.Path.{sym, ap, ap₂, ◌∙◌}
-use borrow.Author.Rules.{rules}
 use Rattle.why.specs.Numbers.{told_number}
 use Rattle.why.proofs.number.told_number.Goals as goal
 

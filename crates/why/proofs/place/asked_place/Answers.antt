@@ -1,7 +1,6 @@
 -- `why::place::asked_place` meets its contract.
 use Prim.Native.Nat.{ℕ}
 use mathlib.Core.Path.{ap, ◌∙◌}
-use borrow.Author.Rules.{rules}
 use borrow.Author.Tests.{eq-eqb, ne_eqb}
 use lib.ListN.{get_or}
 use Rattle.nodes.specs.Place.{place}
@@ -20,6 +19,6 @@ returns c =
     let us = a.words.now in
     let of : ℕ → ℕ = λ k. place k (nodes_in us) in
     elim c.if-number-eq-MINUS_ONE.branch [
-      then-number-eq-MINUS_ONE+else-asked-eq0 b ↦ rw (eq-eqb a.number 4294967295 b.if-number-eq-MINUS_ONE.true, ne_eqb (get_or us 3 0) 0 b.if-asked-eq0.false) (c.place_of.ensures ∙ ap of b.asked-is)
-    | else-number-eq-MINUS_ONE b ↦ rw (ne_eqb a.number 4294967295 b.if-number-eq-MINUS_ONE.false) (c.place_of.ensures ∙ ap of b.asked-is)
+      | then-number-eq-MINUS_ONE+else-asked-eq0 b ↦ rw (eq-eqb a.number 4294967295 b.if-number-eq-MINUS_ONE.true, ne_eqb (get_or us 3 0) 0 b.if-asked-eq0.false) (c.place_of.ensures ∙ ap of b.asked-is)
+      | else-number-eq-MINUS_ONE b ↦ rw (ne_eqb a.number 4294967295 b.if-number-eq-MINUS_ONE.false) (c.place_of.ensures ∙ ap of b.asked-is)
     ]

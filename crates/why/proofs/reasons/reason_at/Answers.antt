@@ -1,6 +1,5 @@
 -- `why::reasons::reason_at` meets its contract: a law for each return.
 use native.Mathlib.Omega.{arith}
-use borrow.Author.Rules.{rules}
 use Rattle.why.specs.Returns.{return_none, return_group, return_off, return_above, return_running}
 use Rattle.why.proofs.reasons.reason_at.Goals as goal
 

@@ -2,8 +2,6 @@
 use Prim.Native.Nat.{ℕ}
 use mathlib.Core.Path.{sym, ap, ◌∙◌}
 use native.Mathlib.Omega.{arith}
-use borrow.Author.Rules.{rules}
-use borrow.Author.Tests.{not-true, not-false}
 use Rattle.words.specs.Parts.{region}
 use Rattle.model.specs.Layout.{nodes_place, nodes_words, count_in}
 use Rattle.state.specs.Known.{known}

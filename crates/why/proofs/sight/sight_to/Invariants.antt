@@ -1,8 +1,6 @@
 -- `why::sight::sight_to` meets its contract. The invariant: what was seen is what the rows so far show.
-use Prim.Native.Nat.{ℕ, ◌-◌, ◌≤◌}
-use mathlib.Core.Path.{◌≡◌, subst}
-use native.Mathlib.Omega.{arith}
-use Rattle.why.specs.Seen.{SeenBefore, seen_start}
+use Prim.Native.Nat.{◌-◌, ◌≤◌}
+use Rattle.why.specs.Seen.{SeenBefore}
 use Rattle.why.proofs.sight.sight_to.Given as goal
 
 abbrev pub invariant-loop-i : goal.invariant-loop-i

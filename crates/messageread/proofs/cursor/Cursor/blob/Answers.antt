@@ -1,4 +1,3 @@
-use borrow.Author.Rules.{rules}
 use Rattle.messages.specs.Form.{number_at, blob_at}
 use Rattle.messageread.specs.Answers.{bytes_at}
 use Rattle.messageread.specs.FormLaws.{goes_on, stops}

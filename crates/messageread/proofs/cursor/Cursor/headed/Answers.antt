@@ -1,5 +1,4 @@
 use native.Mathlib.Omega.{arith}
-use borrow.Author.Rules.{rules}
 use mathlib.Core.Path.{subst}
 use Rattle.messages.specs.Form.{string_at}
 use Rattle.messageread.specs.declared.cursor.Text.{Text}

@@ -1,7 +1,6 @@
 use Prim.Native.Nat.{◌-◌}
 use mathlib.Core.Path.{sym, ◌∙◌}
 use native.Mathlib.Omega.{arith}
-use borrow.Author.Rules.{rules}
 use Prim.Native.Nat.{◌%◌}
 use Rattle.format.specs.Fields.{name_bytes}
 use Rattle.messages.specs.Form.{string_at}
