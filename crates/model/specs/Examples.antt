@@ -16,7 +16,7 @@ use Rattle.values.specs.Targets.{argument, target_of}
 use Rattle.values.specs.Values.{in_bounds, pattern}
 use Rattle.model.specs.declared.DefinitionCommand.TheVariants as definitions
 use Rattle.model.specs.declared.TreeCommand.TheVariants.{NewSynth, NewGroup, Free, Before, Head, Run}
-use Rattle.model.specs.declared.ControlCommand.TheVariants.{Set, Map}
+use Rattle.model.specs.declared.ControlCommand.TheVariants.{Map}
 use Rattle.model.specs.declared.BusCommand.TheVariants as buses
 use Rattle.model.specs.declared.Query.TheVariants as query
 use Rattle.model.specs.declared.Command.TheVariants.{Definitions, Tree, Controls, Buses, Query}

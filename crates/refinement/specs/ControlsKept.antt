@@ -21,7 +21,7 @@ use Rattle.model.specs.declared.ControlCommand.TheVariants as controls
 use Rattle.model.specs.declared.Command.TheVariants as command
 use Rattle.model.specs.Layout.{controls_place, controls_words, lengths_place, resident_place, slot_count, next_in, nodes_in, controls_in, buses_in, put_controls}
 use Rattle.model.specs.Engine.{Engine, decode}
-use Rattle.model.specs.Meaning.{known, meant}
+use Rattle.model.specs.Meaning.{meant}
 use Rattle.model.specs.Effects.{changed, control_effect, with_controls, effect}
 use Rattle.model.specs.After.{words_after}
 use Rattle.model.specs.Formed.{formed, flags_formed, slots_formed}

@@ -22,8 +22,6 @@ use Rattle.treerefinement.specs.MapForest.{map-free}
 use Rattle.treerefinement.specs.Rooted.{nosynth_tree, rooted_cut}
 use Rattle.treerefinement.specs.Keep.{within_lives, within_formed}
 use Rattle.preservation.specs.Groups.{group_only}
-use Rattle.preservation.specs.Numbers.{given}
-use Rattle.preservation.specs.Adds.{added}
 use Rattle.preservation.specs.TreeSteps.{Sound, place_stays, synth_comes}
 use Rattle.preservation.specs.TreeKept.{known_sound}
 use Rattle.state.specs.Known.{Known}

@@ -3,13 +3,12 @@ use Rattle.words.specs.Choice.{pick}
 use native.Mathlib.Nat.{zero-add}
 use Prim.{tt}
 use Rattle.slots.specs.Slots.{slots_on}
-use Rattle.definitions.specs.Naming.{NamedBy, staying_step, staying_end}
+use Rattle.definitions.specs.Naming.{staying_step, staying_end}
 use Rattle.definitions.specs.Holders.{holders}
 use Rattle.model.specs.Checks.{staying}
-use Prim.Native.Nat.{ℕ, ◌+◌, ◌-◌, ◌≤◌}
+use Prim.Native.Nat.{◌+◌, ◌≤◌}
 use mathlib.Core.Bool.{Bool}
 use mathlib.Core.Path.{◌≡◌, sym, ap, ◌∙◌}
-use mathlib.Core.List.{List}
 use native.Mathlib.Omega.{arith}
 use lib.ListN.{drop}
 use Rattle.definitions.proofs.count_staying.Goals as goal
@@ -30,8 +29,8 @@ loop-k-preserved c =
     let test = c.stays.result in
     let more : (c.if-stays.n ≡ before + pick test 1 0) × (c.if-stays.n ≤ before + 1) =
     elim c.if-stays.branch [
-      then-stays case ↦ (case.n-is ∙ ap (λ (b : Bool). before + pick b 1 0) (sym case.if-stays.true), omega arith)
-    | else-stays case ↦ (case.n-is ∙ sym (add-zero before) ∙ ap (λ (b : Bool). before + pick b 1 0) (sym case.if-stays.false), omega arith)
+      | then-stays case ↦ (case.n-is ∙ ap (λ (b : Bool). before + pick b 1 0) (sym case.if-stays.true), omega arith)
+      | else-stays case ↦ (case.n-is ∙ sym (add-zero before) ∙ ap (λ (b : Bool). before + pick b 1 0) (sym case.if-stays.false), omega arith)
     ] in (
       omega arith,
       (

@@ -1,17 +1,10 @@
-use native.Mathlib.Nat.{add-zero}
-use Rattle.words.specs.Choice.{pick}
-use native.Mathlib.Nat.{zero-add}
-use mathlib.Core.Logic.{⊎_elim}
-use Prim.{tt}
 use Rattle.slots.specs.Slots.{slots_on}
-use Rattle.definitions.specs.Naming.{NamedBy, staying_step, staying_end}
+use Rattle.definitions.specs.Naming.{NamedBy}
 use Rattle.definitions.specs.Holders.{holders}
 use Rattle.model.specs.Checks.{staying}
 use Prim.Native.Nat.{ℕ, ◌+◌, ◌-◌, ◌≤◌}
-use mathlib.Core.Bool.{Bool}
-use mathlib.Core.Path.{◌≡◌, sym, ap, ◌∙◌}
+use mathlib.Core.Path.{◌≡◌}
 use mathlib.Core.List.{List}
-use native.Mathlib.Omega.{arith}
 use lib.ListN.{drop}
 use Rattle.definitions.proofs.count_staying.Given as goal
 

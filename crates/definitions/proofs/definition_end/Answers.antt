@@ -1,6 +1,5 @@
 use Prim.{tt}
 use mathlib.Core.Path.{◌≡◌, ap, ◌∙◌}
-use borrow.Author.Rules.{rules}
 use Rattle.fields.specs.Answers.{step_of}
 use Rattle.format.specs.Definition.{Definition}
 use Rattle.format.specs.Read.{Read, got, bad, ending}

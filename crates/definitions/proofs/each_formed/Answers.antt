@@ -1,10 +1,9 @@
-use borrow.Author.Tests.{not-true, not-false}
 use Rattle.definitions.specs.Checking.{formed_on, formed_turn, formed_end}
 use Rattle.slots.specs.Slots.{lengths_on, slots_on}
 use Rattle.definitions.specs.Holders.{holders, held-holders}
 use Rattle.model.specs.Formed.{slots_formed}
 use Rattle.words.specs.Choice.{both}
-use Prim.Native.Nat.{◌+◌, ◌-◌, ◌≤◌}
+use Prim.Native.Nat.{◌+◌}
 use mathlib.Core.Bool.{Bool, true, false}
 use mathlib.Core.Path.{◌≡◌, refl, sym, ap, ◌∙◌}
 use native.Mathlib.Omega.{arith}

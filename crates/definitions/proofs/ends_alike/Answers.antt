@@ -1,6 +1,5 @@
 -- `definitions::ends_alike` meets its contract: names of two lengths differ, and so do names that differ in their last byte.
 use Prim.Native.Nat.{◌-◌}
-use native.Mathlib.Omega.{arith}
 use borrow.Author.Tests.{eqb-false}
 use lib.ListN.{length}
 use Rattle.fields.specs.SameLaws.{same_lengths, same_differs}

@@ -2,12 +2,11 @@ use Rattle.definitions.specs.Exporting.{head_of}
 use Rattle.words.specs.Parts.{put}
 use Rattle.definitions.specs.Retiring.{whole-size}
 use Rattle.slots.specs.Slots.{count_few}
-use Rattle.definitions.specs.Exporting.{export_size, Exporting, exporting_first, exporting_next, exporting_room, exporting_within, exporting_skip, exporting_whole}
+use Rattle.definitions.specs.Exporting.{export_size, exporting_first, exporting_next, exporting_room, exporting_within, exporting_skip, exporting_whole}
 use Prim.{tt}
-use Prim.Native.Nat.{ℕ, ◌+◌, ◌-◌, ◌<◌}
+use Prim.Native.Nat.{ℕ, ◌+◌, ◌<◌}
 use mathlib.Core.Path.{◌≡◌, ap, ◌∙◌}
 use native.Mathlib.Omega.{arith}
-use borrow.Author.Rules.{rules}
 use borrow.Author.Tests.{eq-eqb, ne_eqb}
 use lib.ListN.{length, get_or}
 use Rattle.definitions.proofs.export.Goals as goal
@@ -71,12 +70,12 @@ loop-k-preserved c =
     let start = c.write_head.new.out in
     let b : (i : ℕ) → get_or arena i 0 < 256 = λ i. (c.type_inv.arena i).fits in
     elim c.if-flag-eq1.branch [
-      then-flag-eq1 case ↦ let in-slot = eq-eqb (get_or table (32 + c.loop-k.k) 0) 1 case.if-flag-eq1.true in
-    let size : length case.bytes_on-bytes.result.now ≡ get_or table c.loop-k.k 0 = ap length case.bytes_on-bytes.ensures ∙ whole-size table arena c.loop-k.k c.requires.0.sized less (c.requires.0.resident c.loop-k.k less in-slot) in
-    let at : c.if-flag-eq1.at ≡ c.loop-k.at + get_or table c.loop-k.k 0 = case.at-is ∙ ap (λ (n : ℕ). c.loop-k.at + n) size in
-    rw (at, case.out-is ∙ case.copy_in.ensures)
-    (exporting_next table arena start c.loop-k.k c.loop-k.at c.loop-k.out b c.requires.0 c.loop-k.invariant less in-slot case.bytes_on-bytes.result.now case.bytes_on-bytes.ensures)
-    | else-flag-eq1 case ↦ let out = ne_eqb (get_or table (32 + c.loop-k.k) 0) 1 case.if-flag-eq1.false in rw (case.out-is, case.at-is) (exporting_skip table arena start c.loop-k.k c.loop-k.at c.loop-k.out b c.requires.0 c.loop-k.invariant less out)
+      | then-flag-eq1 case ↦ let in-slot = eq-eqb (get_or table (32 + c.loop-k.k) 0) 1 case.if-flag-eq1.true in
+          let size : length case.bytes_on-bytes.result.now ≡ get_or table c.loop-k.k 0 = ap length case.bytes_on-bytes.ensures ∙ whole-size table arena c.loop-k.k c.requires.0.sized less (c.requires.0.resident c.loop-k.k less in-slot) in
+          let at : c.if-flag-eq1.at ≡ c.loop-k.at + get_or table c.loop-k.k 0 = case.at-is ∙ ap (λ (n : ℕ). c.loop-k.at + n) size in
+          rw (at, case.out-is ∙ case.copy_in.ensures)
+          (exporting_next table arena start c.loop-k.k c.loop-k.at c.loop-k.out b c.requires.0 c.loop-k.invariant less in-slot case.bytes_on-bytes.result.now case.bytes_on-bytes.ensures)
+      | else-flag-eq1 case ↦ let out = ne_eqb (get_or table (32 + c.loop-k.k) 0) 1 case.if-flag-eq1.false in rw (case.out-is, case.at-is) (exporting_skip table arena start c.loop-k.k c.loop-k.at c.loop-k.out b c.requires.0 c.loop-k.invariant less out)
     ]
 
 pub returns : goal.returns

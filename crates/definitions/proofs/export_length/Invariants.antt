@@ -1,10 +1,7 @@
-use Rattle.definitions.specs.Exporting.{body_from, size_turn, body_end, export_size}
-use mathlib.Core.Logic.{⊎_elim}
+use Rattle.definitions.specs.Exporting.{body_from}
 use Prim.Native.Nat.{◌+◌, ◌*◌, ◌-◌, ◌≤◌}
-use mathlib.Core.Path.{◌≡◌, refl, ap}
-use native.Mathlib.Omega.{arith}
-use borrow.Author.Tests.{eq-eqb, ne_eqb}
-use lib.ListN.{length, get_or}
+use mathlib.Core.Path.{◌≡◌}
+use lib.ListN.{length}
 use Rattle.format.specs.Reader.{size_limit}
 use Rattle.definitions.proofs.export_length.Given as goal
 

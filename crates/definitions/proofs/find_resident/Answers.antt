@@ -2,7 +2,7 @@ use Rattle.slots.specs.Slots.{slots_on}
 use Rattle.definitions.specs.Names.{named_on, resident_turn, resident_end}
 use Rattle.words.specs.Choice.{pick}
 use Rattle.model.specs.Engine.{resident_from}
-use Prim.Native.Nat.{◌+◌, ◌-◌, ◌≤◌}
+use Prim.Native.Nat.{◌+◌}
 use mathlib.Core.Bool.{Bool, true, false}
 use mathlib.Core.Path.{◌≡◌, refl, sym, ap, ◌∙◌}
 use native.Mathlib.Omega.{arith}

@@ -1,11 +1,7 @@
 use Rattle.slots.specs.Slots.{slots_on}
-use Rattle.definitions.specs.Names.{named_on, resident_turn, resident_end}
-use Rattle.words.specs.Choice.{pick}
 use Rattle.model.specs.Engine.{resident_from}
-use Prim.Native.Nat.{◌+◌, ◌-◌, ◌≤◌}
-use mathlib.Core.Bool.{Bool, true, false}
-use mathlib.Core.Path.{◌≡◌, refl, sym, ap, ◌∙◌}
-use native.Mathlib.Omega.{arith}
+use Prim.Native.Nat.{◌-◌, ◌≤◌}
+use mathlib.Core.Path.{◌≡◌}
 use lib.ListN.{drop}
 use Rattle.definitions.proofs.find_resident.Given as goal
 

@@ -2,9 +2,9 @@ use Rattle.definitions.specs.Checking.{flags_turn, flags_end}
 use Rattle.slots.specs.Slots.{flags_on}
 use Rattle.model.specs.Formed.{flags_formed}
 use Rattle.words.specs.Choice.{both}
-use Prim.Native.Nat.{◌+◌, ◌-◌, ◌≤◌}
+use Prim.Native.Nat.{◌+◌}
 use mathlib.Core.Bool.{Bool}
-use mathlib.Core.Path.{◌≡◌, refl, sym, ap, ◌∙◌}
+use mathlib.Core.Path.{refl, sym, ap, ◌∙◌}
 use native.Mathlib.Omega.{arith}
 use borrow.Author.Tests.{le-leb, lt-leb}
 use lib.ListN.{drop, get_or}

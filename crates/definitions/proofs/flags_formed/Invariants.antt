@@ -1,13 +1,8 @@
-use Rattle.definitions.specs.Checking.{flags_turn, flags_end}
 use Rattle.slots.specs.Slots.{flags_on}
 use Rattle.model.specs.Formed.{flags_formed}
-use Rattle.words.specs.Choice.{both}
-use Prim.Native.Nat.{◌+◌, ◌-◌, ◌≤◌}
-use mathlib.Core.Bool.{Bool}
-use mathlib.Core.Path.{◌≡◌, refl, sym, ap, ◌∙◌}
-use native.Mathlib.Omega.{arith}
-use borrow.Author.Tests.{le-leb, lt-leb}
-use lib.ListN.{drop, get_or}
+use Prim.Native.Nat.{◌-◌, ◌≤◌}
+use mathlib.Core.Path.{◌≡◌}
+use lib.ListN.{drop}
 use Rattle.definitions.proofs.flags_formed.Given as goal
 
 abbrev pub invariant-loop-k : goal.invariant-loop-k

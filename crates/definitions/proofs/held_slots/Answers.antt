@@ -4,7 +4,7 @@ use Rattle.definitions.specs.Holders.{held_turn, held_end, held-set, held_skip}
 use Rattle.model.specs.Engine as engine
 use Rattle.words.specs.Choice.{either}
 use Rattle.nodes.specs.Table.{width, rows, slot_field}
-use Prim.Native.Nat.{ℕ, ◌+◌, ◌*◌, ◌-◌, ◌≤◌, ◌<◌}
+use Prim.Native.Nat.{ℕ, ◌+◌, ◌*◌}
 use mathlib.Core.Bool.{Bool, true, false}
 use mathlib.Core.Path.{◌≡◌, refl, sym, ap, ◌∙◌}
 use mathlib.Core.List.{List}
@@ -31,22 +31,22 @@ loop-i-preserved c =
     let turn : (k : ℕ) → engine.held k (drop i (rows a.count a.nodes.now)) ≡ either (eqb slot k) (rest k) =
     λ k. held_turn a.count a.nodes.now k i (omega arith) ∙ ap (λ (s : ℕ). either (eqb s k) (rest k)) (sym same) in
     elim c.if-slot-lt-SLOTS.branch [
-      then-slot-lt-SLOTS case ↦ (
-      omega arith,
-      (
-        ap length case.held-is ∙ length-set held slot true ∙ l.1.0,
-        λ k h.
-            ap (λ (t : List Bool). either (get_or t k false) (rest k)) case.held-is ∙ held-set held slot k (rest k) (omega arith) ∙ ap (λ (b : Bool). either (get_or held k false) b) (sym (turn k)) ∙ l.1.1 k h,
-      ),
-    )
-    | else-slot-lt-SLOTS case ↦ (
-      omega arith,
-      (
-        ap length case.held-is ∙ l.1.0,
-        λ k h.
-            ap (λ (t : List Bool). either (get_or t k false) (rest k)) case.held-is ∙ ap (λ (b : Bool). either (get_or held k false) b) (sym (turn k ∙ held_skip slot k (rest k) case.if-slot-lt-SLOTS.false h)) ∙ l.1.1 k h,
-      ),
-    )
+      | then-slot-lt-SLOTS case ↦ (
+        omega arith,
+        (
+          ap length case.held-is ∙ length-set held slot true ∙ l.1.0,
+          λ k h.
+              ap (λ (t : List Bool). either (get_or t k false) (rest k)) case.held-is ∙ held-set held slot k (rest k) (omega arith) ∙ ap (λ (b : Bool). either (get_or held k false) b) (sym (turn k)) ∙ l.1.1 k h,
+        ),
+      )
+      | else-slot-lt-SLOTS case ↦ (
+        omega arith,
+        (
+          ap length case.held-is ∙ l.1.0,
+          λ k h.
+              ap (λ (t : List Bool). either (get_or t k false) (rest k)) case.held-is ∙ ap (λ (b : Bool). either (get_or held k false) b) (sym (turn k ∙ held_skip slot k (rest k) case.if-slot-lt-SLOTS.false h)) ∙ l.1.1 k h,
+        ),
+      )
     ]
 
 pub returns : goal.returns

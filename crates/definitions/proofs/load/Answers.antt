@@ -1,6 +1,5 @@
 use Rattle.definitions.specs.Retired.{retired_formed}
 use Rattle.definitions.specs.Loading.{load_whole}
-use borrow.Author.Rules.{rules}
 use Rattle.definitions.proofs.load.Goals as goal
 
 pub retire_named-requires : goal.retire_named-requires

@@ -1,14 +1,12 @@
 use Rattle.model.specs.Engine as engine
 use Rattle.slots.specs.Slots.{resident_on, slots_on}
 use Rattle.words.specs.Choice.{pick, either}
-use borrow.Author.Tests.{not-true, not-false}
 use Rattle.definitions.specs.Slots.{free_turn, free_end}
 use Rattle.definitions.specs.Holders.{holders, held-holders}
 use Rattle.model.specs.Effects.{free_from}
-use Prim.Native.Nat.{ℕ, ◌+◌, ◌-◌, ◌≤◌}
+use Prim.Native.Nat.{◌+◌}
 use mathlib.Core.Bool.{Bool, true, false}
 use mathlib.Core.Path.{◌≡◌, refl, sym, ap, ◌∙◌}
-use mathlib.Core.List.{List}
 use native.Mathlib.Omega.{arith}
 use borrow.Author.Tests.{eq-eqb, ne_eqb}
 use lib.ListN.{drop, get_or}
@@ -29,8 +27,7 @@ returns-then-not-held-k c =
     sym (rw (out, held-holders held k, free) at (free_turn table arena (holders held) k (omega arith))) ∙ c.loop-k.invariant.1 arena
 
 pub loop-k-preserved : goal.loop-k-preserved
-loop-k-preserved c =
-    (
+loop-k-preserved c = (
   omega arith,
   λ arena.
       let k = c.loop-k.k in
@@ -39,9 +36,9 @@ loop-k-preserved c =
       let next = free_from (k + 1) (drop (k + 1) (slots_on table arena)) (holders held) in
       let taken : either (resident_on table k) (engine.held k (holders held)) ≡ true =
       elim c.if-table-k-ne1.branch [
-      then-table-k-ne1+else-not-held-k case ↦ rw (held-holders held k, case.if-not-held-k.false) (or_true (resident_on table k))
-    | else-table-k-ne1 case ↦ rw (eq-eqb (get_or table (32 + k) 0) 1 case.if-table-k-ne1.false)
-    ] in
+        | then-table-k-ne1+else-not-held-k case ↦ rw (held-holders held k, case.if-not-held-k.false) (or_true (resident_on table k))
+        | else-table-k-ne1 case ↦ rw (eq-eqb (get_or table (32 + k) 0) 1 case.if-table-k-ne1.false)
+      ] in
       sym (free_turn table arena (holders held) k (omega arith) ∙ ap (λ (b : Bool). pick b next k) taken) ∙ c.loop-k.invariant.1 arena,
 )
   where

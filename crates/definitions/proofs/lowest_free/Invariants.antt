@@ -1,18 +1,10 @@
-use Rattle.model.specs.Engine as engine
-use Rattle.slots.specs.Slots.{resident_on, slots_on}
-use Rattle.words.specs.Choice.{pick, either}
-use mathlib.Core.Logic.{⊎_elim}
-use borrow.Author.Tests.{not-true, not-false}
-use Rattle.definitions.specs.Slots.{free_turn, free_end}
-use Rattle.definitions.specs.Holders.{holders, held-holders}
+use Rattle.slots.specs.Slots.{slots_on}
+use Rattle.definitions.specs.Holders.{holders}
 use Rattle.model.specs.Effects.{free_from}
-use Prim.Native.Nat.{ℕ, ◌+◌, ◌-◌, ◌≤◌}
-use mathlib.Core.Bool.{Bool, true, false}
-use mathlib.Core.Path.{◌≡◌, refl, sym, ap, ◌∙◌}
+use Prim.Native.Nat.{ℕ, ◌-◌, ◌≤◌}
+use mathlib.Core.Path.{◌≡◌}
 use mathlib.Core.List.{List}
-use native.Mathlib.Omega.{arith}
-use borrow.Author.Tests.{eq-eqb, ne_eqb}
-use lib.ListN.{drop, get_or}
+use lib.ListN.{drop}
 use Rattle.definitions.proofs.lowest_free.Given as goal
 
 abbrev pub invariant-loop-k : goal.invariant-loop-k

@@ -1,5 +1,5 @@
-use Rattle.definitions.specs.Names.{Marking, marking_set, marking_skip}
-use Prim.Native.Nat.{◌-◌, ◌<◌}
+use Rattle.definitions.specs.Names.{marking_set, marking_skip}
+use Prim.Native.Nat.{◌<◌}
 use mathlib.Core.Path.{refl, sym, ◌∙◌}
 use native.Mathlib.Omega.{arith}
 use Rattle.definitions.proofs.mark_named.Goals as goal
@@ -22,8 +22,8 @@ loop-k-preserved c =
     let inv = c.loop-k.invariant in
     let less : k < 32 = omega arith in
     elim c.if-slot_named.branch [
-      then-slot_named b ↦ rw b.named-is (marking_set table arena name a.marks k now inv less (sym c.slot_named.ensures ∙ b.if-slot_named.true))
-    | else-slot_named b ↦ rw b.named-is (marking_skip table arena name a.marks k now inv less (sym c.slot_named.ensures ∙ b.if-slot_named.false))
+      | then-slot_named b ↦ rw b.named-is (marking_set table arena name a.marks k now inv less (sym c.slot_named.ensures ∙ b.if-slot_named.true))
+      | else-slot_named b ↦ rw b.named-is (marking_skip table arena name a.marks k now inv less (sym c.slot_named.ensures ∙ b.if-slot_named.false))
     ]
 
 pub returns : goal.returns

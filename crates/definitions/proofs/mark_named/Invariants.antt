@@ -1,8 +1,5 @@
-use mathlib.Core.Logic.{⊎_elim}
-use Rattle.definitions.specs.Names.{Marking, marking_set, marking_skip}
-use Prim.Native.Nat.{◌-◌, ◌<◌}
-use mathlib.Core.Path.{refl, sym, ◌∙◌}
-use native.Mathlib.Omega.{arith}
+use Rattle.definitions.specs.Names.{Marking}
+use Prim.Native.Nat.{◌-◌}
 use Rattle.definitions.proofs.mark_named.Given as goal
 
 abbrev pub invariant-loop-k : goal.invariant-loop-k

@@ -1,12 +1,7 @@
-use Rattle.definitions.specs.Checking.{resident_turn, resident_end}
-use Rattle.definitions.specs.Names.{named_on}
 use Rattle.slots.specs.Slots.{slots_on}
 use Rattle.model.specs.Formed.{name_resident}
-use Rattle.words.specs.Choice.{pick}
-use Prim.Native.Nat.{◌+◌, ◌-◌, ◌≤◌}
-use mathlib.Core.Bool.{Bool, true, false, not}
-use mathlib.Core.Path.{◌≡◌, refl, sym, ap, ◌∙◌}
-use native.Mathlib.Omega.{arith}
+use Prim.Native.Nat.{◌-◌, ◌≤◌}
+use mathlib.Core.Path.{◌≡◌}
 use lib.ListN.{drop}
 use Rattle.definitions.proofs.name_apart.Given as goal
 

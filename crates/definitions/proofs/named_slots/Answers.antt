@@ -1,9 +1,7 @@
 use Prim.{tt}
-use Rattle.definitions.specs.Naming.{Naming, run_next, naming_first, naming_next, naming_last}
+use Rattle.definitions.specs.Naming.{run_next, naming_first, naming_next, naming_last}
 use Rattle.definitions.specs.Files.{accepted_run}
-use Prim.Native.Nat.{◌-◌}
 use native.Mathlib.Omega.{arith}
-use lib.ListN.{length}
 use Rattle.definitions.proofs.named_slots.Goals as goal
 
 pub loop-at-init : goal.loop-at-init

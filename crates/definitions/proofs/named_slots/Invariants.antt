@@ -1,8 +1,5 @@
-use Prim.{tt}
-use Rattle.definitions.specs.Naming.{Naming, run_next, naming_first, naming_next, naming_last}
-use Rattle.definitions.specs.Files.{accepted_run}
+use Rattle.definitions.specs.Naming.{Naming}
 use Prim.Native.Nat.{◌-◌}
-use native.Mathlib.Omega.{arith}
 use lib.ListN.{length}
 use Rattle.definitions.proofs.named_slots.Given as goal
 

@@ -1,10 +1,9 @@
-use borrow.Author.Tests.{not-true, not-false}
 use Rattle.definitions.specs.Checking.{apart_turn, apart_end}
 use Rattle.definitions.specs.Names.{name_on}
 use Rattle.slots.specs.Slots.{slots_on, resident_on}
 use Rattle.model.specs.Formed.{name_resident, names_apart}
 use Rattle.words.specs.Choice.{pick, both}
-use Prim.Native.Nat.{ℕ, ◌+◌, ◌-◌, ◌≤◌, ◌<◌}
+use Prim.Native.Nat.{ℕ, ◌+◌, ◌<◌}
 use mathlib.Core.Bool.{Bool, true, false, not}
 use mathlib.Core.Path.{◌≡◌, refl, sym, ap, ◌∙◌}
 use mathlib.Core.List.{List}
@@ -47,9 +46,9 @@ loop-k-preserved c =
     let rest = names_apart (drop (k + 1) (slots_on table arena)) in
     let test : pick (resident_on table k) (not (name_resident (name_on table arena k) (drop (k + 1) (slots_on table arena)))) true ≡ true =
     elim c.if-table-k-eq1.branch [
-      then-table-k-eq1+else-not-name_apart case ↦ let in-slot : resident_on table k ≡ true = eq-eqb (get_or table (32 + k) 0) 1 case.if-table-k-eq1.true in
-    rw in-slot (ap (λ (n : List ℕ). not (name_resident n (drop (k + 1) (slots_on table arena)))) (sym case.slot_name.ensures) ∙ sym case.name_apart.ensures ∙ case.if-not-name_apart.false)
-    | else-table-k-eq1 case ↦ rw (ne_eqb (get_or table (32 + k) 0) 1 case.if-table-k-eq1.false)
+      | then-table-k-eq1+else-not-name_apart case ↦ let in-slot : resident_on table k ≡ true = eq-eqb (get_or table (32 + k) 0) 1 case.if-table-k-eq1.true in
+          rw in-slot (ap (λ (n : List ℕ). not (name_resident n (drop (k + 1) (slots_on table arena)))) (sym case.slot_name.ensures) ∙ sym case.name_apart.ensures ∙ case.if-not-name_apart.false)
+      | else-table-k-eq1 case ↦ rw (ne_eqb (get_or table (32 + k) 0) 1 case.if-table-k-eq1.false)
     ] in
     (omega arith, sym (apart_turn table arena k less ∙ ap (λ (b : Bool). both b rest) test) ∙ c.loop-k.invariant.1)
 

@@ -1,12 +1,9 @@
 use Prim.{tt}
 use Rattle.definitions.specs.Naming.{run_next}
-use Rattle.definitions.specs.Loading.{Loading, loading_first, loading_next, loading_skip, loading_last}
+use Rattle.definitions.specs.Loading.{loading_first, loading_next, loading_skip, loading_last}
 use Rattle.definitions.specs.Files.{accepted_run}
-use Prim.Native.Nat.{◌-◌}
 use mathlib.Core.Path.{◌≡◌, sym, ◌∙◌}
 use native.Mathlib.Omega.{arith}
-use borrow.Author.Rules.{rules}
-use lib.ListN.{length}
 use Rattle.definitions.proofs.place_all.Goals as goal
 
 pub loop-at-init : goal.loop-at-init

@@ -1,8 +1,6 @@
 use Prim.{tt}
 use Prim.Native.Nat.{ℕ, ◌+◌}
 use mathlib.Core.Path.{ap}
-use native.Mathlib.Omega.{arith}
-use borrow.Author.Rules.{rules}
 use lib.ListN.{set}
 use Rattle.definitions.proofs.retire.Goals as goal
 

@@ -1,8 +1,7 @@
-use Rattle.definitions.specs.Retiring.{Retiring, retiring_set, retiring_skip, retiring_done}
-use Prim.Native.Nat.{◌-◌, ◌<◌}
+use Rattle.definitions.specs.Retiring.{retiring_set, retiring_skip, retiring_done}
+use Prim.Native.Nat.{◌<◌}
 use mathlib.Core.Path.{refl}
 use native.Mathlib.Omega.{arith}
-use borrow.Author.Rules.{rules}
 use Rattle.definitions.proofs.retire_marked.Goals as goal
 use Rattle.definitions.proofs.retire_marked.Goals.{then-marks-k, else-marks-k}
 
@@ -17,8 +16,8 @@ loop-k-preserved c =
     let inv = c.loop-k.invariant in
     let less : k < 32 = omega arith in
     elim c.if-marks-k.branch [
-      then-marks-k b ↦ rw b.table-is (retiring_set a.table.now a.marks k now inv less b.if-marks-k.true)
-    | else-marks-k b ↦ rw b.table-is (retiring_skip a.table.now a.marks k now inv less b.if-marks-k.false)
+      | then-marks-k b ↦ rw b.table-is (retiring_set a.table.now a.marks k now inv less b.if-marks-k.true)
+      | else-marks-k b ↦ rw b.table-is (retiring_skip a.table.now a.marks k now inv less b.if-marks-k.false)
     ]
 
 pub returns : goal.returns

@@ -1,9 +1,5 @@
-use mathlib.Core.Logic.{⊎_elim}
-use Rattle.definitions.specs.Retiring.{Retiring, retiring_set, retiring_skip, retiring_done}
-use Prim.Native.Nat.{◌-◌, ◌<◌}
-use mathlib.Core.Path.{refl}
-use native.Mathlib.Omega.{arith}
-use borrow.Author.Rules.{rules}
+use Rattle.definitions.specs.Retiring.{Retiring}
+use Prim.Native.Nat.{◌-◌}
 use Rattle.definitions.proofs.retire_marked.Given as goal
 
 abbrev pub invariant-loop-k : goal.invariant-loop-k

@@ -1,4 +1,3 @@
-use borrow.Author.Rules.{rules}
 use Rattle.definitions.proofs.retire_named.Goals as goal
 
 pub named_slots-marks-requires : goal.named_slots-marks-requires

@@ -1,7 +1,6 @@
 use mathlib.Core.Path.{sym, ap, ◌∙◌}
 use mathlib.Core.List.{List}
 use Prim.Native.Nat.{ℕ}
-use borrow.Author.Rules.{rules}
 use Rattle.format.specs.Fields.{string_at}
 use Rattle.definitions.specs.Names.{named_there}
 use Rattle.definitions.proofs.slot_name.Goals as goal

@@ -2,7 +2,6 @@ use Rattle.definitions.specs.Checking.{check_formed}
 use Rattle.slots.specs.Slots.{lengths_on, flags_on, slots_on}
 use Rattle.definitions.specs.Holders.{holders}
 use Rattle.model.specs.Formed.{flags_formed, slots_formed}
-use borrow.Author.Tests.{not-true, not-false}
 use mathlib.Core.Bool.{true, false}
 use mathlib.Core.Path.{◌≡◌, sym, ◌∙◌}
 use Rattle.definitions.proofs.slots_formed.Goals as goal

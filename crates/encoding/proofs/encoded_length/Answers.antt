@@ -1,6 +1,5 @@
 use mathlib.Core.Path.{◌≡◌, sym, ap, ◌∙◌}
 use native.Mathlib.Omega.{arith}
-use borrow.Author.Rules.{rules}
 use Rattle.format.specs.declared.Width.TheVariants.{Short, Long}
 use Rattle.format.specs.RepeatLaws.{got_value}
 use Rattle.encoding.specs.Encoding.{fields_in}

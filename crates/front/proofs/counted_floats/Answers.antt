@@ -1,5 +1,4 @@
 use mathlib.Core.Path.{sym}
-use borrow.Author.Rules.{rules}
 use Rattle.front.proofs.counted_floats.Goals as goal
 
 pub returns-in-Next : goal.returns-in-Next

@@ -1,5 +1,4 @@
 use mathlib.Core.Path.{sym}
-use borrow.Author.Rules.{rules}
 use Rattle.front.proofs.counts_from_values.Goals as goal
 
 pub returns-in-Value-count_to : goal.returns-in-Value-count_to

@@ -1,5 +1,4 @@
 use mathlib.Core.Path.{sym}
-use borrow.Author.Rules.{rules}
 use Rattle.front.proofs.parameter_name.Goals as goal
 
 pub returns-in-Value-index_below : goal.returns-in-Value-index_below

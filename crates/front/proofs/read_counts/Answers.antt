@@ -1,5 +1,4 @@
 use mathlib.Core.Path.{sym}
-use borrow.Author.Rules.{rules}
 use Rattle.front.proofs.read_counts.Goals as goal
 
 pub returns-in-Value-counted_floats : goal.returns-in-Value-counted_floats

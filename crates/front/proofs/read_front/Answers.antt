@@ -1,5 +1,4 @@
 use mathlib.Core.Path.{sym}
-use borrow.Author.Rules.{rules}
 use Rattle.front.specs.FrontLaws.{front_fact}
 use Rattle.front.proofs.read_front.Goals as goal
 

@@ -1,9 +1,6 @@
-use Prim.Native.Nat.{◌-◌, ◌≤◌}
-use mathlib.Core.Path.{◌≡◌, sym, ◌∙◌}
+use mathlib.Core.Path.{sym, ◌∙◌}
 use native.Mathlib.Omega.{arith}
-use borrow.Author.Rules.{rules}
 use native.Mathlib.Nat.{sub-zero}
-use Rattle.format.specs.Read.{repeat, ending}
 use Rattle.format.specs.Reader.{parameter_name_by}
 use Rattle.format.specs.RepeatLaws.{ending_turn, ending_none}
 use Rattle.front.proofs.skip_parameter_names.Goals as goal

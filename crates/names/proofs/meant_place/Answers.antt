@@ -1,5 +1,4 @@
 use mathlib.Core.Path.{sym, ◌∙◌}
-use borrow.Author.Rules.{rules}
 use Rattle.names.specs.Named.{named_number, named_latest, named_none, named_reserved}
 use Rattle.names.proofs.meant_place.Goals as goal
 

@@ -1,6 +1,5 @@
 -- `names::node_place` meets its contract: the place of the number that the argument means is below the count, or it is not.
 use native.Mathlib.Omega.{arith}
-use borrow.Author.Rules.{rules}
 use Rattle.names.specs.Judged.{judged_found, judged-unknown}
 use Rattle.names.proofs.node_place.Goals as goal
 

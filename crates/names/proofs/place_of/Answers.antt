@@ -1,5 +1,4 @@
 -- `names::place_of` meets its contract: the two regions keep the index's rule.
-use borrow.Author.Rules.{rules}
 use Prim.Native.Nat.{ℕ}
 use mathlib.Core.Path.{ap, ◌∙◌}
 use Rattle.words.specs.Parts.{region}

@@ -1,7 +1,6 @@
 -- `order::fields_hold` meets its contract, one test at a time.
 use mathlib.Core.Path.{refl, sym}
 use native.Mathlib.Omega.{arith}
-use borrow.Author.Rules.{rules}
 use borrow.Author.Tests.{le-leb, lt-leb, eq-eqb, ne_eqb}
 use Rattle.order.proofs.fields_hold.Goals as goal
 

@@ -1,11 +1,9 @@
-use Prim.Native.Nat.{◌+◌, ◌*◌, ◌-◌, ◌≤◌}
+use Prim.Native.Nat.{◌+◌, ◌*◌}
 use mathlib.Core.Bool.{true, false}
 use mathlib.Core.Path.{◌≡◌, refl, sym, ◌∙◌}
 use native.Mathlib.Omega.{arith}
-use borrow.Author.Tests.{not-true, not-false}
-use lib.ListN.{drop, get_or}
-use Rattle.nodes.specs.Table.{width, rows, run_field, slot_field, row_field}
-use Rattle.nodes.specs.Formed.{all_formed}
+use lib.ListN.{get_or}
+use Rattle.nodes.specs.Table.{width, run_field, slot_field, row_field}
 use Rattle.order.specs.Checks.{number_holds, fields_hold, fields_turn, fields_end}
 use Rattle.order.proofs.records_hold.Goals as goal
 

@@ -1,7 +1,6 @@
 -- `order::root_holds` meets its contract, one test at a time.
 use mathlib.Core.Path.{sym, ◌∙◌}
 use native.Mathlib.Omega.{arith}
-use borrow.Author.Rules.{rules}
 use borrow.Author.Tests.{eq-eqb, ne_eqb}
 use lib.ListN.{get_or}
 use Rattle.order.specs.Checks.{rooted_turn}

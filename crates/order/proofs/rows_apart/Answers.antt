@@ -1,9 +1,8 @@
-use Prim.Native.Nat.{ℕ, ◌+◌, ◌*◌, ◌-◌, ◌≤◌}
+use Prim.Native.Nat.{ℕ, ◌+◌, ◌*◌}
 use mathlib.Core.Bool.{Bool, true, false}
 use mathlib.Core.Path.{◌≡◌, sym, ap, ◌∙◌}
 use mathlib.Core.List.{List}
 use native.Mathlib.Omega.{arith}
-use borrow.Author.Rules.{rules}
 use Rattle.nodes.specs.Table.{width, rows, row_field}
 use Rattle.order.specs.Marks.{rows_hold, pass, pass_none, pass_group, pass_past, pass_taken, pass_mark, pass_end}
 use lib.ListN.{drop, get_or, set}
@@ -36,12 +35,12 @@ loop-i-preserved c =
     let t = rows a.count us in (
       omega arith,
       elim c.if-nodes-at-ne-GROUP.branch [
-      then-nodes-at-ne-GROUP+else-row-ge-ROWS+else-seen-row w ↦ let same : w.wide-row.result ≡ get_or us (width * c.loop-i.i + row_field) 0 = w.wide-row.ensures in
-          ap (λ (m : List Bool). pass m (drop (c.loop-i.i + 1) t)) w.seen-is
-          ∙ ap (λ (k : ℕ). pass (set c.loop-i.seen k true) (drop (c.loop-i.i + 1) t)) same
-          ∙ pass_mark a.count us c.loop-i.i c.loop-i.seen whole (omega arith) c.loop-i.invariant.1 w.if-nodes-at-ne-GROUP.true (omega arith) (ap (λ (k : ℕ). get_or c.loop-i.seen k false) (sym same) ∙ w.if-seen-row.false)
-    | else-nodes-at-ne-GROUP w ↦ ap (λ (m : List Bool). pass m (drop (c.loop-i.i + 1) t)) w.seen-is ∙ pass_group a.count us c.loop-i.i c.loop-i.seen whole (omega arith) c.loop-i.invariant.1 (omega arith)
-    ],
+        | then-nodes-at-ne-GROUP+else-row-ge-ROWS+else-seen-row w ↦ let same : w.wide-row.result ≡ get_or us (width * c.loop-i.i + row_field) 0 = w.wide-row.ensures in
+            ap (λ (m : List Bool). pass m (drop (c.loop-i.i + 1) t)) w.seen-is
+            ∙ ap (λ (k : ℕ). pass (set c.loop-i.seen k true) (drop (c.loop-i.i + 1) t)) same
+            ∙ pass_mark a.count us c.loop-i.i c.loop-i.seen whole (omega arith) c.loop-i.invariant.1 w.if-nodes-at-ne-GROUP.true (omega arith) (ap (λ (k : ℕ). get_or c.loop-i.seen k false) (sym same) ∙ w.if-seen-row.false)
+        | else-nodes-at-ne-GROUP w ↦ ap (λ (m : List Bool). pass m (drop (c.loop-i.i + 1) t)) w.seen-is ∙ pass_group a.count us c.loop-i.i c.loop-i.seen whole (omega arith) c.loop-i.invariant.1 (omega arith)
+      ],
     )
 
 pub returns : goal.returns

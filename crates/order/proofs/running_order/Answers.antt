@@ -1,12 +1,10 @@
-use Prim.Native.Nat.{◌+◌, ◌-◌, ◌≤◌, ◌<◌}
+use Prim.Native.Nat.{◌+◌, ◌≤◌, ◌<◌}
 use mathlib.Core.Path.{◌∙◌}
-use mathlib.Core.Logic.{⊎_elim}
 use native.Mathlib.Omega.{arith}
-use borrow.Author.Rules.{rules}
 use Rattle.nodes.specs.Table.{rows}
 use Rattle.nodes.specs.TableLaws.{rows_end}
 use Rattle.order.specs.Order.{OrderSoFar, so_none, so_all, so_same, so_unmarked, so_group, so_more, so_full}
-use lib.ListN.{length, drop}
+use lib.ListN.{drop}
 use Rattle.order.proofs.running_order.Goals as goal
 use Rattle.order.proofs.running_order.Goals.{then-visited-i+then-nodes-at-ne-GROUP, then-length-lt-MOST_ORDER, else-length-lt-MOST_ORDER, then-visited-i+else-nodes-at-ne-GROUP, else-visited-i}
 
@@ -26,15 +24,15 @@ loop-i-preserved c =
     let h : c.loop-i.i < a.count = omega arith in
     let so : (c.if-visited-i.length ≤ c.loop-i.i + 1) × OrderSoFar t left rest c.if-visited-i.length c.if-visited-i.numbers =
     elim c.if-visited-i.branch [
-      then-visited-i+then-nodes-at-ne-GROUP w ↦ (
-      omega arith,
-      elim w.if-length-lt-MOST_ORDER.branch [
-          then-length-lt-MOST_ORDER v ↦ so_same t rest left c.if-visited-i.length c.if-visited-i.numbers (so_more a.count us ms c.loop-i.i c.loop-i.length c.loop-i.numbers h c.loop-i.invariant.2 w.if-visited-i.true w.if-nodes-at-ne-GROUP.true v.if-length-lt-MOST_ORDER.true) (w.numbers-is ∙ v.numbers-is) w.length-is
-        | else-length-lt-MOST_ORDER v ↦ so_same t rest left c.if-visited-i.length c.if-visited-i.numbers (so_full a.count us ms c.loop-i.i c.loop-i.length c.loop-i.numbers h c.loop-i.invariant.2 w.if-visited-i.true w.if-nodes-at-ne-GROUP.true v.if-length-lt-MOST_ORDER.false) (w.numbers-is ∙ v.numbers-is) w.length-is
+      | then-visited-i+then-nodes-at-ne-GROUP w ↦ (
+        omega arith,
+        elim w.if-length-lt-MOST_ORDER.branch [
+          | then-length-lt-MOST_ORDER v ↦ so_same t rest left c.if-visited-i.length c.if-visited-i.numbers (so_more a.count us ms c.loop-i.i c.loop-i.length c.loop-i.numbers h c.loop-i.invariant.2 w.if-visited-i.true w.if-nodes-at-ne-GROUP.true v.if-length-lt-MOST_ORDER.true) (w.numbers-is ∙ v.numbers-is) w.length-is
+          | else-length-lt-MOST_ORDER v ↦ so_same t rest left c.if-visited-i.length c.if-visited-i.numbers (so_full a.count us ms c.loop-i.i c.loop-i.length c.loop-i.numbers h c.loop-i.invariant.2 w.if-visited-i.true w.if-nodes-at-ne-GROUP.true v.if-length-lt-MOST_ORDER.false) (w.numbers-is ∙ v.numbers-is) w.length-is
         ],
-    )
-    | then-visited-i+else-nodes-at-ne-GROUP w ↦ (omega arith, so_same t rest left c.if-visited-i.length c.if-visited-i.numbers (so_group a.count us ms c.loop-i.i c.loop-i.length c.loop-i.numbers h c.loop-i.invariant.2 w.if-visited-i.true (omega arith)) w.numbers-is w.length-is)
-    | else-visited-i w ↦ (omega arith, so_same t rest left c.if-visited-i.length c.if-visited-i.numbers (so_unmarked a.count us ms c.loop-i.i c.loop-i.length c.loop-i.numbers h c.loop-i.invariant.2 w.if-visited-i.false) w.numbers-is w.length-is)
+      )
+      | then-visited-i+else-nodes-at-ne-GROUP w ↦ (omega arith, so_same t rest left c.if-visited-i.length c.if-visited-i.numbers (so_group a.count us ms c.loop-i.i c.loop-i.length c.loop-i.numbers h c.loop-i.invariant.2 w.if-visited-i.true (omega arith)) w.numbers-is w.length-is)
+      | else-visited-i w ↦ (omega arith, so_same t rest left c.if-visited-i.length c.if-visited-i.numbers (so_unmarked a.count us ms c.loop-i.i c.loop-i.length c.loop-i.numbers h c.loop-i.invariant.2 w.if-visited-i.false) w.numbers-is w.length-is)
     ] in
     (omega arith, so.0, so.1)
 

@@ -1,14 +1,9 @@
 -- `order::running_order` meets its contract. The invariant: the numbers found so far with those that the marks give of the rest are the order
 -- (`OrderSoFar`).
-use Prim.Native.Nat.{◌+◌, ◌-◌, ◌≤◌, ◌<◌}
-use mathlib.Core.Path.{◌∙◌}
-use mathlib.Core.Logic.{⊎_elim}
-use native.Mathlib.Omega.{arith}
-use borrow.Author.Rules.{rules}
+use Prim.Native.Nat.{◌-◌, ◌≤◌}
 use Rattle.nodes.specs.Table.{rows}
-use Rattle.nodes.specs.TableLaws.{rows_end}
-use Rattle.order.specs.Order.{OrderSoFar, so_none, so_all, so_same, so_unmarked, so_group, so_more, so_full}
-use lib.ListN.{length, drop}
+use Rattle.order.specs.Order.{OrderSoFar}
+use lib.ListN.{drop}
 use Rattle.order.proofs.running_order.Given as goal
 
 abbrev pub invariant-loop-i : goal.invariant-loop-i

@@ -1,11 +1,8 @@
 -- `order::same_numbers` meets its contract. The invariant: what is left to compare is what there was to compare.
-use Prim.Native.Nat.{ℕ, ◌-◌, ◌≤◌}
-use mathlib.Core.Path.{◌≡◌, refl, sym, ap, ◌∙◌}
-use native.Mathlib.Omega.{arith}
-use borrow.Author.Tests.{eq-eqb, ne_eqb}
-use lib.ListN.{take, drop, get_or}
+use Prim.Native.Nat.{◌-◌, ◌≤◌}
+use mathlib.Core.Path.{◌≡◌}
+use lib.ListN.{take, drop}
 use Rattle.format.specs.Reader.{same_name}
-use Rattle.order.specs.Same.{front_turn, front_end}
 use Rattle.order.proofs.same_numbers.Given as goal
 
 abbrev pub invariant-loop-i : goal.invariant-loop-i

@@ -1,7 +1,6 @@
 -- `order::same_order` meets its contract: orders of two lengths differ, and those of one length are compared number by number.
 use mathlib.Core.Path.{sym, ◌∙◌}
 use native.Mathlib.Omega.{arith}
-use borrow.Author.Rules.{rules}
 use Rattle.nodes.specs.Table.{rows}
 use Rattle.order.specs.Same.{order_past, order_other, order_front}
 use Rattle.order.proofs.same_order.Goals as goal

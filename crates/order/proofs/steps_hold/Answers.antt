@@ -1,4 +1,4 @@
-use Prim.Native.Nat.{ℕ, ◌+◌, ◌*◌, ◌-◌, ◌≤◌, ◌<◌}
+use Prim.Native.Nat.{ℕ, ◌+◌, ◌*◌, ◌≤◌, ◌<◌}
 use mathlib.Core.Bool.{Bool}
 use mathlib.Core.Path.{◌≡◌, refl, sym, ap, ◌∙◌}
 use native.Mathlib.Omega.{arith}
@@ -40,8 +40,8 @@ loop-i-preserved c =
     sym (rw (lt-ltb 0 d some, le-leb d c.loop-i.most near) at (steps_turn a.count us c.loop-i.most i (omega arith))) ∙ c.loop-i.invariant.3 in
     let now : (c.if-nodes-at-eq-GROUP.most ≤ i + 1) × (c.if-nodes-at-eq-GROUP.most ≡ reach (node_from us (width * i))) =
     elim c.if-nodes-at-eq-GROUP.branch [
-      then-nodes-at-eq-GROUP w ↦ (omega arith, w.most-is ∙ sym (ap (λ (g : Bool). pick g (d + 1) d) (eq-eqb (get_or us (width * i + slot_field) 0) 32 w.if-nodes-at-eq-GROUP.true)))
-    | else-nodes-at-eq-GROUP w ↦ (omega arith, w.most-is ∙ sym (ap (λ (g : Bool). pick g (d + 1) d) (ne_eqb (get_or us (width * i + slot_field) 0) 32 w.if-nodes-at-eq-GROUP.false)))
+      | then-nodes-at-eq-GROUP w ↦ (omega arith, w.most-is ∙ sym (ap (λ (g : Bool). pick g (d + 1) d) (eq-eqb (get_or us (width * i + slot_field) 0) 32 w.if-nodes-at-eq-GROUP.true)))
+      | else-nodes-at-eq-GROUP w ↦ (omega arith, w.most-is ∙ sym (ap (λ (g : Bool). pick g (d + 1) d) (ne_eqb (get_or us (width * i + slot_field) 0) 32 w.if-nodes-at-eq-GROUP.false)))
     ] in
     (omega arith, omega arith, now.0, ap (λ (k : ℕ). steps k (drop (i + 1) t)) now.1 ∙ on)
 

@@ -1,15 +1,9 @@
 -- `order::steps_hold` meets its contract. The invariant: what is left to check, with how deep the next record may be, is what there was to check.
-use Prim.Native.Nat.{ℕ, ◌+◌, ◌*◌, ◌-◌, ◌≤◌, ◌<◌}
-use mathlib.Core.Bool.{Bool}
-use mathlib.Core.Path.{◌≡◌, refl, sym, ap, ◌∙◌}
-use native.Mathlib.Omega.{arith}
-use borrow.Author.Tests.{lt-ltb, le-ltb, le-leb, lt-leb, eq-eqb, ne_eqb}
-use lib.ListN.{drop, get_or}
-use mathlib.Core.Logic.{⊎_elim}
-use Rattle.words.specs.Choice.{pick}
-use Rattle.nodes.specs.Table.{width, node_from, rows, depth_field, slot_field}
-use Rattle.nodes.specs.Formed.{reach, steps}
-use Rattle.order.specs.Checks.{steps_turn, steps_end}
+use Prim.Native.Nat.{◌-◌, ◌≤◌}
+use mathlib.Core.Path.{◌≡◌}
+use lib.ListN.{drop}
+use Rattle.nodes.specs.Table.{rows}
+use Rattle.nodes.specs.Formed.{steps}
 use Rattle.order.proofs.steps_hold.Given as goal
 
 abbrev pub invariant-loop-i : goal.invariant-loop-i

@@ -1,4 +1,4 @@
-use Prim.Native.Nat.{◌+◌, ◌*◌, ◌-◌, ◌≤◌}
+use Prim.Native.Nat.{◌+◌, ◌*◌}
 use mathlib.Core.Path.{◌≡◌, refl, sym, ◌∙◌}
 use native.Mathlib.Omega.{arith}
 use borrow.Author.Tests.{eq-eqb, ne_eqb}
@@ -29,8 +29,8 @@ loop-i-preserved c =
     let turn = latest_turn a.count us a.number i (omega arith) in
     let on : synth_lives a.number (drop i t) ≡ synth_lives a.number (drop (i + 1) t) =
     elim c.if-nodes-at-ne-GROUP.branch [
-      then-nodes-at-ne-GROUP+else-nodes-at w ↦ rw (ne_eqb (get_or us (width * i + slot_field) 0) 32 w.if-nodes-at-ne-GROUP.true, ne_eqb (get_or us (width * i) 0) a.number w.if-nodes-at.false) at turn
-    | else-nodes-at-ne-GROUP w ↦ rw (eq-eqb (get_or us (width * i + slot_field) 0) 32 (omega arith)) at turn
+      | then-nodes-at-ne-GROUP+else-nodes-at w ↦ rw (ne_eqb (get_or us (width * i + slot_field) 0) 32 w.if-nodes-at-ne-GROUP.true, ne_eqb (get_or us (width * i) 0) a.number w.if-nodes-at.false) at turn
+      | else-nodes-at-ne-GROUP w ↦ rw (eq-eqb (get_or us (width * i + slot_field) 0) 32 (omega arith)) at turn
     ] in
     (omega arith, sym on ∙ c.loop-i.invariant.1)
 

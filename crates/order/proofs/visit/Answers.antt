@@ -1,4 +1,4 @@
-use Prim.Native.Nat.{◌+◌, ◌-◌, ◌≤◌}
+use Prim.Native.Nat.{◌+◌, ◌≤◌}
 use mathlib.Core.Path.{◌∙◌}
 use native.Mathlib.Omega.{arith}
 use Rattle.nodes.specs.Table.{rows}
@@ -20,9 +20,9 @@ loop-i-preserved c =
     let few = c.requires.few in
     let so : (c.if-depth-limit.limit ≤ c.loop-i.i + 1) × Walked t rest c.if-depth-limit.limit (c.loop-i.i + 1) c.if-depth-limit.visited =
     elim c.if-depth-limit.branch [
-      then-depth-limit+then-nodes-at-eq1 w ↦ (omega arith, walked_same t rest c.if-depth-limit.limit c.if-depth-limit.visited (walked_on a.count us c.loop-i.i c.loop-i.limit c.loop-i.visited (omega arith) few c.loop-i.invariant.2 w.if-depth-limit.true w.if-nodes-at-eq1.true) w.visited-is w.limit-is)
-    | then-depth-limit+else-nodes-at-eq1 w ↦ (omega arith, walked_same t rest c.if-depth-limit.limit c.if-depth-limit.visited (walked_off a.count us c.loop-i.i c.loop-i.limit c.loop-i.visited (omega arith) few c.loop-i.invariant.2 w.if-depth-limit.true w.if-nodes-at-eq1.false) w.visited-is w.limit-is)
-    | else-depth-limit w ↦ (omega arith, walked_same t rest c.if-depth-limit.limit c.if-depth-limit.visited (walked_under a.count us c.loop-i.i c.loop-i.limit c.loop-i.visited (omega arith) few c.loop-i.invariant.2 w.if-depth-limit.false) w.visited-is w.limit-is)
+      | then-depth-limit+then-nodes-at-eq1 w ↦ (omega arith, walked_same t rest c.if-depth-limit.limit c.if-depth-limit.visited (walked_on a.count us c.loop-i.i c.loop-i.limit c.loop-i.visited (omega arith) few c.loop-i.invariant.2 w.if-depth-limit.true w.if-nodes-at-eq1.true) w.visited-is w.limit-is)
+      | then-depth-limit+else-nodes-at-eq1 w ↦ (omega arith, walked_same t rest c.if-depth-limit.limit c.if-depth-limit.visited (walked_off a.count us c.loop-i.i c.loop-i.limit c.loop-i.visited (omega arith) few c.loop-i.invariant.2 w.if-depth-limit.true w.if-nodes-at-eq1.false) w.visited-is w.limit-is)
+      | else-depth-limit w ↦ (omega arith, walked_same t rest c.if-depth-limit.limit c.if-depth-limit.visited (walked_under a.count us c.loop-i.i c.loop-i.limit c.loop-i.visited (omega arith) few c.loop-i.invariant.2 w.if-depth-limit.false) w.visited-is w.limit-is)
     ] in
     (omega arith, so.0, so.1)
 

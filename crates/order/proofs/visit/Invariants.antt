@@ -1,11 +1,7 @@
 -- `order::visit` meets its contract. The invariant: the marks set so far with those of the rest are the marks of the whole walk (`Walked`).
-use Prim.Native.Nat.{◌+◌, ◌-◌, ◌≤◌}
-use mathlib.Core.Path.{◌∙◌}
-use mathlib.Core.Logic.{⊎_elim}
-use native.Mathlib.Omega.{arith}
+use Prim.Native.Nat.{◌-◌, ◌≤◌}
 use Rattle.nodes.specs.Table.{rows}
-use Rattle.nodes.specs.TableLaws.{rows_end, rows-length}
-use Rattle.order.specs.Visits.{Walked, walked_none, walked_all, walked_under, walked_off, walked_on, walked_same}
+use Rattle.order.specs.Visits.{Walked}
 use lib.ListN.{drop}
 use Rattle.order.proofs.visit.Given as goal
 

@@ -1,10 +1,10 @@
-use Prim.Native.Nat.{ℕ, ◌+◌, ◌-◌, ◌≤◌}
+use Prim.Native.Nat.{ℕ, ◌+◌}
 use mathlib.Core.Path.{◌≡◌, refl, ap, ap₂, ◌∙◌}
 use mathlib.Core.List.{List, ◌++◌, append-nil}
 use native.Mathlib.Omega.{arith}
 use native.Mathlib.Numerals.{add-one}
 use borrow.Author.Rules.{rules}
-use lib.ListN.{length, get_or, set, length-set, drop_of_length-le}
+use lib.ListN.{get_or, set, length-set, drop_of_length-le}
 use lib.Seq.{paste, paste-zero, paste-suc, take_all}
 use Rattle.order.proofs.write_order.Goals as goal
 

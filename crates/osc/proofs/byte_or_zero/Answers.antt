@@ -1,7 +1,6 @@
 -- `osc::byte_or_zero` meets its contract: past the end `get_or` is 0.
 use mathlib.Core.Path.{sym}
 use native.Mathlib.Omega.{arith}
-use borrow.Author.Rules.{rules}
 use lib.ListN.{get_or-eq_default}
 use Rattle.osc.proofs.byte_or_zero.Goals as goal
 

@@ -1,5 +1,4 @@
 use native.Mathlib.Omega.{arith}
-use borrow.Author.Rules.{rules}
 use Rattle.osc.specs.Over.{stores_1}
 use Rattle.osc.proofs.put_byte.Goals as goal
 

@@ -1,6 +1,5 @@
 use Prim.Native.Nat.{◌+◌, ◌/◌, ◌%◌}
 use native.Mathlib.Omega.{arith}
-use borrow.Author.Rules.{rules}
 use borrow.Author.Tests.{lt-ltb, le-ltb}
 use lib.ListN.{length-set}
 use Rattle.osc.specs.Over.{stores_1, stores_2, stores_3, stores_4, digits_1, digits_2, digits_3, digits_4}

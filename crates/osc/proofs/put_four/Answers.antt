@@ -1,6 +1,5 @@
 -- `osc::put_four` meets its contract: four stores (`stores-4`).
 use native.Mathlib.Omega.{arith}
-use borrow.Author.Rules.{rules}
 use lib.ListN.{length-set}
 use Rattle.osc.specs.Over.{stores_4}
 use Rattle.osc.proofs.put_four.Goals as goal

@@ -1,11 +1,8 @@
-use Prim.Native.Nat.{◌+◌, ◌-◌, ◌%◌, ◌≤◌}
-use mathlib.Core.Path.{◌≡◌, refl, ◌∙◌}
+use Prim.Native.Nat.{◌+◌}
+use mathlib.Core.Path.{refl, ◌∙◌}
 use native.Mathlib.Omega.{arith}
-use borrow.Author.Rules.{rules}
-use lib.ListN.{length, take}
 use lib.Seq.{paste-zero}
 use Rattle.osc.specs.Message.{padded}
-use Rattle.words.specs.Parts.{over}
 use Rattle.osc.specs.Over.{over_length}
 use Rattle.osc.specs.Lengths.{padded_size}
 use Rattle.osc.specs.Padding.{four_at, over_four, over_last}

@@ -1,15 +1,9 @@
 -- `osc::put_padded` meets its contract. The invariant: so many groups of four bytes of the padded string are written; the last is `over_last`.
-use Prim.Native.Nat.{◌+◌, ◌-◌, ◌%◌, ◌≤◌}
-use mathlib.Core.Path.{◌≡◌, refl, ◌∙◌}
-use native.Mathlib.Omega.{arith}
-use borrow.Author.Rules.{rules}
+use Prim.Native.Nat.{◌-◌, ◌%◌, ◌≤◌}
+use mathlib.Core.Path.{◌≡◌}
 use lib.ListN.{length, take}
-use lib.Seq.{paste-zero}
 use Rattle.osc.specs.Message.{padded}
 use Rattle.words.specs.Parts.{over}
-use Rattle.osc.specs.Over.{over_length}
-use Rattle.osc.specs.Lengths.{padded_size}
-use Rattle.osc.specs.Padding.{four_at, over_four, over_last}
 use Rattle.osc.proofs.put_padded.Given as goal
 
 abbrev pub invariant-loop-i : goal.invariant-loop-i

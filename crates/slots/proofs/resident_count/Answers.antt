@@ -1,8 +1,6 @@
 use Rattle.slots.specs.Slots.{count_from, count_turn, count_end}
 use native.Mathlib.Nat.{zero-add}
-use Prim.Native.Nat.{ℕ, ◌+◌, ◌-◌, ◌≤◌}
-use mathlib.Core.Path.{◌≡◌}
-use mathlib.Core.List.{List}
+use Prim.Native.Nat.{◌+◌}
 use native.Mathlib.Omega.{arith}
 use borrow.Author.Tests.{eq-eqb, ne_eqb}
 use lib.ListN.{get_or}
@@ -19,28 +17,28 @@ loop-k-preserved c =
     let before = c.loop-k.n in
     let inv = c.loop-k.invariant in
     elim c.if-table-k-eq1.branch [
-      then-table-k-eq1 w ↦ (
-      omega arith,
-      (
+      | then-table-k-eq1 w ↦ (
         omega arith,
-        λ arena.
-            let turn = rw (eq-eqb (get_or table (32 + k) 0) 1 w.if-table-k-eq1.true) at (count_turn table arena k (omega arith)) in
-            let all = inv.1.1 arena in
-            let n = w.n-is in
-            omega arith,
-      ),
-    )
-    | else-table-k-eq1 w ↦ (
-      omega arith,
-      (
+        (
+          omega arith,
+          λ arena.
+              let turn = rw (eq-eqb (get_or table (32 + k) 0) 1 w.if-table-k-eq1.true) at (count_turn table arena k (omega arith)) in
+              let all = inv.1.1 arena in
+              let n = w.n-is in
+              omega arith,
+        ),
+      )
+      | else-table-k-eq1 w ↦ (
         omega arith,
-        λ arena.
-            let turn = rw (ne_eqb (get_or table (32 + k) 0) 1 w.if-table-k-eq1.false) at (count_turn table arena k (omega arith)) in
-            let all = inv.1.1 arena in
-            let n = w.n-is in
-            omega arith,
-      ),
-    )
+        (
+          omega arith,
+          λ arena.
+              let turn = rw (ne_eqb (get_or table (32 + k) 0) 1 w.if-table-k-eq1.false) at (count_turn table arena k (omega arith)) in
+              let all = inv.1.1 arena in
+              let n = w.n-is in
+              omega arith,
+        ),
+      )
     ]
 
 pub returns : goal.returns

@@ -1,12 +1,7 @@
-use Rattle.slots.specs.Slots.{count_from, count_turn, count_end}
-use native.Mathlib.Nat.{zero-add}
-use mathlib.Core.Logic.{⊎_elim}
+use Rattle.slots.specs.Slots.{count_from}
 use Prim.Native.Nat.{ℕ, ◌+◌, ◌-◌, ◌≤◌}
 use mathlib.Core.Path.{◌≡◌}
 use mathlib.Core.List.{List}
-use native.Mathlib.Omega.{arith}
-use borrow.Author.Tests.{eq-eqb, ne_eqb}
-use lib.ListN.{get_or}
 use Rattle.slots.proofs.resident_count.Given as goal
 
 abbrev pub invariant-loop-k : goal.invariant-loop-k

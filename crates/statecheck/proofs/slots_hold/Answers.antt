@@ -2,7 +2,6 @@
 use Prim.Native.Nat.{ℕ}
 use mathlib.Core.Path.{subst, ◌∙◌}
 use lib.ListN.{get_or}
-use borrow.Author.Rules.{rules}
 use Rattle.definitions.specs.Holders.{HeldBy}
 use Rattle.definitions.specs.Lent.{check_lent}
 use Rattle.statecheck.specs.Parts.{nodes_of}

@@ -2,8 +2,6 @@
 use mathlib.Core.Bool.{true}
 use mathlib.Core.Path.{◌≡◌, sym, ◌∙◌}
 use native.Mathlib.Omega.{arith}
-use borrow.Author.Rules.{rules}
-use borrow.Author.Tests.{not-true, not-false}
 use Rattle.statecheck.specs.Parts.{hold_part, index_part, index_fits, tree_many, tree_nodes, tree_index, tree_order}
 use Rattle.statecheck.proofs.tree_formed.Goals as goal
 

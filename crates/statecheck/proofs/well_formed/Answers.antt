@@ -2,8 +2,6 @@
 use mathlib.Core.Bool.{true, false}
 use mathlib.Core.Path.{◌≡◌, sym, ◌∙◌}
 use native.Mathlib.Omega.{arith}
-use borrow.Author.Rules.{rules}
-use borrow.Author.Tests.{not-true, not-false}
 use Rattle.statecheck.specs.Parts.{tree_part, slots_part, bad_size, bad_room, bad_tree, good_tree, few, ready}
 use Rattle.statecheck.proofs.well_formed.Goals as goal
 

@@ -1,5 +1,4 @@
 -- `tagged::size_at` meets its contract.
-use borrow.Author.Rules.{rules}
 use lib.Seq.{get_or-drop}
 use Rattle.tagged.proofs.size_at.Goals as goal
 

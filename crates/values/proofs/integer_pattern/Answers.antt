@@ -1,7 +1,6 @@
 use Prim.Native.Nat.{◌+◌, ◌-◌}
 use mathlib.Core.Path.{refl, sym}
 use native.Mathlib.Omega.{arith}
-use borrow.Author.Rules.{rules}
 use Rattle.values.specs.ValueLaws.{in-float, positive_no_nan, negative_no_nan, negated, small_integer, small_negative, large_integer}
 use Rattle.values.proofs.integer_pattern.Goals as goal
 

@@ -1,5 +1,4 @@
 use mathlib.Core.Path.{sym}
-use borrow.Author.Rules.{rules}
 use Rattle.values.specs.ValueLaws.{float_pattern}
 use Rattle.values.proofs.value_pattern.Goals as goal
 

@@ -1,5 +1,4 @@
 use native.Mathlib.Omega.{arith}
-use borrow.Author.Rules.{rules}
 use Rattle.values.proofs.word_of.Goals as goal
 
 pub returns-then-bus-lt4294967295 : goal.returns-then-bus-lt4294967295

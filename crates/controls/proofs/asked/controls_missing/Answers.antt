@@ -3,7 +3,6 @@ use Rattle.model.specs.Engine.{decode}
 use Rattle.controls.specs.declared.definition.Asked.TheVariants.{There, Missing, PastWidth}
 use Rattle.model.specs.Layout.{record_in}
 use Rattle.controls.specs.Asked.{controls_missing, controls_past, is_missing, missing_asked}
-use borrow.Author.Rules.{rules}
 use Rattle.controls.proofs.asked.controls_missing.Goals as goal
 
 pub returns-in-Missing : goal.returns-in-Missing

@@ -1,5 +1,4 @@
 use mathlib.Core.Path.{sym, ap}
-use borrow.Author.Rules.{rules}
 use Rattle.model.specs.Meaning.{negative_key}
 use Rattle.controls.proofs.asked.negative_key.Goals as goal
 

@@ -10,7 +10,6 @@ use Rattle.controls.specs.Encoded.{front_only}
 use Rattle.controls.specs.Ready.{synth_ready, synth_readable}
 use Rattle.controls.specs.Cover.{cover_inside}
 use Rattle.controls.specs.Asked.{control_in, read_none, read_past, read_there}
-use borrow.Author.Rules.{rules}
 use Rattle.controls.proofs.asked.read_key.Goals as goal
 
 pub node_definition-requires : goal.node_definition-requires

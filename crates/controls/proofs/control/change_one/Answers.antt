@@ -3,7 +3,6 @@
 use Prim.Native.Nat.{ℕ, ◌+◌}
 use mathlib.Core.Path.{◌≡◌, ap, ap₂, ◌∙◌}
 use native.Mathlib.Omega.{arith}
-use borrow.Author.Rules.{rules}
 use lib.ListN.{get_or, set, length-set}
 use Rattle.values.specs.Controls.{ControlValue, control_at, mapping_word, seen}
 use Rattle.controls.specs.Change.{change_of, set-two, set_second}

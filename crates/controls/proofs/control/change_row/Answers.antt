@@ -1,9 +1,7 @@
 use Prim.Native.Nat.{ℕ, suc, ◌+◌, ◌*◌, ◌-◌, ◌≤◌}
 use mathlib.Core.Path.{◌≡◌, refl, sym, ap, ap₂, ◌∙◌}
 use native.Mathlib.Omega.{arith}
-use borrow.Author.Rules.{rules}
 use lib.ListN.{length}
-use Rattle.model.specs.Effects.{change_row}
 use Rattle.controls.specs.Change.{change_of, change_from_place, changed_at, change_turn, changed-length, change_none}
 use Rattle.controls.proofs.control.change_row.Goals as goal
 

@@ -1,10 +1,8 @@
-use Prim.Native.Nat.{ℕ, suc, ◌+◌, ◌*◌, ◌-◌, ◌≤◌}
-use mathlib.Core.Path.{◌≡◌, refl, sym, ap, ap₂, ◌∙◌}
-use native.Mathlib.Omega.{arith}
-use borrow.Author.Rules.{rules}
+use Prim.Native.Nat.{◌+◌, ◌*◌, ◌-◌, ◌≤◌}
+use mathlib.Core.Path.{◌≡◌}
 use lib.ListN.{length}
 use Rattle.model.specs.Effects.{change_row}
-use Rattle.controls.specs.Change.{change_of, change_from_place, changed_at, change_turn, changed-length, change_none}
+use Rattle.controls.specs.Change.{change_of, change_from_place}
 use Rattle.controls.proofs.control.change_row.Given as goal
 
 abbrev pub invariant-loop-i : goal.invariant-loop-i

@@ -1,7 +1,6 @@
 use mathlib.Core.Path.{sym, ap, ◌∙◌, subst}
 use mathlib.Core.List.{List}
 use Prim.Native.Nat.{ℕ}
-use borrow.Author.Rules.{rules}
 use Rattle.readable.specs.Readable.{Readable}
 use Rattle.model.specs.Meaning.{cover_of}
 use Rattle.controls.specs.Encoded.{front_only}

@@ -1,5 +1,4 @@
 use mathlib.Core.Path.{sym, ap, ◌∙◌}
-use borrow.Author.Rules.{rules}
 use Rattle.fields.specs.Answers.{number_of}
 use Rattle.model.specs.Engine.{value_or}
 use Rattle.controls.proofs.definition.float_at.Goals as goal

@@ -2,7 +2,6 @@ use Prim.Native.Nat.{ℕ, ◌*◌}
 use mathlib.Core.Path.{◌≡◌, sym, ap, ap₂, ◌∙◌}
 use mathlib.Core.List.{List}
 use native.Mathlib.Omega.{arith}
-use borrow.Author.Rules.{rules}
 use Rattle.readable.specs.declared.found.ValuesFound.TheVariants as values
 use Rattle.readable.specs.Lookup.{values_in}
 use Rattle.words.specs.Parts.{over}

@@ -1,5 +1,4 @@
 use mathlib.Core.Path.{ap, ◌∙◌}
-use borrow.Author.Rules.{rules}
 use Rattle.controls.specs.Encoded.{number_or, parameters_fact}
 use Rattle.controls.proofs.definition.parameter_count.Goals as goal
 

@@ -1,11 +1,9 @@
-use Prim.Native.Nat.{ℕ, ◌+◌, ◌*◌, ◌-◌, ◌≤◌}
-use mathlib.Core.Path.{◌≡◌, refl, sym, ap, ◌∙◌}
-use mathlib.Core.List.{List}
-use native.Mathlib.Omega.{arith}
-use lib.ListN.{length, get_or, set, length-set}
-use lib.Seq.{paste, paste-zero}
+use Prim.Native.Nat.{◌*◌, ◌-◌, ◌≤◌}
+use mathlib.Core.Path.{◌≡◌}
+use lib.ListN.{length}
+use lib.Seq.{paste}
 use Rattle.model.specs.Effects.{initial_words}
-use Rattle.controls.specs.Initial.{floats_from, floats_length, float_of, words-length, own_of, mapping-of, pasted, pasted_two}
+use Rattle.controls.specs.Initial.{floats_from}
 use Rattle.controls.proofs.definition.write_initial.Given as goal
 
 abbrev pub invariant-loop-i : goal.invariant-loop-i

@@ -9,7 +9,6 @@ use Rattle.model.specs.Effects.{change_row}
 use Rattle.controls.specs.Change.{change_of}
 use Rattle.controls.specs.Synth.{same_controls}
 use Rattle.controls.specs.Cover.{reached_by, reached_inside, reached_none, reached_some}
-use borrow.Author.Rules.{rules}
 use Rattle.controls.proofs.synth.change_node.Goals as goal
 
 pub returns-then-many-eq0 : goal.returns-then-many-eq0

@@ -1,5 +1,4 @@
 use mathlib.Core.Path.{ap, ◌∙◌}
-use borrow.Author.Rules.{rules}
 use Rattle.values.specs.Controls.{shown_by}
 use Rattle.controls.proofs.synth.read_at.Goals as goal
 

@@ -5,7 +5,7 @@ use lib.Dec.{leb}
 use Rattle.words.specs.Choice.{both}
 use Rattle.model.specs.Formed.{mappings_formed}
 use Rattle.controls.specs.Synth.{mappings_turn, mappings_none}
-use Prim.Native.Nat.{ℕ, ◌+◌, ◌*◌, ◌-◌, ◌≤◌}
+use Prim.Native.Nat.{ℕ, ◌+◌, ◌*◌, ◌-◌}
 use mathlib.Core.Bool.{Bool, true, false}
 use mathlib.Core.Path.{◌≡◌, refl, sym, ap, ◌∙◌}
 use native.Mathlib.Omega.{arith}

@@ -1,15 +1,8 @@
-use Prim.{tt}
-use native.Mathlib.Nat.{sub-zero}
-use lib.Seq.{get_or-drop}
-use lib.Dec.{leb}
 use Rattle.words.specs.Choice.{both}
 use Rattle.model.specs.Formed.{mappings_formed}
-use Rattle.controls.specs.Synth.{mappings_turn, mappings_none}
-use Prim.Native.Nat.{ℕ, ◌+◌, ◌*◌, ◌-◌, ◌≤◌}
-use mathlib.Core.Bool.{Bool, true, false}
-use mathlib.Core.Path.{◌≡◌, refl, sym, ap, ◌∙◌}
-use native.Mathlib.Omega.{arith}
-use lib.ListN.{drop, get_or}
+use Prim.Native.Nat.{◌*◌, ◌-◌, ◌≤◌}
+use mathlib.Core.Path.{◌≡◌}
+use lib.ListN.{drop}
 use Rattle.controls.proofs.synth.row_formed.Given as goal
 
 abbrev pub invariant-loop-i : goal.invariant-loop-i

@@ -3,12 +3,9 @@ use Prim.Native.Nat.{ℕ, ◌-◌, ◌<◌}
 use mathlib.Core.Path.{◌≡◌, refl, sym, ap, ◌∙◌}
 use mathlib.Core.List.{List}
 use native.Mathlib.Omega.{arith}
-use borrow.Author.Tests.{not-true, not-false}
-use borrow.Author.Rules.{rules}
-use lib.ListN.{length, take, drop}
-use Rattle.model.specs.Layout.{words_length, count_in, nodes_in, controls_in, put_controls, record_in}
+use lib.ListN.{drop}
+use Rattle.model.specs.Layout.{count_in, nodes_in, controls_in, put_controls, record_in}
 use Rattle.model.specs.Engine.{decode}
-use Rattle.model.specs.Effects.{change_all}
 use Rattle.controls.specs.Change.{change_of}
 use Rattle.model.specs.Meaning.{cover_of}
 use Rattle.controls.specs.Encoded.{front_only}
@@ -16,7 +13,7 @@ use Rattle.controls.specs.Synth.{same_controls}
 use Rattle.controls.specs.All.{synth_lent, cover-change, no_change, turned, all_none}
 use Rattle.slots.specs.Slots.{slot_bytes}
 use Rattle.controls.specs.Noted.{noted_none, noted_more}
-use Rattle.controls.specs.Cover.{cover_on, cover_inside, CoversNoted, no_cover}
+use Rattle.controls.specs.Cover.{cover_on, cover_inside, no_cover}
 use Rattle.controls.proofs.table.change_all.Goals as goal
 use Rattle.controls.proofs.table.change_all.Goals.{then-not-node_is_group, else-not-node_is_group}
 
@@ -89,23 +86,23 @@ loop-i-preserved c =
     let f = change_of a.change in
     let live : c.loop-i.i < count_in a.words.now = omega (arith, c.requires.1) in
     elim c.if-not-node_is_group.branch [
-      then-not-node_is_group b ↦ let single = sym c.node_is_group.ensures ∙ b.if-not-node_is_group.true in
-    let e = synth_lent a.words.now a.arena.now c.loop-i.words c.loop-i.i c.requires.0 c.loop-i.invariant.0 c.loop-i.invariant.1 live single in
-    let slot = b.node_slot-slot.result in
-    let here : slot ≡ (record_in c.loop-i.words c.loop-i.i).slot = b.node_slot-slot.ensures in
-    let cover = b.slot_cover-cover.ensures ∙ ap (cover_on a.key a.name.now c.loop-i.words a.arena.now) here in
-    let fact = b.change_node.ensures ∙ ap (λ (cs : List ℕ). put_controls cs c.loop-i.words) (cover-change f a.key a.name.now a.count c.loop-i.words a.arena.now c.loop-i.i single b.slot_cover-cover.result cover) in
-    let t =
-    turned f a.key a.name.now a.count a.words.now a.arena.now a.to c.loop-i.i c.loop-i.words b.change_node.new.words
-    c.requires.0 (omega arith) c.requires.1 c.loop-i.invariant.0 c.loop-i.invariant.1 b.change_node.auto.words fact in
-    let noted = cover ∙ ap (λ (d : List ℕ). cover_of a.key a.name.now (front_only d)) (e.kept ∙ ap (slot_bytes a.words.now a.arena.now) (sym here)) in
-    let more = noted_more _ _ c.loop-i.covers c.loop-i.invariant.3 slot b.slot_cover-cover.result (rw here e.slot) noted in
-    (rw b.words-is t.size, rw b.words-is t.rest, rw b.words-is (t.left ∙ c.loop-i.invariant.2), rw b.covers-is more)
-    | else-not-node_is_group b ↦ let whole = sym c.node_is_group.ensures ∙ b.if-not-node_is_group.false in
-    let t =
-    turned f a.key a.name.now a.count a.words.now a.arena.now a.to c.loop-i.i c.loop-i.words c.loop-i.words
-    c.requires.0 (omega arith) c.requires.1 c.loop-i.invariant.0 c.loop-i.invariant.1 refl (no_change f a.key a.name.now a.count c.loop-i.words a.arena.now c.loop-i.i whole) in
-    (rw b.words-is t.size, rw b.words-is t.rest, rw b.words-is (t.left ∙ c.loop-i.invariant.2), rw b.covers-is c.loop-i.invariant.3)
+      | then-not-node_is_group b ↦ let single = sym c.node_is_group.ensures ∙ b.if-not-node_is_group.true in
+          let e = synth_lent a.words.now a.arena.now c.loop-i.words c.loop-i.i c.requires.0 c.loop-i.invariant.0 c.loop-i.invariant.1 live single in
+          let slot = b.node_slot-slot.result in
+          let here : slot ≡ (record_in c.loop-i.words c.loop-i.i).slot = b.node_slot-slot.ensures in
+          let cover = b.slot_cover-cover.ensures ∙ ap (cover_on a.key a.name.now c.loop-i.words a.arena.now) here in
+          let fact = b.change_node.ensures ∙ ap (λ (cs : List ℕ). put_controls cs c.loop-i.words) (cover-change f a.key a.name.now a.count c.loop-i.words a.arena.now c.loop-i.i single b.slot_cover-cover.result cover) in
+          let t =
+          turned f a.key a.name.now a.count a.words.now a.arena.now a.to c.loop-i.i c.loop-i.words b.change_node.new.words
+          c.requires.0 (omega arith) c.requires.1 c.loop-i.invariant.0 c.loop-i.invariant.1 b.change_node.auto.words fact in
+          let noted = cover ∙ ap (λ (d : List ℕ). cover_of a.key a.name.now (front_only d)) (e.kept ∙ ap (slot_bytes a.words.now a.arena.now) (sym here)) in
+          let more = noted_more _ _ c.loop-i.covers c.loop-i.invariant.3 slot b.slot_cover-cover.result (rw here e.slot) noted in
+          (rw b.words-is t.size, rw b.words-is t.rest, rw b.words-is (t.left ∙ c.loop-i.invariant.2), rw b.covers-is more)
+      | else-not-node_is_group b ↦ let whole = sym c.node_is_group.ensures ∙ b.if-not-node_is_group.false in
+          let t =
+          turned f a.key a.name.now a.count a.words.now a.arena.now a.to c.loop-i.i c.loop-i.words c.loop-i.words
+          c.requires.0 (omega arith) c.requires.1 c.loop-i.invariant.0 c.loop-i.invariant.1 refl (no_change f a.key a.name.now a.count c.loop-i.words a.arena.now c.loop-i.i whole) in
+          (rw b.words-is t.size, rw b.words-is t.rest, rw b.words-is (t.left ∙ c.loop-i.invariant.2), rw b.covers-is c.loop-i.invariant.3)
     ]
 
 pub returns : goal.returns

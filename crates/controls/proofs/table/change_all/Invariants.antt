@@ -1,23 +1,11 @@
-use mathlib.Core.Logic.{⊎_elim}
-use mathlib.Core.Bool.{false}
-use Prim.Native.Nat.{ℕ, ◌-◌, ◌<◌}
-use mathlib.Core.Path.{◌≡◌, refl, sym, ap, ◌∙◌}
-use mathlib.Core.List.{List}
-use native.Mathlib.Omega.{arith}
-use borrow.Author.Tests.{not-true, not-false}
-use borrow.Author.Rules.{rules}
+use Prim.Native.Nat.{◌-◌}
+use mathlib.Core.Path.{◌≡◌}
 use lib.ListN.{length, take, drop}
-use Rattle.model.specs.Layout.{words_length, count_in, nodes_in, controls_in, put_controls, record_in}
+use Rattle.model.specs.Layout.{words_length, nodes_in, controls_in, put_controls}
 use Rattle.model.specs.Engine.{decode}
 use Rattle.model.specs.Effects.{change_all}
 use Rattle.controls.specs.Change.{change_of}
-use Rattle.model.specs.Meaning.{cover_of}
-use Rattle.controls.specs.Encoded.{front_only}
-use Rattle.controls.specs.Synth.{same_controls}
-use Rattle.controls.specs.All.{synth_lent, cover-change, no_change, turned, all_none}
-use Rattle.slots.specs.Slots.{slot_bytes}
-use Rattle.controls.specs.Noted.{noted_none, noted_more}
-use Rattle.controls.specs.Cover.{cover_on, cover_inside, CoversNoted, no_cover}
+use Rattle.controls.specs.Cover.{CoversNoted}
 use Rattle.controls.proofs.table.change_all.Given as goal
 
 abbrev pub invariant-loop-i : goal.invariant-loop-i

@@ -2,19 +2,16 @@ use Prim.{tt}
 use Prim.Native.Nat.{ℕ, ◌*◌, ◌<◌}
 use mathlib.Core.Path.{ap, ap₂}
 use lib.ListN.{length}
-use Prim.Native.Nat.{◌-◌}
 use mathlib.Core.Bool.{true, false}
 use mathlib.Core.Path.{◌≡◌, refl, sym, ◌∙◌}
 use native.Mathlib.Omega.{arith}
-use borrow.Author.Tests.{not-true, not-false}
 use lib.ListN.{drop}
-use Rattle.model.specs.Layout.{controls_place, controls_words, nodes_in, controls_in, record_in}
-use Rattle.model.specs.Engine.{decode}
-use Rattle.model.specs.Formed.{mappings_formed, controls_formed}
+use Rattle.model.specs.Layout.{controls_place, controls_words, controls_in, record_in}
+use Rattle.model.specs.Formed.{mappings_formed}
 use Rattle.controls.specs.Formed.{node_formed, formed_turn, formed_end, synth_here}
 use Rattle.words.specs.PartsLaws.{region-length}
 use Rattle.controls.specs.Noted.{noted_none, noted_more}
-use Rattle.controls.specs.Cover.{unknown, controls_on, Counted}
+use Rattle.controls.specs.Cover.{unknown, controls_on}
 use Rattle.controls.proofs.table.controls_formed.Goals as goal
 use Rattle.controls.proofs.table.controls_formed.Goals.{then-not-node_is_group+else-not-row_formed, else-not-node_is_group}
 
@@ -113,18 +110,18 @@ loop-i-preserved c =
     let arena = c.args.arena.now in
     let turn = formed_turn ws arena c.requires c.loop-i.i (omega arith) in
     elim c.if-not-node_is_group.branch [
-      then-not-node_is_group+else-not-row_formed b ↦ let single = sym c.node_is_group.ensures ∙ b.if-not-node_is_group.true in
-    let h = synth_here ws arena c.requires c.loop-i.i (omega arith) single in
-    let here : b.node_slot-slot.result ≡ (record_in ws c.loop-i.i).slot = b.node_slot-slot.ensures in
-    let more : node_formed ws arena c.loop-i.i ≡ true =
-    h.test
-    ∙ sym (ap₂ (λ (n row : ℕ). mappings_formed n (drop (64 * row) (controls_in ws))) (b.slot_controls-many.ensures ∙ ap (controls_on ws arena) here) b.node_row.ensures)
-    ∙ sym b.row_formed.ensures
-    ∙ b.if-not-row_formed.false in
-    let noted = noted_more _ _ c.loop-i.known c.loop-i.invariant.1 b.node_slot-slot.result b.slot_controls-many.result (rw here (h.bounds.slot single)) b.slot_controls-many.ensures in
-    (sym (rw more at turn) ∙ c.loop-i.invariant.0, rw b.known-is noted)
-    | else-not-node_is_group b ↦ let whole = sym c.node_is_group.ensures ∙ b.if-not-node_is_group.false in
-    (sym (rw whole at turn) ∙ c.loop-i.invariant.0, rw b.known-is c.loop-i.invariant.1)
+      | then-not-node_is_group+else-not-row_formed b ↦ let single = sym c.node_is_group.ensures ∙ b.if-not-node_is_group.true in
+          let h = synth_here ws arena c.requires c.loop-i.i (omega arith) single in
+          let here : b.node_slot-slot.result ≡ (record_in ws c.loop-i.i).slot = b.node_slot-slot.ensures in
+          let more : node_formed ws arena c.loop-i.i ≡ true =
+          h.test
+          ∙ sym (ap₂ (λ (n row : ℕ). mappings_formed n (drop (64 * row) (controls_in ws))) (b.slot_controls-many.ensures ∙ ap (controls_on ws arena) here) b.node_row.ensures)
+          ∙ sym b.row_formed.ensures
+          ∙ b.if-not-row_formed.false in
+          let noted = noted_more _ _ c.loop-i.known c.loop-i.invariant.1 b.node_slot-slot.result b.slot_controls-many.result (rw here (h.bounds.slot single)) b.slot_controls-many.ensures in
+          (sym (rw more at turn) ∙ c.loop-i.invariant.0, rw b.known-is noted)
+      | else-not-node_is_group b ↦ let whole = sym c.node_is_group.ensures ∙ b.if-not-node_is_group.false in
+          (sym (rw whole at turn) ∙ c.loop-i.invariant.0, rw b.known-is c.loop-i.invariant.1)
     ]
 
 pub returns : goal.returns

@@ -1,4 +1,3 @@
-use borrow.Author.Rules.{rules}
 use Rattle.fields.proofs.cursor.value_at.Goals as goal
 
 pub half_at-requires : goal.half_at-requires

@@ -1,9 +1,8 @@
 use Prim.Native.Nat.{◌-◌}
-use mathlib.Core.Path.{◌≡◌, refl, sym, ◌∙◌}
+use mathlib.Core.Path.{sym, ◌∙◌}
 use native.Mathlib.Omega.{arith}
 use borrow.Author.Tests.{le-leb, lt-leb}
 use lib.ListN.{get_or}
-use Rattle.words.specs.Parts.{region}
 use Rattle.format.specs.Fields.{name_bytes}
 use Rattle.format.specs.NameLaws.{region_past, region_none, name_turn}
 use Rattle.fields.proofs.name.name_bytes.Goals as goal

@@ -1,11 +1,7 @@
 use Prim.Native.Nat.{◌-◌}
-use mathlib.Core.Path.{◌≡◌, refl, sym, ◌∙◌}
-use native.Mathlib.Omega.{arith}
-use borrow.Author.Tests.{le-leb, lt-leb}
-use lib.ListN.{get_or}
+use mathlib.Core.Path.{◌≡◌}
 use Rattle.words.specs.Parts.{region}
 use Rattle.format.specs.Fields.{name_bytes}
-use Rattle.format.specs.NameLaws.{region_past, region_none, name_turn}
 use Rattle.fields.proofs.name.name_bytes.Given as goal
 
 abbrev pub invariant-loop-i : goal.invariant-loop-i

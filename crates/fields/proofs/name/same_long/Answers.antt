@@ -1,10 +1,7 @@
-use Prim.Native.Nat.{◌-◌, ◌≤◌}
-use mathlib.Core.Bool.{true}
-use mathlib.Core.Path.{◌≡◌, sym, ◌∙◌}
+use Prim.Native.Nat.{◌-◌}
+use mathlib.Core.Path.{sym, ◌∙◌}
 use native.Mathlib.Omega.{arith}
-use borrow.Author.Tests.{not-true, not-false}
-use lib.ListN.{length, drop, length-take, length-drop}
-use Rattle.format.specs.Reader.{same_name}
+use lib.ListN.{length, length-take, length-drop}
 use Rattle.fields.specs.SameLaws.{same_lengths, same_end, same_front, part_differs, part_same}
 use Rattle.fields.proofs.name.same_long.Goals as goal
 
@@ -30,8 +27,7 @@ returns-then-not-same_part c =
 
 pub loop-i-preserved : goal.loop-i-preserved
 loop-i-preserved c =
-    let a = c.args in
-    (
+    let a = c.args in (
       omega arith,
       part_same a.a.now a.b.now (c.loop-i.i - 16) (omega arith) (omega arith) c.loop-i.i (omega arith) (omega arith) (omega arith)
           (sym c.same_part.ensures ∙ c.if-not-same_part.false) c.loop-i.invariant.1,

@@ -1,12 +1,9 @@
 -- `fields::name::same_long` meets its contract. The invariant: the bytes from here on are the same.
-use Prim.Native.Nat.{◌-◌, ◌≤◌}
+use Prim.Native.Nat.{◌≤◌}
 use mathlib.Core.Bool.{true}
-use mathlib.Core.Path.{◌≡◌, sym, ◌∙◌}
-use native.Mathlib.Omega.{arith}
-use borrow.Author.Tests.{not-true, not-false}
-use lib.ListN.{length, drop, length-take, length-drop}
+use mathlib.Core.Path.{◌≡◌}
+use lib.ListN.{length, drop}
 use Rattle.format.specs.Reader.{same_name}
-use Rattle.fields.specs.SameLaws.{same_lengths, same_end, same_front, part_differs, part_same}
 use Rattle.fields.proofs.name.same_long.Given as goal
 
 abbrev pub invariant-loop-i : goal.invariant-loop-i

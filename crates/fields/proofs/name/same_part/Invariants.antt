@@ -1,14 +1,9 @@
 -- `fields::name::same_part` meets its contract. The invariant: what was compared and what is left are the same together where the parts are.
-use Prim.Native.Nat.{◌+◌, ◌-◌, ◌≤◌}
-use mathlib.Core.Bool.{Bool, true, false}
-use mathlib.Core.Path.{◌≡◌, refl, sym, ap, ◌∙◌}
-use native.Mathlib.Omega.{arith}
-use lib.Dec.{eqb}
-use lib.ListN.{drop, get_or}
+use Prim.Native.Nat.{◌-◌, ◌≤◌}
+use mathlib.Core.Path.{◌≡◌}
+use lib.ListN.{drop}
 use Rattle.words.specs.Choice.{both}
 use Rattle.format.specs.Reader.{same_name}
-use Rattle.fields.specs.SameLaws.{same_turn, same_end}
-use Rattle.words.specs.ChoiceLaws.{both_assoc}
 use Rattle.fields.proofs.name.same_part.Given as goal
 
 abbrev pub invariant-loop-i : goal.invariant-loop-i

@@ -1,9 +1,7 @@
-use Prim.Native.Nat.{◌+◌, ◌-◌, ◌≤◌}
-use mathlib.Core.Bool.{true}
+use Prim.Native.Nat.{◌+◌, ◌-◌}
 use mathlib.Core.Path.{◌≡◌, sym}
 use native.Mathlib.Omega.{arith}
-use lib.ListN.{length, drop}
-use Rattle.format.specs.Reader.{same_name}
+use lib.ListN.{length}
 use Rattle.fields.specs.SameLaws.{same_differs, same_before, same_end}
 use Rattle.fields.proofs.name.same_run.Goals as goal
 

@@ -1,11 +1,9 @@
 -- `fields::name::same_run` meets its contract. The invariant: the bytes from here on are the same.
-use Prim.Native.Nat.{◌+◌, ◌-◌, ◌≤◌}
+use Prim.Native.Nat.{◌≤◌}
 use mathlib.Core.Bool.{true}
-use mathlib.Core.Path.{◌≡◌, sym}
-use native.Mathlib.Omega.{arith}
+use mathlib.Core.Path.{◌≡◌}
 use lib.ListN.{length, drop}
 use Rattle.format.specs.Reader.{same_name}
-use Rattle.fields.specs.SameLaws.{same_differs, same_before, same_end}
 use Rattle.fields.proofs.name.same_run.Given as goal
 
 abbrev pub invariant-loop-i : goal.invariant-loop-i

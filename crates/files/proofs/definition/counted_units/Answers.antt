@@ -1,5 +1,4 @@
 use mathlib.Core.Path.{sym}
-use borrow.Author.Rules.{rules}
 use Rattle.files.proofs.definition.counted_units.Goals as goal
 
 pub returns-in-Value : goal.returns-in-Value

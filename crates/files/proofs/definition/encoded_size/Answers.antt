@@ -1,7 +1,6 @@
 use mathlib.Core.Path.{◌≡◌, sym, ap, ◌∙◌}
 use native.Mathlib.Omega.{arith}
 use Prim.Native.Nat.{zero}
-use borrow.Author.Rules.{rules}
 use Rattle.format.specs.Reader.{definition_by}
 use Rattle.format.specs.Read.{got, map_read}
 use Rattle.format.specs.Endings.{mapped_got}

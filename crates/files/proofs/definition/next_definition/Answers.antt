@@ -1,6 +1,5 @@
 use mathlib.Core.Path.{sym}
 use native.Mathlib.Omega.{arith}
-use borrow.Author.Rules.{rules}
 use Rattle.format.specs.Reader.{definition_by}
 use Rattle.encoding.specs.Encoding.{fields_in}
 use Rattle.files.specs.Skips.{kept_bad, skip_definition, count_definition, units_few}

@@ -1,5 +1,4 @@
 use mathlib.Core.Path.{ap, ◌∙◌}
-use borrow.Author.Rules.{rules}
 use Rattle.format.specs.Read.{ending}
 use Rattle.format.specs.Reader.{definition_by}
 use Rattle.encoding.specs.Encoding.{fields_in}

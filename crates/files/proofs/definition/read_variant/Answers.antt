@@ -1,5 +1,4 @@
 use mathlib.Core.Path.{sym}
-use borrow.Author.Rules.{rules}
 use Rattle.files.specs.Skips.{skip-variant}
 use Rattle.files.proofs.definition.read_variant.Goals as goal
 

@@ -1,11 +1,6 @@
 use Prim.Native.Nat.{◌-◌, ◌≤◌}
-use mathlib.Core.Path.{◌≡◌, sym, ◌∙◌}
-use native.Mathlib.Omega.{arith}
-use borrow.Author.Rules.{rules}
-use Rattle.format.specs.Endings.{repeat_next, repeat_bad}
-use Rattle.format.specs.RepeatLaws.{ending_none}
+use mathlib.Core.Path.{◌≡◌}
 use Rattle.format.specs.Read.{ending, repeat}
-use native.Mathlib.Nat.{sub-zero}
 use Rattle.format.specs.Reader.{variant}
 use Rattle.files.proofs.definition.read_variants.Given as goal
 

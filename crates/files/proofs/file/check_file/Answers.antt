@@ -1,6 +1,5 @@
 use mathlib.Core.Path.{sym}
 use native.Mathlib.Omega.{arith}
-use borrow.Author.Rules.{rules}
 use Rattle.files.specs.FileLaws.{head_few, file_head, file_bad, file_left, file_accepted}
 use Rattle.files.proofs.file.check_file.Goals as goal
 

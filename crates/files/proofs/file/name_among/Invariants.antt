@@ -1,13 +1,9 @@
-use Prim.Native.Nat.{◌+◌, ◌-◌, ◌≤◌}
-use mathlib.Core.Bool.{Bool}
-use mathlib.Core.Path.{◌≡◌, refl, sym, ap, ◌∙◌}
-use native.Mathlib.Omega.{arith}
+use Prim.Native.Nat.{◌-◌, ◌≤◌}
+use mathlib.Core.Path.{◌≡◌}
 use lib.ListN.{take, drop}
-use Rattle.words.specs.Choice.{either}
 use Rattle.format.specs.Fields.{string_at}
 use Rattle.format.specs.Reader.{among}
 use Rattle.files.specs.File.{names_from}
-use Rattle.files.specs.FileLaws.{among_turn, among_done}
 use Rattle.files.proofs.file.name_among.Given as goal
 
 abbrev pub invariant-loop-i : goal.invariant-loop-i

@@ -1,10 +1,7 @@
-use Prim.Native.Nat.{◌-◌, ◌≤◌, ◌<◌}
-use mathlib.Core.Path.{◌≡◌, refl, sym}
+use Prim.Native.Nat.{◌≤◌, ◌<◌}
+use mathlib.Core.Path.{refl, sym}
 use native.Mathlib.Omega.{arith}
-use borrow.Author.Rules.{rules}
-use lib.ListN.{length}
-use Rattle.units.specs.Units.{remembered}
-use Rattle.files.specs.FileLaws.{Walked, walked_first, walked_next, walked_bad, walked_done}
+use Rattle.files.specs.FileLaws.{walked_first, walked_next, walked_bad, walked_done}
 use Rattle.files.proofs.file.read_definitions.Goals as goal
 
 pub wide-many-requires : goal.wide-many-requires

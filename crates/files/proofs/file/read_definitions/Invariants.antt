@@ -1,10 +1,8 @@
-use Prim.Native.Nat.{◌-◌, ◌≤◌, ◌<◌}
-use mathlib.Core.Path.{◌≡◌, refl, sym}
-use native.Mathlib.Omega.{arith}
-use borrow.Author.Rules.{rules}
+use Prim.Native.Nat.{◌-◌}
+use mathlib.Core.Path.{◌≡◌}
 use lib.ListN.{length}
 use Rattle.units.specs.Units.{remembered}
-use Rattle.files.specs.FileLaws.{Walked, walked_first, walked_next, walked_bad, walked_done}
+use Rattle.files.specs.FileLaws.{Walked}
 use Rattle.files.proofs.file.read_definitions.Given as goal
 
 abbrev pub invariant-loop-i : goal.invariant-loop-i

@@ -1,5 +1,4 @@
 use mathlib.Core.Path.{sym, ap, ◌∙◌}
-use borrow.Author.Rules.{rules}
 use lib.ListN.{take}
 use Rattle.format.specs.Reader.{definition_by}
 use Rattle.format.specs.Read.{ending}

@@ -1,6 +1,5 @@
 use mathlib.Core.Path.{sym, ◌∙◌, ap₂}
 use native.Mathlib.Omega.{arith}
-use borrow.Author.Rules.{rules}
 use Rattle.format.specs.Reader.{same_name}
 use Rattle.files.specs.FileLaws.{names-apart}
 use Rattle.files.proofs.file.same_names.Goals as goal

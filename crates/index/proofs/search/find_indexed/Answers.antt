@@ -1,12 +1,11 @@
-use Prim.Native.Nat.{◌*◌, ◌-◌, ◌≤◌, ◌<◌}
+use Prim.Native.Nat.{◌*◌}
 use mathlib.Core.Path.{◌≡◌, refl, sym, ap, ◌∙◌}
 use native.Mathlib.Omega.{arith}
-use borrow.Author.Rules.{rules}
 use borrow.Author.Tests.{le-leb}
-use lib.ListN.{length, take, get_or}
-use Rattle.nodes.specs.Table.{width, rows}
+use lib.ListN.{get_or}
+use Rattle.nodes.specs.Table.{width}
 use Rattle.index.specs.declared.step.Known.TheVariants.{Between, Found}
-use Rattle.index.specs.Lookup.{halfway, lookup, settled, answer, most_steps}
+use Rattle.index.specs.Lookup.{halfway, settled, answer}
 use Rattle.index.specs.Words.{entry_below, first_known, ends, none_open, middle_inside, next_step}
 use Rattle.index.proofs.search.find_indexed.Goals as goal
 

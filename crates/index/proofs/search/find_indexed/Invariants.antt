@@ -1,14 +1,9 @@
 -- `index::search::find_indexed` meets its contract. The invariant: what is known is what so many steps of the lookup say.
-use Prim.Native.Nat.{◌*◌, ◌-◌, ◌≤◌, ◌<◌}
-use mathlib.Core.Path.{◌≡◌, refl, sym, ap, ◌∙◌}
-use native.Mathlib.Omega.{arith}
-use borrow.Author.Rules.{rules}
-use borrow.Author.Tests.{le-leb}
-use lib.ListN.{length, take, get_or}
-use Rattle.nodes.specs.Table.{width, rows}
-use Rattle.index.specs.declared.step.Known.TheVariants.{Between, Found}
-use Rattle.index.specs.Lookup.{halfway, lookup, settled, answer, most_steps}
-use Rattle.index.specs.Words.{entry_below, first_known, ends, none_open, middle_inside, next_step}
+use Prim.Native.Nat.{◌-◌, ◌≤◌}
+use mathlib.Core.Path.{◌≡◌}
+use lib.ListN.{take}
+use Rattle.nodes.specs.Table.{rows}
+use Rattle.index.specs.Lookup.{lookup, most_steps}
 use Rattle.index.proofs.search.find_indexed.Given as goal
 
 abbrev pub invariant-loop-made : goal.invariant-loop-made

@@ -1,10 +1,6 @@
-use Prim.Native.Nat.{◌*◌, ◌-◌, ◌≤◌, ◌<◌}
-use mathlib.Core.Path.{◌≡◌}
+use Prim.Native.Nat.{◌*◌, ◌<◌}
 use native.Mathlib.Omega.{arith}
-use lib.ListN.{take, drop}
-use Rattle.nodes.specs.Table.{width, rows, numbers}
-use Rattle.index.specs.Index.{rises, indexed}
-use Rattle.index.specs.Words.{IndexFits}
+use Rattle.nodes.specs.Table.{width}
 use Rattle.index.specs.Checks.{rises_first, rises_past, rises_low, rises_on, rises_end}
 use Rattle.index.proofs.search.index_formed.Goals as goal
 

@@ -1,12 +1,10 @@
 -- `index::search::index_formed` meets its contract. The invariant: the rest of the entries keep the rule from here on if all do from the first.
-use Prim.Native.Nat.{◌*◌, ◌-◌, ◌≤◌, ◌<◌}
+use Prim.Native.Nat.{◌-◌, ◌≤◌}
 use mathlib.Core.Path.{◌≡◌}
-use native.Mathlib.Omega.{arith}
 use lib.ListN.{take, drop}
-use Rattle.nodes.specs.Table.{width, rows, numbers}
+use Rattle.nodes.specs.Table.{rows, numbers}
 use Rattle.index.specs.Index.{rises, indexed}
 use Rattle.index.specs.Words.{IndexFits}
-use Rattle.index.specs.Checks.{rises_first, rises_past, rises_low, rises_on, rises_end}
 use Rattle.index.proofs.search.index_formed.Given as goal
 
 abbrev pub invariant-loop-i : goal.invariant-loop-i

@@ -1,13 +1,12 @@
-use Prim.Native.Nat.{ℕ, ◌-◌, ◌≤◌, ◌<◌}
-use mathlib.Core.Option.{Option, none, some}
-use mathlib.Core.Path.{◌≡◌, refl, sym, ap, ◌∙◌}
+use Prim.Native.Nat.{ℕ, ◌-◌}
+use mathlib.Core.Option.{Option, some}
+use mathlib.Core.Path.{refl, sym, ap, ◌∙◌}
 use native.Mathlib.Omega.{arith}
 use native.Mathlib.Nat.{sub-zero}
-use borrow.Author.Rules.{rules}
 use Rattle.format.specs.Names.{first_index}
 use Rattle.format.specs.Reader.{most_parameters}
 use Rattle.readable.specs.Lookup.{found_at}
-use Rattle.readable.specs.Entries.{Entries, entries_from, entries_turn, entries_past, named_none, named_here, named_behind, or_later, or-none}
+use Rattle.readable.specs.Entries.{entries_from, entries_turn, entries_past, named_none, named_here, named_behind, or_later, or-none}
 use Rattle.readable.proofs.entries.find_entry.Goals as goal
 
 pub loop-i-init : goal.loop-i-init

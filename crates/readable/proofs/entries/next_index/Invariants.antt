@@ -1,12 +1,8 @@
-use Prim.Native.Nat.{ℕ, ◌+◌, ◌-◌, ◌≤◌}
-use mathlib.Core.Path.{◌≡◌, sym, ap, ◌∙◌}
-use native.Mathlib.Omega.{arith}
-use native.Mathlib.Nat.{sub-zero}
-use lib.Dec.{ltb}
-use Rattle.words.specs.Choice.{pick, both}
+use Prim.Native.Nat.{◌-◌, ◌≤◌}
+use mathlib.Core.Path.{◌≡◌}
 use Rattle.format.specs.Names.{next_index}
 use Rattle.format.specs.Reader.{most_parameters}
-use Rattle.readable.specs.Entries.{Entries, entry_end, entries_from, entries_turn, next_turn, next_none}
+use Rattle.readable.specs.Entries.{Entries, entries_from}
 use Rattle.readable.proofs.entries.next_index.Given as goal
 
 abbrev pub invariant-loop-k : goal.invariant-loop-k

@@ -1,8 +1,4 @@
-use Prim.Native.Nat.{ℕ, ◌-◌, ◌≤◌}
-use mathlib.Core.Path.{◌≡◌, refl}
-use mathlib.Core.List.{List}
-use native.Mathlib.Omega.{arith}
-use Rattle.readable.specs.Entries.{entry_end, Left, Step, entries_step, entries_last}
+use Rattle.readable.specs.Entries.{Left}
 use Rattle.readable.proofs.entries.skip_entries.Given as goal
 
 abbrev pub invariant-loop-left : goal.invariant-loop-left

@@ -1,6 +1,5 @@
 use mathlib.Core.Path.{ap}
 use native.Mathlib.Omega.{arith}
-use borrow.Author.Rules.{rules}
 use Rattle.front.specs.declared.Counts.{Counts}
 use Rattle.readable.specs.Readable.{front_entries}
 use Rattle.readable.specs.Labels.{labels_front}

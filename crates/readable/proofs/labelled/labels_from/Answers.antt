@@ -1,8 +1,8 @@
-use Prim.Native.Nat.{◌-◌, ◌<◌}
+use Prim.Native.Nat.{◌<◌}
 use mathlib.Core.Path.{refl}
 use native.Mathlib.Omega.{arith}
 use Rattle.readable.specs.Entries.{entries_turn}
-use Rattle.readable.specs.Labels.{each, Labelling, labels_first, label_set, label_skip, labels_last}
+use Rattle.readable.specs.Labels.{each, labels_first, label_set, label_skip, labels_last}
 use Rattle.format.specs.Reader.{most_parameters}
 use Rattle.readable.proofs.labelled.labels_from.Goals as goal
 use Rattle.readable.proofs.labelled.labels_from.Goals.{then-table-index-eq0, else-table-index-eq0}
@@ -64,9 +64,9 @@ loop-i-preserved c =
     let less : c.loop-i.i < c.args.count = omega arith in
     let index = c.word_at-index.ensures in
     elim c.if-table-index-eq0.branch [
-      then-table-index-eq0 w ↦ rw (w.table-is, index) (label_set each c.args.s.now c.args.first c.args.count c.loop-i.i c.loop-i.at c.loop-i.table c.loop-i.invariant less refl (rw index at w.if-table-index-eq0.true))
-    | else-table-index-eq0 w ↦ let other = rw index at w.if-table-index-eq0.false in
-    rw w.table-is (label_skip each c.args.s.now c.args.first c.args.count c.loop-i.i c.loop-i.at c.loop-i.table c.loop-i.invariant less (omega arith))
+      | then-table-index-eq0 w ↦ rw (w.table-is, index) (label_set each c.args.s.now c.args.first c.args.count c.loop-i.i c.loop-i.at c.loop-i.table c.loop-i.invariant less refl (rw index at w.if-table-index-eq0.true))
+      | else-table-index-eq0 w ↦ let other = rw index at w.if-table-index-eq0.false in
+          rw w.table-is (label_skip each c.args.s.now c.args.first c.args.count c.loop-i.i c.loop-i.at c.loop-i.table c.loop-i.invariant less (omega arith))
     ]
 
 pub returns : goal.returns

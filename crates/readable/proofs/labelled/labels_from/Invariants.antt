@@ -1,10 +1,5 @@
-use mathlib.Core.Logic.{⊎_elim}
-use Prim.Native.Nat.{◌-◌, ◌<◌}
-use mathlib.Core.Path.{refl}
-use native.Mathlib.Omega.{arith}
-use Rattle.readable.specs.Entries.{entries_turn}
-use Rattle.readable.specs.Labels.{each, Labelling, labels_first, label_set, label_skip, labels_last}
-use Rattle.format.specs.Reader.{most_parameters}
+use Prim.Native.Nat.{◌-◌}
+use Rattle.readable.specs.Labels.{each, Labelling}
 use Rattle.readable.proofs.labelled.labels_from.Given as goal
 
 abbrev pub invariant-loop-i : goal.invariant-loop-i

@@ -1,6 +1,5 @@
 use Rattle.readable.specs.Readable.{name_fact}
 use mathlib.Core.Path.{◌∙◌}
-use borrow.Author.Rules.{rules}
 use Rattle.readable.proofs.lookups.name.Goals as goal
 
 pub returns : goal.returns

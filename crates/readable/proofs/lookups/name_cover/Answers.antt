@@ -1,6 +1,5 @@
 use mathlib.Core.Path.{◌≡◌, sym, ap, ◌∙◌}
 use native.Mathlib.Omega.{arith}
-use borrow.Author.Rules.{rules}
 use Rattle.front.specs.declared.Counts.{Counts}
 use Rattle.readable.specs.declared.found.Found.TheVariants as found
 use Rattle.readable.specs.Lookup.{found_at}

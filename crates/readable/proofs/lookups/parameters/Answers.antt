@@ -1,7 +1,6 @@
 use Rattle.front.specs.declared.Counts.{Counts}
 use Rattle.readable.specs.Lookup.{at_number}
 use mathlib.Core.Path.{ap}
-use borrow.Author.Rules.{rules}
 use Rattle.readable.proofs.lookups.parameters.Goals as goal
 
 pub returns : goal.returns

@@ -1,7 +1,6 @@
 use Rattle.front.specs.declared.Counts.{Counts}
 use Rattle.readable.specs.declared.found.ValuesFound.TheVariants.{At}
 use mathlib.Core.Path.{ap}
-use borrow.Author.Rules.{rules}
 use Rattle.readable.proofs.lookups.values.Goals as goal
 
 pub returns : goal.returns

@@ -1,6 +1,5 @@
 use mathlib.Core.Path.{◌≡◌, sym, ap, ◌∙◌}
 use lib.Dec.{eqb}
-use borrow.Author.Rules.{rules}
 use Rattle.format.specs.Names.{looks_up_to}
 use Rattle.format.specs.Fields.{word}
 use Rattle.readable.specs.Entries.{index_place}

@@ -1,8 +1,8 @@
-use Prim.Native.Nat.{◌-◌, ◌<◌}
+use Prim.Native.Nat.{◌<◌}
 use mathlib.Core.Path.{sym, ◌∙◌}
 use native.Mathlib.Omega.{arith}
 use Rattle.readable.specs.Entries.{entries_turn}
-use Rattle.readable.specs.Labels.{Labelling, labels_first, label_set, label_skip, label_pass, labels_last}
+use Rattle.readable.specs.Labels.{labels_first, label_set, label_skip, label_pass, labels_last}
 use Rattle.readable.specs.OwnLabels.{looks_up}
 use Rattle.format.specs.Reader.{most_parameters}
 use Rattle.readable.proofs.own.own_labels_from.Goals as goal
@@ -72,13 +72,13 @@ loop-i-preserved c =
     let counts = looks_up a.s.now a.count a.first in
     let index = c.word_at-index.ensures in
     elim c.if-table-index-eq0.branch [
-      then-table-index-eq0+then-looks_up w ↦ rw (w.table-is, index)
-        (label_set counts a.s.now a.first a.count c.loop-i.i c.loop-i.at c.loop-i.table c.loop-i.invariant less (sym w.looks_up.ensures ∙ w.if-looks_up.true) (rw index at w.if-table-index-eq0.true))
-    | then-table-index-eq0+else-looks_up w ↦ rw w.table-is
-        (label_pass counts a.s.now a.first a.count c.loop-i.i c.loop-i.at c.loop-i.table c.loop-i.invariant less (sym w.looks_up.ensures ∙ w.if-looks_up.false))
-    | else-table-index-eq0 w ↦
-        let other = rw index at w.if-table-index-eq0.false in
-        rw w.table-is (label_skip counts a.s.now a.first a.count c.loop-i.i c.loop-i.at c.loop-i.table c.loop-i.invariant less (omega arith))
+      | then-table-index-eq0+then-looks_up w ↦ rw (w.table-is, index)
+          (label_set counts a.s.now a.first a.count c.loop-i.i c.loop-i.at c.loop-i.table c.loop-i.invariant less (sym w.looks_up.ensures ∙ w.if-looks_up.true) (rw index at w.if-table-index-eq0.true))
+      | then-table-index-eq0+else-looks_up w ↦ rw w.table-is
+          (label_pass counts a.s.now a.first a.count c.loop-i.i c.loop-i.at c.loop-i.table c.loop-i.invariant less (sym w.looks_up.ensures ∙ w.if-looks_up.false))
+      | else-table-index-eq0 w ↦
+          let other = rw index at w.if-table-index-eq0.false in
+          rw w.table-is (label_skip counts a.s.now a.first a.count c.loop-i.i c.loop-i.at c.loop-i.table c.loop-i.invariant less (omega arith))
     ]
 
 pub returns : goal.returns

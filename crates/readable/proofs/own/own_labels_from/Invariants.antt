@@ -1,11 +1,6 @@
-use mathlib.Core.Logic.{⊎_elim}
-use Prim.Native.Nat.{◌-◌, ◌<◌}
-use mathlib.Core.Path.{sym, ◌∙◌}
-use native.Mathlib.Omega.{arith}
-use Rattle.readable.specs.Entries.{entries_turn}
-use Rattle.readable.specs.Labels.{Labelling, labels_first, label_set, label_skip, label_pass, labels_last}
+use Prim.Native.Nat.{◌-◌}
+use Rattle.readable.specs.Labels.{Labelling}
 use Rattle.readable.specs.OwnLabels.{looks_up}
-use Rattle.format.specs.Reader.{most_parameters}
 use Rattle.readable.proofs.own.own_labels_from.Given as goal
 
 abbrev pub invariant-loop-i : goal.invariant-loop-i

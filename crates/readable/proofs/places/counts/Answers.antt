@@ -1,6 +1,5 @@
 use mathlib.Core.Path.{◌∙◌}
 use native.Mathlib.Omega.{arith}
-use borrow.Author.Rules.{rules}
 use Rattle.readable.specs.Readable.{parts, constants_fact, parameters_fact, names_fact, counts_fact}
 use Rattle.readable.proofs.places.counts.Goals as goal
 

@@ -1,6 +1,5 @@
 -- `reindex::follow::closed_place` meets its contract.
 use native.Mathlib.Omega.{arith}
-use borrow.Author.Rules.{rules}
 use borrow.Author.Tests.{lt-ltb, le-ltb}
 use Rattle.reindex.proofs.follow.closed_place.Goals as goal
 

@@ -1,7 +1,6 @@
 -- `reindex::follow::follow_edit` meets its contract: each kind of edit by its own pass.
 use mathlib.Core.Path.{◌≡◌, sym, subst}
 use native.Mathlib.Omega.{arith}
-use borrow.Author.Rules.{rules}
 use Rattle.reindex.specs.declared.edit.Edit.{Edit}
 use Rattle.reindex.specs.declared.edit.Edit.TheVariants.{Cut, Put, Swap}
 use Rattle.reindex.specs.FollowWords.{Followed}

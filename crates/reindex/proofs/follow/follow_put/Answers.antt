@@ -2,7 +2,6 @@
 use Prim.Native.Nat.{ℕ}
 use mathlib.Core.Path.{◌≡◌, subst}
 use native.Mathlib.Omega.{arith}
-use borrow.Author.Rules.{rules}
 use Rattle.reindex.specs.FollowWords.{Followed}
 use Rattle.reindex.specs.Edits.{closed}
 use Rattle.reindex.proofs.follow.follow_put.Goals as goal

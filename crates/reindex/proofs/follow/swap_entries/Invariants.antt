@@ -1,11 +1,9 @@
 -- `reindex::follow::swap_entries` meets its contract. The invariant: the entries gone over are followed, and all are left.
-use Prim.Native.Nat.{ℕ, ◌-◌, ◌≤◌, ◌<◌}
-use mathlib.Core.Path.{◌≡◌, refl, ap, ◌∙◌, subst}
-use native.Mathlib.Omega.{arith}
-use borrow.Author.Rules.{rules}
-use lib.ListN.{length, get_or, length-set}
-use Rattle.reindex.specs.FollowWords.{Followed, follow_first, follow_read, follow_kept}
-use Rattle.reindex.specs.Edits.{swapped, swapped_low}
+use Prim.Native.Nat.{◌-◌, ◌≤◌}
+use mathlib.Core.Path.{◌≡◌}
+use lib.ListN.{length}
+use Rattle.reindex.specs.FollowWords.{Followed}
+use Rattle.reindex.specs.Edits.{swapped}
 use Rattle.reindex.proofs.follow.swap_entries.Given as goal
 
 abbrev pub invariant-loop-i : goal.invariant-loop-i

@@ -1,8 +1,7 @@
-use Prim.Native.Nat.{ℕ, ◌-◌, ◌≤◌}
+use Prim.Native.Nat.{ℕ}
 use mathlib.Core.Path.{◌≡◌, refl, ap, ◌∙◌, subst}
 use native.Mathlib.Omega.{arith}
-use borrow.Author.Rules.{rules}
-use lib.ListN.{length, get_or, length-set}
+use lib.ListN.{get_or, length-set}
 use Rattle.reindex.specs.FollowWords.{Followed, follow_first, follow_read, follow_gone, follow_kept}
 use Rattle.reindex.specs.Kept.{place_in}
 use Rattle.reindex.proofs.kept.follow_places.Goals as goal

@@ -1,10 +1,8 @@
 -- `reindex::kept::follow_places` meets its contract. The invariant: the entries gone over are followed.
-use Prim.Native.Nat.{ℕ, ◌-◌, ◌≤◌}
-use mathlib.Core.Path.{◌≡◌, refl, ap, ◌∙◌, subst}
-use native.Mathlib.Omega.{arith}
-use borrow.Author.Rules.{rules}
-use lib.ListN.{length, get_or, length-set}
-use Rattle.reindex.specs.FollowWords.{Followed, follow_first, follow_read, follow_gone, follow_kept}
+use Prim.Native.Nat.{◌-◌, ◌≤◌}
+use mathlib.Core.Path.{◌≡◌}
+use lib.ListN.{length}
+use Rattle.reindex.specs.FollowWords.{Followed}
 use Rattle.reindex.specs.Kept.{place_in}
 use Rattle.reindex.proofs.kept.follow_places.Given as goal
 

@@ -1,4 +1,4 @@
-use Prim.Native.Nat.{◌+◌, ◌-◌, ◌≤◌}
+use Prim.Native.Nat.{◌+◌, ◌≤◌}
 use mathlib.Core.Path.{◌≡◌, refl, sym, ◌∙◌}
 use native.Mathlib.Omega.{arith}
 use lib.ListN.{set}
@@ -18,12 +18,12 @@ loop-i-preserved c =
     let us = a.nodes.now in
     let sifted : (c.if-stays_at.next ≤ c.loop-i.i + 1) × Sifted a.from a.to (rows a.count us) (c.loop-i.i + 1) c.if-stays_at.next c.if-stays_at.places =
     elim c.if-stays_at.branch [
-      then-stays_at w ↦ let places : c.if-stays_at.places ≡ set c.loop-i.places c.loop-i.i c.loop-i.next = w.places-is in
-    let next : c.if-stays_at.next ≡ c.loop-i.next + 1 = w.next-is in
-    (omega arith, rw (places, next) (sifted_kept a.from a.to a.count us c.requires.few c.loop-i.i c.loop-i.next c.loop-i.places (omega arith) c.loop-i.invariant.1 c.loop-i.invariant.2 (sym c.stays_at.ensures ∙ w.if-stays_at.true)))
-    | else-stays_at w ↦ let places : c.if-stays_at.places ≡ c.loop-i.places = w.places-is in
-    let next : c.if-stays_at.next ≡ c.loop-i.next = w.next-is in
-    (omega arith, rw (places, next) (sifted_gone a.from a.to a.count us c.requires.few c.loop-i.i c.loop-i.next c.loop-i.places (omega arith) c.loop-i.invariant.1 c.loop-i.invariant.2 (sym c.stays_at.ensures ∙ w.if-stays_at.false)))
+      | then-stays_at w ↦ let places : c.if-stays_at.places ≡ set c.loop-i.places c.loop-i.i c.loop-i.next = w.places-is in
+          let next : c.if-stays_at.next ≡ c.loop-i.next + 1 = w.next-is in
+          (omega arith, rw (places, next) (sifted_kept a.from a.to a.count us c.requires.few c.loop-i.i c.loop-i.next c.loop-i.places (omega arith) c.loop-i.invariant.1 c.loop-i.invariant.2 (sym c.stays_at.ensures ∙ w.if-stays_at.true)))
+      | else-stays_at w ↦ let places : c.if-stays_at.places ≡ c.loop-i.places = w.places-is in
+          let next : c.if-stays_at.next ≡ c.loop-i.next = w.next-is in
+          (omega arith, rw (places, next) (sifted_gone a.from a.to a.count us c.requires.few c.loop-i.i c.loop-i.next c.loop-i.places (omega arith) c.loop-i.invariant.1 c.loop-i.invariant.2 (sym c.stays_at.ensures ∙ w.if-stays_at.false)))
     ] in
     (omega arith, sifted.0, sifted.1)
 

@@ -1,11 +1,7 @@
 -- `reindex::kept::kept_places` meets its contract. The invariant: the nodes of the places gone over are sifted.
-use Prim.Native.Nat.{◌+◌, ◌-◌, ◌≤◌}
-use mathlib.Core.Logic.{⊎_elim}
-use mathlib.Core.Path.{◌≡◌, refl, sym, ◌∙◌}
-use native.Mathlib.Omega.{arith}
-use lib.ListN.{set}
+use Prim.Native.Nat.{◌-◌, ◌≤◌}
 use Rattle.nodes.specs.Table.{rows}
-use Rattle.reindex.specs.Kept.{Sifted, sifted_none, sifted_gone, sifted_kept, sifted_all}
+use Rattle.reindex.specs.Kept.{Sifted}
 use Rattle.reindex.proofs.kept.kept_places.Given as goal
 
 abbrev pub invariant-loop-i : goal.invariant-loop-i

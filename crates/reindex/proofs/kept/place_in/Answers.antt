@@ -1,6 +1,5 @@
 -- `reindex::kept::place_in` meets its contract.
 use native.Mathlib.Omega.{arith}
-use borrow.Author.Rules.{rules}
 use Rattle.reindex.specs.Kept.{place_word, place-past}
 use Rattle.reindex.proofs.kept.place_in.Goals as goal
 

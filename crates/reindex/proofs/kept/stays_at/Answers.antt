@@ -1,6 +1,5 @@
 -- `reindex::kept::stays_at` meets its contract.
 use native.Mathlib.Omega.{arith}
-use borrow.Author.Rules.{rules}
 use borrow.Author.Tests.{lt-ltb, le-ltb, le-leb, lt-leb}
 use Rattle.reindex.proofs.kept.stays_at.Goals as goal
 

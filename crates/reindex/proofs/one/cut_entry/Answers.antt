@@ -1,9 +1,8 @@
-use Prim.Native.Nat.{ℕ, ◌+◌, ◌-◌, ◌≤◌, ◌<◌}
+use Prim.Native.Nat.{ℕ, ◌+◌}
 use mathlib.Core.List.{List}
 use mathlib.Core.Path.{◌≡◌, refl, subst}
 use native.Mathlib.Omega.{arith}
-use borrow.Author.Rules.{rules}
-use lib.ListN.{length, length-set}
+use lib.ListN.{length-set}
 use Rattle.reindex.specs.FollowWords.{Followed, follow_first}
 use Rattle.reindex.specs.Edits.{closed}
 use Rattle.reindex.specs.OneEntry.{Spotted, spot_goes, other_read, other_stays}
@@ -26,8 +25,7 @@ lowered_place-requires c =
 
 pub loop-i-preserved : goal.loop-i-preserved
 loop-i-preserved c =
-    let a = c.args in
-    (
+    let a = c.args in (
       omega arith,
       other_stays a.index.now a.count a.spot a.at c.requires c.loop-i.index c.loop-i.i c.loop-i.i (omega (arith, c.requires.inside)) (omega arith) (omega arith) c.loop-i.invariant.1 c.lowered_place.result c.lowered_place.ensures,
       simp length-set c.loop-i.invariant.2,
@@ -46,8 +44,7 @@ lowered_place-requires-in-loop-i-2 c =
 
 pub loop-i-2-preserved : goal.loop-i-2-preserved
 loop-i-2-preserved c =
-    let a = c.args in
-    (
+    let a = c.args in (
       omega arith,
       omega arith,
       λ w s f. other_stays w a.count a.spot a.at s c.loop-i-2.index (c.loop-i-2.i + 1) c.loop-i-2.i (omega arith) (omega arith) (omega arith) (c.loop-i-2.invariant.2 w s f) c.lowered_place-in-loop-i-2.result c.lowered_place-in-loop-i-2.ensures,

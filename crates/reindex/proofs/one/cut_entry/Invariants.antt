@@ -1,13 +1,11 @@
 -- `reindex::one::cut_entry` meets its contract. The invariants: the entries gone over are followed; first all are left, then all but one.
 use Prim.Native.Nat.{ℕ, ◌+◌, ◌-◌, ◌≤◌, ◌<◌}
 use mathlib.Core.List.{List}
-use mathlib.Core.Path.{◌≡◌, refl, subst}
-use native.Mathlib.Omega.{arith}
-use borrow.Author.Rules.{rules}
-use lib.ListN.{length, length-set}
-use Rattle.reindex.specs.FollowWords.{Followed, follow_first}
+use mathlib.Core.Path.{◌≡◌}
+use lib.ListN.{length}
+use Rattle.reindex.specs.FollowWords.{Followed}
 use Rattle.reindex.specs.Edits.{closed}
-use Rattle.reindex.specs.OneEntry.{Spotted, spot_goes, other_read, other_stays}
+use Rattle.reindex.specs.OneEntry.{Spotted}
 use Rattle.reindex.proofs.one.cut_entry.Given as goal
 
 abbrev pub invariant-loop-i : goal.invariant-loop-i

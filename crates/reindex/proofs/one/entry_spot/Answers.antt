@@ -1,4 +1,4 @@
-use Prim.Native.Nat.{◌+◌, ◌-◌, ◌≤◌}
+use Prim.Native.Nat.{◌+◌, ◌≤◌}
 use mathlib.Core.Path.{◌≡◌, ◌∙◌}
 use native.Mathlib.Omega.{arith}
 use lib.ListN.{get_or}
@@ -17,12 +17,12 @@ loop-i-preserved c =
     let w = a.index.now in
     let on : (c.if-index-i.spot ≤ c.loop-i.i + 1) × Summed w a.place (c.loop-i.i + 1) c.if-index-i.spot =
     elim c.if-index-i.branch [
-      then-index-i b ↦ let sum : c.if-index-i.spot ≡ c.loop-i.spot + c.loop-i.i = b.spot-is in
-    let here : get_or w c.loop-i.i 0 ≡ a.place = omega arith in
-    let more = summed_here w a.place c.loop-i.i c.loop-i.spot c.loop-i.invariant.2 a.count c.requires (omega arith) here in
-    (omega (arith, more.one c.loop-i.i (omega arith) here), rw sum more)
-    | else-index-i b ↦ let sum : c.if-index-i.spot ≡ c.loop-i.spot = b.spot-is in
-    (omega arith, rw sum (summed_past w a.place c.loop-i.i c.loop-i.spot c.loop-i.invariant.2 (omega arith)))
+      | then-index-i b ↦ let sum : c.if-index-i.spot ≡ c.loop-i.spot + c.loop-i.i = b.spot-is in
+          let here : get_or w c.loop-i.i 0 ≡ a.place = omega arith in
+          let more = summed_here w a.place c.loop-i.i c.loop-i.spot c.loop-i.invariant.2 a.count c.requires (omega arith) here in
+          (omega (arith, more.one c.loop-i.i (omega arith) here), rw sum more)
+      | else-index-i b ↦ let sum : c.if-index-i.spot ≡ c.loop-i.spot = b.spot-is in
+          (omega arith, rw sum (summed_past w a.place c.loop-i.i c.loop-i.spot c.loop-i.invariant.2 (omega arith)))
     ] in
     (omega arith, on.0, on.1)
 

@@ -1,10 +1,6 @@
 -- `reindex::one::entry_spot` meets its contract. The invariant: an entry gone over that is the place is at the sum, and where none is, the sum is 0.
-use Prim.Native.Nat.{◌+◌, ◌-◌, ◌≤◌}
-use mathlib.Core.Logic.{⊎_elim}
-use mathlib.Core.Path.{◌≡◌, ◌∙◌}
-use native.Mathlib.Omega.{arith}
-use lib.ListN.{get_or}
-use Rattle.reindex.specs.OneEntry.{Summed, summed_first, summed_here, summed_past}
+use Prim.Native.Nat.{◌-◌, ◌≤◌}
+use Rattle.reindex.specs.OneEntry.{Summed}
 use Rattle.reindex.proofs.one.entry_spot.Given as goal
 
 abbrev pub invariant-loop-i : goal.invariant-loop-i

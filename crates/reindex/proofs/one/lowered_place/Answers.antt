@@ -1,7 +1,6 @@
 -- `reindex::one::lowered_place` meets its contract.
 use Prim.Native.Nat.{◌+◌}
 use native.Mathlib.Omega.{arith}
-use borrow.Author.Rules.{rules}
 use borrow.Author.Tests.{lt-ltb, le-ltb}
 use Rattle.reindex.proofs.one.lowered_place.Goals as goal
 

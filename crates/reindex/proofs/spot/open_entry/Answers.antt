@@ -2,7 +2,6 @@ use Prim.Native.Nat.{ℕ, suc, ◌+◌, ◌-◌, ◌≤◌, ◌<◌}
 use mathlib.Core.Path.{◌≡◌, refl, sym, ap, ap₂, ◌∙◌}
 use mathlib.Core.List.{List, ◌∷◌, ◌++◌, append_assoc}
 use native.Mathlib.Omega.{arith}
-use borrow.Author.Rules.{rules}
 use lib.ListN.{length, take, drop, get_or, set, length-set, length-append, get_or-append}
 use lib.Seq.{paste, paste-zero, length-take-le, get_or-take, take-suc, drop-cons, set_at}
 use Rattle.reindex.proofs.spot.open_entry.Goals as goal

@@ -1,8 +1,8 @@
-use Prim.Native.Nat.{◌+◌, ◌*◌, ◌-◌, ◌/◌, ◌≤◌, ◌<◌}
+use Prim.Native.Nat.{◌+◌, ◌*◌, ◌-◌, ◌/◌}
 use native.Mathlib.Omega.{arith}
-use lib.ListN.{length, get_or}
+use lib.ListN.{get_or}
 use Rattle.nodes.specs.Table.{width}
-use Rattle.reindex.specs.Spot.{Between, between_all, between_down, between_up, between_met}
+use Rattle.reindex.specs.Spot.{between_all, between_down, between_up, between_met}
 use Rattle.reindex.proofs.spot.spot_of.Goals as goal
 
 pub loop-low-init : goal.loop-low-init

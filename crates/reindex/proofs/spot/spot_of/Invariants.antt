@@ -1,9 +1,6 @@
 -- `reindex::spot::spot_of` meets its contract. The invariant: below the one bound no number is higher, and from the other on all are.
-use Prim.Native.Nat.{◌+◌, ◌*◌, ◌-◌, ◌/◌, ◌≤◌, ◌<◌}
-use native.Mathlib.Omega.{arith}
-use lib.ListN.{length, get_or}
-use Rattle.nodes.specs.Table.{width}
-use Rattle.reindex.specs.Spot.{Between, between_all, between_down, between_up, between_met}
+use Prim.Native.Nat.{◌-◌, ◌≤◌}
+use Rattle.reindex.specs.Spot.{Between}
 use Rattle.reindex.proofs.spot.spot_of.Given as goal
 
 abbrev pub invariant-loop-low : goal.invariant-loop-low

@@ -3,7 +3,6 @@ use Prim.Native.Nat.{◌+◌}
 use mathlib.Core.Path.{◌≡◌, refl}
 use mathlib.Core.Option.{none}
 use native.Mathlib.Omega.{arith}
-use borrow.Author.Rules.{rules}
 use Rattle.store.specs.Writing.{version_numbered}
 use Rattle.store.specs.OpeningLaws.{numbered_inside}
 use Rattle.store.specs.Walk.{NumberedAt}

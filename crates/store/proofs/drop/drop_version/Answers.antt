@@ -1,6 +1,5 @@
 -- `store::drop::drop_version` meets its contract: a version of the entry that was found, or none.
 use native.Mathlib.Omega.{arith}
-use borrow.Author.Rules.{rules}
 use Rattle.store.specs.Places.{EntryStands, NoEntry}
 use Rattle.store.specs.ReadingLaws.{store_stands}
 use Rattle.store.specs.OpeningLaws.{head_inside, head_stands, dropped_version, dropped_none}

@@ -1,9 +1,9 @@
-use Prim.Native.Nat.{◌-◌, ◌<◌}
+use Prim.Native.Nat.{◌<◌}
 use mathlib.Core.Path.{sym, ◌∙◌}
 use native.Mathlib.Omega.{arith}
-use lib.ListN.{length, get_or, get_or-eq_default}
+use lib.ListN.{get_or, get_or-eq_default}
 use Rattle.store.specs.ReadingLaws.{store_stands}
-use Rattle.store.specs.FindLaws.{EntriesLeft, left_starts, next_entry, no_entry, entry_found, entry_passed, entry_takes, entry_ahead, entry_inside}
+use Rattle.store.specs.FindLaws.{left_starts, next_entry, no_entry, entry_found, entry_passed, entry_takes, entry_ahead, entry_inside}
 use Rattle.store.proofs.find.find_entry.Goals as goal
 
 pub loop-at-init : goal.loop-at-init

@@ -1,13 +1,9 @@
-use Prim.Native.Nat.{◌-◌}
 use mathlib.Core.Path.{◌≡◌, refl, sym, ◌∙◌}
-use mathlib.Core.List.{List, ◌++◌}
+use mathlib.Core.List.{◌++◌}
 use native.Mathlib.Omega.{arith}
-use lib.ListN.{length, get_or, get_or-eq_default}
-use Rattle.store.specs.Store.{Version, Entry}
+use lib.ListN.{get_or, get_or-eq_default}
 use Rattle.store.specs.Writing.{setting_fields, version_fields, fields_for}
-use Rattle.store.specs.Sizes.{AreVersions}
-use Rattle.store.specs.Ahead.{FieldsAhead}
-use Rattle.store.specs.VersionPlaceLaws.{VersionsLeft, next_version, no_version, version_ahead, number_inside, settings_ahead, version_takes, version_found, version_passed}
+use Rattle.store.specs.VersionPlaceLaws.{next_version, no_version, version_ahead, number_inside, settings_ahead, version_takes, version_found, version_passed}
 use Rattle.store.proofs.find.find_version.Goals as goal
 
 pub loop-place-init : goal.loop-place-init

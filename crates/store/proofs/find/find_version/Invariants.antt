@@ -1,15 +1,13 @@
 -- `store::find::find_version` meets its contract. The invariant: whatever versions stand from the first place on, those from here on have the one of
 -- the number where they do.
 use Prim.Native.Nat.{◌-◌}
-use mathlib.Core.Path.{◌≡◌, refl, sym, ◌∙◌}
 use mathlib.Core.List.{List, ◌++◌}
-use native.Mathlib.Omega.{arith}
-use lib.ListN.{length, get_or, get_or-eq_default}
+use lib.ListN.{length}
 use Rattle.store.specs.Store.{Version, Entry}
-use Rattle.store.specs.Writing.{setting_fields, version_fields, fields_for}
+use Rattle.store.specs.Writing.{version_fields, fields_for}
 use Rattle.store.specs.Sizes.{AreVersions}
 use Rattle.store.specs.Ahead.{FieldsAhead}
-use Rattle.store.specs.VersionPlaceLaws.{VersionsLeft, next_version, no_version, version_ahead, number_inside, settings_ahead, version_takes, version_found, version_passed}
+use Rattle.store.specs.VersionPlaceLaws.{VersionsLeft}
 use Rattle.store.proofs.find.find_version.Given as goal
 
 abbrev pub invariant-loop-place : goal.invariant-loop-place

@@ -2,7 +2,6 @@
 use mathlib.Core.Path.{ap, ◌∙◌}
 use mathlib.Core.List.{List}
 use Prim.Native.Nat.{ℕ, ◌+◌, ◌-◌}
-use borrow.Author.Rules.{rules}
 use Rattle.words.specs.Parts.{region}
 use Rattle.format.specs.Reader.{same_name}
 use Rattle.tagged.specs.Fields.{head_size}

@@ -1,11 +1,7 @@
-use Prim.Native.Nat.{◌-◌}
 use mathlib.Core.Path.{◌≡◌}
-use mathlib.Core.List.{List}
 use native.Mathlib.Omega.{arith}
-use lib.ListN.{length, get_or, get_or-eq_default}
-use Rattle.tagged.specs.Fields.{Field}
-use Rattle.store.specs.Ahead.{FieldsAhead}
-use Rattle.store.specs.AheadLaws.{Walked, walk_starts, walk_turn, walk_ends, walk_inside}
+use lib.ListN.{get_or, get_or-eq_default}
+use Rattle.store.specs.AheadLaws.{walk_starts, walk_turn, walk_ends, walk_inside}
 use Rattle.store.proofs.find.past_tags.Goals as goal
 
 pub loop-end-init : goal.loop-end-init

@@ -1,12 +1,10 @@
 -- `store::find::past_tags` meets its contract. The invariant: whatever fields stand from the first place on, the walk from here ends where theirs does.
 use Prim.Native.Nat.{◌-◌}
-use mathlib.Core.Path.{◌≡◌}
 use mathlib.Core.List.{List}
-use native.Mathlib.Omega.{arith}
-use lib.ListN.{length, get_or, get_or-eq_default}
+use lib.ListN.{length}
 use Rattle.tagged.specs.Fields.{Field}
 use Rattle.store.specs.Ahead.{FieldsAhead}
-use Rattle.store.specs.AheadLaws.{Walked, walk_starts, walk_turn, walk_ends, walk_inside}
+use Rattle.store.specs.AheadLaws.{Walked}
 use Rattle.store.proofs.find.past_tags.Given as goal
 
 abbrev pub invariant-loop-end : goal.invariant-loop-end

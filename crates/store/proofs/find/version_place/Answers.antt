@@ -1,5 +1,4 @@
 -- `store::find::version_place` meets its contract.
-use borrow.Author.Rules.{rules}
 use Rattle.store.specs.Places.{EntryStands, NoEntry}
 use Rattle.store.specs.ReadingLaws.{store_stands}
 use Rattle.store.specs.VersionPlaceLaws.{entry_there, versions_there, versions_of, version_none, version_answer}

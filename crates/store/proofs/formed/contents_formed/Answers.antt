@@ -1,6 +1,5 @@
 -- `store::formed::contents_formed` meets its contract: a return for each test of a tag.
 use native.Mathlib.Omega.{arith}
-use borrow.Author.Rules.{rules}
 use borrow.Author.Tests.{lt-ltb, le-ltb, le-leb, lt-leb, eq-eqb, ne_eqb}
 use lib.ListN.{length, get_or}
 use Rattle.store.specs.Store.{name_tag, setting_tag, number_size}

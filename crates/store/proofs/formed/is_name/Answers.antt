@@ -1,7 +1,6 @@
 -- `store::formed::is_name` meets its contract.
 use Prim.Native.Nat.{◌-◌}
 use native.Mathlib.Omega.{arith}
-use borrow.Author.Rules.{rules}
 use borrow.Author.Tests.{le-leb, lt-leb}
 use Rattle.words.specs.PartsLaws.{region-length}
 use Rattle.store.specs.Store.{longest_name}

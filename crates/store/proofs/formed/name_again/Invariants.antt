@@ -1,15 +1,9 @@
 -- `store::formed::name_again` meets its contract. The invariant: from here on the name stands as it does from the first place on.
 use Prim.Native.Nat.{◌-◌}
-use mathlib.Core.Path.{◌≡◌, refl, sym, ap, ◌∙◌}
-use mathlib.Core.List.{List}
-use native.Mathlib.Omega.{arith}
-use borrow.Author.Rules.{rules}
+use mathlib.Core.Path.{◌≡◌}
 use lib.ListN.{length}
-use Rattle.tagged.specs.Fields.{Field}
 use Rattle.store.specs.Store.{entries_at, has_entry}
-use Rattle.store.specs.FormedWalk.{field_between, fields_at}
-use Rattle.store.specs.FieldsAtLaws.{found_whole, found_cut, found_closed}
-use Rattle.store.specs.FormedWalkLaws.{named_here, named_later, named_end, named_cut}
+use Rattle.store.specs.FormedWalk.{fields_at}
 use Rattle.store.proofs.formed.name_again.Given as goal
 
 abbrev pub invariant-loop-end : goal.invariant-loop-end

@@ -1,7 +1,6 @@
 -- `store::formed::next_field` meets its contract.
 use Prim.Native.Nat.{◌+◌}
 use native.Mathlib.Omega.{arith}
-use borrow.Author.Rules.{rules}
 use Rattle.tagged.specs.Fields.{head_size}
 use Rattle.store.specs.FieldsAtLaws.{fields_past, fields_closed, fields_cut, fields_whole}
 use Rattle.store.proofs.formed.next_field.Goals as goal

@@ -1,7 +1,6 @@
 -- `store::formed::past_version` meets its contract.
 use mathlib.Core.Path.{sym}
 use native.Mathlib.Omega.{arith}
-use borrow.Author.Rules.{rules}
 use Rattle.store.specs.FormedWalkLaws.{left_version_low, left_version_high, left_version_many, left_version}
 use Rattle.store.proofs.formed.past_version.Goals as goal
 

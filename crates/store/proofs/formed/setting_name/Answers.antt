@@ -1,7 +1,6 @@
 -- `store::formed::setting_name` meets its contract.
 use mathlib.Core.Path.{sym, ◌∙◌}
 use native.Mathlib.Omega.{arith}
-use borrow.Author.Rules.{rules}
 use Rattle.store.specs.FieldsAtLaws.{setting_name_at, setting_name_none}
 use Rattle.store.proofs.formed.setting_name.Goals as goal
 

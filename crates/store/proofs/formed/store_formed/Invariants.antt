@@ -1,16 +1,9 @@
 -- `store::formed::store_formed` meets its contract. The invariant: what is left from here on is formed if and only if the store is.
 use Prim.Native.Nat.{◌-◌}
-use mathlib.Core.Path.{◌≡◌, sym, ap, ◌∙◌}
-use mathlib.Core.List.{List}
-use native.Mathlib.Omega.{arith}
-use borrow.Author.Rules.{rules}
+use mathlib.Core.Path.{◌≡◌}
 use lib.ListN.{length}
-use Rattle.tagged.specs.Fields.{Field}
-use Rattle.store.specs.declared.formed.Walk.{Walk}
 use Rattle.store.specs.Store.{store_formed}
 use Rattle.store.specs.FormedWalk.{fields_at, left_formed}
-use Rattle.store.specs.FieldsAtLaws.{found_whole, found_cut, found_closed}
-use Rattle.store.specs.FormedWalkLaws.{walk_begins, left_end, left_cut}
 use Rattle.store.proofs.formed.store_formed.Given as goal
 
 abbrev pub invariant-loop-end : goal.invariant-loop-end

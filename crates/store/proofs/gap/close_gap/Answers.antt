@@ -1,11 +1,10 @@
-use Prim.Native.Nat.{ℕ, ◌+◌, ◌-◌, ◌≤◌}
+use Prim.Native.Nat.{ℕ, ◌+◌, ◌-◌}
 use mathlib.Core.Path.{◌≡◌, refl, ap, ◌∙◌}
 use mathlib.Core.List.{List}
 use native.Mathlib.Omega.{arith}
 use native.Mathlib.Numerals.{add-one}
-use borrow.Author.Rules.{rules}
-use lib.ListN.{length, drop, get_or, set, length-set}
-use lib.Seq.{paste, paste-zero}
+use lib.ListN.{drop, get_or, set, length-set}
+use lib.Seq.{paste-zero}
 use Rattle.store.specs.Moves.{down_turn}
 use Rattle.store.proofs.gap.close_gap.Goals as goal
 

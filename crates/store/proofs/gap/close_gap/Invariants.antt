@@ -1,13 +1,8 @@
 -- `store::gap::close_gap` meets its contract. The invariant: the first i bytes have been moved.
-use Prim.Native.Nat.{ℕ, ◌+◌, ◌-◌, ◌≤◌}
-use mathlib.Core.Path.{◌≡◌, refl, ap, ◌∙◌}
-use mathlib.Core.List.{List}
-use native.Mathlib.Omega.{arith}
-use native.Mathlib.Numerals.{add-one}
-use borrow.Author.Rules.{rules}
-use lib.ListN.{length, drop, get_or, set, length-set}
-use lib.Seq.{paste, paste-zero}
-use Rattle.store.specs.Moves.{down_turn}
+use Prim.Native.Nat.{◌-◌, ◌≤◌}
+use mathlib.Core.Path.{◌≡◌}
+use lib.ListN.{length, drop}
+use lib.Seq.{paste}
 use Rattle.store.proofs.gap.close_gap.Given as goal
 
 abbrev pub invariant-loop-i : goal.invariant-loop-i

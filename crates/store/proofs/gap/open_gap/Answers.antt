@@ -1,9 +1,8 @@
-use Prim.Native.Nat.{ℕ, suc, ◌+◌, ◌-◌, ◌≤◌}
+use Prim.Native.Nat.{ℕ, suc, ◌+◌, ◌-◌}
 use mathlib.Core.Path.{◌≡◌, refl, ap, ◌∙◌}
 use mathlib.Core.List.{List}
 use native.Mathlib.Omega.{arith}
-use borrow.Author.Rules.{rules}
-use lib.ListN.{length, drop, get_or, set, length-set}
+use lib.ListN.{drop, get_or, set, length-set}
 use lib.Seq.{paste, paste-zero}
 use Rattle.store.specs.Moves.{up_turn}
 use Rattle.store.proofs.gap.open_gap.Goals as goal

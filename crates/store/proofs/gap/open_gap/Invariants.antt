@@ -1,12 +1,8 @@
 -- `store::gap::open_gap` meets its contract. The invariant: what lies from i on has been moved.
-use Prim.Native.Nat.{ℕ, suc, ◌+◌, ◌-◌, ◌≤◌}
-use mathlib.Core.Path.{◌≡◌, refl, ap, ◌∙◌}
-use mathlib.Core.List.{List}
-use native.Mathlib.Omega.{arith}
-use borrow.Author.Rules.{rules}
-use lib.ListN.{length, drop, get_or, set, length-set}
-use lib.Seq.{paste, paste-zero}
-use Rattle.store.specs.Moves.{up_turn}
+use Prim.Native.Nat.{◌+◌, ◌-◌, ◌≤◌}
+use mathlib.Core.Path.{◌≡◌}
+use lib.ListN.{length, drop}
+use lib.Seq.{paste}
 use Rattle.store.proofs.gap.open_gap.Given as goal
 
 abbrev pub invariant-loop-i : goal.invariant-loop-i

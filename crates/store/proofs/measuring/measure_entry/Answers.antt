@@ -1,7 +1,6 @@
 -- `store::measuring::measure_entry` meets its contract: the place of the end, the versions counted, the highest read.
 use mathlib.Core.Path.{ap}
 use native.Mathlib.Omega.{arith}
-use borrow.Author.Rules.{rules}
 use lib.ListN.{length, length-append}
 use Rattle.store.specs.Store.{entries_of}
 use Rattle.store.specs.Writing.{writing}

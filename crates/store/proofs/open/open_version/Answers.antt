@@ -1,6 +1,5 @@
 -- `store::open::open_version` meets its contract: a version more of the entry that was found, or an entry.
 use native.Mathlib.Omega.{arith}
-use borrow.Author.Rules.{rules}
 use Rattle.store.specs.Places.{EntryStands, NoEntry}
 use Rattle.store.specs.ReadingLaws.{store_stands}
 use Rattle.store.specs.OpeningLaws.{head_inside, version_room, opened_version, entry_room, opened_entry}

@@ -1,7 +1,6 @@
 -- `store::put::put_head` meets its contract: three stores.
 use Prim.Native.Nat.{◌/◌, ◌%◌}
 use native.Mathlib.Omega.{arith}
-use borrow.Author.Rules.{rules}
 use lib.ListN.{length-set}
 use Rattle.osc.specs.Over.{stores_3}
 use Rattle.store.proofs.put.put_head.Goals as goal

@@ -1,9 +1,7 @@
-use Prim.Native.Nat.{◌-◌, ◌≤◌}
 use mathlib.Core.Path.{◌≡◌}
 use native.Mathlib.Omega.{arith}
-use lib.ListN.{length, get_or, get_or-eq_default}
-use Rattle.store.specs.Ahead.{VersionsAhead}
-use Rattle.store.specs.VersionWalkLaws.{CountStands, version_length, count_turn, count_ends}
+use lib.ListN.{get_or, get_or-eq_default}
+use Rattle.store.specs.VersionWalkLaws.{version_length, count_turn, count_ends}
 use Rattle.store.proofs.walk.count_versions.Goals as goal
 
 pub loop-i-init : goal.loop-i-init

@@ -1,10 +1,8 @@
 -- `store::walk::count_versions` meets its contract. The invariant: those that were counted and those that are left are all.
 use Prim.Native.Nat.{◌-◌, ◌≤◌}
-use mathlib.Core.Path.{◌≡◌}
-use native.Mathlib.Omega.{arith}
-use lib.ListN.{length, get_or, get_or-eq_default}
+use lib.ListN.{length}
 use Rattle.store.specs.Ahead.{VersionsAhead}
-use Rattle.store.specs.VersionWalkLaws.{CountStands, version_length, count_turn, count_ends}
+use Rattle.store.specs.VersionWalkLaws.{CountStands}
 use Rattle.store.proofs.walk.count_versions.Given as goal
 
 abbrev pub invariant-loop-i : goal.invariant-loop-i

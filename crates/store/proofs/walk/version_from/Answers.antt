@@ -1,9 +1,7 @@
-use Prim.Native.Nat.{◌-◌, ◌≤◌}
 use mathlib.Core.Path.{◌≡◌, sym, ◌∙◌}
 use native.Mathlib.Omega.{arith}
-use lib.ListN.{length, get_or, get_or-eq_default}
-use Rattle.store.specs.Ahead.{VersionsAhead}
-use Rattle.store.specs.VersionWalkLaws.{SearchStands, version_length, search_starts, search_turn, search_found, search_ends}
+use lib.ListN.{get_or, get_or-eq_default}
+use Rattle.store.specs.VersionWalkLaws.{version_length, search_starts, search_turn, search_found, search_ends}
 use Rattle.store.proofs.walk.version_from.Goals as goal
 
 pub loop-i-init : goal.loop-i-init
@@ -45,8 +43,7 @@ loop-i-smaller c =
 
 pub loop-i-preserved : goal.loop-i-preserved
 loop-i-preserved c =
-    let a = c.args in
-    (
+    let a = c.args in (
       (c.next_version-next.ensures (c.loop-i.invariant.1 c.requires).left).rest.ahead.inside,
       λ p.
           search_turn a.store.now a.at a.number p c.loop-i.i c.next_version-next.result (c.loop-i.invariant.1 p) (c.next_version-next.ensures (c.loop-i.invariant.1 p).left)

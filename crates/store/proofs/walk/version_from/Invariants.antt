@@ -1,10 +1,8 @@
 -- `store::walk::version_from` meets its contract. The invariant: the versions that were passed have other numbers.
 use Prim.Native.Nat.{◌-◌, ◌≤◌}
-use mathlib.Core.Path.{◌≡◌, sym, ◌∙◌}
-use native.Mathlib.Omega.{arith}
-use lib.ListN.{length, get_or, get_or-eq_default}
+use lib.ListN.{length}
 use Rattle.store.specs.Ahead.{VersionsAhead}
-use Rattle.store.specs.VersionWalkLaws.{SearchStands, version_length, search_starts, search_turn, search_found, search_ends}
+use Rattle.store.specs.VersionWalkLaws.{SearchStands}
 use Rattle.store.proofs.walk.version_from.Given as goal
 
 abbrev pub invariant-loop-i : goal.invariant-loop-i

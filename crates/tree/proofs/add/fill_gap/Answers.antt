@@ -1,6 +1,5 @@
 -- `tree::add::fill_gap` meets its contract: a record put in, for others or for none.
 use native.Mathlib.Omega.{arith}
-use borrow.Author.Rules.{rules}
 use mathlib.Core.Path.{◌≡◌}
 use Rattle.tree.proofs.add.fill_gap.Goals as goal
 

@@ -1,7 +1,6 @@
 -- `tree::add::gap_by` meets its contract: each case is the definition's.
 use mathlib.Core.Path.{◌≡◌, ap}
 use Prim.Native.Nat.{ℕ}
-use borrow.Author.Rules.{rules}
 use Rattle.nodes.specs.Sizes.{depth_at}
 use Rattle.tree.specs.declared.action.Action.TheVariants.{Put, Replace}
 use Rattle.tree.specs.declared.add.Place.{Place}

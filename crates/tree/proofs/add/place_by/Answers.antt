@@ -4,7 +4,6 @@ use Prim.Native.Nat.{ℕ, ◌+◌}
 use Rattle.nodes.specs.Sizes.{depth_at}
 use Rattle.tree.specs.declared.action.Position.TheVariants.{Head, Tail, Before, After}
 use Rattle.tree.specs.declared.add.Place.{Place}
-use borrow.Author.Rules.{rules}
 use Rattle.tree.proofs.add.place_by.Goals as goal
 
 pub returns-in-Head : goal.returns-in-Head

@@ -1,5 +1,4 @@
 -- `tree::add::replace` meets its contract: the run but for its first record taken out, and the new one written over that.
-use borrow.Author.Rules.{rules}
 use Rattle.tree.specs.Gaps.{left_room, replace_leaves}
 use Rattle.tree.proofs.add.replace.Goals as goal
 

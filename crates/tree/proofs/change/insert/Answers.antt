@@ -4,7 +4,6 @@ use Prim.Native.Nat.{ℕ, ◌*◌, ◌-◌}
 use mathlib.Core.Path.{ap, ◌∙◌}
 use mathlib.Core.List.{List}
 use native.Mathlib.Omega.{arith}
-use borrow.Author.Rules.{rules}
 use Rattle.words.specs.Parts.{over}
 use Rattle.nodes.specs.Table.{width, words_of}
 use Rattle.nodes.specs.TableLaws.{rows-length, insert_words}

@@ -3,7 +3,6 @@ use lib.ListN.{length-append, length-take, length-drop}
 use Prim.Native.Nat.{◌*◌, ◌-◌}
 use mathlib.Core.Path.{◌∙◌}
 use native.Mathlib.Omega.{arith}
-use borrow.Author.Rules.{rules}
 use Rattle.nodes.specs.Table.{width}
 use Rattle.nodes.specs.TableLaws.{rows-length, remove_words}
 use Rattle.tree.proofs.change.remove.Goals as goal

@@ -3,7 +3,6 @@ use Prim.Native.Nat.{◌*◌}
 use mathlib.Core.Path.{sym, ap, ◌∙◌}
 use mathlib.Core.List.{List}
 use native.Mathlib.Omega.{arith}
-use borrow.Author.Rules.{rules}
 use Rattle.nodes.specs.declared.Node.{Node}
 use Rattle.words.specs.Parts.{over}
 use Rattle.nodes.specs.Table.{width, fill, words_of, node_from}

@@ -1,8 +1,8 @@
-use Prim.Native.Nat.{ℕ, ◌+◌, ◌*◌, ◌≤◌, ◌<◌}
+use Prim.Native.Nat.{◌+◌, ◌*◌, ◌<◌}
 use mathlib.Core.Path.{◌≡◌}
 use native.Mathlib.Omega.{arith}
 use lib.ListN.{length, get_or}
-use Rattle.tree.specs.Sweep.{Swept, swept_end, swept_stop, swept_synth, swept_group, Ends, swept_ends, copied_length}
+use Rattle.tree.specs.Sweep.{swept_end, swept_stop, swept_synth, swept_group, Ends, swept_ends, copied_length}
 use Rattle.nodes.specs.Table.{width, node_from, depth_field}
 use Rattle.tree.proofs.deep.+sweep.Goals as goal
 

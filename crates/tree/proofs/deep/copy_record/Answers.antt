@@ -1,7 +1,6 @@
 -- `tree::deep::copy_record` meets its contract: a record read, and written elsewhere.
 use Prim.Native.Nat.{◌*◌}
 use mathlib.Core.Path.{ap, ◌∙◌}
-use borrow.Author.Rules.{rules}
 use Rattle.nodes.specs.declared.Node.{Node}
 use Rattle.words.specs.Parts.{over}
 use Rattle.nodes.specs.Table.{width, words_of}

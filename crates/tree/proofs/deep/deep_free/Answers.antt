@@ -1,7 +1,6 @@
 -- `tree::deep::deep_free` meets its contract: what the sweep leaves, then what the removal leaves of it.
 use Prim.Native.Nat.{◌+◌, ◌*◌}
 use native.Mathlib.Omega.{arith}
-use borrow.Author.Rules.{rules}
 use lib.ListN.{get_or}
 use Rattle.nodes.specs.Table.{width, rows, depth_field}
 use Rattle.nodes.specs.Edit.{edit_at, deep_free_here}

@@ -1,6 +1,5 @@
 -- `tree::moves::make_room` meets its contract: both ways of moving what is between.
 use native.Mathlib.Omega.{arith}
-use borrow.Author.Rules.{rules}
 use Rattle.tree.specs.Moves.{opened_up, opened_down}
 use Rattle.tree.proofs.moves.make_room.Goals as goal
 

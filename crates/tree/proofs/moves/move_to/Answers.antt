@@ -2,7 +2,6 @@
 use mathlib.Core.Path.{ap₂, ap, ◌∙◌}
 use Prim.Native.Nat.{ℕ, ◌+◌}
 use native.Mathlib.Omega.{arith}
-use borrow.Author.Rules.{rules}
 use Rattle.nodes.specs.Table.{rows, fill}
 use Rattle.nodes.specs.PlaceLaws.{end_most}
 use Rattle.nodes.specs.Sizes.{depth_at}

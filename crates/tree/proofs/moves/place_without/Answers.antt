@@ -1,6 +1,5 @@
 -- `tree::moves::place_without` meets its contract.
 use native.Mathlib.Omega.{arith}
-use borrow.Author.Rules.{rules}
 use borrow.Author.Tests.{le-leb, lt-leb}
 use Rattle.tree.proofs.moves.place_without.Goals as goal
 

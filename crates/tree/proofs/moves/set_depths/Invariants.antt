@@ -1,13 +1,9 @@
 -- `tree::moves::set_depths` meets its contract. The invariant: the records before i are changed.
 -- a depth that is read is the one that was there
-use Prim.Native.Nat.{ℕ, ◌+◌, ◌*◌, ◌-◌, ◌≤◌}
-use mathlib.Core.Path.{◌≡◌, refl, ap, ◌∙◌}
-use mathlib.Core.List.{List}
-use native.Mathlib.Omega.{arith}
-use borrow.Author.Rules.{rules}
-use lib.ListN.{length, get_or, set, length-set}
-use Rattle.nodes.specs.Table.{width, depth_field}
-use Rattle.tree.specs.Depths.{releveled, releveled_start, releveled_turn, depth_read}
+use Prim.Native.Nat.{◌-◌, ◌≤◌}
+use mathlib.Core.Path.{◌≡◌}
+use lib.ListN.{length}
+use Rattle.tree.specs.Depths.{releveled}
 use Rattle.tree.proofs.moves.set_depths.Given as goal
 
 abbrev pub invariant-loop-i : goal.invariant-loop-i

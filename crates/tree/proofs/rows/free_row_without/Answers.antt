@@ -1,7 +1,6 @@
 -- `tree::rows::free_row_without` meets its contract: where each of the first rows has a mark, the search goes on behind them.
 use mathlib.Core.List.{◌++◌}
 use native.Mathlib.Omega.{arith}
-use borrow.Author.Rules.{rules}
 use lib.ListN.{take, drop}
 use Rattle.nodes.specs.Table.{rows}
 use Rattle.tree.specs.FreeRow.{free_first}

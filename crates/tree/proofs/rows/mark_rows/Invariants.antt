@@ -1,14 +1,12 @@
 -- `tree::rows::mark_rows` meets its contract. The invariant: a row is to be marked where it is, or where a record from i on has it.
-use mathlib.Core.Logic.{⊎_elim}
 use Prim.Native.Nat.{ℕ, ◌-◌, ◌≤◌}
-use mathlib.Core.Bool.{Bool, true, false}
-use mathlib.Core.Path.{◌≡◌, refl}
-use native.Mathlib.Omega.{arith}
-use lib.ListN.{length, drop, get_or, set, length-set}
+use mathlib.Core.Bool.{false}
+use mathlib.Core.Path.{◌≡◌}
+use lib.ListN.{length, drop, get_or}
 use Rattle.words.specs.Choice.{either}
 use Rattle.nodes.specs.Table.{rows}
 use Rattle.nodes.specs.Formed.{row_taken}
-use Rattle.tree.specs.FreeRow.{Marked, marked_end, marked_skip, marked_set}
+use Rattle.tree.specs.FreeRow.{Marked}
 use Rattle.tree.proofs.rows.mark_rows.Given as goal
 
 abbrev pub invariant-loop-i : goal.invariant-loop-i

@@ -1,6 +1,5 @@
 -- `tree::rows::row_at` meets its contract.
 use Prim.Native.Nat.{◌+◌, ◌*◌}
-use borrow.Author.Rules.{rules}
 use borrow.Author.Tests.{eq-eqb, ne_eqb}
 use lib.ListN.{get_or}
 use Rattle.nodes.specs.Table.{width, slot_field}

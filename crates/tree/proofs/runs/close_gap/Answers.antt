@@ -3,7 +3,6 @@ use mathlib.Core.Path.{◌≡◌, refl, sym, ap, ◌∙◌}
 use mathlib.Core.List.{List}
 use native.Mathlib.Omega.{arith}
 use native.Mathlib.Numerals.{add-one}
-use borrow.Author.Rules.{rules}
 use lib.ListN.{length, drop, get_or, set, length-set, length-drop}
 use lib.Seq.{paste, paste-zero, paste-suc, drop-paste, get_or-drop}
 use Rattle.tree.proofs.runs.close_gap.Goals as goal

@@ -1,12 +1,8 @@
 -- `tree::runs::close_gap` meets its contract. A word that is read lies past all that has been written.
-use Prim.Native.Nat.{ℕ, ◌+◌, ◌-◌, ◌≤◌, ◌<◌}
-use mathlib.Core.Path.{◌≡◌, refl, sym, ap, ◌∙◌}
-use mathlib.Core.List.{List}
-use native.Mathlib.Omega.{arith}
-use native.Mathlib.Numerals.{add-one}
-use borrow.Author.Rules.{rules}
-use lib.ListN.{length, drop, get_or, set, length-set, length-drop}
-use lib.Seq.{paste, paste-zero, paste-suc, drop-paste, get_or-drop}
+use Prim.Native.Nat.{◌-◌, ◌≤◌}
+use mathlib.Core.Path.{◌≡◌}
+use lib.ListN.{length, drop}
+use lib.Seq.{paste}
 use Rattle.tree.proofs.runs.close_gap.Given as goal
 
 abbrev pub invariant-loop-i : goal.invariant-loop-i

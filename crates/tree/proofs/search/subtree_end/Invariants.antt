@@ -1,13 +1,9 @@
 -- `tree::search::subtree_end` meets its contract. The invariant is that of `find`, with depths.
-use Prim.Native.Nat.{suc, ◌+◌, ◌*◌, ◌-◌, ◌≤◌}
-use mathlib.Core.Path.{◌≡◌, refl, sym, ◌∙◌}
-use native.Mathlib.Omega.{arith}
-use borrow.Author.Rules.{rules}
-use borrow.Author.Tests.{not-true, not-false}
-use lib.ListN.{drop, get_or}
-use Rattle.nodes.specs.Table.{width, rows, depth_field}
+use Prim.Native.Nat.{◌+◌, ◌-◌, ◌≤◌}
+use mathlib.Core.Path.{◌≡◌}
+use lib.ListN.{drop}
+use Rattle.nodes.specs.Table.{rows}
 use Rattle.nodes.specs.Place.{deeper}
-use Rattle.nodes.specs.PlaceLaws.{deeper_turn, deeper_end}
 use Rattle.tree.proofs.search.subtree_end.Given as goal
 
 abbrev pub invariant-loop-i : goal.invariant-loop-i

@@ -1,11 +1,11 @@
-use Prim.Native.Nat.{ℕ, ◌+◌, ◌*◌, ◌-◌, ◌≤◌}
-use mathlib.Core.Path.{◌≡◌, refl, sym, ap, ◌∙◌}
+use Prim.Native.Nat.{ℕ, ◌+◌, ◌*◌}
+use mathlib.Core.Path.{refl, sym, ap, ◌∙◌}
 use mathlib.Core.List.{List}
 use native.Mathlib.Omega.{arith}
-use lib.ListN.{drop, get_or}
-use Rattle.nodes.specs.Table.{width, rows, depth_field}
+use lib.ListN.{get_or}
+use Rattle.nodes.specs.Table.{width, depth_field}
 use Rattle.nodes.specs.Structure.{no_node, first_or}
-use Rattle.tree.specs.Around.{child_numbers, child_numbers_stop, child_numbers_child, child_numbers_skip, child_numbers_end}
+use Rattle.tree.specs.Around.{child_numbers_stop, child_numbers_child, child_numbers_skip, child_numbers_end}
 use Rattle.tree.proofs.structure.head_of.Goals as goal
 
 pub loop-i-init : goal.loop-i-init

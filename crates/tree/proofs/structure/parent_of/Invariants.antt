@@ -1,12 +1,9 @@
 -- `tree::structure::parent_of` meets its contract. The invariant: no record from i up to the node's place is less deep.
-use Prim.Native.Nat.{ℕ, ◌+◌, ◌*◌, ◌-◌, ◌≤◌}
-use mathlib.Core.Path.{◌≡◌, refl, sym, ap, ◌∙◌}
-use native.Mathlib.Omega.{arith}
-use borrow.Author.Tests.{lt-ltb, le-ltb}
-use lib.ListN.{get_or}
-use Rattle.nodes.specs.Table.{width, rows, depth_field}
+use Prim.Native.Nat.{◌≤◌}
+use mathlib.Core.Path.{◌≡◌}
+use Rattle.nodes.specs.Table.{rows}
 use Rattle.nodes.specs.Structure.{no_node}
-use Rattle.tree.specs.Around.{along, above, along_start, along_back}
+use Rattle.tree.specs.Around.{along, above}
 use Rattle.tree.proofs.structure.parent_of.Given as goal
 
 abbrev pub invariant-loop-i : goal.invariant-loop-i

@@ -1,12 +1,9 @@
 -- `tree::structure::previous_of` meets its contract. The invariant: every record from i up to the node's place is deeper.
-use Prim.Native.Nat.{ℕ, ◌+◌, ◌*◌, ◌-◌, ◌≤◌}
-use mathlib.Core.Path.{◌≡◌, refl, sym, ap, ◌∙◌}
-use native.Mathlib.Omega.{arith}
-use borrow.Author.Tests.{lt-ltb, le-ltb, eq-eqb, ne_eqb}
-use lib.ListN.{get_or}
-use Rattle.nodes.specs.Table.{width, rows, depth_field}
+use Prim.Native.Nat.{◌≤◌}
+use mathlib.Core.Path.{◌≡◌}
+use Rattle.nodes.specs.Table.{rows}
 use Rattle.nodes.specs.Structure.{no_node}
-use Rattle.tree.specs.Around.{along, beside, along_start, along_back}
+use Rattle.tree.specs.Around.{along, beside}
 use Rattle.tree.proofs.structure.previous_of.Given as goal
 
 abbrev pub invariant-loop-i : goal.invariant-loop-i

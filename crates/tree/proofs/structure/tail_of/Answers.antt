@@ -1,10 +1,10 @@
-use Prim.Native.Nat.{ℕ, ◌+◌, ◌*◌, ◌-◌, ◌≤◌}
-use mathlib.Core.Path.{◌≡◌, refl, sym, ap, ◌∙◌}
+use Prim.Native.Nat.{ℕ, ◌+◌, ◌*◌}
+use mathlib.Core.Path.{refl, sym, ap, ◌∙◌}
 use mathlib.Core.List.{List}
 use native.Mathlib.Omega.{arith}
 use lib.ListN.{drop, get_or}
 use Rattle.nodes.specs.Table.{width, rows, depth_field}
-use Rattle.nodes.specs.Structure.{no_node, last_or}
+use Rattle.nodes.specs.Structure.{last_or}
 use Rattle.tree.specs.Around.{child_numbers, child_numbers_stop, child_numbers_child, child_numbers_skip, child_numbers_end}
 use Rattle.tree.proofs.structure.tail_of.Goals as goal
 use Rattle.tree.proofs.structure.tail_of.Goals.{then-other-depth-eq1, else-other-depth-eq1}
@@ -30,9 +30,9 @@ loop-i-preserved c =
     let rest = child_numbers d (drop (c.loop-i.i + 1) (rows a.count us)) in (
       omega arith,
       elim c.if-other-depth-eq1.branch [
-      then-other-depth-eq1 w ↦ ap (λ (x : ℕ). last_or x rest) w.last-is ∙ ap (λ (k : List ℕ). last_or c.loop-i.last k) (sym (child_numbers_child a.count us d c.loop-i.i (omega arith) (omega arith) w.if-other-depth-eq1.true))
-    | else-other-depth-eq1 w ↦ ap (λ (x : ℕ). last_or x rest) w.last-is ∙ ap (λ (k : List ℕ). last_or c.loop-i.last k) (sym (child_numbers_skip a.count us d c.loop-i.i (omega arith) (omega arith) w.if-other-depth-eq1.false))
-    ]
+        | then-other-depth-eq1 w ↦ ap (λ (x : ℕ). last_or x rest) w.last-is ∙ ap (λ (k : List ℕ). last_or c.loop-i.last k) (sym (child_numbers_child a.count us d c.loop-i.i (omega arith) (omega arith) w.if-other-depth-eq1.true))
+        | else-other-depth-eq1 w ↦ ap (λ (x : ℕ). last_or x rest) w.last-is ∙ ap (λ (k : List ℕ). last_or c.loop-i.last k) (sym (child_numbers_skip a.count us d c.loop-i.i (omega arith) (omega arith) w.if-other-depth-eq1.false))
+      ]
           ∙ c.loop-i.invariant.1,
     )
 

@@ -1,13 +1,10 @@
 -- `tree::structure::tail_of` meets its contract. The invariant: the last child so far, and those from i on, give the last of all.
-use mathlib.Core.Logic.{⊎_elim}
-use Prim.Native.Nat.{ℕ, ◌+◌, ◌*◌, ◌-◌, ◌≤◌}
-use mathlib.Core.Path.{◌≡◌, refl, sym, ap, ◌∙◌}
-use mathlib.Core.List.{List}
-use native.Mathlib.Omega.{arith}
-use lib.ListN.{drop, get_or}
-use Rattle.nodes.specs.Table.{width, rows, depth_field}
+use Prim.Native.Nat.{◌+◌, ◌-◌, ◌≤◌}
+use mathlib.Core.Path.{◌≡◌}
+use lib.ListN.{drop}
+use Rattle.nodes.specs.Table.{rows}
 use Rattle.nodes.specs.Structure.{no_node, last_or}
-use Rattle.tree.specs.Around.{child_numbers, child_numbers_stop, child_numbers_child, child_numbers_skip, child_numbers_end}
+use Rattle.tree.specs.Around.{child_numbers}
 use Rattle.tree.proofs.structure.tail_of.Given as goal
 
 abbrev pub invariant-loop-i : goal.invariant-loop-i

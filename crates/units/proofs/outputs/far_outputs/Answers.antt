@@ -1,7 +1,6 @@
 use Prim.Native.Nat.{ℕ, ◌+◌, ◌/◌, ◌%◌, ◌<◌}
 use mathlib.Core.Path.{◌≡◌, ap, ◌∙◌}
 use native.Mathlib.Omega.{arith}
-use borrow.Author.Rules.{rules}
 use lib.ListN.{length, get_or}
 use Rattle.units.specs.Marks.{unit_counts, unit_outputs, unit_end, unit_place, mark_place, mark_within}
 use Rattle.units.proofs.outputs.far_outputs.Goals as goal

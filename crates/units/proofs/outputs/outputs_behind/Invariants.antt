@@ -1,9 +1,6 @@
-use Prim.Native.Nat.{suc, ◌-◌, ◌≤◌}
-use mathlib.Core.Path.{◌≡◌, refl, ap, ◌∙◌}
-use native.Mathlib.Omega.{arith}
-use native.Mathlib.Numerals.{add-one}
-use Rattle.units.specs.Marks.{unit_outputs, unit_end, unit_place, place_up}
-use native.Mathlib.Nat.{le_trans}
+use Prim.Native.Nat.{◌-◌, ◌≤◌}
+use mathlib.Core.Path.{◌≡◌}
+use Rattle.units.specs.Marks.{unit_place}
 use Rattle.units.proofs.outputs.outputs_behind.Given as goal
 
 abbrev pub invariant-loop-i : goal.invariant-loop-i

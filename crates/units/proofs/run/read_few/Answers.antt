@@ -1,6 +1,5 @@
 use mathlib.Core.Path.{refl}
 use native.Mathlib.Omega.{arith}
-use borrow.Author.Rules.{rules}
 use Rattle.units.specs.Units.{stood_first, run_whole, run_sized}
 use Rattle.units.proofs.run.read_few.Goals as goal
 

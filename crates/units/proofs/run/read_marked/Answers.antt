@@ -1,11 +1,8 @@
-use Prim.Native.Nat.{◌-◌}
-use mathlib.Core.Path.{◌≡◌, refl, sym, ◌∙◌}
+use mathlib.Core.Path.{refl, sym, ◌∙◌}
 use native.Mathlib.Omega.{arith}
-use borrow.Author.Rules.{rules}
-use lib.ListN.{length}
 use lib.Seq.{length-take-le}
 use Rattle.units.specs.Marks.{unit_place, place_up, marking_same}
-use Rattle.units.specs.Units.{Standing, stands_first, stands_marked, stands_next, stands_bad, stands_done}
+use Rattle.units.specs.Units.{stands_first, stands_marked, stands_next, stands_bad, stands_done}
 use Rattle.units.proofs.run.read_marked.Goals as goal
 
 pub loop-i-init : goal.loop-i-init

@@ -1,11 +1,7 @@
 use Prim.Native.Nat.{◌-◌}
-use mathlib.Core.Path.{◌≡◌, refl, sym, ◌∙◌}
-use native.Mathlib.Omega.{arith}
-use borrow.Author.Rules.{rules}
+use mathlib.Core.Path.{◌≡◌}
 use lib.ListN.{length}
-use lib.Seq.{length-take-le}
-use Rattle.units.specs.Marks.{unit_place, place_up, marking_same}
-use Rattle.units.specs.Units.{Standing, stands_first, stands_marked, stands_next, stands_bad, stands_done}
+use Rattle.units.specs.Units.{Standing}
 use Rattle.units.proofs.run.read_marked.Given as goal
 
 abbrev pub invariant-loop-i : goal.invariant-loop-i

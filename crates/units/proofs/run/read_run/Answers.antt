@@ -1,10 +1,7 @@
-use Prim.Native.Nat.{ℕ, suc, ◌+◌, ◌-◌, ◌≤◌}
+use Prim.Native.Nat.{ℕ, suc, ◌+◌, ◌-◌}
 use mathlib.Core.Path.{◌≡◌, refl, sym, ◌∙◌}
 use native.Mathlib.Omega.{arith}
-use borrow.Author.Rules.{rules}
-use Rattle.format.specs.Read.{ending}
-use Rattle.format.specs.Reader.{units_by}
-use Rattle.units.specs.Units.{outs_from, UnitsRead, Ran, run_few, run_stood, run_next, run_bad}
+use Rattle.units.specs.Units.{Ran, run_few, run_stood, run_next, run_bad}
 use Rattle.units.proofs.run.read_run.Goals as goal
 
 pub loop-i-init : goal.loop-i-init

@@ -1,10 +1,8 @@
-use Prim.Native.Nat.{ℕ, suc, ◌+◌, ◌-◌, ◌≤◌}
-use mathlib.Core.Path.{◌≡◌, refl, sym, ◌∙◌}
-use native.Mathlib.Omega.{arith}
-use borrow.Author.Rules.{rules}
+use Prim.Native.Nat.{ℕ, ◌+◌, ◌-◌, ◌≤◌}
+use mathlib.Core.Path.{◌≡◌}
 use Rattle.format.specs.Read.{ending}
 use Rattle.format.specs.Reader.{units_by}
-use Rattle.units.specs.Units.{outs_from, UnitsRead, Ran, run_few, run_stood, run_next, run_bad}
+use Rattle.units.specs.Units.{outs_from, UnitsRead}
 use Rattle.units.proofs.run.read_run.Given as goal
 
 abbrev pub invariant-loop-i : goal.invariant-loop-i

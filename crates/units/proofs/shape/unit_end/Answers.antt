@@ -1,7 +1,6 @@
 use Prim.Native.Nat.{ℕ, ◌*◌}
 use mathlib.Core.Path.{ap₂}
 use native.Mathlib.Omega.{arith}
-use borrow.Author.Rules.{rules}
 use Rattle.units.specs.Marks.{unit_end}
 use Rattle.units.proofs.shape.unit_end.Goals as goal
 

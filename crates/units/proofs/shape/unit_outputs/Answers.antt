@@ -1,7 +1,6 @@
 use Prim.Native.Nat.{◌+◌}
 use mathlib.Core.Path.{◌≡◌, ap, ◌∙◌}
 use native.Mathlib.Omega.{arith}
-use borrow.Author.Rules.{rules}
 use Rattle.format.specs.Fields.{size_of, value_by}
 use Rattle.units.specs.Marks.{unit_counts, unit_outputs, unit_end}
 use Rattle.units.proofs.shape.unit_outputs.Goals as goal

@@ -1,5 +1,4 @@
 use mathlib.Core.Path.{ap}
-use borrow.Author.Rules.{rules}
 use Rattle.format.specs.Read.{ending}
 use Rattle.units.proofs.unit.read_index.Goals as goal
 

@@ -2,7 +2,6 @@ use Prim.Native.Nat.{ℕ, suc, ◌%◌, ◌<◌}
 use mathlib.Core.Path.{sym, ap, ◌∙◌}
 use native.Mathlib.Omega.{arith}
 use native.Mathlib.Nat.{le_trans}
-use borrow.Author.Rules.{rules}
 use lib.ListN.{get_or}
 use Rattle.format.specs.Fields.{index_below_by}
 use Rattle.format.specs.Read.{ending}

@@ -1,10 +1,7 @@
-use Prim.Native.Nat.{◌-◌, ◌≤◌}
-use mathlib.Core.Path.{◌≡◌, sym, ◌∙◌}
+use mathlib.Core.Path.{sym, ◌∙◌}
 use native.Mathlib.Omega.{arith}
-use borrow.Author.Rules.{rules}
 use Rattle.format.specs.Endings.{repeat_next, repeat_bad}
 use Rattle.format.specs.RepeatLaws.{ending_none}
-use Rattle.format.specs.Read.{ending, repeat}
 use native.Mathlib.Nat.{sub-zero}
 use Rattle.format.specs.Fields.{rate}
 use Rattle.units.proofs.unit.read_rates.Goals as goal

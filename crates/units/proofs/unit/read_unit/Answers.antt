@@ -1,5 +1,4 @@
 use mathlib.Core.Path.{sym}
-use borrow.Author.Rules.{rules}
 use Rattle.units.specs.Units.{skip_unit}
 use Rattle.units.proofs.unit.read_unit.Goals as goal
 

@@ -1,4 +1,3 @@
-use borrow.Author.Rules.{rules}
 use Rattle.values.proofs.Control.map_to.Goals as goal
 
 pub returns : goal.returns

@@ -1,4 +1,3 @@
-use borrow.Author.Rules.{rules}
 use Rattle.values.specs.Controls.{seen}
 use Rattle.values.proofs.Control.mapping_word.Goals as goal
 

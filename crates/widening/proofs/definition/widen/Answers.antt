@@ -7,7 +7,6 @@ use Rattle.widening.specs.Encoded.{Encodable, encoded}
 use Prim.Native.Nat.{ℕ, ◌+◌, ◌-◌}
 use mathlib.Core.Path.{sym, ap}
 use native.Mathlib.Omega.{arith}
-use borrow.Author.Rules.{rules}
 use lib.ListN.{length}
 use Rattle.widening.proofs.definition.widen.Goals as goal
 

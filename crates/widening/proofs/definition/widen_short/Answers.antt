@@ -11,7 +11,6 @@ use Prim.Native.Nat.{ℕ, ◌+◌, ◌-◌, ◌≤◌}
 use mathlib.Core.Path.{◌≡◌, ap}
 use mathlib.Core.List.{◌++◌}
 use native.Mathlib.Omega.{arith}
-use borrow.Author.Rules.{rules}
 use Rattle.widening.proofs.definition.widen_short.Goals as goal
 
 pub widen_front-p1-requires : goal.widen_front-p1-requires

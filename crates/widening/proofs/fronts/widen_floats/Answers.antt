@@ -6,7 +6,6 @@ use Rattle.widening.specs.Moved.{room_first, room-last, moved_then}
 use Prim.Native.Nat.{◌+◌, ◌*◌}
 use mathlib.Core.Path.{◌∙◌}
 use native.Mathlib.Omega.{arith}
-use borrow.Author.Rules.{rules}
 use Rattle.widening.proofs.fronts.widen_floats.Goals as goal
 
 pub value_at-requires : goal.value_at-requires

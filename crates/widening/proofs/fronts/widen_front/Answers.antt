@@ -6,7 +6,6 @@ use Rattle.widening.specs.Moved.{room_first, room-last, moved_then}
 use Prim.Native.Nat.{◌+◌}
 use mathlib.Core.List.{◌++◌}
 use native.Mathlib.Omega.{arith}
-use borrow.Author.Rules.{rules}
 use Rattle.widening.proofs.fronts.widen_front.Goals as goal
 
 pub keep_text-p1-requires : goal.keep_text-p1-requires

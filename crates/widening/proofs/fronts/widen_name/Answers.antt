@@ -2,7 +2,6 @@ use Rattle.widening.specs.Moved.{room_first, room-last, moved_then}
 use Rattle.widening.specs.Pieces.{text_wide, text_past, integer_wide}
 use Prim.Native.Nat.{◌+◌}
 use native.Mathlib.Omega.{arith}
-use borrow.Author.Rules.{rules}
 use Rattle.widening.proofs.fronts.widen_name.Goals as goal
 
 pub keep_text-next-requires : goal.keep_text-next-requires

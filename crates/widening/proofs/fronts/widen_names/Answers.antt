@@ -1,6 +1,5 @@
 use Rattle.widening.specs.Pieces.{name_wide, name_past}
-use Rattle.widening.specs.Moved.{Walking, walking_first, walking_room, walking_next, walking_last}
-use Prim.Native.Nat.{◌-◌}
+use Rattle.widening.specs.Moved.{walking_first, walking_room, walking_next, walking_last}
 use native.Mathlib.Omega.{arith}
 use Rattle.widening.proofs.fronts.widen_names.Goals as goal
 

@@ -1,7 +1,6 @@
 use Rattle.widening.specs.Pieces.{name_wide, name_past}
-use Rattle.widening.specs.Moved.{Walking, walking_first, walking_room, walking_next, walking_last}
+use Rattle.widening.specs.Moved.{Walking}
 use Prim.Native.Nat.{◌-◌}
-use native.Mathlib.Omega.{arith}
 use Rattle.widening.proofs.fronts.widen_names.Given as goal
 
 abbrev pub invariant-loop-i : goal.invariant-loop-i

@@ -2,7 +2,6 @@ use Rattle.words.specs.PartsLaws.{region-length}
 use Prim.Native.Nat.{◌+◌, ◌-◌}
 use mathlib.Core.Path.{◌≡◌, refl}
 use native.Mathlib.Omega.{arith}
-use borrow.Author.Rules.{rules}
 use Rattle.widening.proofs.places.keep.Goals as goal
 
 pub put_bytes-requires : goal.put_bytes-requires

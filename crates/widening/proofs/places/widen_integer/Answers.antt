@@ -2,7 +2,6 @@ use Rattle.words.specs.Parts.{over}
 use Rattle.words.specs.Bytes.{bytes32}
 use Prim.Native.Nat.{ℕ}
 use mathlib.Core.Path.{refl, ap, ◌∙◌}
-use borrow.Author.Rules.{rules}
 use Rattle.widening.proofs.places.widen_integer.Goals as goal
 
 pub returns : goal.returns

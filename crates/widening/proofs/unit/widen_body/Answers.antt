@@ -5,7 +5,6 @@ use Rattle.widening.specs.Moved.{room_first, room-last, moved_then}
 use Prim.Native.Nat.{◌+◌}
 use mathlib.Core.List.{◌++◌}
 use native.Mathlib.Omega.{arith}
-use borrow.Author.Rules.{rules}
 use Rattle.widening.proofs.unit.widen_body.Goals as goal
 
 pub keep-p1-requires : goal.keep-p1-requires

@@ -2,7 +2,6 @@ use Rattle.widening.specs.Moved.{room_first, room-last, moved_then}
 use Rattle.widening.specs.Pieces.{integer_wide}
 use Prim.Native.Nat.{◌+◌}
 use native.Mathlib.Omega.{arith}
-use borrow.Author.Rules.{rules}
 use Rattle.widening.proofs.unit.widen_input.Goals as goal
 
 pub widen_integer-next-requires : goal.widen_integer-next-requires

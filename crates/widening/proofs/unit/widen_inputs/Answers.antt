@@ -1,6 +1,5 @@
 use Rattle.widening.specs.Pieces.{input_wide, input_past}
-use Rattle.widening.specs.Moved.{Walking, walking_first, walking_room, walking_next, walking_last}
-use Prim.Native.Nat.{◌-◌}
+use Rattle.widening.specs.Moved.{walking_first, walking_room, walking_next, walking_last}
 use native.Mathlib.Omega.{arith}
 use Rattle.widening.proofs.unit.widen_inputs.Goals as goal
 

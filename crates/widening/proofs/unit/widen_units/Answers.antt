@@ -1,7 +1,5 @@
 use Rattle.widening.specs.Pieces.{unit_wide, unit_past, unit_onward}
-use Rattle.widening.specs.Moved.{Walking, walking_first, walking_room, walking_next, walking_last}
-use Prim.Native.Nat.{◌-◌}
-use native.Mathlib.Omega.{arith}
+use Rattle.widening.specs.Moved.{walking_first, walking_room, walking_next, walking_last}
 use Rattle.widening.proofs.unit.widen_units.Goals as goal
 
 pub loop-i-init : goal.loop-i-init

@@ -1,5 +1,4 @@
 use mathlib.Core.Path.{sym, ◌∙◌}
-use borrow.Author.Rules.{rules}
 use Rattle.faults.specs.declared.Fault.TheVariants.{BadName}
 use Rattle.format.specs.FieldLaws.{pstring_end}
 use Rattle.format.specs.NameLaws.{full, full_part, region_none}

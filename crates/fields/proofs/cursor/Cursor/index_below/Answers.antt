@@ -1,4 +1,3 @@
-use borrow.Author.Rules.{rules}
 use borrow.Author.Tests.{lt-ltb, le-ltb}
 use Rattle.faults.specs.declared.Fault.TheVariants.{BadIndex}
 use lib.Dec.{ltb}

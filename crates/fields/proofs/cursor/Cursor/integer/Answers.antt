@@ -1,4 +1,3 @@
-use borrow.Author.Rules.{rules}
 use Rattle.fields.proofs.cursor.Cursor.integer.Goals as goal
 
 pub returns-in-Short : goal.returns-in-Short

@@ -1,5 +1,4 @@
 use mathlib.Core.Path.{sym, ◌∙◌}
-use borrow.Author.Rules.{rules}
 use Rattle.faults.specs.declared.Fault.TheVariants.{BadName}
 use Rattle.format.specs.Fields.{name_bytes}
 use Rattle.format.specs.ReadLaws.{checked-pass, checked_fail, checked_bad}
