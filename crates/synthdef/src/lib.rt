@@ -1,4 +1,4 @@
-// SynthDef files, for Rust and C.
+// What Rust and C call of SynthDef files; `synthdef_c` exports each under its name.
 #![tactic(auto)]
 
 mod twin;
@@ -15,8 +15,7 @@ use files::{Checked, check_file, width_of};
 use reader::{Span, definition_span};
 
 // 0 where the file is accepted, or the refusal's number.
-#[unsafe(no_mangle)]
-pub extern "C" fn synthdef_refusal(file: &[u8]) -> u32
+pub fn synthdef_refusal(file: &[u8]) -> u32
     ensures { result ≡ refusal_number (verdict (read_file file.now)) }
 {
     match check_file(file) {
@@ -26,8 +25,7 @@ pub extern "C" fn synthdef_refusal(file: &[u8]) -> u32
 }
 
 // The refusal's place; 0 where the file is accepted.
-#[unsafe(no_mangle)]
-pub extern "C" fn synthdef_place(file: &[u8]) -> u64
+pub fn synthdef_place(file: &[u8]) -> u64
     ensures { result ≡ refusal_place (verdict (read_file file.now)) }
 {
     match check_file(file) {
@@ -37,8 +35,7 @@ pub extern "C" fn synthdef_place(file: &[u8]) -> u64
 }
 
 // How many definitions an accepted file has; 0 where it is refused.
-#[unsafe(no_mangle)]
-pub extern "C" fn synthdef_count(file: &[u8]) -> u32
+pub fn synthdef_count(file: &[u8]) -> u32
     ensures { result ≡ definition_count (verdict (read_file file.now)) }
 {
     match check_file(file) {
@@ -48,8 +45,7 @@ pub extern "C" fn synthdef_count(file: &[u8]) -> u32
 }
 
 // The place of the first byte of a definition's name; 0 where an accepted file has no such definition.
-#[unsafe(no_mangle)]
-pub extern "C" fn synthdef_name_start(file: &[u8], index: u32) -> u64
+pub fn synthdef_name_start(file: &[u8], index: u32) -> u64
     ensures { result ≡ name_start (definition_span file.now index) }
 {
     match definition_span(file, index) {
@@ -59,8 +55,7 @@ pub extern "C" fn synthdef_name_start(file: &[u8], index: u32) -> u64
 }
 
 // The place past it.
-#[unsafe(no_mangle)]
-pub extern "C" fn synthdef_name_end(file: &[u8], index: u32) -> u64
+pub fn synthdef_name_end(file: &[u8], index: u32) -> u64
     ensures { result ≡ name_end file.now (definition_span file.now index) }
 {
     match definition_span(file, index) {
@@ -73,8 +68,7 @@ pub extern "C" fn synthdef_name_end(file: &[u8], index: u32) -> u64
 }
 
 // The version of an accepted file; 0 where it is refused.
-#[unsafe(no_mangle)]
-pub extern "C" fn synthdef_version(file: &[u8]) -> u32
+pub fn synthdef_version(file: &[u8]) -> u32
     ensures { result ≡ accepted_version file.now }
 {
     match check_file(file) {
@@ -84,8 +78,7 @@ pub extern "C" fn synthdef_version(file: &[u8]) -> u32
 }
 
 // Writes the twin of an accepted file from the first byte on, where it has room, and answers its length; else 0, and nothing is written.
-#[unsafe(no_mangle)]
-pub extern "C" fn synthdef_widen(file: &[u8], out: &mut [u8]) -> u64
+pub fn synthdef_widen(file: &[u8], out: &mut [u8]) -> u64
     ensures { Widens file.now out.old out.new result }
 {
     match check_file(file) {
