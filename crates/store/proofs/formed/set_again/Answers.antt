@@ -60,9 +60,9 @@ loop-end-preserved c =
     let s = a.store.now in
     let end = c.in-Whole.end in
     let stands = found_whole s c.loop-end.at c.in-Whole.is c.next_field.ensures in
-    let told = c.if-store-at-ne-SETTING_TAG.false in
+    let setting = c.if-store-at-ne-SETTING_TAG.false in
     let same = c.same_name.ensures ∙ ap (λ (n : List ℕ). same_name n a.name.now) c.setting_name.ensures in
-    let later = set_later a.name.now (field_between s c.loop-end.at end) (fields_at s end) told (sym same ∙ c.if-same_name.false) in
+    let later = set_later a.name.now (field_between s c.loop-end.at end) (fields_at s end) setting (sym same ∙ c.if-same_name.false) in
     sym (ap (λ (fs : List Field). is_set a.name.now (settings_at fs)) stands.fields ∙ later) ∙ c.loop-end.invariant
 
 pub returns-in-Cut : goal.returns-in-Cut
