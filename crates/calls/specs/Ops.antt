@@ -1,6 +1,6 @@
 -- The commands of calls from another language: the op's number, and five numbers a to e, of which each command takes the first that it has.
-use Prim.{Unit}
-use Rattle.std.specs.Prelude.{ℕ, zero, suc, ◌≡◌, List, [], ◌∷◌, get_or, eqb}
+use Rattle.std.specs.Prelude.{ℕ, List, [], ◌∷◌, get_or, eqb, Option, Some, None}
+use Rattle.std.specs.Option.{option_map}
 use Rattle.words.specs.Choice.{pick}
 use Rattle.values.specs.declared.Key.{Key}
 use Rattle.values.specs.declared.Key.TheVariants.{Index, Name}
@@ -15,8 +15,7 @@ use Rattle.model.specs.declared.BusCommand.TheVariants as buses
 use Rattle.model.specs.declared.Query.TheVariants as query
 use Rattle.model.specs.declared.Command.{Command}
 use Rattle.model.specs.declared.Command.TheVariants as command
-use Rattle.calls.specs.declared.Parsed.{Parsed}
-use Rattle.calls.specs.declared.Parsed.TheVariants.{Call, Nothing}
+use Rattle.calls.specs.declared.Numbers.{Numbers}
 
 -- the op of each command, which never changes: `src/ops.rt` has the same names
 abbrev pub no_op : ℕ
@@ -115,8 +114,11 @@ abbrev pub last : ℕ
 last = export
 
 -- in a value d is 0 for a float's pattern in e, 1 for an integer in e
-abbrev pub valued : ℕ → ℕ → (Value → Command) → Parsed
-valued d e make = pick (eqb d 0) (Call (make (Float e))) (pick (eqb d 1) (Call (make (Integer e))) Nothing)
+abbrev pub value_of : ℕ → ℕ → Option Value
+value_of d e = pick (eqb d 0) (Some (Float e)) (pick (eqb d 1) (Some (Integer e)) None)
+
+abbrev pub valued : ℕ → ℕ → (Value → Command) → Option Command
+valued d e make = option_map make (value_of d e)
 
 abbrev pub setting : NodeArgument → Key → Value → Command
 setting node key value = command.Controls (controls.Set node key value)
@@ -131,26 +133,26 @@ abbrev pub bus_filling : ℕ → ℕ → Value → Command
 bus_filling start count value = command.Buses (buses.Fill start count value)
 
 -- the command of each op, at the place of its number
-abbrev pub ops : ℕ → ℕ → ℕ → ℕ → ℕ → List Parsed
+abbrev pub ops : ℕ → ℕ → ℕ → ℕ → ℕ → List (Option Command)
 ops a b c d e =
-    Nothing
+    None
     -- /d_recv, /d_free
-    ∷ (Call (command.Definitions definitions.Receive)
-    ∷ (Call (command.Definitions definitions.Free)
+    ∷ (Some (command.Definitions definitions.Receive)
+    ∷ (Some (command.Definitions definitions.Free)
     -- /s_new, /g_new
-    ∷ (Call (command.Tree (tree.NewSynth a b (argument c)))
-    ∷ (Call (command.Tree (tree.NewGroup a b (argument c)))
+    ∷ (Some (command.Tree (tree.NewSynth a b (argument c)))
+    ∷ (Some (command.Tree (tree.NewGroup a b (argument c)))
     -- /n_free, /g_freeAll, /g_deepFree
-    ∷ (Call (command.Tree (tree.Free (argument a)))
-    ∷ (Call (command.Tree (tree.FreeAll (argument a)))
-    ∷ (Call (command.Tree (tree.DeepFree (argument a)))
+    ∷ (Some (command.Tree (tree.Free (argument a)))
+    ∷ (Some (command.Tree (tree.FreeAll (argument a)))
+    ∷ (Some (command.Tree (tree.DeepFree (argument a)))
     -- /n_before, /n_after, /g_head, /g_tail
-    ∷ (Call (command.Tree (tree.Before (argument a) (argument b)))
-    ∷ (Call (command.Tree (tree.After (argument a) (argument b)))
-    ∷ (Call (command.Tree (tree.Head (argument a) (argument b)))
-    ∷ (Call (command.Tree (tree.Tail (argument a) (argument b)))
+    ∷ (Some (command.Tree (tree.Before (argument a) (argument b)))
+    ∷ (Some (command.Tree (tree.After (argument a) (argument b)))
+    ∷ (Some (command.Tree (tree.Head (argument a) (argument b)))
+    ∷ (Some (command.Tree (tree.Tail (argument a) (argument b)))
     -- /n_run
-    ∷ (Call (command.Tree (tree.Run (argument a) b))
+    ∷ (Some (command.Tree (tree.Run (argument a) b))
     -- /n_set by index, by name
     ∷ (valued d e (setting (argument a) (Index b))
     ∷ (valued d e (setting (argument a) Name)
@@ -158,28 +160,26 @@ ops a b c d e =
     ∷ (valued d e (filling (argument a) (Index b) c)
     ∷ (valued d e (filling (argument a) Name c)
     -- /n_map by index, by name
-    ∷ (Call (command.Controls (controls.Map (argument a) (Index b) c))
-    ∷ (Call (command.Controls (controls.Map (argument a) Name c))
+    ∷ (Some (command.Controls (controls.Map (argument a) (Index b) c))
+    ∷ (Some (command.Controls (controls.Map (argument a) Name c))
     -- /c_set, /c_fill
     ∷ (valued d e (bus_setting a)
     ∷ (valued d e (bus_filling a c)
     -- /s_get by index, by name
-    ∷ (Call (command.Query (query.Control (argument a) (Index b)))
-    ∷ (Call (command.Query (query.Control (argument a) Name))
+    ∷ (Some (command.Query (query.Control (argument a) (Index b)))
+    ∷ (Some (command.Query (query.Control (argument a) Name))
     -- /c_get, /n_query
-    ∷ (Call (command.Query (query.Bus a))
-    ∷ (Call (command.Query (query.Node (argument a)))
+    ∷ (Some (command.Query (query.Bus a))
+    ∷ (Some (command.Query (query.Node (argument a)))
     -- /g_queryTree, /status, export
-    ∷ (Call (command.Query (query.Tree (argument a) b))
-    ∷ (Call (command.Query query.Status)
-    ∷ (Call (command.Query query.Export)
+    ∷ (Some (command.Query (query.Tree (argument a) b))
+    ∷ (Some (command.Query query.Status)
+    ∷ (Some (command.Query query.Export)
     ∷ [])))))))))))))))))))))))))))
 
 -- an `op` that is none of these is no command
-unfoldable pub command_of : ℕ → ℕ → ℕ → ℕ → ℕ → ℕ → Parsed
-command_of op a b c d e = get_or (ops a b c d e) op Nothing
+unfoldable pub command_of : ℕ → ℕ → ℕ → ℕ → ℕ → ℕ → Option Command
+command_of op a b c d e = get_or (ops a b c d e) op None
 
--- an op that is none of those up to n is past n
-unfoldable pub Others : ℕ → ℕ → Type 0
-Others zero op = Unit {0} × (op ≡ 0 → ⊥)
-Others (suc n) op = Others n op × (op ≡ suc n → ⊥)
+abbrev pub command_in : Numbers → Option Command
+command_in n = command_of n.op n.a n.b n.c n.d n.e

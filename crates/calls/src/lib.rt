@@ -2,189 +2,146 @@
 #![tactic(auto)]
 
 ghost use Rattle.std.specs.Prelude.{◌≡◌, ◌<◌, ◌+◌, ◌*◌, ◌%◌};
-ghost use Rattle.values.specs.declared.Key.{Key};
-ghost use Rattle.calls.specs.Ops.{command_of, valued, setting, filling, bus_setting, bus_filling};
+ghost use Rattle.calls.specs.Ops.{command_in, value_of};
 ghost use Rattle.calls.specs.Numbers.{call_number, room};
 
-use faults::fault_number;
-use model::{Answer, BusCommand, Command, ControlCommand, DefinitionCommand, Query, TreeCommand};
-use refusals::refusal_number;
-use values::{Key, NodeArgument, Value, by_number};
+use model::{
+    Accepted, Answer, BusCommand, Command, ControlCommand, DefinitionCommand, Denied, Query,
+    TreeCommand,
+};
+use values::{Key, Value, by_number};
 
 pub mod ops;
 
 // The answer to a call that names no command.
 pub const NO_COMMAND: u64 = 255;
 
-// The command that a call names, or none.
-#[derive(Clone, Copy)]
-pub enum Parsed {
-    Call(Command),
-    Nothing,
+// A command by its op and its five numbers, of which each command takes the first that it has.
+#[derive(Clone, Copy, Debug, PartialEq, Eq)]
+pub struct Numbers {
+    pub op: u32,
+    pub a: u32,
+    pub b: u32,
+    pub c: u32,
+    pub d: u32,
+    pub e: u32,
 }
 
-// /n_set
-fn set_control(node: NodeArgument, key: Key, kind: u32, value: u32) -> Parsed
-    ensures { result ≡ valued kind value (setting node key) }
+// A value by its kind, 0 a float's pattern and 1 an integer; none by another kind.
+fn value_of(kind: u32, value: u32) -> Option<Value>
+    ensures { result ≡ value_of kind value }
 {
-    if kind == 0 {
-        return Parsed::Call(Command::Controls(ControlCommand::Set {
-            node: node,
-            key: key,
-            value: Value::Float(value),
-        }));
+    match kind {
+        0 => Some(Value::Float(value)),
+        1 => Some(Value::Integer(value)),
+        _ => None,
     }
-    if kind == 1 {
-        return Parsed::Call(Command::Controls(ControlCommand::Set {
-            node: node,
-            key: key,
-            value: Value::Integer(value),
-        }));
-    }
-    Parsed::Nothing
 }
 
-// /n_fill
-fn fill_controls(node: NodeArgument, key: Key, count: u32, kind: u32, value: u32) -> Parsed
-    ensures { result ≡ valued kind value (filling node key count) }
+// The command of an op with its five numbers, or none.
+#[tactic(auto, unfolding(crate::specs::Ops::command_of))]
+pub fn command_of(numbers: Numbers) -> Option<Command>
+    ensures { result ≡ command_in numbers }
 {
-    if kind == 0 {
-        return Parsed::Call(Command::Controls(ControlCommand::Fill {
-            node: node,
-            key: key,
-            count: count,
-            value: Value::Float(value),
-        }));
-    }
-    if kind == 1 {
-        return Parsed::Call(Command::Controls(ControlCommand::Fill {
-            node: node,
-            key: key,
-            count: count,
-            value: Value::Integer(value),
-        }));
-    }
-    Parsed::Nothing
-}
-
-// /c_set
-fn set_bus(bus: u32, kind: u32, value: u32) -> Parsed
-    ensures { result ≡ valued kind value (bus_setting bus) }
-{
-    if kind == 0 {
-        return Parsed::Call(Command::Buses(BusCommand::Set {
-            bus: bus,
-            value: Value::Float(value),
-        }));
-    }
-    if kind == 1 {
-        return Parsed::Call(Command::Buses(BusCommand::Set {
-            bus: bus,
-            value: Value::Integer(value),
-        }));
-    }
-    Parsed::Nothing
-}
-
-// /c_fill
-fn fill_buses(start: u32, count: u32, kind: u32, value: u32) -> Parsed
-    ensures { result ≡ valued kind value (bus_filling start count) }
-{
-    if kind == 0 {
-        return Parsed::Call(Command::Buses(BusCommand::Fill {
-            start: start,
-            count: count,
-            value: Value::Float(value),
-        }));
-    }
-    if kind == 1 {
-        return Parsed::Call(Command::Buses(BusCommand::Fill {
-            start: start,
-            count: count,
-            value: Value::Integer(value),
-        }));
-    }
-    Parsed::Nothing
-}
-
-// The command of an op with its five numbers.
-pub fn command_of(op: u32, a: u32, b: u32, c: u32, d: u32, e: u32) -> Parsed
-    ensures { result ≡ command_of op a b c d e }
-{
+    let Numbers { op, a, b, c, d, e } = numbers;
     // The nodes that the first three numbers name, where they name nodes.
     let first = by_number(a);
     let second = by_number(b);
     let third = by_number(c);
     match op {
-        ops::NONE => Parsed::Nothing,
-        ops::D_RECV => Parsed::Call(Command::Definitions(DefinitionCommand::Receive)),
-        ops::D_FREE => Parsed::Call(Command::Definitions(DefinitionCommand::Free)),
-        ops::S_NEW => Parsed::Call(Command::Tree(TreeCommand::NewSynth {
+        ops::D_RECV => Some(Command::Definitions(DefinitionCommand::Receive)),
+        ops::D_FREE => Some(Command::Definitions(DefinitionCommand::Free)),
+        ops::S_NEW => Some(Command::Tree(TreeCommand::NewSynth {
             number: a,
             action: b,
             target: third,
         })),
-        ops::G_NEW => Parsed::Call(Command::Tree(TreeCommand::NewGroup {
+        ops::G_NEW => Some(Command::Tree(TreeCommand::NewGroup {
             number: a,
             action: b,
             target: third,
         })),
-        ops::N_FREE => Parsed::Call(Command::Tree(TreeCommand::Free { node: first })),
-        ops::G_FREE_ALL => Parsed::Call(Command::Tree(TreeCommand::FreeAll { group: first })),
-        ops::G_DEEP_FREE => Parsed::Call(Command::Tree(TreeCommand::DeepFree { group: first })),
-        ops::N_BEFORE => Parsed::Call(Command::Tree(TreeCommand::Before {
+        ops::N_FREE => Some(Command::Tree(TreeCommand::Free { node: first })),
+        ops::G_FREE_ALL => Some(Command::Tree(TreeCommand::FreeAll { group: first })),
+        ops::G_DEEP_FREE => Some(Command::Tree(TreeCommand::DeepFree { group: first })),
+        ops::N_BEFORE => Some(Command::Tree(TreeCommand::Before {
             node: first,
             place: second,
         })),
-        ops::N_AFTER => Parsed::Call(Command::Tree(TreeCommand::After {
+        ops::N_AFTER => Some(Command::Tree(TreeCommand::After {
             node: first,
             place: second,
         })),
-        ops::G_HEAD => Parsed::Call(Command::Tree(TreeCommand::Head {
+        ops::G_HEAD => Some(Command::Tree(TreeCommand::Head {
             group: first,
             node: second,
         })),
-        ops::G_TAIL => Parsed::Call(Command::Tree(TreeCommand::Tail {
+        ops::G_TAIL => Some(Command::Tree(TreeCommand::Tail {
             group: first,
             node: second,
         })),
-        ops::N_RUN => Parsed::Call(Command::Tree(TreeCommand::Run {
+        ops::N_RUN => Some(Command::Tree(TreeCommand::Run {
             node: first,
             flag: b,
         })),
-        ops::N_SET => set_control(first, Key::Index(b), d, e),
-        ops::N_SET_NAMED => set_control(first, Key::Name, d, e),
-        ops::N_FILL => fill_controls(first, Key::Index(b), c, d, e),
-        ops::N_FILL_NAMED => fill_controls(first, Key::Name, c, d, e),
-        ops::N_MAP => Parsed::Call(Command::Controls(ControlCommand::Map {
+        ops::N_SET => Some(Command::Controls(ControlCommand::Set {
+            node: first,
+            key: Key::Index(b),
+            value: value_of(d, e)?,
+        })),
+        ops::N_SET_NAMED => Some(Command::Controls(ControlCommand::Set {
+            node: first,
+            key: Key::Name,
+            value: value_of(d, e)?,
+        })),
+        ops::N_FILL => Some(Command::Controls(ControlCommand::Fill {
+            node: first,
+            key: Key::Index(b),
+            count: c,
+            value: value_of(d, e)?,
+        })),
+        ops::N_FILL_NAMED => Some(Command::Controls(ControlCommand::Fill {
+            node: first,
+            key: Key::Name,
+            count: c,
+            value: value_of(d, e)?,
+        })),
+        ops::N_MAP => Some(Command::Controls(ControlCommand::Map {
             node: first,
             key: Key::Index(b),
             bus: c,
         })),
-        ops::N_MAP_NAMED => Parsed::Call(Command::Controls(ControlCommand::Map {
+        ops::N_MAP_NAMED => Some(Command::Controls(ControlCommand::Map {
             node: first,
             key: Key::Name,
             bus: c,
         })),
-        ops::C_SET => set_bus(a, d, e),
-        ops::C_FILL => fill_buses(a, c, d, e),
-        ops::S_GET => Parsed::Call(Command::Query(Query::Control {
+        ops::C_SET => Some(Command::Buses(BusCommand::Set {
+            bus: a,
+            value: value_of(d, e)?,
+        })),
+        ops::C_FILL => Some(Command::Buses(BusCommand::Fill {
+            start: a,
+            count: c,
+            value: value_of(d, e)?,
+        })),
+        ops::S_GET => Some(Command::Query(Query::Control {
             node: first,
             key: Key::Index(b),
         })),
-        ops::S_GET_NAMED => Parsed::Call(Command::Query(Query::Control {
+        ops::S_GET_NAMED => Some(Command::Query(Query::Control {
             node: first,
             key: Key::Name,
         })),
-        ops::C_GET => Parsed::Call(Command::Query(Query::Bus { bus: a })),
-        ops::N_QUERY => Parsed::Call(Command::Query(Query::Node { node: first })),
-        ops::G_QUERY_TREE => Parsed::Call(Command::Query(Query::Tree {
+        ops::C_GET => Some(Command::Query(Query::Bus { bus: a })),
+        ops::N_QUERY => Some(Command::Query(Query::Node { node: first })),
+        ops::G_QUERY_TREE => Some(Command::Query(Query::Tree {
             group: first,
             flag: b,
         })),
-        ops::STATUS => Parsed::Call(Command::Query(Query::Status)),
-        ops::EXPORT => Parsed::Call(Command::Query(Query::Export)),
-        _ => Parsed::Nothing,
+        ops::STATUS => Some(Command::Query(Query::Status)),
+        ops::EXPORT => Some(Command::Query(Query::Export)),
+        _ => None,
     }
 }
 
@@ -201,9 +158,9 @@ pub fn call_number(answer: Answer) -> u64
     ensures { result ≡ call_number answer }
 {
     match answer {
-        Answer::Done => 0,
-        Answer::Replied(n) => placed(0, n),
-        Answer::Refused(refusal) => refusal_number(refusal) as u64,
-        Answer::RefusedAt(fault, place) => placed(fault_number(fault), place),
+        Ok(Accepted::Done) => 0,
+        Ok(Accepted::Replied(n)) => placed(0, n),
+        Err(Denied::Refused(refusal)) => u64::from(u32::from(refusal)),
+        Err(Denied::RefusedAt(fault, place)) => placed(u32::from(fault), place),
     }
 }

@@ -1,5 +1,5 @@
 -- A synth has no node below it, so that a change of its run is one of its own controls.
-use Rattle.std.specs.Prelude.{ℕ, zero, suc, ◌+◌, ◌-◌, ◌<◌, true, false, ◌≡◌, refl, take, drop, leb, ltb, eqb}
+use Rattle.std.specs.Prelude.{Option, Ok, ℕ, zero, suc, ◌+◌, ◌-◌, ◌<◌, true, false, ◌≡◌, refl, take, drop, leb, ltb, eqb}
 use Rattle.std.proofs.Common.{true≢false, sym, ap, ◌∙◌, arith, leb-true, le-ltb}
 use mathlib.Core.List.{List, [], ◌∷◌, nil≢cons, head-eq_of_cons-eq, tail-eq_of_cons-eq}
 use Rattle.words.specs.Choice.{both}
@@ -10,7 +10,7 @@ use Rattle.nodes.specs.TableLaws.{row-from}
 use Rattle.nodes.specs.Place.{is_group, deeper}
 use Rattle.nodes.specs.Formed.{reach, steps, rooted}
 use Rattle.values.specs.declared.Key.{Key}
-use Rattle.model.specs.declared.Answer.TheVariants.{Done}
+use Rattle.model.specs.Answers.{Done, done_or}
 use Rattle.model.specs.Layout.{nodes_place, nodes_words, count_in, nodes_in, controls_in, put_controls, record_in}
 use Rattle.model.specs.Engine.{decode}
 use Rattle.model.specs.Meaning.{cover_of}
@@ -20,14 +20,13 @@ use Rattle.state.specs.Known.{Known}
 use Rattle.readable.specs.declared.cover.Cover.{Cover}
 use Rattle.readable.specs.Lookup.{cover_at}
 use Rattle.controls.specs.declared.control.Change.{Change}
-use Rattle.controls.specs.declared.definition.Asked.TheVariants.{There}
 use Rattle.controls.specs.Change.{change_of}
 use Rattle.controls.specs.Encoded.{front_only}
 use Rattle.controls.specs.Cover.{asked_in}
 use Rattle.controls.specs.Ready.{ready_known}
 use Rattle.controls.specs.Asked.{controls_asked, cover-asked}
 use Rattle.controls.specs.All.{cover_alone}
-use Rattle.controlcommands.specs.Steps.{run_end, answer_to, Changed}
+use Rattle.controlcommands.specs.Steps.{run_end, Changed}
 
 -- a record is as deep as it may be at most, and those behind it follow it
 step : (most : ℕ) (x : Node) (t : List Node) → steps most (x ∷ t) ≡ true → (leb x.depth most ≡ true) × (steps (reach x) t ≡ true)
@@ -67,7 +66,7 @@ module _ (ws bs : List ℕ) (known : Known ws bs) (at : ℕ) (live : at < count_
       omega arith
 
   -- what a key covers, as it was looked up in the bytes of its definition
-  module _ (key : Key) (bytes : List ℕ) (count : ℕ) (s : List ℕ) (lent : s ≡ slot_bytes ws bs (record_in ws at).slot) (c : Cover) (said : cover_at c ≡ cover_of key bytes (front_only s)) where
+  module _ (key : Key) (bytes : List ℕ) (count : ℕ) (s : List ℕ) (lent : s ≡ slot_bytes ws bs (record_in ws at).slot) (c : Option Cover) (said : cover_at c ≡ cover_of key bytes (front_only s)) where
     covers : cover_at c ≡ cover_of key bytes (front_only (slot_bytes ws bs (record_in ws at).slot))
     covers = said ∙ ap (λ (l : List ℕ). cover_of key bytes (front_only l)) lent
 
@@ -76,11 +75,11 @@ module _ (ws bs : List ℕ) (known : Known ws bs) (at : ℕ) (live : at < count_
         ap (λ (l : List ℕ). asked_in (cover_at c) count (front_only l)) lent
         ∙ cover-asked ws bs (ready_known ws bs known) at live single key bytes c covers count
 
-    pub changed_alone : (h : Change) (ws' : List ℕ) → There ≡ asked_in (cover_at c) count (front_only s)
+    pub changed_alone : (h : Change) (ws' : List ℕ) {u : Unit {0}} → Ok u ≡ asked_in (cover_at c) count (front_only s)
         → ws' ≡ put_controls (change_covered (change_of h) (cover_at c) (record_in ws at).row count (controls_in ws)) ws → Changed h key count bytes at ws bs Done ws'
-    changed_alone h ws' there o =
+    changed_alone h ws' {u} there o =
         record {
-          answers = ap answer_to (there ∙ asked_alone);
+          answers = ap (done_or {A = Unit {0}}) (there ∙ asked_alone);
           words =
               o
               ∙ ap (λ (l : List ℕ). put_controls l ws)

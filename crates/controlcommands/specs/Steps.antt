@@ -1,5 +1,5 @@
 -- What the commands of controls do: each row of the table, and the change of the node's run of places.
-use Rattle.std.specs.Prelude.{ℕ, ◌+◌, ◌-◌, ◌≤◌, ◌<◌, Bool, true, false, not, ◌≡◌, List, [], ◌∷◌, take, drop, eqb}
+use Rattle.std.specs.Prelude.{ℕ, ◌+◌, ◌-◌, ◌≤◌, ◌<◌, Bool, true, false, not, ◌≡◌, List, [], ◌∷◌, take, drop, eqb, Some, Ok}
 use Rattle.std.proofs.Math.Path.{refl, sym}
 use Rattle.std.proofs.Common.{ap, ◌∙◌, arith}
 use Rattle.words.specs.Choice.{pick, either}
@@ -11,15 +11,14 @@ use Rattle.nodes.specs.PlaceLaws.{end_most}
 use Rattle.values.specs.declared.Key.{Key}
 use Rattle.values.specs.declared.NodeArgument.{NodeArgument}
 use Rattle.values.specs.declared.Value.{Value}
-use Rattle.values.specs.declared.ValuePattern.TheVariants.{Pattern}
 use Rattle.values.specs.Controls.{ControlValue, set_to, map_to}
 use Rattle.values.specs.Values.{in_bounds, pattern, pattern_of}
 use Rattle.values.specs.ValueLaws.{pattern_fact}
 use Rattle.model.specs.declared.ControlCommand.{ControlCommand}
 use Rattle.model.specs.declared.ControlCommand.TheVariants as controls
 use Rattle.model.specs.declared.Command.TheVariants as command
-use Rattle.model.specs.declared.Answer.{Answer}
-use Rattle.model.specs.declared.Answer.TheVariants.{Done, Refused}
+use Rattle.model.specs.Answers.{Answer}
+use Rattle.model.specs.Answers.{Done, Refused, done_or}
 use Rattle.model.specs.Layout.{nodes_place, nodes_words, count_in, nodes_in, controls_in, put_controls, record_in}
 use Rattle.model.specs.Engine.{Engine, decode}
 use Rattle.words.specs.Patterns.{minus_one}
@@ -35,8 +34,6 @@ use Rattle.names.specs.Here.{node_here}
 use Rattle.controls.specs.declared.control.Change.{Change}
 use Rattle.controls.specs.declared.control.Change.TheVariants as change
 use Rattle.controls.specs.Change.{change_of}
-use Rattle.controls.specs.declared.definition.Asked.{Asked}
-use Rattle.controls.specs.declared.definition.Asked.TheVariants as asked
 use Rattle.controls.specs.Cover.{asked_by}
 use Rattle.controls.specs.Asked.{controls_asked, one_there}
 use Rattle.controls.specs.All.{all_run}
@@ -57,26 +54,20 @@ run_inside ws at many end live same e =
 abbrev pub run_changed : (ControlValue → ControlValue) → Key → ℕ → List ℕ → ℕ → List ℕ → List ℕ → List ℕ
 run_changed f key count bytes at ws bs = change_all f key bytes count (decode ws bs).slots (take (run_end ws at - at) (drop at (nodes_in ws))) (controls_in ws)
 
--- refusals 21 and 28, by what is asked of the node at a place
-abbrev pub answer_to : Asked → Answer
-answer_to asked.There = Done
-answer_to asked.Missing = Refused NoControl
-answer_to asked.PastWidth = Refused PastWidth
-
--- one of them, or the run of the node changed
+-- refusal 21 or 28, by what is asked of the node at a place, or the run of the node changed
 pub record Changed (c : Change) (key : Key) (count : ℕ) (bytes : List ℕ) (at : ℕ) (ws bs : List ℕ) (a : Answer) (ws' : List ℕ) : Type 0 where
-  pub answers : a ≡ answer_to (controls_asked key count bytes (decode ws bs).slots (record_in ws at))
+  pub answers : a ≡ done_or (controls_asked key count bytes (decode ws bs).slots (record_in ws at))
   pub words : ws' ≡ pick (is_accepted a) (put_controls (run_changed (change_of c) key count bytes at ws bs) ws) ws
 
-pub run-changed : (c : Change) (key : Key) (count : ℕ) (bytes : List ℕ) (at : ℕ) (ws bs : List ℕ) (many end : ℕ) (ws' : List ℕ)
-    → asked.There ≡ controls_asked key count bytes (decode ws bs).slots (record_in ws at)
+pub run-changed : (c : Change) (key : Key) (count : ℕ) (bytes : List ℕ) (at : ℕ) (ws bs : List ℕ) (many end : ℕ) (ws' : List ℕ) {u : Unit {0}}
+    → Ok u ≡ controls_asked key count bytes (decode ws bs).slots (record_in ws at)
     → many ≡ count_in ws → end ≡ end_at many (region nodes_place nodes_words ws) at
     → ws' ≡ put_controls (change_all (change_of c) key bytes count (decode ws bs).slots (take (end - at) (drop at (nodes_in ws))) (controls_in ws)) ws
     → Changed c key count bytes at ws bs Done ws'
-run-changed c key count bytes at ws bs many end ws' there same e o =
+run-changed c key count bytes at ws bs many end ws' {u} there same e o =
     let here : end ≡ run_end ws at = e ∙ ap (λ (k : ℕ). end_at k (region nodes_place nodes_words ws) at) same in
     record {
-      answers = ap answer_to there;
+      answers = ap (done_or {A = Unit {0}}) there;
       words = o ∙ ap (λ (k : ℕ). put_controls (change_all (change_of c) key bytes count (decode ws bs).slots (take (k - at) (drop at (nodes_in ws))) (controls_in ws)) ws) here;
     }
 
@@ -89,11 +80,11 @@ after c bytes ws bs = refl
 unfoldable pub four_checks : Check → Refusal → Bool → Bool → Bool → Answer
 four_checks n q b c d = first_of (n ∷ (check q b ∷ (check NoControl c ∷ (check PastWidth d ∷ [])))) Done
 
-last-two : (n : Check) (q : Refusal) (b c d : Bool) → n.fires ≡ false → b ≡ false → four_checks n q b c d ≡ answer_to (asked_by c d)
+last-two : (n : Check) (q : Refusal) (b c d : Bool) → n.fires ≡ false → b ≡ false → four_checks n q b c d ≡ done_or (asked_by c d)
 unfolding four_checks first_of
 last-two n q b c d h g = rw (h, g) (go c d)
   where
-    go : (c d : Bool) → pick c (Refused NoControl) (pick d (Refused PastWidth) Done) ≡ answer_to (asked_by c d)
+    go : (c d : Bool) → pick c (Refused NoControl) (pick d (Refused PastWidth) Done) ≡ done_or (asked_by c d)
     go true d = refl
     go false true = refl
     go false false = refl
@@ -134,7 +125,7 @@ module _ (n : NodeArgument) (ws bs : List ℕ) where
     ran c h f key count bytes q b a ws' e does same fine changes = record {
       answers =
           changes.answers
-          ∙ sym (ap answer_to (asked_here key count bytes))
+          ∙ sym (ap (done_or {A = Unit {0}}) (asked_here key count bytes))
           ∙ sym (last-two (node_check n (decode ws bs)) q b (no_controls key count bytes n (decode ws bs)) (past_name key count bytes n (decode ws bs)) (found.passes bs) fine)
           ∙ sym e;
       words =
@@ -178,7 +169,7 @@ set_filled n key value bytes ws bs a ws' s = record { answers = s.answers ∙ sy
 
 -- what each command comes to once its node is found and its value or bus is one
 module _ (n : NodeArgument) (key : Key) (bytes ws bs : List ℕ) (at : ℕ) (found : NodeFound n ws at) (a : Answer) (ws' : List ℕ) where
-  pub fill_ran : (count : ℕ) (value : Value) (p : ℕ) → pattern_of value ≡ Pattern p → Changed (change.Set p) key count bytes at ws bs a ws' → Steps (controls.Fill n key count value) bytes ws bs a ws'
+  pub fill_ran : (count : ℕ) (value : Value) (p : ℕ) → pattern_of value ≡ Some p → Changed (change.Set p) key count bytes at ws bs a ws' → Steps (controls.Fill n key count value) bytes ws bs a ws'
   fill_ran count value p fact changes =
       let t = pattern_fact value p fact in
       ran n ws bs at found (controls.Fill n key count value) (change.Set p) (set_to (pattern value)) key count bytes BadValue (not (in_bounds value)) a ws'

@@ -7,23 +7,23 @@ ghost use Rattle.std.specs.Prelude.{◌<◌, false, ◌≡◌, eqb};
 ghost use Rattle.words.specs.Choice.{either};
 ghost use Rattle.nodes.specs.Place.{is_group};
 ghost use Rattle.model.specs.declared.ControlCommand.{ControlCommand};
+ghost use Rattle.model.specs.Answers.{done_or};
 ghost use Rattle.model.specs.Layout.{count_in, record_in};
 ghost use Rattle.words.specs.Patterns.{minus_one};
 ghost use Rattle.model.specs.Meaning.{is_bus, mapping_to};
 ghost use Rattle.state.specs.Known.{Known};
-ghost use Rattle.controlcommands.specs.Steps.{Steps, answer_to, Changed};
+ghost use Rattle.controlcommands.specs.Steps.{Steps, Changed};
 
 pub use buses::bus_step;
 use controls::{
-    Asked, Change, asked_by, change_all, change_node, controls_asked, is_bus, key_cover,
-    node_definition,
+    Change, asked_by, change_all, change_node, controls_asked, is_bus, key_cover, node_definition,
 };
 use layout::{COUNT, NODES, NODES_END};
-use model::{Answer, ControlCommand};
-use names::{NodePlace, node_is_group, node_place};
+use model::ControlCommand;
+use names::{node_is_group, node_place};
 use refusals::Refusal;
 use tree::subtree_end;
-use values::{Key, Mapping, NodeArgument, Value, ValuePattern, value_pattern};
+use values::{Key, Mapping, NodeArgument, Value, value_pattern};
 use words::{MINUS_ONE, wide};
 
 // Refusal 21, refusal 28, or the controls of the synths below the group at a place changed.
@@ -35,20 +35,15 @@ fn change_group(
     bytes: &[u8],
     count: u32,
     change: Change,
-) -> Asked
+) -> Result<(), Refusal>
     requires { Known words.old arena.now × (at < count_in words.old) }
-    ensures { Changed change key count bytes.now at words.old arena.now (answer_to result) words.new }
+    ensures { Changed change key count bytes.now at words.old arena.now (done_or result) words.new }
 {
-    match controls_asked(words, arena, at, key, bytes, count) {
-        Asked::There => {
-            let many = wide(words[COUNT]);
-            let end = subtree_end(&words[NODES..NODES_END], many, at);
-            change_all(words, arena, at, end, key, bytes, count, change);
-            Asked::There
-        }
-        Asked::Missing => Asked::Missing,
-        Asked::PastWidth => Asked::PastWidth,
-    }
+    controls_asked(words, arena, at, key, bytes, count)?;
+    let many = wide(words[COUNT]);
+    let end = subtree_end(&words[NODES..NODES_END], many, at);
+    change_all(words, arena, at, end, key, bytes, count, change);
+    Ok(())
 }
 
 // The same of the synth at a place: its definition is looked up once, and a negative index or count is not there.
@@ -60,20 +55,15 @@ fn change_synth(
     bytes: &[u8],
     count: u32,
     change: Change,
-) -> Asked
+) -> Result<(), Refusal>
     requires { Known words.old arena.now × (at < count_in words.old) × (is_group (record_in words.old at) ≡ false) }
-    ensures { Changed change key count bytes.now at words.old arena.now (answer_to result) words.new }
+    ensures { Changed change key count bytes.now at words.old arena.now (done_or result) words.new }
 {
     let definition = node_definition(words, arena, at);
     let cover = key_cover(definition, key, bytes);
-    match asked_by(definition, cover, count) {
-        Asked::There => {
-            change_node(words, at, cover, count, change);
-            Asked::There
-        }
-        Asked::Missing => Asked::Missing,
-        Asked::PastWidth => Asked::PastWidth,
-    }
+    asked_by(definition, cover, count)?;
+    change_node(words, at, cover, count, change);
+    Ok(())
 }
 
 // Refusal 21, refusal 28, or the controls of the node at a place and of all below it changed.
@@ -85,24 +75,14 @@ fn change_run(
     bytes: &[u8],
     count: u32,
     change: Change,
-) -> Asked
+) -> Result<(), Refusal>
     requires { Known words.old arena.now × (at < count_in words.old) }
-    ensures { Changed change key count bytes.now at words.old arena.now (answer_to result) words.new }
+    ensures { Changed change key count bytes.now at words.old arena.now (done_or result) words.new }
 {
     if node_is_group(words, at) {
-        return change_group(words, arena, at, key, bytes, count, change);
-    }
-    change_synth(words, arena, at, key, bytes, count, change)
-}
-
-// The answer to what was asked: refusal 21, refusal 28, or done.
-fn answer_to(asked: Asked) -> Answer
-    ensures { result ≡ answer_to asked }
-{
-    match asked {
-        Asked::There => Answer::Done,
-        Asked::Missing => Answer::Refused(Refusal::NoControl),
-        Asked::PastWidth => Answer::Refused(Refusal::PastWidth),
+        change_group(words, arena, at, key, bytes, count, change)
+    } else {
+        change_synth(words, arena, at, key, bytes, count, change)
     }
 }
 
@@ -115,33 +95,20 @@ fn fill_controls(
     bytes: &[u8],
     words: &mut [u32],
     arena: &[u8],
-) -> Answer
+) -> Result<(), Refusal>
     requires { Known words.old arena.now }
-    ensures { Steps (ControlCommand.Fill node key count value) bytes.now words.old arena.now result words.new }
+    ensures { Steps (ControlCommand.Fill node key count value) bytes.now words.old arena.now (done_or result) words.new }
 {
-    let at = match node_place(words, node) {
-        NodePlace::At(at) => at,
-        NodePlace::Refused(refusal) => {
-            return Answer::Refused(refusal);
-        }
-    };
-    match value_pattern(value) {
-        ValuePattern::Pattern(pattern) => {
-            let change = Change::Set(pattern);
-            answer_to(change_run(words, arena, at, key, bytes, count, change))
-        }
-        ValuePattern::OutOfBounds => Answer::Refused(Refusal::BadValue),
-    }
+    let at = node_place(words, node)?;
+    let pattern = value_pattern(value).ok_or(Refusal::BadValue)?;
+    change_run(words, arena, at, key, bytes, count, Change::Set(pattern))
 }
 
 // A control can be mapped to this: -1 or a bus.
 fn can_map(bus: u32) -> bool
     ensures { result ≡ either (eqb bus minus_one) (is_bus bus) }
 {
-    if bus == MINUS_ONE {
-        return true;
-    }
-    is_bus(bus)
+    bus == MINUS_ONE || is_bus(bus)
 }
 
 // "`/n_map` to -1 unmaps"
@@ -149,9 +116,10 @@ fn mapping_to(bus: u32) -> Mapping
     ensures { result ≡ mapping_to bus }
 {
     if bus == MINUS_ONE {
-        return Mapping::Unmapped;
+        Mapping::Unmapped
+    } else {
+        Mapping::Bus(bus)
     }
-    Mapping::Bus(bus)
 }
 
 // /n_map
@@ -162,22 +130,16 @@ fn map_control(
     bytes: &[u8],
     words: &mut [u32],
     arena: &[u8],
-) -> Answer
+) -> Result<(), Refusal>
     requires { Known words.old arena.now }
-    ensures { Steps (ControlCommand.Map node key bus) bytes.now words.old arena.now result words.new }
+    ensures { Steps (ControlCommand.Map node key bus) bytes.now words.old arena.now (done_or result) words.new }
 {
-    let at = match node_place(words, node) {
-        NodePlace::At(at) => at,
-        NodePlace::Refused(refusal) => {
-            return Answer::Refused(refusal);
-        }
-    };
+    let at = node_place(words, node)?;
     if !can_map(bus) {
-        return Answer::Refused(Refusal::NoBus);
+        return Err(Refusal::NoBus);
     }
-    let mapping = mapping_to(bus);
-    let change = Change::Map(mapping);
-    answer_to(change_run(words, arena, at, key, bytes, 1, change))
+    let change = Change::Map(mapping_to(bus));
+    change_run(words, arena, at, key, bytes, 1, change)
 }
 
 // A command of controls.
@@ -186,9 +148,9 @@ pub fn control_step(
     bytes: &[u8],
     words: &mut [u32],
     arena: &[u8],
-) -> Answer
+) -> Result<(), Refusal>
     requires { Known words.old arena.now }
-    ensures { Steps command bytes.now words.old arena.now result words.new }
+    ensures { Steps command bytes.now words.old arena.now (done_or result) words.new }
 {
     match command {
         ControlCommand::Set { node, key, value } => {

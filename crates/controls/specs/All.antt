@@ -1,5 +1,6 @@
 -- A change of the controls of a run of the node table, node by node.
 use Prim.Native.Nat.{ℕ, suc, ◌+◌, ◌-◌, ◌*◌, ◌≤◌, ◌<◌}
+use Rattle.std.specs.Prelude as prelude
 use Rattle.std.specs.Prelude.{Bool, true, false, ◌≡◌, length, take, drop, get_or}
 use Rattle.std.proofs.Math.Path.{refl, ap, ap₂}
 use Rattle.std.proofs.Common.{sym, ◌∙◌, subst, length-append, length-take, length-drop}
@@ -189,13 +190,13 @@ synth_lent ws₀ arena ws i ready size rest few single =
 
 -- its change, by what a key covers, also as that of a run of one; and no change of a group
 module _ (f : ControlValue → ControlValue) (key : Key) (name : List ℕ) (count : ℕ) (ws arena : List ℕ) (i : ℕ) where
-  pub cover-change : is_group (record_in ws i) ≡ false → (c : Cover) → cover_at c ≡ cover_on key name ws arena (record_in ws i).slot
+  pub cover-change : is_group (record_in ws i) ≡ false → (c : prelude.Option Cover) → cover_at c ≡ cover_on key name ws arena (record_in ws i).slot
       → change_covered f (cover_at c) (record_in ws i).row count (controls_in ws) ≡ change_node f key name count ws arena i (controls_in ws)
   cover-change single c e =
       ap (λ (o : Option Covered). change_covered f o (record_in ws i).row count (controls_in ws)) e
       ∙ sym (ap (λ (b : Bool). pick b (controls_in ws) (change_synth f key name count (record_in ws i).row (slot_bytes ws arena (record_in ws i).slot) (controls_in ws))) single)
 
-  pub cover_alone : Ready ws arena → i < count_in ws → is_group (record_in ws i) ≡ false → (c : Cover) → cover_at c ≡ cover_on key name ws arena (record_in ws i).slot
+  pub cover_alone : Ready ws arena → i < count_in ws → is_group (record_in ws i) ≡ false → (c : prelude.Option Cover) → cover_at c ≡ cover_on key name ws arena (record_in ws i).slot
       → change_covered f (cover_at c) (record_in ws i).row count (controls_in ws)
       ≡ change_all f key name count (decode ws arena).slots (take (i + 1 - i) (drop i (nodes_in ws))) (controls_in ws)
   cover_alone ready few single c e =

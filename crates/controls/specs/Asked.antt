@@ -1,5 +1,7 @@
 -- What is asked of a node's controls: whether they are there, and what reading one gives.
-use Rattle.std.specs.Prelude.{ℕ, zero, suc, ◌+◌, ◌*◌, ◌≤◌, ◌<◌, Bool, true, false, not, ◌≡◌, refl, List, length, drop, get_or, leb}
+use Prim.{Unit}
+use Rattle.std.specs.Prelude as prelude
+use Rattle.std.specs.Prelude.{Result, Err, Some, None, ℕ, zero, suc, ◌+◌, ◌*◌, ◌≤◌, ◌<◌, Bool, true, false, not, ◌≡◌, refl, List, length, drop, get_or, leb}
 use Rattle.std.proofs.lemmas.Bool.{false≢true, not-false, lt-leb}
 use Rattle.std.proofs.Common.{sym, ap, ap₂, ◌∙◌, arith, leb-true, get_or-drop}
 use Rattle.std.proofs.Math.Option.{Option, none, some}
@@ -19,10 +21,10 @@ use Rattle.model.specs.Meaning.{first_negative, is_negative, negative_key, cover
 use Rattle.model.specs.Replies.{no_control, read_at}
 use Rattle.readable.specs.declared.cover.Cover.{Cover}
 use Rattle.readable.specs.Lookup.{cover_at}
-use Rattle.controls.specs.declared.definition.Asked.{Asked}
-use Rattle.controls.specs.declared.definition.Asked.TheVariants.{There, Missing, PastWidth}
+use Rattle.refusals.specs.declared.Refusal.{Refusal}
+use Rattle.refusals.specs.declared.Refusal.TheVariants.{NoControl}
 use Rattle.controls.specs.Encoded.{front_in, front_only, values_few, cover_front}
-use Rattle.controls.specs.Cover.{asked_by, asked_in, Bounded, bounded, one_covered, cover_there}
+use Rattle.controls.specs.Cover.{asked_by, asked_in, Bounded, bounded, one_covered}
 use Rattle.slots.specs.Slots.{slot_bytes}
 use Rattle.controls.specs.Ready.{Ready, either_true, synth_ready}
 
@@ -37,7 +39,7 @@ abbrev pub controls_past : Key → ℕ → List ℕ → List Slot → Node → B
 controls_past key count name slots r = pick (is_group r) false (past_width (cover_of key name (definition_of slots r)) count)
 
 -- the one behind the other
-abbrev pub controls_asked : Key → ℕ → List ℕ → List Slot → Node → Asked
+abbrev pub controls_asked : Key → ℕ → List ℕ → List Slot → Node → Result (Unit {0}) Refusal
 controls_asked key count name slots r = asked_by (controls_missing key count name slots r) (controls_past key count name slots r)
 
 -- a synth lacks a negative index, and a negative number of controls
@@ -72,10 +74,13 @@ one_there key name slots r h = go (is_group r) (either_false (either (negative_k
     go false k = one_covered key name d (not-false (has_controls (cover_of key name d) 1 d) k)
 
 -- the test of 21 alone
-abbrev pub is_missing : Asked → Bool
-is_missing There = false
-is_missing Missing = true
-is_missing PastWidth = false
+abbrev pub is_missing : Result (Unit {0}) Refusal → Bool
+is_missing (Err NoControl) = true
+is_missing _ = false
+
+pub missing_not : (missing past : Bool) (x : Refusal) → Err x ≡ asked_by missing past → (x ≡ NoControl → ⊥) → false ≡ missing
+missing_not true past x e n = absurd (n cc)
+missing_not false past x e n = refl
 
 pub missing_asked : (missing past : Bool) → is_missing (asked_by missing past) ≡ missing
 missing_asked true past = refl
@@ -137,30 +142,31 @@ module _ (ws arena : List ℕ) (ready : Ready ws arena) (i : ℕ) (few : i < cou
       ∙ ap (λ (b : Bool). asked_by (not b) (past_width (cover_of key name e) count)) (has_front (cover_of key name e) count d e front))
 
   -- by the lookup's answer: what is asked, and what reading a control gives
-  module _ (key : Key) (name : List ℕ) (c : Cover) (said : cover_at c ≡ cover_of key name (front_only (slot_bytes ws arena (record_in ws i).slot))) where
-    pub cover-asked : (count : ℕ) → asked_in (cover_at c) count (front_only (slot_bytes ws arena (record_in ws i).slot)) ≡ controls_asked key count name (decode ws arena).slots (record_in ws i)
+  module _ (key : Key) (name : List ℕ) (o : prelude.Option Cover) (said : cover_at o ≡ cover_of key name (front_only (slot_bytes ws arena (record_in ws i).slot))) where
+    pub cover-asked : (count : ℕ) → asked_in (cover_at o) count (front_only (slot_bytes ws arena (record_in ws i).slot)) ≡ controls_asked key count name (decode ws arena).slots (record_in ws i)
     cover-asked count = ap (λ (o : Option Covered). asked_in o count (front_only (slot_bytes ws arena (record_in ws i).slot))) said ∙ sym (synth-asked key name count)
 
     abbrev reading : ℕ
     reading = read_at (buses_in ws) (controls_of (decode ws arena).slots (controls_in ws) (record_in ws i)) (cover_of key name (definition_of (decode ws arena).slots (record_in ws i)))
 
-    same : reading ≡ read_at (buses_in ws) (controls_of (decode ws arena).slots (controls_in ws) (record_in ws i)) (cover_at c)
+    same : reading ≡ read_at (buses_in ws) (controls_of (decode ws arena).slots (controls_in ws) (record_in ws i)) (cover_at o)
     same = ap (read_at (buses_in ws) (controls_of (decode ws arena).slots (controls_in ws) (record_in ws i))) (synth-cover key name ∙ sym said)
 
-    there : c.found ≡ true → Bounded (length (definition_of (decode ws arena).slots (record_in ws i)).front.values) (record { index = c.index; width = c.width })
-    there found = rw synth_many (bounded key name (front_only (slot_bytes ws arena (record_in ws i).slot)) (record { index = c.index; width = c.width }) (sym said ∙ cover_there c found))
-
-    pub read_none : c.found ≡ false → reading ≡ 0
+    pub read_none : o ≡ None → reading ≡ 0
     read_none e = same ∙ rw e
 
-    pub read_past : c.found ≡ true → c.width ≡ 0 → reading ≡ 0
-    read_past found e =
-        same
-        ∙ rw found
-        (ap (shown_by (buses_in ws)) (control_past (length (definition_of (decode ws arena).slots (record_in ws i)).front.values) (drop (row_words * (record_in ws i).row) (controls_in ws)) c.index ((there found).past e)))
+    module _ (c : Cover) (found : o ≡ Some c) where
+      there : Bounded (length (definition_of (decode ws arena).slots (record_in ws i)).front.values) (record { index = c.index; width = c.width })
+      there = rw synth_many (bounded key name (front_only (slot_bytes ws arena (record_in ws i).slot)) (record { index = c.index; width = c.width }) (sym said ∙ ap cover_at found))
 
-    pub read_there : c.found ≡ true → 0 < c.width → reading ≡ shown_by (buses_in ws) (control_in (controls_in ws) (record_in ws i).row c.index)
-    read_there found h =
-        same
-        ∙ rw found
-        (ap (shown_by (buses_in ws)) (control-in (length (definition_of (decode ws arena).slots (record_in ws i)).front.values) (controls_in ws) (record_in ws i).row c.index (omega (arith, (there found).ends h))))
+      pub read_past : c.width ≡ 0 → reading ≡ 0
+      read_past e =
+          same
+          ∙ rw found
+          (ap (shown_by (buses_in ws)) (control_past (length (definition_of (decode ws arena).slots (record_in ws i)).front.values) (drop (row_words * (record_in ws i).row) (controls_in ws)) c.index (there.past e)))
+
+      pub read_there : 0 < c.width → reading ≡ shown_by (buses_in ws) (control_in (controls_in ws) (record_in ws i).row c.index)
+      read_there h =
+          same
+          ∙ rw found
+          (ap (shown_by (buses_in ws)) (control-in (length (definition_of (decode ws arena).slots (record_in ws i)).front.values) (controls_in ws) (record_in ws i).row c.index (omega (arith, there.ends h))))

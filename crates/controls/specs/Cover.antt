@@ -1,5 +1,7 @@
 -- What a key covers in a definition: where it ends, and how many of its controls a count reaches.
-use Rattle.std.specs.Prelude.{ℕ, ◌+◌, ◌*◌, ◌-◌, ◌≤◌, ◌<◌, min, Bool, not, ◌≡◌, List, ◌++◌, ltb, leb, length, drop}
+use Prim.{Unit, tt}
+use Rattle.std.specs.Prelude as prelude
+use Rattle.std.specs.Prelude.{Result, Ok, Err, Some, None, IfSome, ℕ, ◌+◌, ◌*◌, ◌-◌, ◌≤◌, ◌<◌, min, Bool, not, ◌≡◌, List, ◌++◌, ltb, leb, length, drop}
 use Rattle.std.proofs.Math.Bool.{true, false}
 use Rattle.std.proofs.Math.Path.{refl, ap}
 use Rattle.std.proofs.Common.{sym, ◌∙◌, subst, arith, leb-true, leb-false, ltb-true, le-leb, lt-ltb, le-ltb}
@@ -18,18 +20,18 @@ use Rattle.values.specs.declared.Key.TheVariants.{Index, Name}
 use Rattle.values.specs.Controls.{ControlValue}
 use Rattle.model.specs.Layout.{row_words}
 use Rattle.model.specs.Meaning.{cover_of, has_controls, past_width}
-use Rattle.model.specs.Effects.{change_words, change_row, change_covered}
-use Rattle.controls.specs.declared.definition.Asked.{Asked}
-use Rattle.controls.specs.declared.definition.Asked.TheVariants.{There, Missing, PastWidth}
+use Rattle.model.specs.Effects.{change_words, change_row}
+use Rattle.refusals.specs.declared.Refusal.{Refusal}
+use Rattle.refusals.specs.declared.Refusal.TheVariants.{NoControl, PastWidth}
 use Rattle.controls.specs.Encoded.{front_in, front_only, values_few}
 use Rattle.controls.specs.Noted.{Noted}
 use Rattle.slots.specs.Slots.{slot_bytes}
 
 -- refusal 21's test, and 28's behind it
-abbrev pub asked_by : Bool → Bool → Asked
-asked_by missing past = pick missing Missing (pick past PastWidth There)
+abbrev pub asked_by : Bool → Bool → Result (Unit {0}) Refusal
+asked_by missing past = pick missing (Err NoControl) (pick past (Err PastWidth) (Ok tt))
 
-abbrev pub asked_in : Option Covered → ℕ → Definition → Asked
+abbrev pub asked_in : Option Covered → ℕ → Definition → Result (Unit {0}) Refusal
 asked_in o count d = asked_by (not (has_controls o count d)) (past_width o count)
 
 -- what is covered ends by the last control, and what covers nothing starts past it
@@ -73,95 +75,56 @@ one_covered key name d h = go (cover_of key name d) refl h
         by false l = l
 
 -- what was looked up, in a row
-abbrev pub Inside : Cover → Type 0
-Inside c = c.found ≡ true → 0 < c.width → c.index + c.width ≤ most_parameters
-
-pub cover_there : (c : Cover) → c.found ≡ true → cover_at c ≡ some (record { index = c.index; width = c.width })
-cover_there c found = rw found
+abbrev pub Inside : prelude.Option Cover → Type 0
+Inside o = IfSome o (λ c. 0 < c.width → c.index + c.width ≤ most_parameters)
 
 -- and among a definition's controls
-abbrev pub Within : List ℕ → Cover → Type 0
-Within s c = c.found ≡ true → 0 < c.width → c.index + c.width ≤ length (front_in s).values
+abbrev pub Within : List ℕ → prelude.Option Cover → Type 0
+Within s o = IfSome o (λ c. 0 < c.width → c.index + c.width ≤ length (front_in s).values)
 
-pub cover_within : (key : Key) (name s : List ℕ) (c : Cover) → cover_at c ≡ cover_of key name (front_only s) → Within s c
-cover_within key name s c e found = (bounded key name (front_only s) (record { index = c.index; width = c.width }) (sym e ∙ cover_there c found)).ends
+pub cover_within : (key : Key) (name s : List ℕ) (o : prelude.Option Cover) → cover_at o ≡ cover_of key name (front_only s) → Within s o
+cover_within key name s None e = tt
+cover_within key name s (Some c) e = (bounded key name (front_only s) (record { index = c.index; width = c.width }) (sym e)).ends
 
-pub within_inside : (s : List ℕ) (c : Cover) → Within s c → Inside c
-within_inside s c within found h = omega (arith, within found h, values_few s)
+pub within_inside : (s : List ℕ) (o : prelude.Option Cover) → Within s o → Inside o
+within_inside s None within = tt
+within_inside s (Some c) within = λ h. omega (arith, within h, values_few s)
 
-pub cover_inside : (key : Key) (name s : List ℕ) (c : Cover) → cover_at c ≡ cover_of key name (front_only s) → Inside c
-cover_inside key name s c e = within_inside s c (cover_within key name s c e)
+pub cover_inside : (key : Key) (name s : List ℕ) (o : prelude.Option Cover) → cover_at o ≡ cover_of key name (front_only s) → Inside o
+cover_inside key name s o e = within_inside s o (cover_within key name s o e)
 
 -- refusal 21's test and 28's, by what is covered
 module _ (s : List ℕ) (c : Cover) (count : ℕ) where
-  pub asked_none : c.found ≡ false → Missing ≡ asked_in (cover_at c) count (front_only s)
-  asked_none lacks = sym (rw lacks)
+  pub asked_missing : length (front_in s).values < c.index + count → Err NoControl ≡ asked_in (cover_at (Some c)) count (front_only s)
+  asked_missing h = sym (rw (lt-leb (c.index + count) (length (front_in s).values) h))
 
-  module _ (found : c.found ≡ true) where
-    pub asked_missing : length (front_in s).values < c.index + count → Missing ≡ asked_in (cover_at c) count (front_only s)
-    asked_missing h = sym (rw (found, lt-leb (c.index + count) (length (front_in s).values) h))
+  pub asked_past : c.index + count ≤ length (front_in s).values → c.width < count → Err PastWidth ≡ asked_in (cover_at (Some c)) count (front_only s)
+  asked_past h l = sym (rw (le-leb (c.index + count) (length (front_in s).values) h, lt-ltb c.width count l))
 
-    pub asked_past : c.index + count ≤ length (front_in s).values → c.width < count → PastWidth ≡ asked_in (cover_at c) count (front_only s)
-    asked_past h l = sym (rw (found, le-leb (c.index + count) (length (front_in s).values) h, lt-ltb c.width count l))
+  pub asked_there : c.index + count ≤ length (front_in s).values → count ≤ c.width → Ok tt ≡ asked_in (cover_at (Some c)) count (front_only s)
+  asked_there h l = sym (rw (le-leb (c.index + count) (length (front_in s).values) h, le-ltb c.width count l))
 
-    pub asked_there : c.index + count ≤ length (front_in s).values → count ≤ c.width → There ≡ asked_in (cover_at c) count (front_only s)
-    asked_there h l = sym (rw (found, le-leb (c.index + count) (length (front_in s).values) h, le-ltb c.width count l))
-
-    -- what is covered is there
-    pub asked_covered : Within s c → 0 < c.width → count ≤ c.width → There ≡ asked_in (cover_at c) count (front_only s)
-    asked_covered within h l = asked_there (omega (arith, within found h)) l
-
--- how many of the controls that are covered a count reaches
-abbrev pub reached_by : Cover → ℕ → ℕ
-reached_by c count = pick c.found (min count c.width) 0
-
-module _ (c : Cover) (count : ℕ) where
-  pub reached_inside : Inside c → 0 < reached_by c count → c.index + reached_by c count ≤ most_parameters
-  reached_inside inside h = go c.found inside h
-    where
-      go : (b : Bool) → (b ≡ true → 0 < c.width → c.index + c.width ≤ most_parameters) → 0 < pick b (min count c.width) 0 → c.index + pick b (min count c.width) 0 ≤ most_parameters
-      go true i l = omega (arith, i refl (omega arith))
-      go false i l = absurd (omega arith)
-
-  -- the change of what is reached is the change of what is covered
-  module _ (f : ControlValue → ControlValue) (row : ℕ) (cs : List ℕ) where
-    pub reached_none : reached_by c count ≡ 0 → change_covered f (cover_at c) row count cs ≡ cs
-    unfolding change_words
-    reached_none h = go c.found h
-      where
-        go : (b : Bool) → pick b (min count c.width) 0 ≡ 0 → change_covered f (pick b (some (record { index = c.index; width = c.width })) none) row count cs ≡ cs
-        go true e =
-            ap (λ (n : ℕ). take (row_words * row + 2 * c.index) cs ++ change_words f n (drop (row_words * row + 2 * c.index) cs)) e
-            ∙ take-append-drop (row_words * row + 2 * c.index) cs
-        go false e = refl
-
-    pub reached_some : 0 < reached_by c count → change_row f row c.index (reached_by c count) cs ≡ change_covered f (cover_at c) row count cs
-    reached_some h = go c.found h
-      where
-        go : (b : Bool) → 0 < pick b (min count c.width) 0
-            → change_row f row c.index (pick b (min count c.width) 0) cs ≡ change_covered f (pick b (some (record { index = c.index; width = c.width })) none) row count cs
-        go true l = refl
-        go false l = absurd (omega arith)
+-- none of the controls that are covered is changed
+pub reached_none : (c : Cover) (count : ℕ) (f : ControlValue → ControlValue) (row : ℕ) (cs : List ℕ) → min count c.width ≡ 0 → change_row f row c.index (min count c.width) cs ≡ cs
+unfolding change_words
+reached_none c count f row cs e =
+    ap (λ (n : ℕ). take (row_words * row + 2 * c.index) cs ++ change_words f n (drop (row_words * row + 2 * c.index) cs)) e
+    ∙ take-append-drop (row_words * row + 2 * c.index) cs
 
 -- what a key covers in the definition in a slot
 abbrev pub cover_on : Key → List ℕ → List ℕ → List ℕ → ℕ → Option Covered
 cover_on key name ws arena k = cover_of key name (front_only (slot_bytes ws arena k))
 
--- no width and no number of controls
-abbrev pub unknown : ℕ
-unknown = 33
-
--- what is noted for a slot that was not looked up
-abbrev pub no_cover : Cover
-no_cover = record { found = false; index = 0; width = unknown }
-
 -- what is covered in the slots that were looked up
-abbrev pub CoversNoted : Key → List ℕ → List ℕ → List ℕ → List Cover → Type 0
-CoversNoted key name ws arena covers = Noted (λ (c : Cover). c.width ≡ unknown) (λ (k : ℕ) (c : Cover). cover_at c ≡ cover_on key name ws arena k) covers
+abbrev pub CoversNoted : Key → List ℕ → List ℕ → List ℕ → List (prelude.Option (prelude.Option Cover)) → Type 0
+CoversNoted key name ws arena covers = Noted (λ (k : ℕ) (o : prelude.Option Cover). cover_at o ≡ cover_on key name ws arena k) covers
+
+pub covered-same : (r : prelude.Option (prelude.Option Cover)) (x y : Option Covered) → x ≡ y → IfSome r (λ o. cover_at o ≡ x) → IfSome r (λ o. cover_at o ≡ y)
+covered-same r x y e h = subst (λ (z : Option Covered). IfSome r (λ o. cover_at o ≡ z)) e h
 
 -- how many controls the definition in a slot has
 abbrev pub controls_on : List ℕ → List ℕ → ℕ → ℕ
 controls_on ws arena k = length (front_in (slot_bytes ws arena k)).values
 
-abbrev pub Counted : List ℕ → List ℕ → List ℕ → Type 0
-Counted ws arena counts = Noted (λ (n : ℕ). n ≡ unknown) (λ (k n : ℕ). n ≡ controls_on ws arena k) counts
+abbrev pub Counted : List ℕ → List ℕ → List (prelude.Option ℕ) → Type 0
+Counted ws arena counts = Noted (λ (k n : ℕ). n ≡ controls_on ws arena k) counts

@@ -1,9 +1,8 @@
 -- What a definition in its encoded bytes tells of its controls: by its front, which the lookups read.
-use Rattle.std.specs.Prelude.{ℕ, ◌-◌, ◌≤◌, ◌≡◌, refl, List, [], length, leb}
+use Rattle.std.specs.Prelude as prelude
+use Rattle.std.specs.Prelude.{ℕ, ◌-◌, ◌≤◌, ◌≡◌, refl, List, [], length, leb, Some, None}
 use Rattle.std.proofs.Common.{sym, ap, ◌∙◌, arith, leb-true}
 use Rattle.std.proofs.Math.Option.{none, some}
-use Rattle.readable.specs.declared.found.Found.{Found}
-use Rattle.readable.specs.declared.found.Found.TheVariants as found
 use Rattle.format.specs.declared.Width.TheVariants.{Long}
 use Rattle.format.specs.Read.{on_read, Read, got, bad, repeat}
 use Rattle.readable.specs.Lookup.{parameters_in, cover_in}
@@ -31,9 +30,9 @@ abbrev pub front_only : List ℕ → Definition
 front_only s = record { front = front_in s; units = []; variants = [] }
 
 -- a lookup's answer
-abbrev pub number_or : Found → ℕ
-number_or (found.At n) = n
-number_or found.Nothing = 0
+abbrev pub number_or : prelude.Option ℕ → ℕ
+number_or (Some n) = n
+number_or None = 0
 
 -- the front of a definition that was read
 pub front_read : (s : List ℕ) {d : Definition} {next : ℕ} → read_definition s 0 ≡ got d next → front_in s ≡ d.front
@@ -76,7 +75,7 @@ cover_front (Index i) name d e h = ap (λ (f : Front). some (record { index = i;
 cover_front Name name d e h = ap (λ (f : Front). covered_by name (length f.values) f.names) h
 
 -- P, as the lookup tells it
-count_of : (r : Read Front) → number_or (on_read r found.Nothing (λ f next. found.At (length f.values))) ≡ length (value_or no_front r).values
+count_of : (r : Read Front) → number_or (on_read r None (λ f next. Some (length f.values))) ≡ length (value_or no_front r).values
 count_of (got f p) = refl
 count_of (bad q place) = refl
 

@@ -1,9 +1,8 @@
 -- Initial values: floats in a definition's bytes, and the words of controls that they make.
-use Rattle.std.specs.Prelude.{ℕ, zero, suc, ◌+◌, ◌*◌, ◌≤◌, ◌<◌, ◌≡◌, refl, List, [], ◌∷◌, ◌++◌, length, take, drop, get_or, set}
+use Rattle.std.specs.Prelude.{ℕ, zero, suc, ◌+◌, ◌*◌, ◌≤◌, ◌<◌, ◌≡◌, refl, List, [], ◌∷◌, ◌++◌, length, take, drop, get_or, set, Option, Some, None}
 use Rattle.std.proofs.Common.{sym, ap, ap₂, ◌∙◌, append-nil, arith, add-zero, add-one, take-append-drop, take_all}
+use Rattle.std.proofs.lemmas.Option.{some_pair_parts}
 use Rattle.std.proofs.Math.Seq.{paste, paste-suc}
-use Rattle.readable.specs.declared.found.ValuesFound.{ValuesFound}
-use Rattle.readable.specs.declared.found.ValuesFound.TheVariants as values
 use Rattle.format.specs.declared.Width.TheVariants.{Long}
 use Rattle.format.specs.Read.{on_read, Read, got, bad, repeat}
 use Rattle.readable.specs.Lookup.{values_in}
@@ -99,13 +98,14 @@ pub record ValuesAt (s : List ℕ) (start count : ℕ) (xs : List ℕ) : Type 0 
   pub end : 0 < count → start + 4 * count ≤ length s
   pub same : floats_from s count start ≡ xs
 
-abbrev fact : Read Front → ValuesFound
-fact r = on_read r values.Nothing (λ f next. values.At (values_at Long 0 f) (length f.values))
+abbrev fact : Read Front → Option (ℕ × ℕ)
+fact r = on_read r None (λ f next. Some (values_at Long 0 f, length f.values))
 
-fact-at : (s : List ℕ) (r : Read Front) {start count : ℕ} → read_front s 0 ≡ r → fact r ≡ values.At start count → ValuesAt s start count (value_or no_front r).values
+fact-at : (s : List ℕ) (r : Read Front) {start count : ℕ} → read_front s 0 ≡ r → fact r ≡ Some (start, count) → ValuesAt s start count (value_or no_front r).values
 fact-at s (got f p) {start} {count} e h =
-    let from : values_at Long 0 f ≡ start = cc in
-    let many : length f.values ≡ count = cc in
+    let parts = some_pair_parts (values_at Long 0 f) start (length f.values) count h in
+    let from : values_at Long 0 f ≡ start = parts.0 in
+    let many : length f.values ≡ count = parts.1 in
     let read = (front_got Long s 0 e).values in
     record {
       many = sym many;
@@ -114,15 +114,15 @@ fact-at s (got f p) {start} {count} e h =
     }
 fact-at s (bad q place) {start} {count} e h = let z : ◌≡◌ {A = ℕ} 0 1 = cc in absurd (omega arith)
 
-pub values_fact : (s : List ℕ) {start count : ℕ} → values_in s ≡ values.At start count → ValuesAt s start count (front_in s).values
+pub values_fact : (s : List ℕ) {start count : ℕ} → values_in s ≡ Some (start, count) → ValuesAt s start count (front_in s).values
 unfolding front_in
 values_fact s h = fact-at s (read_front s 0) refl h
 
-fact_none : (r : Read Front) → fact r ≡ values.Nothing → (value_or no_front r).values ≡ []
+fact_none : (r : Read Front) → fact r ≡ None → (value_or no_front r).values ≡ []
 fact_none (got f p) h = let z : ◌≡◌ {A = ℕ} 0 1 = cc in absurd (omega arith)
 fact_none (bad q place) h = refl
 
-pub values_none : (s : List ℕ) → values_in s ≡ values.Nothing → (front_in s).values ≡ []
+pub values_none : (s : List ℕ) → values_in s ≡ None → (front_in s).values ≡ []
 unfolding front_in
 values_none s h = fact_none (read_front s 0) h
 

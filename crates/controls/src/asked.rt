@@ -11,11 +11,12 @@ ghost use Rattle.model.specs.Replies.{read_at};
 ghost use Rattle.controls.specs.Ready.{Ready};
 ghost use Rattle.controls.specs.Asked.{controls_missing, controls_asked, control_in};
 
-use crate::definition::{Asked, asked_of, key_cover};
+use crate::definition::{asked_of, key_cover};
 use crate::node::{node_definition, node_row};
 use crate::synth::read_at;
 use layout::{BUSES, BUSES_END, CONTROLS, CONTROLS_END, ROW_WORDS};
 use names::node_is_group;
+use refusals::Refusal;
 use values::Key;
 use words::wide;
 
@@ -39,18 +40,15 @@ pub fn controls_asked(
     key: Key,
     name: &[u8],
     count: u32,
-) -> Asked
+) -> Result<(), Refusal>
     requires { (Ready words.now arena.now) × (place < count_in words.now) }
     ensures { result ≡ controls_asked key count name.now (decode words.now arena.now).slots (record_in words.now place) }
 {
-    if negative_key(key) {
-        return Asked::Missing;
-    }
-    if 2147483648 <= count {
-        return Asked::Missing;
+    if negative_key(key) || 2147483648 <= count {
+        return Err(Refusal::NoControl);
     }
     if node_is_group(words, place) {
-        return Asked::There;
+        return Ok(());
     }
     asked_of(node_definition(words, arena, place), key, name, count)
 }
@@ -67,11 +65,10 @@ pub fn controls_missing(
     requires { (Ready words.now arena.now) × (place < count_in words.now) }
     ensures { result ≡ controls_missing key count name.now (decode words.now arena.now).slots (record_in words.now place) }
 {
-    match controls_asked(words, arena, place, key, name, count) {
-        Asked::Missing => true,
-        Asked::There => false,
-        Asked::PastWidth => false,
-    }
+    let Err(refusal) = controls_asked(words, arena, place, key, name, count) else {
+        return false;
+    };
+    matches!(refusal, Refusal::NoControl)
 }
 
 // What reading a control of a row gives: the bus where it is mapped, otherwise its own float.
@@ -84,16 +81,15 @@ pub fn read_control(words: &[u32], row: u32, index: u32) -> u32
 }
 
 // What reading the control that a key names gives, of the synth at a place; 0 where it lacks it.
+// Kept: 0 for none is what the model's `read_at` answers, which `read_key` promises.
 pub fn read_key(words: &[u32], arena: &[u8], place: usize, key: Key, name: &[u8]) -> u32
     requires { (Ready words.now arena.now) × (place < count_in words.now) × (is_group (record_in words.now place) ≡ false) }
     ensures { result ≡ read_at (buses_in words.now) (controls_of (decode words.now arena.now).slots (controls_in words.now) (record_in words.now place)) (cover_of key name.now (definition_of (decode words.now arena.now).slots (record_in words.now place))) }
 {
-    let cover = key_cover(node_definition(words, arena, place), key, name);
-    if !cover.found {
-        return 0;
+    match key_cover(node_definition(words, arena, place), key, name) {
+        Some(cover) if cover.width != 0 => {
+            read_control(words, node_row(words, place), cover.index)
+        }
+        _ => 0,
     }
-    if cover.width == 0 {
-        return 0;
-    }
-    read_control(words, node_row(words, place), cover.index)
 }

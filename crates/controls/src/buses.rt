@@ -18,11 +18,7 @@ pub fn is_bus(bus: u32) -> bool
 pub fn is_bus_range(start: u32, count: u32) -> bool
     ensures { result ≡ is_bus_range start count }
 {
-    let many = wide(count);
-    if MOST_BUSES < many {
-        return false;
-    }
-    wide(start) <= MOST_BUSES - many
+    wide(start) + wide(count) <= MOST_BUSES
 }
 
 // One bus set; past the last bus nothing changes.
@@ -41,15 +37,7 @@ pub fn fill_buses(buses: &mut [u32], start: u32, count: u32, pattern: u32)
 {
     let from = wide(start);
     let many = wide(count);
-    if buses.len() < many {
-        return;
-    }
-    if buses.len() - many < from {
-        return;
-    }
-    let mut i = 0;
-    while i < many {
-        buses[from + i] = pattern;
-        i += 1;
+    if from + many <= buses.len() {
+        buses[from..from + many].fill(pattern);
     }
 }

@@ -11,6 +11,7 @@ use values::{Control, Mapping};
 use words::wide;
 
 // What a command does to each control that it reaches.
+// Kept: an `impl Fn(Control) -> Control` here is no plainer: each contract up to `change_all` would speak of F's post, not of `change_of`.
 #[derive(Clone, Copy)]
 pub enum Change {
     Set(u32),
@@ -45,10 +46,8 @@ pub fn change_row(controls: &mut [u32], row: u32, start: u32, many: u32, change:
     ensures { controls.new ≡ change_row (change_of change) row start many controls.old }
 {
     let mut at = ROW_WORDS * wide(row) + 2 * wide(start);
-    let mut i = 0;
-    while i < many {
+    for _ in 0..many {
         change_one(controls, at, change);
         at += 2;
-        i += 1;
     }
 }

@@ -8,7 +8,7 @@ ghost use Rattle.model.specs.Layout.{row_words, bus_count, words_length, put_con
 ghost use Rattle.model.specs.Effects.{change_covered};
 ghost use Rattle.readable.specs.Lookup.{cover_at};
 ghost use Rattle.controls.specs.Change.{change_of};
-ghost use Rattle.controls.specs.Cover.{Inside, reached_by};
+ghost use Rattle.controls.specs.Cover.{Inside};
 
 use crate::control::{Change, change_row};
 use crate::node::node_row;
@@ -17,31 +17,26 @@ use readable::Cover;
 use values::Control;
 use words::wide;
 
-// How many of the controls that are covered a count reaches.
-fn reached(cover: Cover, count: u32) -> u32
-    ensures { result ≡ reached_by cover count }
-{
-    if !cover.found {
-        return 0;
-    }
-    if count <= cover.width {
-        return count;
-    }
-    cover.width
-}
-
 // The controls of the synth at a place of the table changed, as far as they are covered.
-pub fn change_node(words: &mut [u32], place: usize, cover: Cover, count: u32, change: Change)
+pub fn change_node(
+    words: &mut [u32],
+    place: usize,
+    cover: Option<Cover>,
+    count: u32,
+    change: Change,
+)
     requires { (length words.old ≡ words_length) × (place < most_nodes) × ((record_in words.old place).row < most_rows) × Inside cover }
     ensures { words.new ≡ put_controls (change_covered (change_of change) (cover_at cover) (record_in words.old place).row count (controls_in words.old)) words.old }
 {
-    let many = reached(cover, count);
-    if many == 0 {
+    let Some(cover) = cover else {
         return;
+    };
+    let many = count.min(cover.width);
+    if 0 < many {
+        let row = node_row(words, place);
+        let start = cover.index;
+        change_row(&mut words[CONTROLS..CONTROLS_END], row, start, many, change);
     }
-    let row = node_row(words, place);
-    let start = cover.index;
-    change_row(&mut words[CONTROLS..CONTROLS_END], row, start, many, change);
 }
 
 // A row that was formed so far, with one more mapping word.
@@ -56,6 +51,7 @@ fn still_formed(formed: bool, word: u32) -> bool
 
 // The mapping words of a row's first controls, so many: each at most 4,096. It goes to the end whatever it meets, so that several are looked at at
 // once.
+// Kept: no `.all(..)`, which stops at the first that fails: a branch-free inner loop (docs/SPEED.md).
 pub(crate) fn row_formed(controls: &[u32], row: u32, many: u32) -> bool
     requires { row_words * row + 2 * many ≤ length controls.now }
     ensures { result ≡ mappings_formed many (drop (row_words * row) controls.now) }
@@ -63,10 +59,8 @@ pub(crate) fn row_formed(controls: &[u32], row: u32, many: u32) -> bool
     let start = ROW_WORDS * wide(row) + 1;
     let end = wide(many);
     let mut formed = true;
-    let mut i = 0;
-    while i < end {
+    for i in 0..end {
         formed = still_formed(formed, controls[start + 2 * i]);
-        i += 1;
     }
     formed
 }

@@ -8,7 +8,7 @@ ghost use Rattle.controls.specs.Change.{change_of};
 ghost use Rattle.controls.specs.Ready.{Ready};
 
 use crate::control::Change;
-use crate::cover::{UNKNOWN, slot_controls, slot_cover};
+use crate::cover::{slot_controls, slot_cover};
 use crate::node::{node_row, node_slot};
 use crate::synth::{change_node, row_formed};
 use layout::{CONTROLS, CONTROLS_END, COUNT, SLOTS};
@@ -31,20 +31,14 @@ pub fn change_all(
     requires { (Ready words.old arena.now) × (to ≤ count_in words.old) }
     ensures { words.new ≡ put_controls (change_all (change_of change) key name.now count (decode words.old arena.now).slots (take (to - from) (drop from (nodes_in words.old))) (controls_in words.old)) words.old }
 {
-    let mut covers = [Cover {
-        found: false,
-        index: 0,
-        width: UNKNOWN,
-    }; SLOTS];
-    let mut i = from;
-    while i < to {
+    let mut covers: [Option<Option<Cover>>; SLOTS] = [None; SLOTS];
+    for i in from..to {
         if !node_is_group(words, i) {
             let slot = node_slot(words, i);
             let cover = slot_cover(words, arena, slot, key, name, covers[slot]);
-            covers[slot] = cover;
+            covers[slot] = Some(cover);
             change_node(words, i, cover, count, change);
         }
-        i += 1;
     }
 }
 
@@ -54,18 +48,16 @@ pub fn controls_formed(words: &[u32], arena: &[u8]) -> bool
     ensures { result ≡ controls_formed (decode words.now arena.now).slots (controls_in words.now) (nodes_in words.now) }
 {
     let count = wide(words[COUNT]);
-    let mut known = [UNKNOWN; SLOTS];
-    let mut i = 0;
-    while i < count {
+    let mut known: [Option<u32>; SLOTS] = [None; SLOTS];
+    for i in 0..count {
         if !node_is_group(words, i) {
             let slot = node_slot(words, i);
             let many = slot_controls(words, arena, slot, known[slot]);
-            known[slot] = many;
+            known[slot] = Some(many);
             if !row_formed(&words[CONTROLS..CONTROLS_END], node_row(words, i), many) {
                 return false;
             }
         }
-        i += 1;
     }
     true
 }

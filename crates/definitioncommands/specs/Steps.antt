@@ -1,5 +1,5 @@
 -- What the commands of definitions do, by the rows of the table; and the export.
-use Rattle.std.specs.Prelude.{ℕ, ◌+◌, ◌-◌, ◌≤◌, ◌<◌, Bool, ◌≡◌, set}
+use Rattle.std.specs.Prelude.{ℕ, Option, Some, None, Result, Ok, Err, ◌+◌, ◌-◌, ◌≤◌, ◌<◌, Bool, ◌≡◌, set}
 use Rattle.std.proofs.Math.Bool.{true, false}
 use Rattle.std.proofs.Math.Path.{refl, ap, ap₂}
 use Rattle.std.proofs.Common.{sym, ◌∙◌, arith}
@@ -9,19 +9,22 @@ use Rattle.std.proofs.Math.ListN.{length, drop}
 use Rattle.std.proofs.Math.Dec.{ltb}
 use Rattle.words.specs.Parts.{region, put}
 use Rattle.faults.specs.declared.Fault.{Fault}
+use Rattle.faults.specs.declared.FileError.{FileError}
+use Rattle.refusals.specs.declared.Refusal.{Refusal}
+use Rattle.model.specs.declared.Denied.{Denied}
+use Rattle.std.specs.Option.{ok_or}
 use Rattle.refusals.specs.declared.Refusal.TheVariants.{NoSlot, NoDefinition, NoRoom}
 use Rattle.format.specs.Read.{Read, got, bad}
 use Rattle.format.specs.Definition.{Definition}
 use Rattle.format.specs.Reader.{read_file}
 use Rattle.files.specs.File.{verdict}
-use Rattle.files.specs.declared.file.Checked.TheVariants as checked
 use Rattle.nodes.specs.Table.{rows}
 use Rattle.model.specs.declared.DefinitionCommand.{DefinitionCommand}
 use Rattle.model.specs.declared.DefinitionCommand.TheVariants.{Receive, Free}
 use Rattle.model.specs.declared.Query.TheVariants as query
 use Rattle.model.specs.declared.Command.TheVariants as command
-use Rattle.model.specs.declared.Answer.{Answer}
-use Rattle.model.specs.declared.Answer.TheVariants.{Done, Replied, Refused, RefusedAt}
+use Rattle.model.specs.Answers.{Answer}
+use Rattle.model.specs.Answers.{Done, Replied, Refused, RefusedAt}
 use Rattle.model.specs.Layout.{slot_count, lengths_place, nodes_place, nodes_words, count_in, nodes_in}
 use Rattle.model.specs.Engine.{Slot, decode, resident_of}
 use Rattle.model.specs.Checks.{first_of, fault_of, definitions_of, names_of, staying, no_slot, no_resident}
@@ -44,13 +47,23 @@ pub formed_table : (ws bs : List ℕ) → Known ws bs → Formed (table_in ws) b
 formed_table ws bs k = formed_lent ws bs k.size k.arena_size k.flags k.slots
 
 -- what the check of a file tells
-pub verdict_bad : (r : Read (List Definition)) {q : Fault} {at : ℕ} → verdict r ≡ checked.Refused q at → r ≡ bad q at
-verdict_bad (got ds end) h = absurd (let z : ◌≡◌ {A = ℕ} 0 1 = cc in omega arith)
-verdict_bad (bad p place) h = cc
+pub verdict_bad : (r : Read (List Definition)) (e : FileError) → Err e ≡ verdict r → r ≡ bad e.0 e.1
+verdict_bad (got ds end) e h = cc
+verdict_bad (bad q place) e h = let same : e ≡ record { 0 = q; 1 = place } = cc in rw same
 
-pub verdict_got : (r : Read (List Definition)) {n : ℕ} → verdict r ≡ checked.Accepted n → ((fault_of r).fires ≡ false) × (length (definitions_of r) ≡ n)
-verdict_got (got ds end) h = (refl, (cc))
-verdict_got (bad p place) h = absurd (let z : ◌≡◌ {A = ℕ} 0 1 = cc in omega arith)
+pub verdict_got : (r : Read (List Definition)) (n : ℕ) → Ok n ≡ verdict r → ((fault_of r).fires ≡ false) × (length (definitions_of r) ≡ n)
+verdict_got (got ds end) n h = (refl, (cc))
+verdict_got (bad q place) n h = ((cc), (cc))
+
+-- what a command answers that is done, or denied by the table or by a file's fault
+abbrev pub done_with : {A : Type 0} → Result A Denied → Answer
+done_with (Ok x) = Done
+done_with (Err d) = Err d
+
+-- the refusal of a name that no resident has
+pub no_definition : (o : Option ℕ) (r e : Refusal) → ◌≡◌ {A = Result ℕ Refusal} (Err e) (ok_or o r) → e ≡ r
+no_definition None r e h = cc
+no_definition (Some k) r e h = cc
 
 -- /d_recv
 module _ (bytes ws bs : List ℕ) where

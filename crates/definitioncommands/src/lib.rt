@@ -5,15 +5,16 @@ ghost use Rattle.std.specs.Prelude.{ℕ, ◌-◌, ◌≡◌, List, length, ltb};
 ghost use Rattle.definitions.specs.Files.{Accepted, definitions_on};
 ghost use Rattle.model.specs.declared.DefinitionCommand.{DefinitionCommand};
 ghost use Rattle.model.specs.declared.Query.{Query};
+ghost use Rattle.model.specs.Answers.{done_or, replied_or};
 ghost use Rattle.model.specs.Layout.{slot_count};
 ghost use Rattle.state.specs.Known.{Known};
 ghost use Rattle.state.specs.Does.{Reply};
-ghost use Rattle.definitioncommands.specs.Steps.{Steps};
+ghost use Rattle.definitioncommands.specs.Steps.{Steps, done_with};
 
 use definitions::{export, export_length, find_resident, held_slots, load, retire, staying_count};
-use files::{Checked, check_file};
+use files::check_file;
 use layout::{COUNT, LENGTHS, NODES, NODES_END, RESIDENT_END, SLOTS};
-use model::{Answer, DefinitionCommand};
+use model::{DefinitionCommand, Denied};
 use refusals::Refusal;
 use words::wide;
 
@@ -21,49 +22,42 @@ use words::wide;
 fn no_slot(staying: u32, count: u32) -> bool
     ensures { result ≡ ltb (slot_count - staying) count }
 {
-    let taken = wide(staying);
-    if SLOTS < taken {
-        return 0 < count;
-    }
-    SLOTS - taken < wide(count)
+    SLOTS.saturating_sub(wide(staying)) < wide(count)
 }
 
 // An accepted file of so many definitions: refusal 12, or it is loaded.
-fn load_file(bytes: &[u8], count: u32, words: &mut [u32], arena: &mut [u8]) -> Answer
+fn load_file(bytes: &[u8], count: u32, words: &mut [u32], arena: &mut [u8]) -> Result<(), Refusal>
     requires { Known words.old arena.old × (Accepted bytes.now × (length (definitions_on bytes.now) ≡ count)) }
-    ensures { Steps DefinitionCommand.Receive bytes.now words.old arena.old result words.new arena.new }
+    ensures { Steps DefinitionCommand.Receive bytes.now words.old arena.old (done_or result) words.new arena.new }
 {
     let held = held_slots(&words[NODES..NODES_END], wide(words[COUNT]));
     let staying = staying_count(&words[LENGTHS..RESIDENT_END], arena, held, bytes);
     if no_slot(staying, count) {
-        return Answer::Refused(Refusal::NoSlot);
+        return Err(Refusal::NoSlot);
     }
     load(&mut words[LENGTHS..RESIDENT_END], arena, held, bytes);
-    Answer::Done
+    Ok(())
 }
 
 // /d_recv
-fn receive(bytes: &[u8], words: &mut [u32], arena: &mut [u8]) -> Answer
+fn receive(bytes: &[u8], words: &mut [u32], arena: &mut [u8]) -> Result<(), Denied>
     requires { Known words.old arena.old }
-    ensures { Steps DefinitionCommand.Receive bytes.now words.old arena.old result words.new arena.new }
+    ensures { Steps DefinitionCommand.Receive bytes.now words.old arena.old (done_with result) words.new arena.new }
 {
-    match check_file(bytes) {
-        Checked::Accepted(count) => load_file(bytes, count, words, arena),
-        Checked::Refused(fault, place) => Answer::RefusedAt(fault, place),
-    }
+    let count = check_file(bytes)?;
+    load_file(bytes, count, words, arena)?;
+    Ok(())
 }
 
 // /d_free
-fn free(bytes: &[u8], words: &mut [u32], arena: &[u8]) -> Answer
+fn free(bytes: &[u8], words: &mut [u32], arena: &[u8]) -> Result<(), Refusal>
     requires { Known words.old arena.now }
-    ensures { Steps DefinitionCommand.Free bytes.now words.old arena.now result words.new arena.now }
+    ensures { Steps DefinitionCommand.Free bytes.now words.old arena.now (done_or result) words.new arena.now }
 {
-    let k = find_resident(&words[LENGTHS..RESIDENT_END], arena, bytes);
-    if SLOTS <= wide(k) {
-        return Answer::Refused(Refusal::NoDefinition);
-    }
+    let found = find_resident(&words[LENGTHS..RESIDENT_END], arena, bytes);
+    let k = found.ok_or(Refusal::NoDefinition)?;
     retire(&mut words[LENGTHS..RESIDENT_END], k);
-    Answer::Done
+    Ok(())
 }
 
 // A command of definitions.
@@ -72,25 +66,25 @@ pub fn definition_step(
     bytes: &[u8],
     words: &mut [u32],
     arena: &mut [u8],
-) -> Answer
+) -> Result<(), Denied>
     requires { Known words.old arena.old }
-    ensures { Steps command bytes.now words.old arena.old result words.new arena.new }
+    ensures { Steps command bytes.now words.old arena.old (done_with result) words.new arena.new }
 {
     match command {
         DefinitionCommand::Receive => receive(bytes, words, arena),
-        DefinitionCommand::Free => free(bytes, words, arena),
+        DefinitionCommand::Free => Ok(free(bytes, words, arena)?),
     }
 }
 
 // The export: a version 2 file of all residents, or refusal 24.
-pub fn export_query(words: &[u32], arena: &[u8], out: &mut [u8]) -> Answer
+pub fn export_query(words: &[u32], arena: &[u8], out: &mut [u8]) -> Result<usize, Refusal>
     requires { Known words.now arena.now }
-    ensures { (bytes : List ℕ) → Reply Query.Export bytes words.now arena.now out.old result out.new }
+    ensures { (bytes : List ℕ) → Reply Query.Export bytes words.now arena.now out.old (replied_or result) out.new }
 {
     let size = export_length(&words[LENGTHS..RESIDENT_END], arena);
     if out.len() < size {
-        return Answer::Refused(Refusal::NoRoom);
+        return Err(Refusal::NoRoom);
     }
     export(&words[LENGTHS..RESIDENT_END], arena, out);
-    Answer::Replied(size)
+    Ok(size)
 }

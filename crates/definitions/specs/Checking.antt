@@ -1,9 +1,9 @@
 -- The state check's part on slots.
 use Prim.{Unit}
-use Rattle.std.specs.Prelude.{ℕ, zero, suc, ◌+◌, ◌≤◌, ◌<◌, Bool, true, false, not, ◌≡◌, refl, length, drop, leb, eqb}
-use Rattle.std.proofs.Common.{sym, ◌∙◌, arith, add-one, length-drop, drop_of_length-le, get_or-take, drop-cons, length-take-le, leb-true, le-leb, eqb-true}
+use Rattle.std.specs.Prelude.{ℕ, zero, suc, ◌+◌, ◌≤◌, ◌<◌, Bool, true, false, not, ◌≡◌, refl, length, drop, leb, eqb, IsTrue, ◌↔◌, EachIndex, slice_index}
+use Rattle.std.proofs.Common.{sym, ◌∙◌, arith, get_or-take, leb-true, le-leb, eqb-true}
 use Rattle.std.proofs.Math.Path.{ap}
-use mathlib.Core.List.{List}
+use mathlib.Core.List.{List, [], ◌∷◌}
 use Rattle.std.proofs.Math.Nat.{add-zero}
 use Rattle.std.proofs.Math.ListN.{get_or}
 use Rattle.std.proofs.Math.Seq.{get_or-drop, drop-drop}
@@ -17,39 +17,33 @@ use Rattle.nodes.specs.declared.Node.{Node}
 use Rattle.model.specs.Layout.{slot_count}
 use Rattle.model.specs.Engine.{Slot, held}
 use Rattle.model.specs.Formed.{flags_formed, is_whole, slots_formed, name_resident, names_apart}
-use Rattle.slots.specs.Slots.{table_words, lengths_on, flags_on, slots_on, bytes_on, resident_on, slot-at, slots_end}
+use Rattle.slots.specs.Slots.{lengths_on, flags_on, slots_on, bytes_on, resident_on, slot-at, slots_end}
 use Rattle.definitions.specs.Slots.{SlotsFit, Formed}
 use Rattle.definitions.specs.Names.{name_on, named_on}
 
--- the flags: one step, and the end
-module _ (table : List ℕ) (long : length table ≡ table_words) where
-  flags_length : length (flags_on table) ≡ slot_count
-  flags_length = length-take-le slot_count (drop slot_count table) (simp length-drop (omega arith))
+-- a flag, by the table
+flag_at : (table : List ℕ) (k : ℕ) → k < slot_count → get_or (flags_on table) k 0 ≡ get_or table (slot_count + k) 0
+flag_at table k h = get_or-take slot_count (drop slot_count table) k 0 h ∙ get_or-drop slot_count table k 0
 
-  flag_at : (k : ℕ) → k < slot_count → get_or (flags_on table) k 0 ≡ get_or table (slot_count + k) 0
-  flag_at k h = get_or-take slot_count (drop slot_count table) k 0 h ∙ get_or-drop slot_count table k 0
+-- what is found of each flag is the test of them all
+all_flags : (flags : List ℕ) → ((k : ℕ) → k < length flags → get_or flags k 0 ≤ 1) → flags_formed flags ≡ true
+unfolding flags_formed
+all_flags [] h = refl
+all_flags (f ∷ more) h = rw (le-leb f 1 (h 0 (omega arith))) (all_flags more (λ k l. h (suc k) (omega arith)))
 
-  pub flags_turn : (k : ℕ) → k < slot_count → flags_formed (drop k (flags_on table)) ≡ both (leb (get_or table (slot_count + k) 0) 1) (flags_formed (drop (k + 1) (flags_on table)))
-  unfolding flags_formed
-  flags_turn k h =
-      ap (λ (l : List ℕ). flags_formed l) (drop-cons (flags_on table) k 0 (rw flags_length h))
-      ∙ rw (flag_at k h, add-one)
+each_flag : (flags : List ℕ) → flags_formed flags ≡ true → (k : ℕ) → get_or flags k 0 ≤ 1
+unfolding flags_formed
+each_flag [] t k = omega arith
+each_flag (f ∷ more) t zero = leb-true f 1 (both_true (leb f 1) (flags_formed more) t).0
+each_flag (f ∷ more) t (suc k) = each_flag more (both_true (leb f 1) (flags_formed more) t).1 k
 
-  pub flags_end : (k : ℕ) → slot_count ≤ k → flags_formed (drop k (flags_on table)) ≡ true
-  unfolding flags_formed
-  flags_end k h = ap (λ (l : List ℕ). flags_formed l) (drop_of_length-le (flags_on table) {i = k} (rw flags_length h))
-
-  flag_from : (n k : ℕ) → k + n ≡ slot_count → flags_formed (drop k (flags_on table)) ≡ true → (j : ℕ) → k ≤ j → j < slot_count → get_or table (slot_count + j) 0 ≤ 1
-  flag_from zero k e t j h l = absurd (omega arith)
-  flag_from (suc n) k e t j h l =
-      let p = both_true (leb (get_or table (slot_count + k) 0) 1) _ (sym (flags_turn k (omega arith)) ∙ t) in
-      by (eqb j k) refl (leb-true (get_or table (slot_count + k) 0) 1 p.0) (λ m. flag_from n (k + 1) (omega arith) p.1 j m l)
-    where
-      by : (b : Bool) → eqb j k ≡ b → get_or table (slot_count + k) 0 ≤ 1 → (k + 1 ≤ j → get_or table (slot_count + j) 0 ≤ 1) → get_or table (slot_count + j) 0 ≤ 1
-      by true q here more =
-          let same : j ≡ k = eqb-true j k q in
-          rw same here
-      by false q here more = more (omega (arith, eqb-false j k q))
+pub flags_told : (flags : List ℕ) (b : Bool) → (IsTrue b ↔ EachIndex flags (λ k. slice_index flags k ≤ 1)) → b ≡ flags_formed flags
+flags_told flags true h = sym (all_flags flags (λ k l. h.0 refl k l))
+flags_told flags false h = by (flags_formed flags) refl
+  where
+    by : (t : Bool) → flags_formed flags ≡ t → false ≡ flags_formed flags
+    by true e = h.1 (λ k l. each_flag flags e k) ∙ sym e
+    by false e = sym e
 
 -- a definition's end tells whether it is the whole
 abbrev pub ends_at : ℕ → Read (Unit {0}) → Bool
@@ -111,7 +105,7 @@ pub check_formed : (table arena : List ℕ) (t : List Node) → SlotsFit table a
     → Formed table arena
 check_formed table arena t z flags slots = record {
   sized = z;
-  flag = λ k h. flag_from table z.table_size slot_count 0 refl flags k (omega arith) h;
+  flag = λ k h. rw (sym (flag_at table k h)) (each_flag (flags_on table) flags k);
   resident = λ k h e.
       let p = both_true (leb (get_or table k 0) size_limit) _ (rw e at (formed_from table arena t slot_count 0 refl slots k (omega arith) h)) in
       let w = whole_read (get_or table k 0) (read_definition (bytes_on table arena k) 0) p.1 in

@@ -116,11 +116,11 @@ new_slot d = record { bytes = write_definition d; resident = true }
 
 module _ (table₀ arena₀ file : List ℕ) (tests : List Bool) (at : ℕ) (table arena : List ℕ)
     (long : length arena₀ ≡ arena_length) (m : Loading table₀ arena₀ file tests at table arena) (n : Next file at m.rest) (k : ℕ)
-    (found : (s : List ℕ) → k ≡ free_from 0 (slots_on table s) (holders tests)) where
+    (found : k ≡ free_from 0 (slots_on table arena) (holders tests)) where
   -- the slot that is found by the table is found in the slots
   found_in : k ≡ free_from 0 m.slots (holders tests)
   found_in =
-      found arena
+      found
       ∙ ap (λ (l : List ℕ). free_from 0 (slots_on l arena) (holders tests)) m.table_now
       ∙ free_flags 0 (slots_on (table_of m.slots table₀) arena) m.slots (holders tests) (flags-in m.slots table₀ arena m.many)
 

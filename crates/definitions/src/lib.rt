@@ -1,7 +1,7 @@
 // Definition slots in the lent state: 64 words, the slots' lengths and then their resident flags, and the arena with their bytes.
 #![tactic(auto)]
 
-ghost use Rattle.std.specs.Prelude.{ℕ, ◌+◌, ◌*◌, ◌≤◌, ◌<◌, true, false, not, ◌≡◌, List, ◌++◌, length, drop, get_or, set, leb, eqb};
+ghost use Rattle.std.specs.Prelude.{ℕ, ◌+◌, ◌*◌, ◌≤◌, ◌<◌, true, false, not, ◌≡◌, List, ◌++◌, length, drop, get_or, set, leb, eqb, IsTrue, ◌↔◌, EachIndex, slice_index};
 ghost use Rattle.words.specs.Choice.{both, either};
 ghost use Rattle.words.specs.Parts.{put};
 ghost use Rattle.format.specs.Definition.{Definition};
@@ -27,9 +27,9 @@ ghost use Rattle.definitions.specs.Loading.{Loaded, loaded_on};
 ghost use Rattle.definitions.specs.Naming.{NamedBy};
 ghost use Rattle.definitions.specs.Storing.{table_of};
 ghost use Rattle.definitions.specs.Names.{MarkedMore, name_on, named_on};
-ghost use Rattle.definitions.specs.Slots.{Formed, SlotsFit};
+ghost use Rattle.definitions.specs.Slots.{Formed, SlotsFit, slot_found};
 
-use fields::{Cursor, Step, same_long};
+use fields::{Cursor, same_long};
 use files::{read_definition, width_of};
 use format::{FIRST_PLACE, SIZE_LIMIT, Width};
 use layout::{RECORD, SLOT, SLOTS};
@@ -43,32 +43,26 @@ pub fn held_slots(nodes: &[u32], count: usize) -> [bool; SLOTS]
     ensures { HeldBy result (rows count nodes.now) }
 {
     let mut held: [bool; SLOTS] = [false; SLOTS];
-    let mut i = 0;
-    while i < count {
+    for i in 0..count {
         let slot = wide(nodes[RECORD * i + SLOT]);
         if slot < SLOTS {
             held[slot] = true;
         }
-        i += 1;
     }
     held
 }
 
-// The lowest slot that is neither resident nor held; 32 where there is none.
-fn lowest_free(table: &[u32], held: [bool; SLOTS]) -> usize
+// The lowest slot that is neither resident nor held.
+fn lowest_free(table: &[u32], held: [bool; SLOTS]) -> Option<usize>
     requires { length table.now ≡ table_words }
-    ensures { (arena : List ℕ) → result ≡ free_from 0 (slots_on table.now arena) (holders held) }
+    ensures { (arena : List ℕ) → result ≡ slot_found (free_from 0 (slots_on table.now arena) (holders held)) }
 {
-    let mut k = 0;
-    while k < SLOTS {
-        if table[SLOTS + k] != 1 {
-            if !held[k] {
-                return k;
-            }
+    for k in 0..SLOTS {
+        if table[SLOTS + k] != 1 && !held[k] {
+            return Some(k);
         }
-        k += 1;
     }
-    k
+    None
 }
 
 // The bytes of `from` at a place.
@@ -76,11 +70,7 @@ fn copy_in(to: &mut [u8], at: usize, from: &[u8])
     requires { at + length from.now ≤ length to.old }
     ensures { to.new ≡ put at (length from.now) from.now to.old }
 {
-    let mut i = 0;
-    while i < from.len() {
-        to[at + i] = from[i];
-        i += 1;
-    }
+    to[at..at + from.len()].copy_from_slice(from);
 }
 
 // The definition that was read from one place of a file to another, put into a slot in its version 2 encoding, resident.
@@ -125,14 +115,7 @@ fn slot_name<'a, 'b>(table: &'b [u32], arena: &'a [u8], k: usize) -> &'a [u8]
 fn ends_alike(a: &[u8], b: &[u8]) -> bool
     ensures { result ≡ false → same_name a.now b.now ≡ false }
 {
-    let size = a.len();
-    if size != b.len() {
-        return false;
-    }
-    if size == 0 {
-        return true;
-    }
-    a[size - 1] == b[size - 1]
+    a.len() == b.len() && a.last() == b.last()
 }
 
 // A slot's definition is resident under a name.
@@ -144,25 +127,21 @@ fn slot_named(table: &[u32], arena: &[u8], k: usize, name: &[u8]) -> bool
         return false;
     }
     let own = slot_name(table, arena, k);
-    if !ends_alike(own, name) {
-        return false;
-    }
-    same_long(own, name)
+    ends_alike(own, name) && same_long(own, name)
 }
 
-// The resident of a name; 32 where there is none.
-pub fn find_resident(table: &[u32], arena: &[u8], name: &[u8]) -> u32
+// The slot of the resident of a name.
+#[tactic(auto, using(crate::specs::Names::resident_turn))]
+pub fn find_resident(table: &[u32], arena: &[u8], name: &[u8]) -> Option<usize>
     requires { Formed table.now arena.now }
-    ensures { result ≡ resident_of name.now (slots_on table.now arena.now) }
+    ensures { result ≡ slot_found (resident_of name.now (slots_on table.now arena.now)) }
 {
-    let mut k = 0;
-    while k < SLOTS {
+    for k in 0..SLOTS {
         if slot_named(table, arena, k, name) {
-            return k as u32;
+            return Some(k);
         }
-        k += 1;
     }
-    k as u32
+    None
 }
 
 // The marks with those of residents that have a name.
@@ -171,12 +150,10 @@ fn mark_named(table: &[u32], arena: &[u8], name: &[u8], marks: [bool; SLOTS]) ->
     ensures { MarkedMore table.now arena.now name.now marks result }
 {
     let mut named = marks;
-    let mut k = 0;
-    while k < SLOTS {
+    for k in 0..SLOTS {
         if slot_named(table, arena, k, name) {
             named[k] = true;
         }
-        k += 1;
     }
     named
 }
@@ -185,9 +162,9 @@ fn mark_named(table: &[u32], arena: &[u8], name: &[u8], marks: [bool; SLOTS]) ->
 fn definition_end(file: &[u8], at: usize) -> usize
     ensures { (d : Definition) (next : ℕ) → definition_by (file_width file.now) file.now at ≡ got d next → result ≡ next }
 {
-    match read_definition(file, Cursor { at: at }, width_of(file)) {
-        Step::Next(next) => next.at,
-        Step::Bad(refusal, place) => place,
+    match read_definition(file, Cursor { at }, width_of(file)) {
+        Ok(next) => next.at,
+        Err(error) => error.1,
     }
 }
 
@@ -210,13 +187,7 @@ fn named_slots(table: &[u32], arena: &[u8], file: &[u8]) -> [bool; SLOTS]
 fn stays(flag: u32, held: bool, marked: bool) -> bool
     ensures { result ≡ either held (both (eqb flag 1) (not marked)) }
 {
-    if held {
-        return true;
-    }
-    if flag != 1 {
-        return false;
-    }
-    !marked
+    held || (flag == 1 && !marked)
 }
 
 // How many slots stay taken when the marked residents are retired.
@@ -224,13 +195,11 @@ fn count_staying(table: &[u32], held: [bool; SLOTS], marks: [bool; SLOTS]) -> u3
     requires { length table.now ≡ table_words }
     ensures { (arena : List ℕ) (names : List (List ℕ)) → NamedBy table.now arena names marks → result ≡ staying 0 names (slots_on table.now arena) (holders held) }
 {
-    let mut n: u32 = 0;
-    let mut k = 0;
-    while k < SLOTS {
+    let mut n = 0;
+    for k in 0..SLOTS {
         if stays(table[SLOTS + k], held[k], marks[k]) {
             n += 1;
         }
-        k += 1;
     }
     n
 }
@@ -248,12 +217,10 @@ fn retire_marked(table: &mut [u32], marks: [bool; SLOTS])
     requires { length table.old ≡ table_words }
     ensures { (arena : List ℕ) (names : List (List ℕ)) → Formed table.old arena → NamedBy table.old arena names marks → table.new ≡ table_of (retired names (slots_on table.old arena)) table.old }
 {
-    let mut k = 0;
-    while k < SLOTS {
+    for k in 0..SLOTS {
         if marks[k] {
             table[SLOTS + k] = 0;
         }
-        k += 1;
     }
 }
 
@@ -267,12 +234,11 @@ fn retire_named(table: &mut [u32], arena: &[u8], file: &[u8])
 }
 
 // One resident retired.
-pub fn retire(table: &mut [u32], k: u32)
+pub fn retire(table: &mut [u32], k: usize)
     requires { (length table.old ≡ table_words) × (k < slot_count) }
     ensures { table.new ≡ set table.old (slot_count + k) 0 }
 {
-    let at = wide(k);
-    table[SLOTS + at] = 0;
+    table[SLOTS + k] = 0;
 }
 
 // The definitions of an accepted file in the lowest free slots, in file order.
@@ -283,8 +249,7 @@ fn place_all(table: &mut [u32], arena: &mut [u8], held: [bool; SLOTS], file: &[u
     let mut at = FIRST_PLACE;
     while at < file.len() {
         let next = definition_end(file, at);
-        let k = lowest_free(table, held);
-        if k < SLOTS {
+        if let Some(k) = lowest_free(table, held) {
             place(table, arena, k, file, at, next, width_of(file));
         }
         at = next;
@@ -301,18 +266,10 @@ pub fn load(table: &mut [u32], arena: &mut [u8], held: [bool; SLOTS], file: &[u8
 }
 
 // Each flag is 0 or 1.
-fn flags_formed(table: &[u32]) -> bool
-    requires { length table.now ≡ table_words }
-    ensures { result ≡ flags_formed (flags_on table.now) }
+fn flags_formed(flags: &[u32]) -> bool
+    ensures { IsTrue result ↔ EachIndex flags.now (λ k. slice_index flags.now k ≤ 1) }
 {
-    let mut k = 0;
-    while k < SLOTS {
-        if 1 < table[SLOTS + k] {
-            return false;
-        }
-        k += 1;
-    }
-    true
+    flags.iter().all(|flag| *flag <= 1)
 }
 
 // A slot's length is at most the limit, and its bytes are one readable definition.
@@ -325,8 +282,8 @@ fn bytes_formed(table: &[u32], arena: &[u8], k: usize) -> bool
         return false;
     }
     match read_definition(bytes_on(table, arena, k), Cursor { at: 0 }, Width::Long) {
-        Step::Next(next) => next.at == size,
-        Step::Bad(refusal, place) => false,
+        Ok(next) => next.at == size,
+        Err(_) => false,
     }
 }
 
@@ -335,12 +292,8 @@ fn slot_formed(table: &[u32], arena: &[u8], held: bool, k: usize) -> bool
     requires { SlotsFit table.now arena.now × (k < slot_count) }
     ensures { (t : List Node) → held ≡ engine.held k t → result ≡ formed_on table.now arena.now t k }
 {
-    if table[SLOTS + k] != 1 {
-        if !held {
-            return true;
-        }
-    }
-    bytes_formed(table, arena, k)
+    let taken = held || table[SLOTS + k] == 1;
+    !taken || bytes_formed(table, arena, k)
 }
 
 // The same of each slot.
@@ -348,27 +301,24 @@ fn each_formed(table: &[u32], arena: &[u8], held: [bool; SLOTS]) -> bool
     requires { SlotsFit table.now arena.now }
     ensures { result ≡ slots_formed 0 (lengths_on table.now) (slots_on table.now arena.now) (holders held) }
 {
-    let mut k = 0;
-    while k < SLOTS {
+    for k in 0..SLOTS {
         if !slot_formed(table, arena, held[k], k) {
             return false;
         }
-        k += 1;
     }
     true
 }
 
 // No slot from k on is resident under a name.
+#[tactic(auto, using(crate::specs::Checking::resident_turn))]
 fn name_apart(table: &[u32], arena: &[u8], name: &[u8], from: usize) -> bool
     requires { Formed table.now arena.now × (from ≤ slot_count) }
     ensures { result ≡ not (name_resident name.now (drop from (slots_on table.now arena.now))) }
 {
-    let mut k = from;
-    while k < SLOTS {
+    for k in from..SLOTS {
         if slot_named(table, arena, k, name) {
             return false;
         }
-        k += 1;
     }
     true
 }
@@ -378,14 +328,10 @@ fn names_apart(table: &[u32], arena: &[u8]) -> bool
     requires { Formed table.now arena.now }
     ensures { result ≡ names_apart (slots_on table.now arena.now) }
 {
-    let mut k = 0;
-    while k < SLOTS {
-        if table[SLOTS + k] == 1 {
-            if !name_apart(table, arena, slot_name(table, arena, k), k + 1) {
-                return false;
-            }
+    for k in 0..SLOTS {
+        if table[SLOTS + k] == 1 && !name_apart(table, arena, slot_name(table, arena, k), k + 1) {
+            return false;
         }
-        k += 1;
     }
     true
 }
@@ -395,13 +341,7 @@ pub fn slots_formed(table: &[u32], arena: &[u8], held: [bool; SLOTS]) -> bool
     requires { SlotsFit table.now arena.now }
     ensures { result ≡ both (flags_formed (flags_on table.now)) (both (slots_formed 0 (lengths_on table.now) (slots_on table.now arena.now) (holders held)) (names_apart (slots_on table.now arena.now))) }
 {
-    if !flags_formed(table) {
-        return false;
-    }
-    if !each_formed(table, arena, held) {
-        return false;
-    }
-    names_apart(table, arena)
+    flags_formed(&table[SLOTS..]) && each_formed(table, arena, held) && names_apart(table, arena)
 }
 
 // The length of the export.
@@ -410,12 +350,10 @@ pub fn export_length(table: &[u32], arena: &[u8]) -> usize
     ensures { result ≡ length (export_file (slots_on table.now arena.now)) }
 {
     let mut n = 10;
-    let mut k = 0;
-    while k < SLOTS {
+    for k in 0..SLOTS {
         if table[SLOTS + k] == 1 {
             n += wide(table[k]);
         }
-        k += 1;
     }
     n
 }
@@ -436,14 +374,11 @@ pub fn export(table: &[u32], arena: &[u8], out: &mut [u8])
 {
     write_head(out, resident_count(table) as u8);
     let mut at = 10;
-    let mut k = 0;
-    while k < SLOTS {
-        let flag = table[SLOTS + k];
-        if flag == 1 {
+    for k in 0..SLOTS {
+        if table[SLOTS + k] == 1 {
             let bytes = bytes_on(table, arena, k);
             copy_in(out, at, bytes);
             at += bytes.len();
         }
-        k += 1;
     }
 }

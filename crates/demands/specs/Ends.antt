@@ -1,12 +1,14 @@
 -- Demand 1: what every call ends in.
-use Rattle.std.specs.Prelude.{ℕ, Bool, refl, List, length}
+use Rattle.std.specs.Prelude.{ℕ, Bool, refl, List, length, Ok, Err}
 use Rattle.std.proofs.Math.Bool.{true, false}
 use Rattle.std.proofs.Math.Path.{◌≡◌}
 use Rattle.std.proofs.Common.{sym, ap, ap₂, ◌∙◌, arith}
 use Rattle.words.specs.Choice.{pick}
 use Rattle.refusals.specs.declared.Refusal.TheVariants.{BadState}
-use Rattle.model.specs.declared.Answer.{Answer}
-use Rattle.model.specs.declared.Answer.TheVariants.{Done, Replied, Refused, RefusedAt}
+use Rattle.model.specs.declared.Accepted.TheVariants as accepted
+use Rattle.model.specs.declared.Denied.TheVariants as denied
+use Rattle.model.specs.Answers.{Answer}
+use Rattle.model.specs.Answers.{Done, Replied, Refused, RefusedAt}
 use Rattle.model.specs.Formed.{formed}
 use Rattle.model.specs.After.{words_after, arena_after}
 use Rattle.model.specs.Apply.{answer_in, answer, is_accepted, written, reply_of}
@@ -16,10 +18,10 @@ use Rattle.refinement.specs.Stepped.{Stepped, stepped}
 
 -- a refusal writes nothing
 pub unwritten : (a : Answer) (reply out : List ℕ) → is_accepted a ≡ false → written a reply out ≡ out
-unwritten Done reply out h = cc
-unwritten (Replied n) reply out h = cc
-unwritten (Refused r) reply out h = refl
-unwritten (RefusedAt r at) reply out h = refl
+unwritten (Ok accepted.Done) reply out h = cc
+unwritten (Ok (accepted.Replied n)) reply out h = cc
+unwritten (Err (denied.Refused r)) reply out h = refl
+unwritten (Err (denied.RefusedAt r at)) reply out h = refl
 
 module _ (c : Call) (s : State) (d : Applied c s) where
   -- the answer is the table's

@@ -19,7 +19,7 @@ use Rattle.model.specs.Engine.{slots_from, decode, held, residents}
 use Rattle.model.specs.Formed.{formed, flags_formed, slots_formed, names_apart, name_resident, controls_formed}
 use Rattle.model.specs.After.{root, fresh_state, fresh_arena}
 use Rattle.refusals.specs.declared.Refusal.TheVariants.{BadState}
-use Rattle.model.specs.declared.Answer.TheVariants.{Done, Refused}
+use Rattle.model.specs.Answers.{Done, Refused}
 use Rattle.model.specs.Apply.{sized, fresh_answer, fresh_words, fresh_arenas}
 use Rattle.model.specs.Chain.{State, Fresh}
 use Rattle.model.specs.Fresh.{fresh_buses, fresh_index}

@@ -5,8 +5,8 @@ use Rattle.words.specs.Choice.{pick}
 use Rattle.refusals.specs.declared.Refusal.TheVariants.{NoRoom}
 use Rattle.model.specs.declared.Query.TheVariants as query
 use Rattle.model.specs.declared.Command.{Command}
-use Rattle.model.specs.declared.Answer.{Answer}
-use Rattle.model.specs.declared.Answer.TheVariants.{Done, Replied, Refused}
+use Rattle.model.specs.Answers.{Answer}
+use Rattle.model.specs.Answers.{Done, Replied, Refused}
 use Rattle.model.specs.Engine.{Engine, decode}
 use Rattle.model.specs.Formed.{formed}
 use Rattle.model.specs.Checks.{first_of}
@@ -84,9 +84,9 @@ received : (c : Call) (s : State) → c.command ≡ receive → Applied c s → 
 received c s is a = subst (λ (k : Command). Does k c.bytes s.words s.arena c.out c.answer c.left.words c.left.arena c.reply) is a
 
 -- a load asks nothing of the reply buffer
-any_room : (file words arena out out' : List ℕ) → answer receive file words arena out ≡ answer receive file words arena out'
+any_room : (bytes words arena out out' : List ℕ) → answer receive bytes words arena out ≡ answer receive bytes words arena out'
 unfolding answer answer_in
-any_room file words arena out out' = refl
+any_room bytes words arena out out' = refl
 
 twin_loads : (load other : Call) (s : State) → load.command ≡ receive → other.command ≡ receive → Applied load s → Applied other s
     → (ds : List Definition) (end : ℕ) → Written load.bytes ds end → other.bytes ≡ twin load.bytes ds end → SameLoads load other

@@ -4,7 +4,7 @@ use Prim.{Unit}
 use Rattle.std.specs.Prelude.{ℕ, Bool, true, false, ◌≡◌, refl, List, [], ◌∷◌, length}
 use Rattle.std.proofs.Common.{sym, ap, ap₂, ◌∙◌, subst}
 use Rattle.words.specs.Choice.{pick}
-use Rattle.model.specs.declared.Answer.{Answer}
+use Rattle.model.specs.Answers.{Answer}
 use Rattle.model.specs.Engine.{Engine}
 use Rattle.model.specs.Formed.{formed}
 use Rattle.model.specs.Effects.{effect}

@@ -10,7 +10,7 @@ use Rattle.nodes.specs.declared.Node.{Node}
 use Rattle.nodes.specs.Place.{is_group}
 use Rattle.values.specs.declared.NodeArgument.{NodeArgument}
 use Rattle.values.specs.Targets.{target_of}
-use Rattle.model.specs.declared.Answer.{Answer}
+use Rattle.model.specs.Answers.{Answer}
 use Rattle.model.specs.Engine.{Engine}
 use Rattle.model.specs.Meaning.{meant_by, known_by, meant, known, node_named, node}
 use Rattle.model.specs.Effects.{effect}

@@ -9,7 +9,7 @@ use Rattle.format.specs.Read.{Read, got, bad}
 use Rattle.format.specs.Definition.{Definition}
 use Rattle.format.specs.Reader.{read_file, most_definitions, version_in}
 use Rattle.format.specs.Bounds.{is_file}
-use Rattle.model.specs.declared.Answer.TheVariants.{Done}
+use Rattle.model.specs.Answers.{Done}
 use Rattle.model.specs.Layout.{slot_count}
 use Rattle.model.specs.Engine.{Slot, Engine, decode, residents, resident_of}
 use Rattle.model.specs.Formed.{formed}

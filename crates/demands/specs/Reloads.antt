@@ -12,7 +12,7 @@ use Rattle.model.specs.declared.TreeCommand.{TreeCommand}
 use Rattle.model.specs.declared.TreeCommand.TheVariants as tree
 use Rattle.model.specs.declared.ControlCommand.{ControlCommand}
 use Rattle.model.specs.declared.ControlCommand.TheVariants as controls
-use Rattle.model.specs.declared.Answer.TheVariants.{Done}
+use Rattle.model.specs.Answers.{Done}
 use Rattle.model.specs.Engine.{Engine}
 use Rattle.model.specs.Checks.{definitions_of}
 use Rattle.model.specs.Effects.{tree_effect, control_effect, effect}

@@ -15,7 +15,7 @@ use Rattle.model.specs.declared.DefinitionCommand.TheVariants as definitions
 use Rattle.model.specs.declared.Query.{Query}
 use Rattle.model.specs.declared.Command.{Command}
 use Rattle.model.specs.declared.Command.TheVariants as command
-use Rattle.model.specs.declared.Answer.{Answer}
+use Rattle.model.specs.Answers.{Answer}
 use Rattle.model.specs.Engine.{Engine, decode}
 use Rattle.model.specs.View.{PlainNode, Row, view}
 use Rattle.model.specs.Formed.{formed}

@@ -3,19 +3,19 @@
 -- "stands for the commands it tried, in order, or for none where it is refused with 34". A question why and a save stand for none. A recall stands
 -- for its `/n_set`s by name, those that are refused among them, or for none where it is refused.
 use Prim.{Unit}
-use Rattle.std.specs.Prelude.{ℕ, Bool, true, false, ◌≡◌, List, [], ◌∷◌, ◌++◌}
+use Rattle.std.specs.Prelude.{ℕ, Bool, true, false, ◌≡◌, List, [], ◌∷◌, ◌++◌, Ok, Err, None, Some, Result}
 use Rattle.std.proofs.Math.Option.{Option, some}
 use Rattle.words.specs.Choice.{pick, both}
 use Rattle.refusals.specs.declared.Refusal.{Refusal}
-use Rattle.refusals.specs.declared.Refusal.TheVariants.{BadState, Malformed, UnknownMessage}
+use Rattle.refusals.specs.declared.Refusal.TheVariants.{BadState}
 use Rattle.refusals.specs.Refusals.{number_of}
 use Rattle.format.specs.Reader.{read_file, version_in}
 use Rattle.format.specs.Writer.{file_version, write_file}
 use Rattle.values.specs.declared.NodeArgument.{NodeArgument}
 use Rattle.model.specs.declared.Command.{Command}
 use Rattle.model.specs.declared.Command.TheVariants as commands
-use Rattle.model.specs.declared.Answer.{Answer}
-use Rattle.model.specs.declared.Answer.TheVariants.{Done, Refused}
+use Rattle.model.specs.Answers.{Answer}
+use Rattle.model.specs.Answers.{Done, Refused}
 use Rattle.model.specs.Checks.{definitions_of}
 use Rattle.model.specs.Formed.{formed}
 use Rattle.model.specs.Apply.{is_accepted, Does}
@@ -23,20 +23,15 @@ use Rattle.model.specs.Chain.{State, engine_in, Call, Applied, left_by, Fresh}
 use Rattle.model.specs.Plain.{Plain, at_first, and_then}
 use Rattle.model.specs.Demands.{meaning_in as definition_named, refusal_in, Ends, receive, export, Exports, replay, Demand3}
 use Rattle.calls.specs.Numbers.{no_command}
-use Rattle.messages.specs.Receive.{Meaning, malformed, unknown, means, meaning}
+use Rattle.messages.specs.Receive.{Meaning, means, meaning}
 use Rattle.messages.specs.Sent.{Sends}
-use Rattle.lists.specs.declared.Outcome.{Outcome}
-use Rattle.lists.specs.declared.Outcome.TheVariants.{NoList, Ended}
 use Rattle.lists.specs.declared.Verdict.TheVariants.{Fit}
 use Rattle.lists.specs.Lent.{verdict}
-use Rattle.lists.specs.OneByOne.{outcome_of, Lists}
+use Rattle.lists.specs.OneByOne.{Outcome, outcome_of, Lists}
 use Rattle.lists.specs.OneByOne as lists
-use Rattle.why.specs.declared.WhyAnswer.{WhyAnswer}
-use Rattle.why.specs.declared.WhyAnswer.TheVariants as told
+use Rattle.why.specs.declared.Reason.{Reason}
 use Rattle.why.specs.Held.{why_told}
-use Rattle.settings.specs.declared.Saved.{Saved}
-use Rattle.settings.specs.declared.Saved.TheVariants as saving
-use Rattle.settings.specs.Settings.{recall_answer, Saves}
+use Rattle.settings.specs.Settings.{Saved, recall_answer, Saves}
 use Rattle.settings.specs.Recalling.{recall_calls, Recalls}
 use Rattle.settings.specs.PlainRecall.{step_recall}
 
@@ -63,7 +58,7 @@ pub record Listed : Type 0 where
 -- a question why as it was asked: its number; what was told, and the state that it left
 pub record Asked : Type 0 where
   pub number : ℕ
-  pub told : WhyAnswer
+  pub told : Result Reason Refusal
   pub left : State
 
 -- a recall as it was made: the definition's name, the version, the node and the store's bytes; its answer, and the state that it left
@@ -146,9 +141,8 @@ abbrev pub call_of : One → Command → List ℕ → Call
 call_of m c bytes = record { command = c; bytes = bytes; out = m.out; answer = m.answer; left = m.left; reply = m.reply }
 
 abbrev pub calls_by : One → Meaning → List Call
-calls_by m malformed = []
-calls_by m unknown = []
-calls_by m (means c bytes) = call_of m c bytes ∷ []
+calls_by m (Err r) = []
+calls_by m (Ok (c, bytes)) = call_of m c bytes ∷ []
 
 -- the calls of commands that a call in a state stands for
 abbrev pub calls_of : Made → State → List Call
@@ -168,9 +162,8 @@ pub record EndsWith (r : Refusal) (m : One) (s : State) : Type 0 where
   pub unchanged : (m.left ≡ s) × (m.reply ≡ m.out)
 
 abbrev pub EndsBy : Meaning → One → State → Type 0
-EndsBy malformed m s = EndsWith Malformed m s
-EndsBy unknown m s = EndsWith UnknownMessage m s
-EndsBy (means c bytes) m s = Ends (call_of m c bytes) s
+EndsBy (Err r) m s = EndsWith r m s
+EndsBy (Ok (c, bytes)) m s = Ends (call_of m c bytes) s
 
 -- each of the calls in a row ends as Demand 1 asks of a command
 unfoldable pub AllEnd : List Call → State → Type 0
@@ -205,16 +198,16 @@ Demand1OfCalls = (m : Made) (s : State) → Promised m s → EndsOf m s
 
 -- the number of the refusal that a call gives, 0 where it gives none
 abbrev pub refusal_at_end : Outcome → ℕ
-refusal_at_end NoList = no_command
-refusal_at_end (Ended a n) = refusal_in a
+refusal_at_end None = no_command
+refusal_at_end (Some (a, n)) = refusal_in a
 
-abbrev pub refusal_told : WhyAnswer → ℕ
-refusal_told (told.Refused r) = number_of r
-refusal_told (told.Because r) = 0
+abbrev pub refusal_told : Result Reason Refusal → ℕ
+refusal_told (Err r) = number_of r
+refusal_told (Ok r) = 0
 
 abbrev pub refusal_saved : Saved → ℕ
-refusal_saved (saving.Version v) = 0
-refusal_saved (saving.Refused r) = number_of r
+refusal_saved (Ok v) = 0
+refusal_saved (Err r) = number_of r
 
 abbrev pub refusal_of : Made → ℕ
 refusal_of (one m) = refusal_in m.answer

@@ -1,17 +1,19 @@
 -- Calls of every kind: the demands of the commands that they stand for.
-use Prim.{tt}
-use Rattle.std.specs.Prelude.{ℕ, ◌+◌, Bool, true, false, ◌≡◌, List, [], ◌∷◌, ◌++◌, length}
+use Prim.{Unit, tt}
+use Rattle.std.specs.Prelude.{ℕ, ◌+◌, Bool, true, false, ◌≡◌, List, [], ◌∷◌, ◌++◌, length, Ok, Err}
+use Rattle.std.specs.Prelude as maybe
 use Rattle.std.proofs.Math.Path.{refl}
 use Rattle.std.proofs.Common.{sym, ap, ap₂, ◌∙◌, subst, arith}
 use Rattle.std.proofs.Math.Option.{Option, none, some}
 use Rattle.words.specs.Choice.{pick}
 use Rattle.refusals.specs.declared.Refusal.{Refusal}
-use Rattle.refusals.specs.declared.Refusal.TheVariants.{Malformed, UnknownMessage}
 use Rattle.refusals.specs.Refusals.{number_of}
 use Rattle.format.specs.Definition.{Definition}
 use Rattle.values.specs.declared.NodeArgument.{NodeArgument}
-use Rattle.model.specs.declared.Answer.{Answer}
-use Rattle.model.specs.declared.Answer.TheVariants.{Done, Refused}
+use Rattle.model.specs.declared.Command.{Command}
+use Rattle.calls.specs.Ops.{command_in}
+use Rattle.model.specs.Answers.{Answer}
+use Rattle.model.specs.Answers.{Done, Refused}
 use Rattle.model.specs.Engine.{Engine}
 use Rattle.model.specs.Meaning.{node}
 use Rattle.model.specs.Checks.{first_of}
@@ -22,7 +24,10 @@ use Rattle.model.specs.Chain.{State, engine_in, Call, Chain, left_by, Fresh}
 use Rattle.model.specs.Demands.{refusal_in, Ends, after_call, replay, made}
 use Rattle.demands.specs.FreshState.{fresh-state, fresh_formed}
 use Rattle.demands.specs.Sound.{never_one}
-use Rattle.messages.specs.Receive.{Meaning, malformed, unknown, means}
+use Rattle.messages.specs.Form.{Parse, parsed, faulty, Message, read_message}
+use Rattle.messages.specs.Table.{table}
+use Rattle.messages.specs.Table as rows
+use Rattle.messages.specs.Receive.{Meaning, calls, known, look_up, meaning_of, meaning}
 use Rattle.messages.specs.Sent.{Refuses, Serves}
 use Rattle.demands.specs.Theorems.{demand1, demand3}
 use Rattle.lists.specs.declared.Verdict.{Verdict}
@@ -57,9 +62,8 @@ ends_with r m s h = record {
 }
 
 ends_by : (x : Meaning) (m : One) (s : State) → Served x m s → EndsBy x m s
-ends_by malformed m s h = ends_with Malformed m s h
-ends_by unknown m s h = ends_with UnknownMessage m s h
-ends_by (means c bytes) m s h = demand1 (call_of m c bytes) s h
+ends_by (Err r) m s h = ends_with r m s h
+ends_by (Ok (c, bytes)) m s h = demand1 (call_of m c bytes) s h
 
 -- a command in a well-formed state leaves one
 ended_formed : (c : Call) (s : State) → formed s.words s.arena ≡ true → Ends c s → formed c.left.words c.left.arena ≡ true
@@ -132,6 +136,31 @@ demand1_of_calls (why m) s p = p
 demand1_of_calls (recall m) s p = recall_ends m s p
 demand1_of_calls (save m) s p = p
 
+-- what no call stands for: a refusal with 1
+NotOne : Meaning → Type 0
+NotOne (Ok x) = Unit {0}
+NotOne (Err r) = number_of r ≡ 1 → ⊥
+
+not_one_calls : (o : maybe.Option Command) (bytes : List ℕ) → NotOne (calls o bytes)
+unfolding NotOne
+not_one_calls (maybe.Some c) bytes = tt
+not_one_calls maybe.None bytes = λ z. omega arith
+
+not_one_known : (g : Option rows.Given) → NotOne (known g)
+unfolding NotOne
+not_one_known none = λ z. omega arith
+not_one_known (some g) = not_one_calls (command_in g.numbers) g.bytes
+
+not_one_read : (x : Parse Message) → NotOne (meaning_of x)
+unfolding NotOne
+not_one_read (parsed m end) = not_one_known (look_up 1 table m)
+not_one_read faulty = λ z. omega arith
+
+not_one_given : (g : Given) → NotOne (meaning_in g)
+unfolding meaning NotOne
+not_one_given (command c bytes) = tt
+not_one_given (message bytes) = not_one_read (read_message bytes)
+
 -- a call in a well-formed state leaves one, and is not refused with 1
 module _ (m : One) (s : State) (whole : formed s.words s.arena ≡ true) where
   refused : (r : Refusal) → (number_of r ≡ 1 → ⊥) → EndsWith r m s → refusal_in m.answer ≡ 1 → ⊥
@@ -139,11 +168,10 @@ module _ (m : One) (s : State) (whole : formed s.words s.arena ≡ true) where
       let own : m.answer ≡ Refused r = e.table ∙ rw whole in
       other (ap refusal_in (sym own) ∙ h)
 
-  sound_by : (x : Meaning) → Served x m s → refusal_in m.answer ≡ 1 → ⊥
-  unfolding answer
-  sound_by malformed p h = refused Malformed (λ z. omega arith) (ends_with Malformed m s p) h
-  sound_by unknown p h = refused UnknownMessage (λ z. omega arith) (ends_with UnknownMessage m s p) h
-  sound_by (means c bytes) p h =
+  sound_by : (x : Meaning) → NotOne x → Served x m s → refusal_in m.answer ≡ 1 → ⊥
+  unfolding answer NotOne
+  sound_by (Err r) n p h = refused r n (ends_with r m s p) h
+  sound_by (Ok (c, bytes)) n p h =
       let own : m.answer ≡ answer_in c bytes (engine_in s) (length m.out) = p.answers ∙ rw whole in
       never_one c bytes (engine_in s) (length m.out) (ap refusal_in (sym own) ∙ h)
 
@@ -151,9 +179,8 @@ module _ (m : One) (s : State) (whole : formed s.words s.arena ≡ true) where
   same_formed h = ap (λ (x : State). formed x.words x.arena) h ∙ whole
 
   formed-by : (x : Meaning) → EndsBy x m s → formed m.left.words m.left.arena ≡ true
-  formed-by malformed e = same_formed e.unchanged.0
-  formed-by unknown e = same_formed e.unchanged.0
-  formed-by (means c bytes) e = ended_formed (call_of m c bytes) s whole e
+  formed-by (Err r) e = same_formed e.unchanged.0
+  formed-by (Ok (c, bytes)) e = ended_formed (call_of m c bytes) s whole e
 
 -- calls in a row in a well-formed state: they leave one, and none is refused with 1
 all-formed : (cs : List Call) (s : State) → formed s.words s.arena ≡ true → AllEnd cs s → formed (left_by cs s).words (left_by cs s).arena ≡ true
@@ -200,7 +227,7 @@ save_sound m s h p q =
     saved_not_one version m.node m.store e (ap refusal_saved (sym own) ∙ q)
 
 pub sound : (m : Made) (s : State) → formed s.words s.arena ≡ true → Promised m s → refusal_of m ≡ 1 → ⊥
-sound (one m) s h p = sound_by m s h (meaning_in m.given) (served m s p)
+sound (one m) s h p = sound_by m s h (meaning_in m.given) (not_one_given m.given) (served m s p)
 sound (list m) s h p = list_sound m s h (list_ends m s p)
 sound (why m) s h p = λ z. let told = ap refusal_told p.tells in let k = rw h at told in omega arith
 sound (recall m) s h p = recall_sound m s h p
@@ -243,9 +270,8 @@ pub record StandsFor (m : Made) (s : State) : Type 0 where
 
 one_stands : (x : Meaning) (m : One) (s : State) → Served x m s → EndsBy x m s → Chain (calls_by m x) s × (left_by (calls_by m x) s ≡ m.left)
 unfolding Chain left_by
-one_stands malformed m s p e = (tt, sym e.unchanged.0)
-one_stands unknown m s p e = (tt, sym e.unchanged.0)
-one_stands (means c bytes) m s p e = ((p, tt), refl)
+one_stands (Err r) m s p e = (tt, sym e.unchanged.0)
+one_stands (Ok (c, bytes)) m s p e = ((p, tt), refl)
 
 stands : (m : Made) (s : State) → Promised m s → StandsFor m s
 unfolding Chain left_by

@@ -1,5 +1,5 @@
 -- The refusal table never answers 1.
-use Rattle.std.specs.Prelude.{ℕ, Bool, true, false, ◌≡◌, List, length, ltb}
+use Rattle.std.specs.Prelude.{ℕ, Bool, true, false, ◌≡◌, List, length, ltb, Ok, Err}
 use Rattle.std.proofs.Common.{arith}
 use Rattle.std.proofs.lemmas.Bool.{eqb-false, not-true}
 use Rattle.words.specs.Choice.{pick}
@@ -8,8 +8,10 @@ use Rattle.refusals.specs.declared.Refusal.TheVariants.{NoRoom}
 use Rattle.refusals.specs.Refusals.{number_of}
 use Rattle.model.specs.declared.Command.{Command}
 use Rattle.model.specs.declared.Command.TheVariants as command
-use Rattle.model.specs.declared.Answer.{Answer}
-use Rattle.model.specs.declared.Answer.TheVariants.{Done, Replied, Refused, RefusedAt}
+use Rattle.model.specs.declared.Accepted.TheVariants as accepted
+use Rattle.model.specs.declared.Denied.TheVariants as denied
+use Rattle.model.specs.Answers.{Answer}
+use Rattle.model.specs.Answers.{Done, Replied, Refused, RefusedAt}
 use Rattle.model.specs.Engine.{Engine}
 use Rattle.model.specs.Checks.{first_of}
 use Rattle.model.specs.Replies.{reply}
@@ -18,10 +20,10 @@ use Rattle.model.specs.Demands.{refusal_in}
 use Rattle.state.specs.Refusing.{is_refusal, by_checks}
 
 refused : (a : Answer) → is_refusal a ≡ true → refusal_in a ≡ 1 → ⊥
-refused Done h q = omega arith
-refused (Replied n) h q = omega arith
-refused (Refused r) h q = eqb-false (number_of r) 1 (not-true _ h) q
-refused (RefusedAt r at) h q = omega (arith, fault_low r)
+refused (Ok accepted.Done) h q = omega arith
+refused (Ok (accepted.Replied n)) h q = omega arith
+refused (Err (denied.Refused r)) h q = eqb-false (number_of r) 1 (not-true _ h) q
+refused (Err (denied.RefusedAt r at)) h q = omega (arith, fault_low r)
 
 room_left : (n : ℕ) (b : Bool) → refusal_in (pick b (Refused NoRoom) (Replied n)) ≡ 1 → ⊥
 room_left n true q = omega arith

@@ -9,7 +9,7 @@ use Rattle.refusals.specs.declared.Refusal.TheVariants.{BadState}
 use Rattle.format.specs.Read.{Read, got, bad}
 use Rattle.format.specs.Definition.{Definition}
 use Rattle.format.specs.Reader.{read_file}
-use Rattle.model.specs.declared.Answer.TheVariants.{Refused, RefusedAt}
+use Rattle.model.specs.Answers.{Refused, RefusedAt}
 use Rattle.model.specs.Formed.{formed}
 use Rattle.model.specs.Checks.{first_of}
 use Rattle.model.specs.Effects.{effect}

@@ -1,7 +1,7 @@
 -- Why a node is silent, of calls: paper 02, 7/14. "The reason given must be the true one": a question after any calls in a row from a fresh engine
 -- is told the plain tree's reason, of the tree
 -- that was fed the same commands.
-use Rattle.std.specs.Prelude.{ℕ, ◌≤◌, true, not, ◌≡◌, refl, List, ◌∷◌, ◌++◌}
+use Rattle.std.specs.Prelude.{ℕ, ◌≤◌, true, not, ◌≡◌, refl, List, ◌∷◌, ◌++◌, Ok}
 use Rattle.std.proofs.Common.{sym, ap, ap₂, ◌∙◌, subst}
 use Rattle.std.proofs.Math.Option.{Option, some}
 use Rattle.words.specs.Choice.{both}
@@ -19,7 +19,6 @@ use Rattle.model.specs.Demands.{replay}
 use Rattle.refinement.specs.Kept.{Kept}
 use Rattle.refinement.specs.Same.{kept_same}
 use Rattle.why.specs.declared.Reason.TheVariants.{Running}
-use Rattle.why.specs.declared.WhyAnswer.TheVariants.{Because}
 use Rattle.why.specs.Reasons.{node_of, plain_reason, reason_for, plain_why}
 use Rattle.why.specs.Held.{held_tree, held_why, why_told}
 use Rattle.why.specs.Runs.{times}
@@ -52,7 +51,7 @@ once e p k h m =
 -- of a state and the plain tree that was fed the same: what is told of every number is the plain tree's reason; of every node's own number exactly
 -- one reason holds, and it is that
 pub record Answers (s : State) (p : Plain) : Type 0 where
-  pub told : (number : ℕ) → why_told number s.words s.arena ≡ Because (plain_why number p)
+  pub told : (number : ℕ) → why_told number s.words s.arena ≡ Ok (plain_why number p)
   pub facts : (n : ℕ) → Facts number_in is_group_node is_on_node n p.tree
   -- running at k exactly if the number stands at the place k of the kept order
   pub running : (n k : ℕ) → plain_reason n p.tree ≡ Running k → StandsAt k n (engine_in s).order
@@ -71,7 +70,7 @@ why_of_commands s f cs a p h =
     let all : (n : ℕ) → Facts number_in is_group_node is_on_node n p.tree =
     facts number_in is_group_node is_on_node p.tree (once e p same (demand3 s f cs a).tree.distinct) in
     record {
-      told = λ number. rw end.going.whole (ap Because (held-why e p same number));
+      told = λ number. rw end.going.whole (ap Ok (held-why e p same number));
       facts = all;
       running = λ n k h. subst (λ (l : List ℕ). StandsAt k n l) (sym order) ((all n).running k h);
       standing = λ n k h. (all n).standing k (subst (λ (l : List ℕ). StandsAt k n l) order h);
@@ -87,7 +86,7 @@ why_of_sessions s f ms c p h = subst (λ (x : State). Answers x p) (same_left ms
 pub record ToldTrue (m : Asked) (s : State) (replayed : Option Plain) : Type 0 where
   pub plain : Plain
   pub fed : replayed ≡ some plain
-  pub told : m.told ≡ Because (plain_why m.number plain)
+  pub told : m.told ≡ Ok (plain_why m.number plain)
   pub left : m.left ≡ s
   pub answers : Answers s plain
 

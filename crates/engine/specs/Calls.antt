@@ -1,22 +1,18 @@
 -- What calls from another language answer and leave.
-use Rattle.std.specs.Prelude.{ℕ, Bool, true, false, ◌≡◌, List, eqb}
+use Rattle.std.specs.Prelude.{ℕ, Bool, true, false, ◌≡◌, List, eqb, None, Option, Some}
 use Rattle.words.specs.Choice.{either}
 use Rattle.values.specs.declared.NodeArgument.{NodeArgument}
 use Rattle.model.specs.declared.Command.{Command}
-use Rattle.model.specs.declared.Answer.{Answer}
+use Rattle.model.specs.Answers.{Answer}
 use Rattle.model.specs.Apply.{Does, Freshly}
 use Rattle.model.specs.Demands.{refusal_in}
 use Rattle.messages.specs.Table.{Given}
 use Rattle.messages.specs.Write.{Writes}
 use Rattle.messages.specs.Sent.{Sends}
-use Rattle.lists.specs.declared.Outcome.{Outcome}
-use Rattle.lists.specs.OneByOne.{Lists, list_number}
-use Rattle.settings.specs.declared.Saved.{Saved}
-use Rattle.settings.specs.Settings.{Saves, Drops}
+use Rattle.lists.specs.OneByOne.{Outcome, Lists, list_number}
+use Rattle.settings.specs.Settings.{Saved, Saves, Drops}
 use Rattle.settings.specs.Recalling.{Recalls}
 use Rattle.settings.specs.Numbers.{saved_number}
-use Rattle.calls.specs.declared.Parsed.{Parsed}
-use Rattle.calls.specs.declared.Parsed.TheVariants.{Call, Nothing}
 use Rattle.calls.specs.Numbers.{call_number, no_command}
 use Rattle.calls.specs.Ops.{recall}
 
@@ -39,9 +35,9 @@ pub record Unknown (ws bs out : List ℕ) (r : ℕ) (ws' bs' out' : List ℕ) : 
   pub arena : bs' ≡ bs
   pub reply : out' ≡ out
 
-abbrev pub Called : Parsed → (bytes ws bs out : List ℕ) (r : ℕ) (ws' bs' out' : List ℕ) → Type 0
-Called (Call c) bytes ws bs out r ws' bs' out' = Answered c bytes ws bs out r ws' bs' out'
-Called Nothing bytes ws bs out r ws' bs' out' = Unknown ws bs out r ws' bs' out'
+abbrev pub Called : Option Command → (bytes ws bs out : List ℕ) (r : ℕ) (ws' bs' out' : List ℕ) → Type 0
+Called (Some c) bytes ws bs out r ws' bs' out' = Answered c bytes ws bs out r ws' bs' out'
+Called None bytes ws bs out r ws' bs' out' = Unknown ws bs out r ws' bs' out'
 
 -- a message: what it does, and its answer as a number
 pub record Sent (message ws bs out : List ℕ) (r : ℕ) (ws' bs' out' : List ℕ) : Type 0 where
@@ -63,11 +59,11 @@ pub record AnsweredAs (g : Given) (out : List ℕ) (r : ℕ) (out' : List ℕ) :
 
 -- an `op` that is none, or a value's kind that is none, answers 255, and nothing is written; the writer judges a recall too, which is no command of
 -- a call by numbers
-abbrev pub is_call : Parsed → Bool
-is_call (Call c) = true
-is_call Nothing = false
+abbrev pub is_call : Option Command → Bool
+is_call (Some c) = true
+is_call None = false
 
-abbrev pub is_written : ℕ → Parsed → Bool
+abbrev pub is_written : ℕ → Option Command → Bool
 is_written op p = either (eqb op recall) (is_call p)
 
 pub record Unwritten (out : List ℕ) (r : ℕ) (out' : List ℕ) : Type 0 where

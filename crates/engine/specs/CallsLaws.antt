@@ -5,12 +5,11 @@ use Rattle.words.specs.Choice.{pick}
 use Rattle.refusals.specs.declared.Refusal.TheVariants.{BadState}
 use Rattle.values.specs.declared.NodeArgument.{NodeArgument}
 use Rattle.values.specs.Targets.{argument}
-use Rattle.model.specs.declared.Answer.{Answer}
-use Rattle.model.specs.declared.Answer.TheVariants.{Done, Refused}
+use Rattle.model.specs.Answers.{Answer}
+use Rattle.model.specs.Answers.{Done, Refused}
 use Rattle.model.specs.Apply.{sized, fresh_answer}
 use Rattle.model.specs.Demands.{refusal_in}
-use Rattle.settings.specs.declared.Saved.{Saved}
-use Rattle.settings.specs.Settings.{Saves}
+use Rattle.settings.specs.Settings.{Saved, Saves}
 use Rattle.settings.specs.Recalling.{Recalls}
 use Rattle.settings.specs.Numbers.{saved_number}
 use Rattle.calls.specs.Numbers.{call_number}

@@ -5,7 +5,7 @@ use Rattle.std.proofs.Common.{◌∙◌}
 use Rattle.std.proofs.Math.ListN.{replicate}
 use borrow.Author.Tests.{eq-eqb, ne_eqb}
 use Rattle.refusals.specs.declared.Refusal.TheVariants.{BadState}
-use Rattle.model.specs.declared.Answer.TheVariants.{Done, Refused}
+use Rattle.model.specs.Answers.{Done, Refused}
 use Rattle.model.specs.Layout.{words_length, arena_length}
 use Rattle.model.specs.After.{fresh_state}
 use Rattle.model.specs.Apply.{fresh_answer, fresh_words, fresh_arenas, Freshly}

@@ -1,7 +1,7 @@
 // A command on any words, any arena and any reply buffer: the state check, and then the step of its kind.
 ghost use Rattle.model.specs.Apply.{Does};
 
-use model::{Answer, Command};
+use model::{Answer, Command, Denied};
 use refusals::Refusal;
 use statecheck::well_formed;
 use steps::step;
@@ -17,7 +17,7 @@ pub fn apply(
     ensures { Does command bytes.now words.old arena.old reply.old result words.new arena.new reply.new }
 {
     if !well_formed(words, arena) {
-        return Answer::Refused(Refusal::BadState);
+        return Err(Denied::Refused(Refusal::BadState));
     }
     step(command, bytes, words, arena, reply)
 }

@@ -10,10 +10,9 @@ use crate::commands::apply;
 use crate::sent::message;
 use crate::start::fresh;
 use calls::ops::RECALL;
-use calls::{NO_COMMAND, Parsed, call_number, command_of};
+use calls::{NO_COMMAND, Numbers, call_number, command_of};
 use layout::{ARENA, WORDS};
 use lists::{list, list_number};
-use messages::Numbers;
 use messagewrite::write;
 use why::{told_number, why};
 
@@ -53,9 +52,9 @@ pub fn engine_apply(
 ) -> u64
     ensures { Called (command_of op a b c d e) bytes.now words.old arena.old reply.old result words.new arena.new reply.new }
 {
-    match command_of(op, a, b, c, d, e) {
-        Parsed::Call(command) => call_number(apply(command, bytes, words, arena, reply)),
-        Parsed::Nothing => NO_COMMAND,
+    match command_of(Numbers { op, a, b, c, d, e }) {
+        Some(command) => call_number(apply(command, bytes, words, arena, reply)),
+        None => NO_COMMAND,
     }
 }
 
@@ -93,19 +92,9 @@ pub fn message_write(
 ) -> u64
     ensures { Wrote (is_written op (command_of op a b c d e)) (record { numbers = record { op = op; a = a; b = b; c = c; d = d; e = e }; bytes = bytes.now }) out.old result out.new }
 {
-    let numbers = Numbers {
-        op: op,
-        a: a,
-        b: b,
-        c: c,
-        d: d,
-        e: e,
-    };
-    if op == RECALL {
-        return call_number(write(numbers, bytes, out));
+    let numbers = Numbers { op, a, b, c, d, e };
+    if op != RECALL && command_of(numbers).is_none() {
+        return NO_COMMAND;
     }
-    match command_of(op, a, b, c, d, e) {
-        Parsed::Call(command) => call_number(write(numbers, bytes, out)),
-        Parsed::Nothing => NO_COMMAND,
-    }
+    call_number(write(numbers, bytes, out))
 }

@@ -2,8 +2,7 @@
 ghost use Rattle.messages.specs.Sent.{Sends};
 
 use messageread::read;
-use messages::Received;
-use model::Answer;
+use model::{Answer, Denied};
 use refusals::Refusal;
 use statecheck::well_formed;
 use steps::step;
@@ -15,17 +14,14 @@ pub fn message(message: &[u8], words: &mut [u32], arena: &mut [u8], reply: &mut 
 {
     let received = read(message);
     if !well_formed(words, arena) {
-        return Answer::Refused(Refusal::BadState);
+        return Err(Denied::Refused(Refusal::BadState));
     }
-    match received {
-        Received::Malformed => Answer::Refused(Refusal::Malformed),
-        Received::Unknown => Answer::Refused(Refusal::UnknownMessage),
-        Received::Command(command, start, end) => step(
-            command,
-            &message[start..end],
-            words,
-            arena,
-            reply,
-        ),
-    }
+    let sent = received?;
+    step(
+        sent.command,
+        &message[sent.start..sent.end],
+        words,
+        arena,
+        reply,
+    )
 }

@@ -5,7 +5,7 @@ ghost use Rattle.model.specs.After.{fresh_state};
 ghost use Rattle.model.specs.Apply.{Freshly};
 
 use layout::{ARENA, COUNT, GROUP, NEXT, NODES, RUN, SLOT, WORDS};
-use model::Answer;
+use model::{Accepted, Answer, Denied};
 use refusals::Refusal;
 use words::zero_words;
 
@@ -13,11 +13,7 @@ use words::zero_words;
 fn zero_bytes(arena: &mut [u8])
     ensures { arena.new ≡ replicate (length arena.old) 0 }
 {
-    let mut i = 0;
-    while i < arena.len() {
-        arena[i] = 0;
-        i += 1;
-    }
+    arena.fill(0);
 }
 
 // The words of a fresh engine: one node, -8 the next number to give, the root running and a group; zeros elsewhere.
@@ -37,12 +33,12 @@ pub fn fresh(words: &mut [u32], arena: &mut [u8]) -> Answer
     ensures { Freshly words.old arena.old result words.new arena.new }
 {
     if words.len() != WORDS {
-        return Answer::Refused(Refusal::BadState);
+        return Err(Denied::Refused(Refusal::BadState));
     }
     if arena.len() != ARENA {
-        return Answer::Refused(Refusal::BadState);
+        return Err(Denied::Refused(Refusal::BadState));
     }
     fresh_words(words);
     zero_bytes(arena);
-    Answer::Done
+    Ok(Accepted::Done)
 }

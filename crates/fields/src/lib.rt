@@ -2,7 +2,9 @@
 #![tactic(auto)]
 
 mod cursor;
+mod many;
 mod name;
 
-pub use cursor::{Cursor, Number, Step, Text, value_at, word_at};
+pub use cursor::{Cursor, Reading, value_at, word_at};
+pub use many::skip_many;
 pub use name::{name_at, name_bytes, part, same_long, same_name};

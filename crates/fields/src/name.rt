@@ -1,6 +1,5 @@
 // Names: the bytes of a pstring.
-ghost use Rattle.std.specs.Prelude.{◌-◌, ◌≡◌, length, eqb};
-ghost use Rattle.words.specs.Choice.{both};
+ghost use Rattle.std.specs.Prelude.{◌-◌, ◌≡◌, length};
 ghost use Rattle.words.specs.Parts.{region};
 ghost use Rattle.format.specs.Fields.{name_bytes, string_at};
 ghost use Rattle.format.specs.Reader.{same_name};
@@ -9,20 +8,7 @@ ghost use Rattle.format.specs.Reader.{same_name};
 pub fn name_bytes(s: &[u8], from: usize, to: usize) -> bool
     ensures { result ≡ name_bytes (region from (to - from) s.now) }
 {
-    let mut i = from;
-    while i < to {
-        if s.len() <= i {
-            return true;
-        }
-        if s[i] < 1 {
-            return false;
-        }
-        if 127 < s[i] {
-            return false;
-        }
-        i += 1;
-    }
-    true
+    part(s, from, to).iter().all(|b| 1 <= *b && *b <= 127)
 }
 
 // The bytes of the pstring at a place, a part of the lent bytes.
@@ -32,66 +18,43 @@ pub fn name_at(s: &[u8], at: usize) -> &[u8]
     if s.len() <= at {
         return &s[..0];
     }
-    let size = s[at] as usize;
-    let body = at + 1;
-    let rest = &s[body..];
-    if rest.len() <= size {
-        return rest;
-    }
-    &rest[..size]
+    let start = at + 1;
+    part(s, start, start + usize::from(s[at]))
 }
 
 // The bytes from one place to another, as far as there are any.
 pub fn part(s: &[u8], from: usize, to: usize) -> &[u8]
     ensures { result.now ≡ region from (to - from) s.now }
 {
-    if to <= from {
+    if to <= from || s.len() <= from {
         return &s[..0];
     }
-    if s.len() <= from {
-        return &s[..0];
-    }
-    if s.len() < to {
-        return &s[from..];
-    }
-    &s[from..to]
+    &s[from..to.min(s.len())]
 }
 
 // How many bytes are compared at once.
 const PART: usize = 16;
 
-// Bytes that were the same so far, with one more of each.
-fn still_same(same: bool, a: u8, b: u8) -> bool
-    ensures { result ≡ both same (eqb a b) }
-{
-    if a != b {
-        return false;
-    }
-    same
-}
-
 // Two parts are the same. It goes to the end whatever it meets, so that all bytes are compared at once.
+#[tactic(auto, using(crate::specs::SameLaws::same_turn, crate::specs::SameLaws::same_end, words::specs::ChoiceLaws::both_assoc))]
 fn same_part(a: &[u8], b: &[u8]) -> bool
     requires { (length a.now ≡ 16) × (length b.now ≡ 16) }
     ensures { result ≡ same_name a.now b.now }
 {
     let mut same = true;
-    let mut i = 0;
-    while i < PART {
-        same = still_same(same, a[i], b[i]);
-        i += 1;
+    for i in 0..PART {
+        same &= a[i] == b[i];
     }
     same
 }
 
 // Two runs of one length are the same, the last bytes compared first.
+#[tactic(auto, using(crate::specs::SameLaws::same_differs, crate::specs::SameLaws::same_end, crate::specs::SameLaws::same_before))]
 fn same_run(a: &[u8], b: &[u8]) -> bool
     requires { length a.now ≡ length b.now }
     ensures { result ≡ same_name a.now b.now }
 {
-    let mut i = a.len();
-    while 0 < i {
-        i -= 1;
+    for i in (0..a.len()).rev() {
         if a[i] != b[i] {
             return false;
         }
@@ -100,16 +63,15 @@ fn same_run(a: &[u8], b: &[u8]) -> bool
 }
 
 // Two names are the same. Their last bytes are compared first: names of a family differ at the end.
+#[tactic(auto, using(crate::specs::SameLaws::same_lengths))]
 pub fn same_name(a: &[u8], b: &[u8]) -> bool
     ensures { result ≡ same_name a.now b.now }
 {
-    if a.len() != b.len() {
-        return false;
-    }
-    same_run(a, b)
+    a.len() == b.len() && same_run(a, b)
 }
 
 // The same, by whole parts: where many names are compared with each other, long ones that differ late take no longer than they must.
+#[tactic(auto, using(crate::specs::SameLaws::same_lengths, crate::specs::SameLaws::same_end, crate::specs::SameLaws::same_front, crate::specs::SameLaws::part_differs, crate::specs::SameLaws::part_same))]
 pub fn same_long(a: &[u8], b: &[u8]) -> bool
     ensures { result ≡ same_name a.now b.now }
 {

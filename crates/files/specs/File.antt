@@ -1,19 +1,18 @@
 -- What the functions on a whole file answer.
 use Prim.{Unit}
-use Rattle.std.specs.Prelude.{ℕ, ◌+◌, ◌≤◌, ◌<◌, ◌≡◌, List, map, length, get_or}
-use Rattle.faults.specs.Faults as faults
-use Rattle.files.specs.declared.file.Checked.{Checked}
-use Rattle.files.specs.declared.file.Checked.TheVariants.{Accepted, Refused}
+use Rattle.std.specs.Prelude.{ℕ, ◌+◌, ◌≤◌, ◌<◌, List, map, length, get_or, Result, Ok, Err}
+use Rattle.faults.specs.Faults.{fault_number}
+use Rattle.faults.specs.declared.FileError.{FileError}
 use Rattle.format.specs.Read.{Read, got, bad, and_then, ending}
 use Rattle.format.specs.Fields.{string_at}
 use Rattle.format.specs.Definition.{Definition}
 use Rattle.format.specs.declared.Width.{Width}
-use Rattle.format.specs.Reader.{most_definitions, fits, definition_by}
+use Rattle.format.specs.Reader.{fits, definition_by}
 
 -- how many definitions a file has, or why it is refused and at which place
-abbrev pub verdict : Read (List Definition) → Checked
-verdict (got ds end) = Accepted (length ds)
-verdict (bad r at) = Refused r at
+abbrev pub verdict : Read (List Definition) → Result ℕ FileError
+verdict (got ds end) = Ok (length ds)
+verdict (bad r at) = Err (record { 0 = r; 1 = at })
 
 -- the names of the definitions that start at some places
 abbrev pub names_from : List ℕ → List ℕ → List (List ℕ)
@@ -28,24 +27,19 @@ abbrev pub first_place : ℕ
 first_place = 10
 
 -- 0, or the refusal's number
-abbrev pub refusal_number : Checked → ℕ
-refusal_number (Accepted n) = 0
-refusal_number (Refused r at) = faults.fault_number r
+abbrev pub refusal_number : Result ℕ FileError → ℕ
+refusal_number (Ok n) = 0
+refusal_number (Err e) = fault_number e.0
 
 -- the refusal's place, or 0
-abbrev pub refusal_place : Checked → ℕ
-refusal_place (Accepted n) = 0
-refusal_place (Refused r at) = at
+abbrev pub refusal_place : Result ℕ FileError → ℕ
+refusal_place (Ok n) = 0
+refusal_place (Err e) = e.1
 
 -- how many definitions are in an accepted file
-abbrev pub definition_count : Checked → ℕ
-definition_count (Accepted n) = n
-definition_count (Refused r at) = 0
-
--- where the definitions of a file start, as far as they are known: the first so many of starts
-pub record Begun (starts : List ℕ) (count : ℕ) : Type 0 where
-  pub few : count ≤ most_definitions
-  pub sized : length starts ≡ most_definitions
+abbrev pub definition_count : Result ℕ FileError → ℕ
+definition_count (Ok n) = n
+definition_count (Err e) = 0
 
 -- the name at a place lies whole in the file, and is not empty
 pub record Named (s : List ℕ) (at : ℕ) : Type 0 where

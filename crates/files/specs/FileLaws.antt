@@ -2,12 +2,12 @@
 use Prim.{Unit, tt}
 use Rattle.std.specs.Prelude.{ℕ, zero, suc, ◌+◌, ◌*◌, ◌-◌, ◌≤◌, ◌<◌, Bool, true, false, refl, length, get_or, take, drop, set, ltb, eqb}
 use Rattle.std.proofs.Math.Path.{◌≡◌, sym}
-use Rattle.std.proofs.Common.{ap, ap₂, ◌∙◌, add-zero, add-one, take-suc-set, length-take-le, drop-cons, get_or-take, get_or-drop, length-set, length-take, length-drop, drop_of_length-le, lt-ltb, le-ltb, leb-true, ne_eqb, eqb-true}
+use Rattle.std.proofs.Common.{ap, ap₂, ◌∙◌, add-zero, add-one, take-suc-set, get_or-take, get_or-drop, length-set, length-take, length-drop, lt-ltb, le-ltb, leb-true, ne_eqb, eqb-true}
 use mathlib.Core.List.{List, [], ◌∷◌, ◌++◌, map}
 use native.Mathlib.Omega.{arith}
 use Rattle.std.proofs.Math.Nat.{sub-zero}
 use Rattle.std.proofs.Math.ListN.{get_or-eq_default}
-use Rattle.words.specs.Choice.{pick, both, either}
+use Rattle.words.specs.Choice.{pick, both}
 use Rattle.words.specs.PartsLaws.{region-length}
 use Rattle.faults.specs.declared.Fault.{Fault}
 use Rattle.faults.specs.declared.Fault.TheVariants.{TooLong, NameTwice, BytesLeft}
@@ -22,8 +22,8 @@ use Rattle.format.specs.Writer.{first_version, write_definition}
 use Rattle.format.specs.Endings.{Mapped, mapped_got, then_got, then_bad, ending_keeps, ending_got}
 use Rattle.format.specs.RepeatLaws.{went_on}
 use Rattle.files.specs.Forward.{definition_whole}
-use Rattle.files.specs.File.{Begun, Named, names_from, skip_fitting, verdict, first_place}
-use Rattle.files.specs.declared.file.Checked.TheVariants.{Accepted, Refused}
+use Rattle.files.specs.File.{Named, names_from, skip_fitting, verdict, first_place}
+use Rattle.std.specs.Prelude.{Ok, Err}
 
 -- what is asked at a definition's end: whether it is too long, and its name, which stands at its start
 abbrev pub fitting : Bool → List ℕ → List (List ℕ) → ℕ → ℕ → Read (Unit {0})
@@ -120,22 +120,6 @@ module _ (w : Width) (s : List ℕ) (first count : ℕ) {starts : List ℕ} {at 
       let none : count - i ≡ 0 = omega arith in
       sym k.left ∙ rw none
 
--- a name among those of the definitions that start at some places: one more place, and no more
-pub among_turn : (n s starts : List ℕ) (count i : ℕ) → i < count → Begun starts count
-    → among n (names_from s (drop i (take count starts)))
-    ≡ either (same_name (string_at s (get_or starts i 0)) n) (among n (names_from s (drop (i + 1) (take count starts))))
-unfolding among
-among_turn n s starts count i l b =
-    let size : length (take count starts) ≡ count = length-take-le count starts (omega (arith, b.few, b.sized)) in
-    rw (drop-cons (take count starts) i 0 (omega arith), get_or-take count starts i 0 l, add-one i)
-
-pub among_done : (n s starts : List ℕ) (count i : ℕ) → count ≤ i → Begun starts count → among n (names_from s (drop i (take count starts))) ≡ false
-unfolding among
-among_done n s starts count i l b =
-    let size : length (take count starts) ≡ count = length-take-le count starts (omega (arith, b.few, b.sized)) in
-    let most : length (take count starts) ≤ i = omega arith in
-    rw (drop_of_length-le (take count starts) most)
-
 -- as many definitions are read as are counted
 pub definitions_length : (w : Width) (s : List ℕ) (n : ℕ) (names : List (List ℕ)) (at : ℕ) {ds : List Definition} {end : ℕ} → read_definitions w s n names at ≡ got ds end → length ds ≡ n
 unfolding read_definitions
@@ -150,11 +134,11 @@ definitions_length w s (suc n) names at {ds} {end} h =
 
 -- the ways through a file: the width is that of its version
 module _ (s : List ℕ) where
-  pub file_head : {q : Fault} {place : ℕ} → map_read (λ (h : Header). h.count) (read_header s) ≡ bad q place → verdict (read_file s) ≡ Refused q place
+  pub file_head : {q : Fault} {place : ℕ} → map_read (λ (h : Header). h.count) (read_header s) ≡ bad q place → verdict (read_file s) ≡ Err (record { 0 = q; 1 = place })
   unfolding read_file
   file_head {q} {place} e = cases (read_header s) e where
     cases : (r : Read Header) → map_read (λ (h : Header). h.count) r ≡ bad q place
-        → verdict (and_then r (λ h p1. and_then (read_definitions h.width s h.count [] p1) (λ ds end. pick (ltb end (length s)) (bad BytesLeft end) (got ds end)))) ≡ Refused q place
+        → verdict (and_then r (λ h p1. and_then (read_definitions h.width s h.count [] p1) (λ ds end. pick (ltb end (length s)) (bad BytesLeft end) (got ds end)))) ≡ Err (record { 0 = q; 1 = place })
     cases (got h p) e = absurd (let z : ◌≡◌ {A = ℕ} 0 1 = cc in omega arith)
     cases (bad f at) e =
         let a : f ≡ q = cc in
@@ -175,25 +159,25 @@ module _ (s : List ℕ) where
     unfolding read_file
     file_rest = rw (head.read, (header_got s head.read).width, head.same)
 
-    pub file_bad : {q : Fault} {place : ℕ} → ending (read_definitions (file_width s) s n [] first) ≡ bad q place → verdict (read_file s) ≡ Refused q place
+    pub file_bad : {q : Fault} {place : ℕ} → ending (read_definitions (file_width s) s n [] first) ≡ bad q place → verdict (read_file s) ≡ Err (record { 0 = q; 1 = place })
     file_bad {q} {place} d = file_rest ∙ cases (read_definitions (file_width s) s n [] first) d where
       cases : (r : Read (List Definition)) → ending r ≡ bad q place
-          → verdict (and_then r (λ ds end. pick (ltb end (length s)) (bad BytesLeft end) (got ds end))) ≡ Refused q place
+          → verdict (and_then r (λ ds end. pick (ltb end (length s)) (bad BytesLeft end) (got ds end))) ≡ Err (record { 0 = q; 1 = place })
       cases (got ds end) d = absurd (let z : ◌≡◌ {A = ℕ} 0 1 = cc in omega arith)
       cases (bad q' place') d =
           let a : q' ≡ q = cc in
           let b : place' ≡ place = cc in
           cc
 
-    pub file_left : {u : Unit {0}} {end : ℕ} → ending (read_definitions (file_width s) s n [] first) ≡ got u end → end < length s → verdict (read_file s) ≡ Refused BytesLeft end
+    pub file_left : {u : Unit {0}} {end : ℕ} → ending (read_definitions (file_width s) s n [] first) ≡ got u end → end < length s → verdict (read_file s) ≡ Err (record { 0 = BytesLeft; 1 = end })
     file_left d l =
         let t = ending_got (read_definitions (file_width s) s n [] first) d in
         file_rest ∙ rw (t.read, lt-ltb _ _ l)
 
-    pub file_accepted : {u : Unit {0}} {end : ℕ} → ending (read_definitions (file_width s) s n [] first) ≡ got u end → length s ≤ end → verdict (read_file s) ≡ Accepted n
+    pub file_accepted : {u : Unit {0}} {end : ℕ} → ending (read_definitions (file_width s) s n [] first) ≡ got u end → length s ≤ end → verdict (read_file s) ≡ Ok n
     file_accepted d l =
         let t = ending_got (read_definitions (file_width s) s n [] first) d in
-        file_rest ∙ rw (t.read, le-ltb _ _ l) (ap Accepted (definitions_length (file_width s) s n [] first t.read))
+        file_rest ∙ rw (t.read, le-ltb _ _ l) (ap Ok (definitions_length (file_width s) s n [] first t.read))
 
 -- a head that is cut before its version ends says nothing: the last byte of the version counts as 0, so it is not version 1
 pub short_width : (s : List ℕ) → length s < 8 → file_width s ≡ Long

@@ -5,4 +5,4 @@ mod definition;
 mod file;
 
 pub use definition::{encoded_size, read_definition};
-pub use file::{Checked, check_file, width_of};
+pub use file::{check_file, width_of};

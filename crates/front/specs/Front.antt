@@ -1,32 +1,27 @@
 -- What the functions on a definition's front answer, as readings.
-use Rattle.std.specs.Prelude.{ℕ, ◌+◌, ◌*◌, ◌-◌, List, length}
+use Rattle.std.specs.Prelude.{ℕ, ◌+◌, ◌*◌, ◌-◌, List, length, Result}
 use Rattle.words.specs.Parts.{region}
+use Rattle.faults.specs.declared.FileError.{FileError}
+use Rattle.fields.specs.declared.cursor.Cursor.{Cursor}
+use Rattle.fields.specs.Answers.{read_of}
 use Rattle.front.specs.declared.Counts.{Counts}
 use Rattle.front.specs.declared.Entry.{Entry}
-use Rattle.front.specs.declared.Entry.TheVariants as entry
 use Rattle.front.specs.declared.Floats.{Floats}
-use Rattle.front.specs.declared.FloatsRead.{FloatsRead}
-use Rattle.front.specs.declared.FloatsRead.TheVariants as floats
-use Rattle.front.specs.declared.FrontRead.{FrontRead}
-use Rattle.front.specs.declared.FrontRead.TheVariants as front
-use Rattle.format.specs.Read.{Read, got, bad, and_then, repeat, ending}
+use Rattle.format.specs.Read.{Read, got, and_then, repeat, ending}
 use Rattle.format.specs.declared.Width.{Width}
 use Rattle.format.specs.Fields.{float32, definition_name, size_of, count_to_by, count_by, highest32}
 use Rattle.format.specs.Definition.{ParameterName, Front}
 use Rattle.format.specs.Reader.{most_parameters, parameter_name_by}
 
 -- a parameter name: its bytes from start to end, and its index
-abbrev pub entry_of : List ℕ → Entry → Read ParameterName
-entry_of s (entry.Value start end index next) = got (record { name = region start (end - start) s; index = index }) next.at
-entry_of s (entry.Bad r at) = bad r at
+abbrev pub entry_of : List ℕ → Result (Entry × Cursor) FileError → Read ParameterName
+entry_of s = read_of (λ e next. record { name = region e.start (e.end - e.start) s; index = e.index })
 
-abbrev pub floats_of : FloatsRead → Read Floats
-floats_of (floats.Value f next) = got f next.at
-floats_of (floats.Bad r at) = bad r at
+abbrev pub floats_of : Result (Floats × Cursor) FileError → Read Floats
+floats_of = read_of (λ f next. f)
 
-abbrev pub front_of : FrontRead → Read Counts
-front_of (front.Value c next) = got c next.at
-front_of (front.Bad r at) = bad r at
+abbrev pub counts_read : Result (Counts × Cursor) FileError → Read Counts
+counts_read = read_of (λ c next. c)
 
 -- a count, and as many floats behind it: how many, and where they start
 abbrev pub counted_floats : Width → ℕ → List ℕ → ℕ → Read Floats

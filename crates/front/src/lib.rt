@@ -3,21 +3,22 @@
 
 ghost use Rattle.std.specs.Prelude.{◌≡◌};
 ghost use Rattle.fields.specs.Answers.{step_of};
-ghost use Rattle.front.specs.Front.{entry_of, floats_of, counted_floats, front_of, counts_from_values, read_counts, counts_of};
+ghost use Rattle.front.specs.Front.{entry_of, floats_of, counted_floats, counts_read, counts_from_values, read_counts, counts_of};
 ghost use Rattle.format.specs.Read.{map_read, repeat, ending};
 ghost use Rattle.format.specs.Fields.{float32};
 ghost use Rattle.format.specs.Reader.{parameter_name_by, front_by};
 
-use faults::Fault;
-use fields::{Cursor, Number, Step, Text};
+use faults::{Fault, FileError};
+use fields::{Cursor, Reading, skip_many};
 use format::{HIGHEST, MOST_PARAMETERS, Width};
 use words::wide;
 
-// A parameter name: where its bytes start and end, its index and the next cursor, or the refusal and its place.
+// A parameter name: where its bytes start and end, and its index.
 #[derive(Clone, Copy)]
-pub enum Entry {
-    Value(usize, usize, u32, Cursor),
-    Bad(Fault, usize),
+pub struct Entry {
+    pub start: usize,
+    pub end: usize,
+    pub index: u32,
 }
 
 // A count of floats and where the first one starts.
@@ -25,13 +26,6 @@ pub enum Entry {
 pub struct Floats {
     pub count: u32,
     pub at: usize,
-}
-
-// The floats and the next cursor, or the refusal and its place.
-#[derive(Clone, Copy)]
-pub enum FloatsRead {
-    Value(Floats, Cursor),
-    Bad(Fault, usize),
 }
 
 // What a definition's front tells: the place past its name, K, where the initial values start, P, where the first name starts, N.
@@ -45,46 +39,38 @@ pub struct Counts {
     pub names: u32,
 }
 
-// What the front tells and the next cursor, or the refusal and its place.
-#[derive(Clone, Copy)]
-pub enum FrontRead {
-    Value(Counts, Cursor),
-    Bad(Fault, usize),
-}
-
 // So many floats. Any pattern is one, so where they end is a sum.
-pub fn skip_floats(s: &[u8], cursor: Cursor, count: u32) -> Step
+#[tactic(auto, using(format::specs::RepeatLaws::floats_whole, format::specs::RepeatLaws::float_cut), unfolding(format::specs::Read::repeat))]
+pub fn skip_floats(s: &[u8], cursor: Cursor, count: u32) -> Result<Cursor, FileError>
     ensures { step_of result ≡ ending (repeat (float32 s.now) count cursor.at) }
 {
     let at = cursor.at;
     if count == 0 {
-        return Step::Next(cursor);
+        return Ok(cursor);
     }
     if s.len() < at {
-        return Step::Bad(Fault::Truncated, at);
+        return Err(FileError(Fault::Truncated, at));
     }
     let many = wide(count);
     let room = (s.len() - at) / 4;
     if many <= room {
-        return Step::Next(Cursor { at: at + 4 * many });
+        return Ok(Cursor { at: at + 4 * many });
     }
-    Step::Bad(Fault::Truncated, at + 4 * room)
+    Err(FileError(Fault::Truncated, at + 4 * room))
 }
 
 // One parameter name, in a definition of so many parameters.
-pub fn parameter_name(s: &[u8], cursor: Cursor, width: Width, parameters: u32) -> Entry
+pub fn parameter_name(s: &[u8], cursor: Cursor, width: Width, parameters: u32) -> Reading<Entry>
     ensures { entry_of s.now result ≡ parameter_name_by width parameters s.now cursor.at }
 {
-    match cursor.name(s) {
-        Text::Value(start, next) => {
-            let end = next.at;
-            match next.index_below(s, width, parameters) {
-                Number::Value(index, past) => Entry::Value(start, end, index, past),
-                Number::Bad(refusal, place) => Entry::Bad(refusal, place),
-            }
-        }
-        Text::Bad(refusal, place) => Entry::Bad(refusal, place),
-    }
+    let (start, named) = cursor.name(s)?;
+    let (index, next) = named.index_below(s, width, parameters)?;
+    let entry = Entry {
+        start,
+        end: named.at,
+        index,
+    };
+    Ok((entry, next))
 }
 
 // So many parameter names.
@@ -94,45 +80,23 @@ pub fn skip_parameter_names(
     width: Width,
     parameters: u32,
     count: u32,
-) -> Step
+) -> Result<Cursor, FileError>
     ensures { step_of result ≡ ending (repeat (parameter_name_by width parameters s.now) count cursor.at) }
 {
-    let mut at = cursor.at;
-    let mut i = 0;
-    while i < count {
-        match parameter_name(s, Cursor { at: at }, width, parameters) {
-            Entry::Value(start, end, index, next) => {
-                at = next.at;
-            }
-            Entry::Bad(refusal, place) => {
-                return Step::Bad(refusal, place);
-            }
-        }
-        i += 1;
-    }
-    Step::Next(Cursor { at: at })
+    skip_many(cursor, count, |here| {
+        let (_, next) = parameter_name(s, here, width, parameters)?;
+        Ok(next)
+    })
 }
 
 // A count of at most so many, and then as many floats.
-pub fn counted_floats(s: &[u8], cursor: Cursor, width: Width, most: u32) -> FloatsRead
+pub fn counted_floats(s: &[u8], cursor: Cursor, width: Width, most: u32) -> Reading<Floats>
     ensures { floats_of result ≡ counted_floats width most s.now cursor.at }
 {
-    match cursor.count_to(s, width, most) {
-        Number::Value(count, next) => {
-            let at = next.at;
-            match skip_floats(s, next, count) {
-                Step::Next(past) => FloatsRead::Value(
-                    Floats {
-                        count: count,
-                        at: at,
-                    },
-                    past,
-                ),
-                Step::Bad(refusal, place) => FloatsRead::Bad(refusal, place),
-            }
-        }
-        Number::Bad(refusal, place) => FloatsRead::Bad(refusal, place),
-    }
+    let (count, first) = cursor.count_to(s, width, most)?;
+    let next = skip_floats(s, first, count)?;
+    let at = first.at;
+    Ok((Floats { count, at }, next))
 }
 
 // The front from its count of parameters up to its first parameter name, behind a name that ends at a place and so many constants.
@@ -142,58 +106,36 @@ fn counts_from_values(
     width: Width,
     past: usize,
     constants: u32,
-) -> FrontRead
-    ensures { front_of result ≡ counts_from_values width s.now past constants cursor.at }
+) -> Reading<Counts>
+    ensures { counts_read result ≡ counts_from_values width s.now past constants cursor.at }
 {
-    match counted_floats(s, cursor, width, MOST_PARAMETERS) {
-        FloatsRead::Value(values, before_names) => {
-            match before_names.count_to(s, width, HIGHEST) {
-                Number::Value(names, first) => {
-                    let counts = Counts {
-                        past: past,
-                        constants: constants,
-                        values: values.at,
-                        parameters: values.count,
-                        first: first.at,
-                        names: names,
-                    };
-                    FrontRead::Value(counts, first)
-                }
-                Number::Bad(refusal, place) => FrontRead::Bad(refusal, place),
-            }
-        }
-        FloatsRead::Bad(refusal, place) => FrontRead::Bad(refusal, place),
-    }
+    let (values, before_names) = counted_floats(s, cursor, width, MOST_PARAMETERS)?;
+    let (names, first) = before_names.count_to(s, width, HIGHEST)?;
+    let counts = Counts {
+        past,
+        constants,
+        values: values.at,
+        parameters: values.count,
+        first: first.at,
+        names,
+    };
+    Ok((counts, first))
 }
 
 // The front up to its first parameter name.
-pub fn read_counts(s: &[u8], cursor: Cursor, width: Width) -> FrontRead
-    ensures { front_of result ≡ read_counts width s.now cursor.at }
+pub fn read_counts(s: &[u8], cursor: Cursor, width: Width) -> Reading<Counts>
+    ensures { counts_read result ≡ read_counts width s.now cursor.at }
 {
-    match cursor.definition_name(s) {
-        Text::Value(start, named) => match counted_floats(s, named, width, HIGHEST) {
-            FloatsRead::Value(constants, before_values) => {
-                counts_from_values(s, before_values, width, named.at, constants.count)
-            }
-            FloatsRead::Bad(refusal, place) => FrontRead::Bad(refusal, place),
-        },
-        Text::Bad(refusal, place) => FrontRead::Bad(refusal, place),
-    }
+    let (_, named) = cursor.definition_name(s)?;
+    let (constants, before_values) = counted_floats(s, named, width, HIGHEST)?;
+    counts_from_values(s, before_values, width, named.at, constants.count)
 }
 
 // The whole front.
-pub fn read_front(s: &[u8], cursor: Cursor, width: Width) -> FrontRead
-    ensures { front_of result ≡ map_read (counts_of width cursor.at) (front_by width s.now cursor.at) }
+pub fn read_front(s: &[u8], cursor: Cursor, width: Width) -> Reading<Counts>
+    ensures { counts_read result ≡ map_read (counts_of width cursor.at) (front_by width s.now cursor.at) }
 {
-    match read_counts(s, cursor, width) {
-        FrontRead::Value(counts, first) => {
-            let parameters = counts.parameters;
-            let names = counts.names;
-            match skip_parameter_names(s, first, width, parameters, names) {
-                Step::Next(past) => FrontRead::Value(counts, past),
-                Step::Bad(refusal, place) => FrontRead::Bad(refusal, place),
-            }
-        }
-        FrontRead::Bad(refusal, place) => FrontRead::Bad(refusal, place),
-    }
+    let (counts, first) = read_counts(s, cursor, width)?;
+    let past = skip_parameter_names(s, first, width, counts.parameters, counts.names)?;
+    Ok((counts, past))
 }

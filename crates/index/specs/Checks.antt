@@ -1,6 +1,6 @@
 -- The test of the index's rule, entry by entry.
-use Rattle.std.specs.Prelude.{ℕ, suc, ◌+◌, ◌*◌, ◌≤◌, ◌<◌, Bool, true, false, ◌≡◌, refl, take, get_or}
-use Rattle.std.proofs.Common.{sym, ◌∙◌, add-one, get_or-take, drop-cons, length-take-le}
+use Rattle.std.specs.Prelude.{ℕ, ◌+◌, ◌*◌, ◌≤◌, ◌<◌, Bool, true, false, ◌≡◌, refl, take, get_or}
+use Rattle.std.proofs.Common.{sym, ◌∙◌, add-one, drop-cons, length-take-le}
 use Rattle.std.proofs.Math.Path.{ap}
 use mathlib.Core.List.{List, [], ◌∷◌}
 use borrow.Author.Tests.{lt-ltb, le-ltb, le-leb, lt-leb, eq-eqb}
@@ -22,14 +22,13 @@ module _ (us ws : List ℕ) (count : ℕ) (fits : IndexFits us ws count) where
       let size = rows-length count us in
       rw (length-take-le count ws fits.entries, size, eq-eqb count count refl)
 
-  entry_turn : (i : ℕ) → i < count → drop i (take count ws) ≡ get_or ws i 0 ∷ drop (i + 1) (take count ws)
+  entry_turn : (i : ℕ) → i < count → drop i (take count ws) ≡ get_or (take count ws) i 0 ∷ drop (i + 1) (take count ws)
   entry_turn i h =
       drop-cons (take count ws) i 0 (rw (length-take-le count ws fits.entries) h)
-      ∙ ap (λ (p : ℕ). p ∷ drop (suc i) (take count ws)) (get_or-take count ws i 0 h)
-      ∙ ap (λ (k : ℕ). get_or ws i 0 ∷ drop k (take count ws)) (sym (add-one i))
+      ∙ ap (λ (k : ℕ). get_or (take count ws) i 0 ∷ drop k (take count ws)) (sym (add-one i))
 
   -- at an entry with the place p, where k is the number
-  module _ (least i p : ℕ) (h : i < count) (is : p ≡ get_or ws i 0) (s : rises_from least i ≡ whole) where
+  module _ (least i p : ℕ) (h : i < count) (is : p ≡ get_or (take count ws) i 0) (s : rises_from least i ≡ whole) where
     given : rises (numbers (rows count us)) count least (p ∷ drop (i + 1) (take count ws)) ≡ whole
     given =
         ap (λ (q : ℕ). rises (numbers (rows count us)) count least (q ∷ drop (i + 1) (take count ws))) is

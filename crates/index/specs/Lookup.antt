@@ -1,5 +1,5 @@
 -- "ten steps, each given one stored node number, always settle a lookup"
-use Rattle.std.specs.Prelude.{ℕ, zero, suc, ◌+◌, ◌-◌, ◌/◌, Bool, true, ◌≡◌, List, length, get_or, ltb, leb, eqb}
+use Rattle.std.specs.Prelude.{ℕ, zero, suc, ◌+◌, ◌-◌, ◌/◌, Bool, true, ◌≡◌, List, length, get_or, ltb, leb, eqb, Option, Some, None}
 use Rattle.words.specs.Choice.{pick}
 use Rattle.nodes.specs.declared.Node.{Node}
 use Rattle.nodes.specs.Place.{place}
@@ -17,6 +17,11 @@ settled (Found p) = true
 abbrev pub answer : ℕ → Known → ℕ
 answer count (Between low high) = count
 answer count (Found p) = p
+
+-- and as the code says it: the place, if there is one
+abbrev pub found_place : Known → Option ℕ
+found_place (Between low high) = None
+found_place (Found p) = Some p
 
 -- how many entries a step leaves out, of those from one on and below another: half of them; and the entry behind so many, the middle one
 abbrev pub half : ℕ → ℕ → ℕ

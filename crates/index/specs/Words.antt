@@ -1,16 +1,16 @@
 -- The index in words, beside the words of the table: what the functions ask of them, and the steps of a lookup.
-use Rattle.std.specs.Prelude.{ℕ, zero, suc, ◌+◌, ◌*◌, ◌≤◌, ◌<◌, true, ◌≡◌, refl, List, length, take, drop, get_or}
+use Rattle.std.specs.Prelude.{ℕ, zero, suc, ◌+◌, ◌*◌, ◌≤◌, ◌<◌, true, ◌≡◌, refl, List, length, take, drop, get_or, IfSome, unwrap_or}
 use Rattle.std.proofs.Common.{sym, ap₂, subst, ◌∙◌, arith, add-one, get_or-drop, get_or-take, length-take-le}
 use Rattle.std.proofs.Math.Path.{ap}
 use Rattle.nodes.specs.declared.Node.{Node}
 use Rattle.nodes.specs.Table.{width, rows, numbers}
 use Rattle.nodes.specs.TableLaws.{rows-length}
 use Rattle.index.specs.declared.step.Known.{Known}
-use Rattle.index.specs.declared.step.Known.TheVariants.{Between}
+use Rattle.index.specs.declared.step.Known.TheVariants.{Between, Found}
 use Rattle.index.specs.Index.{number_at, indexed}
 use Rattle.index.specs.Rising.{entry, higher}
 use Rattle.index.specs.Nodes.{indexed_parts}
-use Rattle.index.specs.Lookup.{halfway, step, after_steps, lookup, answer, settled, most_steps, SettledBy}
+use Rattle.index.specs.Lookup.{halfway, step, after_steps, lookup, answer, found_place, settled, most_steps, SettledBy}
 use Rattle.index.specs.LookupLaws.{step_at, Sound, one_more, lookup_sound, steps_settle, settled_early}
 
 -- words that hold so many records, and words that hold as many entries
@@ -34,6 +34,11 @@ number_word (suc n) us zero h = refl
 number_word (suc n) us (suc p) h =
     let more : width + width * p ≡ width * suc p = omega arith in
     number_word n (drop width us) p (omega arith) ∙ get_or-drop width us (width * p) 0 ∙ ap (λ (k : ℕ). get_or us k 0) more
+
+-- what is answered, with the count where there is no place
+pub answer_or : (count : ℕ) (k : Known) → unwrap_or (found_place k) count ≡ answer count k
+answer_or count (Between low high) = refl
+answer_or count (Found p) = refl
 
 -- a lookup in words that keep the rule
 module _ (us ws : List ℕ) (count : ℕ) (keeps : Keeps us ws count) where
@@ -61,11 +66,27 @@ module _ (us ws : List ℕ) (count : ℕ) (keeps : Keeps us ws count) where
   -- what is known after so many of them
   module _ (n made : ℕ) (k : Known) (is : k ≡ lookup made n ix nodes) where
     -- where nothing is open, it is what ten steps say
-    pub ends : (r : ℕ) → made ≤ most_steps → settled k ≡ true → r ≡ answer count k → SettledBy most_steps n ix nodes r
-    ends r few e says =
+    pub ends : made ≤ most_steps → settled k ≡ true → SettledBy most_steps n ix nodes (unwrap_or (found_place k) count)
+    ends few e =
         subst (SettledBy most_steps n ix nodes)
-        (sym (says ∙ ap₂ answer (sym (rows-length count us)) is))
+        (sym (answer_or count k ∙ ap₂ answer (sym (rows-length count us)) is))
         (settled_early n ix nodes keeps.rule made few (ap settled (sym is) ∙ e) small)
+
+    -- and a place that was found is one of the nodes'
+    pub found_below : (p : ℕ) → k ≡ Found p → p < count
+    found_below p found =
+        let b = indexed_parts ix nodes keeps.rule in
+        let e = lookup_sound n ix (numbers nodes) (length nodes) ((λ i h. (entry b.1 i h).0), higher b.1) made in
+        let s = subst (Sound n ix (numbers nodes) (length nodes)) (sym is ∙ found) (rw b.0 at e) in
+        omega (arith, s.0, rows-length count us)
+
+    -- the same, of what the code answers
+    pub says_below : IfSome (found_place k) (λ p. p < count)
+    says_below = go k found_below
+      where
+        go : (j : Known) → ((p : ℕ) → j ≡ Found p → p < count) → IfSome (found_place j) (λ p. p < count)
+        go (Between low high) h = tt
+        go (Found p) h = h p refl
 
     -- from nine steps on nothing is open
     pub none_open : 9 ≤ made → settled k ≡ true

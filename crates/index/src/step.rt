@@ -1,6 +1,6 @@
 // One step of a lookup. It is lent nothing, so it can see no number but the one that it is given.
 ghost use Rattle.std.specs.Prelude.{◌≡◌};
-ghost use Rattle.index.specs.Lookup.{answer, compared, step};
+ghost use Rattle.index.specs.Lookup.{found_place, compared, step};
 
 // What a lookup knows: the number can stand only at the entries from one on and below another; or it was found, at a place.
 #[derive(Clone, Copy)]
@@ -9,13 +9,13 @@ pub enum Known {
     Found(usize),
 }
 
-// What is answered when nothing is open: the place, or the count.
-pub fn answer(known: Known, count: usize) -> usize
-    ensures { result ≡ answer count known }
+// What is answered when nothing is open: the place that was found.
+pub fn answer(known: Known) -> Option<usize>
+    ensures { result ≡ found_place known }
 {
     match known {
-        Known::Between(_low, _high) => count,
-        Known::Found(place) => place,
+        Known::Between(_low, _high) => None,
+        Known::Found(place) => Some(place),
     }
 }
 
@@ -24,33 +24,31 @@ fn compare(low: usize, high: usize, number: u32, place: usize, stored: u32) -> K
     ensures { result ≡ compared number place stored low high }
 {
     if stored == number {
-        return Known::Found(place);
+        Known::Found(place)
+    } else if stored < number {
+        Known::Between(high, high)
+    } else {
+        Known::Between(low, low)
     }
-    if stored < number {
-        return Known::Between(high, high);
-    }
-    Known::Between(low, low)
 }
 
 // What is known after a step, of the number asked for, the place at the middle entry and the one number stored there.
+#[tactic(auto, unfolding(crate::specs::Lookup::step))]
 pub fn step(known: Known, number: u32, place: usize, stored: u32) -> Known
     ensures { result ≡ step number place stored known }
 {
     match known {
-        Known::Found(at) => Known::Found(at),
-        Known::Between(low, high) => {
-            if high <= low {
-                return Known::Between(low, high);
-            }
+        Known::Between(low, high) if low < high => {
             let entries = high - low;
-            if entries <= 1 {
-                return compare(low, high, number, place, stored);
-            }
             let half = entries / 2;
-            if stored <= number {
-                return Known::Between(low + half, high);
+            if entries == 1 {
+                compare(low, high, number, place, stored)
+            } else if stored <= number {
+                Known::Between(low + half, high)
+            } else {
+                Known::Between(low, high - half)
             }
-            Known::Between(low, high - half)
         }
+        _ => known,
     }
 }

@@ -1,23 +1,20 @@
 -- How many a list accepts has room in its number: a list that is tried has at most 512 commands.
-use Rattle.std.specs.Prelude.{ℕ, zero, suc, ◌+◌, ◌*◌, ◌≤◌, ◌<◌, Bool, true, false, ◌≡◌, refl, List, [], ◌∷◌, ◌++◌, length, drop, leb}
+use Rattle.std.specs.Prelude.{ℕ, zero, suc, ◌+◌, ◌*◌, ◌≤◌, ◌<◌, Bool, true, false, ◌≡◌, refl, List, [], ◌∷◌, ◌++◌, length, drop, leb, None, Option, Some}
 use Rattle.std.proofs.Common.{ap, ap₂, arith, mod-eq_of_lt, leb-true}
 use Rattle.words.specs.Choice.{pick, both}
 use Rattle.refusals.specs.declared.Refusal.TheVariants.{BadState}
-use Rattle.model.specs.declared.Answer.{Answer}
-use Rattle.model.specs.declared.Answer.TheVariants.{Refused}
+use Rattle.model.specs.declared.Command.{Command}
+use Rattle.model.specs.Answers.{Answer}
+use Rattle.model.specs.Answers.{Refused}
 use Rattle.model.specs.Formed.{formed}
 use Rattle.model.specs.Chain.{State}
 use Rattle.model.specs.Script.{Line}
 use Rattle.model.specs.Demands.{refusal_in}
-use Rattle.calls.specs.declared.Parsed.{Parsed}
-use Rattle.calls.specs.declared.Parsed.TheVariants.{Call, Nothing}
 use Rattle.lists.specs.declared.Verdict.{Verdict}
 use Rattle.lists.specs.declared.Verdict.TheVariants as verdict
-use Rattle.lists.specs.declared.Outcome.{Outcome}
-use Rattle.lists.specs.declared.Outcome.TheVariants.{NoList, Ended}
 use Rattle.lists.specs.Lent as lent
 use Rattle.lists.specs.Lent.{Item, item_words, items_from, count_in, items_of, parsed, part_of, acts, every, is_list, most_commands, line_by, lines_in, lines_of}
-use Rattle.lists.specs.OneByOne.{takes, after, tried, last_answer, accepted_in, outcome_by, outcome_of, count_room, place_room, place_in, list_number}
+use Rattle.lists.specs.OneByOne.{Outcome, ended, takes, after, tried, last_answer, accepted_in, outcome_by, outcome_of, count_room, place_room, place_in, list_number}
 use Rattle.lists.specs.Running.{on, refused}
 
 tried_few : (ls : List Line) (s : State) → accepted_in (tried ls s) ≤ length ls
@@ -34,9 +31,9 @@ unfolding lines_in
 lines_few [] bytes = omega arith
 lines_few (i ∷ is) bytes = go (parsed i) (lines_few is bytes)
   where
-    go : (p : Parsed) → length (lines_in is bytes) ≤ length is → length (line_by p (part_of i bytes) ++ lines_in is bytes) ≤ suc (length is)
-    go (Call c) ih = omega arith
-    go Nothing ih = omega arith
+    go : (p : Option Command) → length (lines_in is bytes) ≤ length is → length (line_by p (part_of i bytes) ++ lines_in is bytes) ≤ suc (length is)
+    go (Some c) ih = omega arith
+    go None ih = omega arith
 
 items_many : (n : ℕ) (us : List ℕ) → length (items_from n us) ≡ n
 unfolding items_from
@@ -53,8 +50,8 @@ fit_short us bytes h = leb-true (count_in us) most_commands (go (is_list us byte
     go false false each k = let z : ◌≡◌ {A = ℕ} 0 1 = cc in absurd (omega arith)
 
 abbrev count_of : Outcome → ℕ
-count_of NoList = 0
-count_of (Ended a n) = n
+count_of None = 0
+count_of (Some (a, n)) = n
 
 count_few : (us bytes : List ℕ) (s : State) → count_of (outcome_of us bytes s) ≤ most_commands
 count_few us bytes s = go (lent.verdict us bytes) refl
@@ -64,7 +61,7 @@ count_few us bytes s = go (lent.verdict us bytes) refl
     go verdict.Unfit h = omega arith
     go verdict.Fit h = by_check (formed s.words s.arena)
       where
-        by_check : (b : Bool) → count_of (pick b (Ended (last_answer (tried (lines_of us bytes) s)) (accepted_in (tried (lines_of us bytes) s))) (Ended (Refused BadState) 0)) ≤ most_commands
+        by_check : (b : Bool) → count_of (pick b (ended (last_answer (tried (lines_of us bytes) s)) (accepted_in (tried (lines_of us bytes) s))) (ended (Refused BadState) 0)) ≤ most_commands
         by_check true =
             let few = tried_few (lines_of us bytes) s in
             let lines = lines_few (items_of us) bytes in
@@ -74,8 +71,8 @@ count_few us bytes s = go (lent.verdict us bytes) refl
         by_check false = omega arith
 
 -- the number of a list's end, whole
-pub number_whole : (us bytes : List ℕ) (s : State) (a : Answer) (n : ℕ) → Ended a n ≡ outcome_of us bytes s → place_in a < place_room
-    → list_number (Ended a n) ≡ refusal_in a + 256 * n + 16777216 * place_in a
+pub number_whole : (us bytes : List ℕ) (s : State) (a : Answer) (n : ℕ) → ended a n ≡ outcome_of us bytes s → place_in a < place_room
+    → list_number (ended a n) ≡ refusal_in a + 256 * n + 16777216 * place_in a
 number_whole us bytes s a n is h =
     let same = ap count_of is in
     let few = count_few us bytes s in

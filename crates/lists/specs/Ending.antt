@@ -1,19 +1,17 @@
 -- What a list does, by its verdict and the state check.
 use Prim.{tt}
-use Rattle.std.specs.Prelude.{ℕ, true, false, ◌≡◌, List}
+use Rattle.std.specs.Prelude.{ℕ, true, false, ◌≡◌, List, None}
 use Rattle.std.proofs.Math.Path.{refl}
 use Rattle.std.proofs.Common.{ap}
 use Rattle.words.specs.Bytes.{AreBytes}
 use Rattle.refusals.specs.declared.Refusal.TheVariants.{BadState, ListUnfit}
-use Rattle.model.specs.declared.Answer.TheVariants.{Refused}
+use Rattle.model.specs.Answers.{Refused}
 use Rattle.model.specs.Formed.{formed}
 use Rattle.model.specs.Chain.{State, Chain, left_by}
 use Rattle.lists.specs.declared.Verdict.{Verdict}
 use Rattle.lists.specs.declared.Verdict.TheVariants as verdict
-use Rattle.lists.specs.declared.Outcome.{Outcome}
-use Rattle.lists.specs.declared.Outcome.TheVariants.{NoList, Ended}
 use Rattle.lists.specs.Lent as lent
-use Rattle.lists.specs.OneByOne.{calls_by, outcome_by, lent_state, Lists}
+use Rattle.lists.specs.OneByOne.{Outcome, ended, calls_by, outcome_by, lent_state, Lists}
 use Rattle.lists.specs.Running.{Ran}
 
 module _ (us bytes ws bs : List ℕ) (clean : AreBytes bytes) (kept : AreBytes bs) where
@@ -30,21 +28,21 @@ module _ (us bytes ws bs : List ℕ) (clean : AreBytes bytes) (kept : AreBytes b
     lent_arena = kept;
   }
 
-  pub lists_none : lent.verdict us bytes ≡ verdict.NoList → Lists us bytes ws bs NoList ws bs
+  pub lists_none : lent.verdict us bytes ≡ verdict.NoList → Lists us bytes ws bs None ws bs
   unfolding left_by Chain
-  lists_none is = lists verdict.NoList is NoList ws bs refl refl tt
+  lists_none is = lists verdict.NoList is None ws bs refl refl tt
 
-  pub lists_unfit : lent.verdict us bytes ≡ verdict.Unfit → formed ws bs ≡ true → Lists us bytes ws bs (Ended (Refused ListUnfit) 0) ws bs
+  pub lists_unfit : lent.verdict us bytes ≡ verdict.Unfit → formed ws bs ≡ true → Lists us bytes ws bs (ended (Refused ListUnfit) 0) ws bs
   unfolding left_by Chain
-  lists_unfit is h = lists verdict.Unfit is (Ended (Refused ListUnfit) 0) ws bs (rw h) refl tt
+  lists_unfit is h = lists verdict.Unfit is (ended (Refused ListUnfit) 0) ws bs (rw h) refl tt
 
-  pub lists_unfit_bad : lent.verdict us bytes ≡ verdict.Unfit → formed ws bs ≡ false → Lists us bytes ws bs (Ended (Refused BadState) 0) ws bs
+  pub lists_unfit_bad : lent.verdict us bytes ≡ verdict.Unfit → formed ws bs ≡ false → Lists us bytes ws bs (ended (Refused BadState) 0) ws bs
   unfolding left_by Chain
-  lists_unfit_bad is h = lists verdict.Unfit is (Ended (Refused BadState) 0) ws bs (rw h) refl tt
+  lists_unfit_bad is h = lists verdict.Unfit is (ended (Refused BadState) 0) ws bs (rw h) refl tt
 
-  pub lists_fit_bad : lent.verdict us bytes ≡ verdict.Fit → formed ws bs ≡ false → Lists us bytes ws bs (Ended (Refused BadState) 0) ws bs
+  pub lists_fit_bad : lent.verdict us bytes ≡ verdict.Fit → formed ws bs ≡ false → Lists us bytes ws bs (ended (Refused BadState) 0) ws bs
   unfolding left_by Chain
-  lists_fit_bad is h = lists verdict.Fit is (Ended (Refused BadState) 0) ws bs (rw h) (rw h) (rw h tt)
+  lists_fit_bad is h = lists verdict.Fit is (ended (Refused BadState) 0) ws bs (rw h) (rw h) (rw h tt)
 
   pub lists_fit : lent.verdict us bytes ≡ verdict.Fit → formed ws bs ≡ true → (r : Outcome) (ws' bs' : List ℕ) → Ran us bytes ws bs r ws' bs' → Lists us bytes ws bs r ws' bs'
   lists_fit is h r ws' bs' ran = lists verdict.Fit is r ws' bs' (rw h ran.ends) (rw h ran.left) (rw h ran.chain)

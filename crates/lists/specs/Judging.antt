@@ -1,6 +1,6 @@
 -- The judgment of a list along its items.
 use Rattle.std.specs.Prelude.{ℕ, ◌+◌, ◌%◌, ◌<◌, ◌≤◌, Bool, true, false, ◌≡◌, refl, length, leb}
-use Rattle.std.proofs.Common.{sym, ◌∙◌, arith, eq-eqb, ne_eqb}
+use Rattle.std.proofs.Common.{sym, subst, ◌∙◌, arith, eq-eqb, ne_eqb}
 use Rattle.std.proofs.Math.Path.{ap}
 use mathlib.Core.List.{List}
 use Rattle.words.specs.Choice.{pick, both}
@@ -59,6 +59,15 @@ module _ (us : List ℕ) (room : ℕ) where
           ∙ ap (λ (b : Bool). both fit b) (every_next acts i h)
           ∙ both_assoc fit (acts (kind_of room (item_at us i))) (every acts room (items_at us (i + 1)));
     }
+
+    -- by its kind: one that no list holds, one that is tried
+    pub judge_unlisted : i < count_in us → kind_of room (item_at us i) ≡ Unlisted → Judging us room (i + 1) false
+    judge_unlisted h k =
+        subst (λ (b : Bool). Judging us room (i + 1) b) (ap (λ (x : Kind). both fit (acts x)) k ∙ sym (both_none fit)) (judge_goes h (ap is_item k))
+
+    pub judge_acts : i < count_in us → kind_of room (item_at us i) ≡ Acts → Judging us room (i + 1) fit
+    judge_acts h k =
+        subst (λ (b : Bool). Judging us room (i + 1) b) (ap (λ (x : Kind). both fit (acts x)) k ∙ both_right fit) (judge_goes h (ap is_item k))
 
     pub judge_ends : count_in us ≤ i → (every is_item room (items_of us) ≡ true) × (both (leb (count_in us) most_commands) (every acts room (items_of us)) ≡ fit)
     judge_ends h = (j.items ∙ every-last is_item i h, j.fits ∙ ap (λ (b : Bool). both fit b) (every-last acts i h) ∙ both_right fit)

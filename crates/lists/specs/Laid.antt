@@ -1,5 +1,5 @@
 -- The tests of one item, as the code makes them.
-use Rattle.std.specs.Prelude.{ℕ, ◌+◌, ◌-◌, ◌<◌, ◌≤◌, Bool, ◌≡◌, [], ◌∷◌, eqb, leb}
+use Rattle.std.specs.Prelude.{ℕ, ◌+◌, ◌-◌, ◌<◌, ◌≤◌, Bool, ◌≡◌, [], ◌∷◌, eqb, leb, None}
 use Rattle.std.proofs.Math.Bool.{true, false}
 use Rattle.std.proofs.Math.Path.{refl}
 use Rattle.std.proofs.Common.{sym, ap, ◌∙◌, arith}
@@ -7,7 +7,6 @@ use borrow.Author.Tests.{le-leb, lt-leb, eq-eqb, ne_eqb, leb-true, leb-false}
 use Rattle.words.specs.Choice.{pick, both}
 use Rattle.words.specs.ChoiceLaws.{both_true}
 use Rattle.lists.specs.declared.Kind.TheVariants.{NoItem, Unlisted, Acts}
-use Rattle.calls.specs.declared.Parsed.TheVariants.{Nothing}
 use Rattle.calls.specs.Ops.{recall}
 use Rattle.lists.specs.Lent.{Item, parsed, zeros, is_laid, of_parsed, kind_of}
 
@@ -62,7 +61,7 @@ module _ (room : ℕ) (i : Item) where
   pub acts_laid : kind_of room i ≡ Acts → i.start + i.size ≤ room
   acts_laid h = leb-true (i.start + i.size) room (both_true (zeros i.later) (leb (i.start + i.size) room) (acts-both h).0).1
 
-  pub acts-parsed : kind_of room i ≡ Acts → parsed i ≡ Nothing → ⊥
+  pub acts-parsed : kind_of room i ≡ Acts → parsed i ≡ None → ⊥
   acts-parsed h n =
       let k : NoItem ≡ Acts = sym (ap of_parsed n) ∙ (acts-both h).1 in
       let z : ◌≡◌ {A = ℕ} 0 1 = cc in

@@ -1,13 +1,11 @@
 -- How a list of commands is lent, and what is judged of it as a whole: paper 02, 5/14, "a call with a list of up to 512 commands, none of a kind
 -- that replies".
-use Rattle.std.specs.Prelude.{ℕ, zero, suc, ◌+◌, ◌/◌, ◌%◌, Bool, true, false, List, [], ◌∷◌, ◌++◌, length, drop, get_or, eqb, leb}
+use Rattle.std.specs.Prelude.{ℕ, zero, suc, ◌+◌, ◌/◌, ◌%◌, Bool, true, false, List, [], ◌∷◌, ◌++◌, length, drop, get_or, eqb, leb, None, Option, Some}
 use Rattle.words.specs.Choice.{pick, both}
 use Rattle.words.specs.Parts.{region}
 use Rattle.model.specs.declared.Command.{Command}
 use Rattle.model.specs.declared.Command.TheVariants as command
 use Rattle.model.specs.Script.{Line, line}
-use Rattle.calls.specs.declared.Parsed.{Parsed}
-use Rattle.calls.specs.declared.Parsed.TheVariants.{Call, Nothing}
 use Rattle.calls.specs.Ops.{recall, command_of}
 use Rattle.lists.specs.declared.Verdict.{Verdict}
 use Rattle.lists.specs.declared.Verdict.TheVariants.{NoList, Unfit, Fit}
@@ -55,7 +53,7 @@ abbrev pub items_of : List ℕ → List Item
 items_of us = items_from (count_in us) us
 
 -- an item's command, or none: words that its op doesn't take are not looked at
-abbrev pub parsed : Item → Parsed
+abbrev pub parsed : Item → Option Command
 parsed i = command_of i.op i.a i.b i.c i.d i.e
 
 -- its bytes, of those that are lent beside the list
@@ -79,9 +77,9 @@ of_command (command.Controls c) = Acts
 of_command (command.Buses c) = Acts
 of_command (command.Query q) = Unlisted
 
-abbrev pub of_parsed : Parsed → Kind
-of_parsed (Call c) = of_command c
-of_parsed Nothing = NoItem
+abbrev pub of_parsed : Option Command → Kind
+of_parsed (Some c) = of_command c
+of_parsed None = NoItem
 
 abbrev pub kind_of : ℕ → Item → Kind
 kind_of room i = pick (is_laid room i) (pick (eqb i.op recall) Unlisted (of_parsed (parsed i))) NoItem
@@ -117,9 +115,9 @@ unfoldable pub verdict : List ℕ → List ℕ → Verdict
 verdict us bytes = pick (is_list us bytes) (pick (is_fit us bytes) Fit Unfit) NoList
 
 -- the commands of a list, each with its bytes
-abbrev pub line_by : Parsed → List ℕ → List Line
-line_by (Call c) part = line c part ∷ []
-line_by Nothing part = []
+abbrev pub line_by : Option Command → List ℕ → List Line
+line_by (Some c) part = line c part ∷ []
+line_by None part = []
 
 unfoldable pub lines_in : List Item → List ℕ → List Line
 lines_in [] bytes = []

@@ -1,12 +1,13 @@
 -- What a list does, for every input: paper 02, 5/14, "It equals sending them one by one and stops at the first refusal, giving its number and how
 -- many were accepted before it; those
 -- stay done."
-use Rattle.std.specs.Prelude.{ℕ, suc, ◌+◌, ◌*◌, ◌%◌, Bool, ◌≡◌, List, [], ◌∷◌}
+use Rattle.std.specs.Prelude.{ℕ, suc, ◌+◌, ◌*◌, ◌%◌, Bool, ◌≡◌, List, [], ◌∷◌, Ok, Err, None, Some, Option}
 use Rattle.words.specs.Choice.{pick}
 use Rattle.words.specs.Bytes.{AreBytes}
 use Rattle.refusals.specs.declared.Refusal.TheVariants.{BadState, ListUnfit}
-use Rattle.model.specs.declared.Answer.{Answer}
-use Rattle.model.specs.declared.Answer.TheVariants.{Done, Replied, Refused, RefusedAt}
+use Rattle.model.specs.declared.Denied.TheVariants as denied
+use Rattle.model.specs.Answers.{Answer}
+use Rattle.model.specs.Answers.{Done, Refused}
 use Rattle.model.specs.Engine.{decode}
 use Rattle.model.specs.Formed.{formed}
 use Rattle.model.specs.After.{words_after, arena_after}
@@ -17,9 +18,14 @@ use Rattle.model.specs.Script.{Line}
 use Rattle.calls.specs.Numbers.{no_command}
 use Rattle.lists.specs.declared.Verdict.{Verdict}
 use Rattle.lists.specs.declared.Verdict.TheVariants as verdict
-use Rattle.lists.specs.declared.Outcome.{Outcome}
-use Rattle.lists.specs.declared.Outcome.TheVariants.{NoList, Ended}
 use Rattle.lists.specs.Lent as lent
+
+-- what a list ends in: an answer, and how many commands were accepted before it; none where it is no list
+abbrev pub Outcome : Type 0
+Outcome = Option (Answer × ℕ)
+
+abbrev pub ended : Answer → ℕ → Outcome
+ended a n = Some (a, n)
 
 -- what `engine::apply` answers and leaves where a command is sent with no room for a reply
 abbrev pub answer_to : Line → State → Answer
@@ -69,9 +75,9 @@ calls_by verdict.Fit ls s = pick (formed s.words s.arena) (tried ls s) []
 
 -- what it ends in: "refused whole with 34, after 1"
 abbrev pub outcome_by : Verdict → List Line → State → Outcome
-outcome_by verdict.NoList ls s = NoList
-outcome_by verdict.Unfit ls s = Ended (pick (formed s.words s.arena) (Refused ListUnfit) (Refused BadState)) 0
-outcome_by verdict.Fit ls s = pick (formed s.words s.arena) (Ended (last_answer (tried ls s)) (accepted_in (tried ls s))) (Ended (Refused BadState) 0)
+outcome_by verdict.NoList ls s = None
+outcome_by verdict.Unfit ls s = ended (pick (formed s.words s.arena) (Refused ListUnfit) (Refused BadState)) 0
+outcome_by verdict.Fit ls s = pick (formed s.words s.arena) (ended (last_answer (tried ls s)) (accepted_in (tried ls s))) (ended (Refused BadState) 0)
 
 abbrev pub calls_of : List ℕ → List ℕ → State → List Call
 calls_of us bytes s = calls_by (lent.verdict us bytes) (lent.lines_of us bytes) s
@@ -101,13 +107,12 @@ abbrev pub place_room : ℕ
 place_room = 549755813888
 
 abbrev pub place_in : Answer → ℕ
-place_in Done = 0
-place_in (Replied n) = 0
-place_in (Refused r) = 0
-place_in (RefusedAt r at) = at
+place_in (Ok x) = 0
+place_in (Err (denied.Refused r)) = 0
+place_in (Err (denied.RefusedAt r at)) = at
 
 -- as one number: the refusal's (0 where all are accepted), plus 256 times how many were accepted before it, plus 2^24 times the place (refusals 2
 -- to 11); 255 where it is no list
 abbrev pub list_number : Outcome → ℕ
-list_number NoList = no_command
-list_number (Ended a n) = refusal_in a + 256 * (n % count_room) + 16777216 * (place_in a % place_room)
+list_number None = no_command
+list_number (Some (a, n)) = refusal_in a + 256 * (n % count_room) + 16777216 * (place_in a % place_room)

@@ -1,6 +1,6 @@
 -- The commands of a list along its items.
 use Prim.{tt}
-use Rattle.std.specs.Prelude.{ℕ, ◌+◌, ◌<◌, ◌≤◌, Bool, true, false, ◌≡◌, refl, length}
+use Rattle.std.specs.Prelude.{ℕ, ◌+◌, ◌<◌, ◌≤◌, Bool, true, false, ◌≡◌, refl, length, Some, Ok, Err, is_err}
 use Rattle.std.proofs.Math.Path.{sym, ap, ap₂, subst}
 use Rattle.std.proofs.Common.{◌∙◌}
 use mathlib.Core.List.{List, [], ◌∷◌, ◌++◌}
@@ -9,22 +9,19 @@ use Rattle.words.specs.Choice.{pick, both}
 use Rattle.words.specs.ChoiceLaws.{both_true}
 use Rattle.words.specs.Bytes.{AreBytes}
 use Rattle.model.specs.declared.Command.{Command}
-use Rattle.model.specs.declared.Answer.{Answer}
-use Rattle.model.specs.declared.Answer.TheVariants.{Done}
+use Rattle.model.specs.Answers.{Answer}
+use Rattle.model.specs.Answers.{Done}
 use Rattle.model.specs.Engine.{decode}
 use Rattle.model.specs.Formed.{formed}
 use Rattle.model.specs.Apply.{answer_in, answer, is_accepted, Does}
 use Rattle.model.specs.Chain.{State, Call, Applied, Chain, left_by}
 use Rattle.model.specs.Script.{Line, line}
-use Rattle.calls.specs.declared.Parsed.TheVariants as parse
 use Rattle.state.specs.Known.{known}
 use Rattle.refinement.specs.Stepped.{kept}
-use Rattle.lists.specs.declared.Outcome.{Outcome}
-use Rattle.lists.specs.declared.Outcome.TheVariants.{Ended}
 use Rattle.lists.specs.declared.Verdict.TheVariants.{Fit}
 use Rattle.lists.specs.declared.Kind.TheVariants.{Acts}
 use Rattle.lists.specs.Lent.{Item, count_in, parsed, part_of, kind_of, acts, every, verdict, line_by, lines_in, lines_of}
-use Rattle.lists.specs.OneByOne.{answer_to, takes, after, sent, tried, last_answer, accepted_in, lent_state}
+use Rattle.lists.specs.OneByOne.{Outcome, ended, answer_to, takes, after, sent, tried, last_answer, accepted_in, lent_state}
 use Rattle.lists.specs.Walk.{item_at, items_at, items_first, items_next, items_last}
 use Rattle.lists.specs.Judging.{every_next, fit_acts, acts_only}
 
@@ -38,7 +35,7 @@ pub record Goes (i : Item) (bytes ws bs : List ℕ) (a : Answer) (ws' bs' : List
   pub lent_bytes : AreBytes line.bytes
   pub lent_arena : AreBytes bs
 
-pub goes_by : (i : Item) (bytes ws bs : List ℕ) (c : Command) (part : List ℕ) (a : Answer) (ws' bs' out' : List ℕ) → parsed i ≡ parse.Call c → part ≡ part_of i bytes
+pub goes_by : (i : Item) (bytes ws bs : List ℕ) (c : Command) (part : List ℕ) (a : Answer) (ws' bs' out' : List ℕ) → parsed i ≡ Some c → part ≡ part_of i bytes
     → Does c part ws bs [] a ws' bs' out' → Goes i bytes ws bs a ws' bs'
 goes_by i bytes ws bs c part a ws' bs' out' is same d = record {
   line = line c part;
@@ -52,7 +49,7 @@ goes_by i bytes ws bs c part a ws' bs' out' is same d = record {
 
 -- all commands of a list
 pub record Ran (us bytes ws bs : List ℕ) (r : Outcome) (ws' bs' : List ℕ) : Type 0 where
-  pub ends : r ≡ Ended (last_answer (tried (lines_of us bytes) (lent_state ws bs))) (accepted_in (tried (lines_of us bytes) (lent_state ws bs)))
+  pub ends : r ≡ ended (last_answer (tried (lines_of us bytes) (lent_state ws bs))) (accepted_in (tried (lines_of us bytes) (lent_state ws bs)))
   pub left : lent_state ws' bs' ≡ left_by (tried (lines_of us bytes) (lent_state ws bs)) (lent_state ws bs)
   pub chain : Chain (tried (lines_of us bytes) (lent_state ws bs)) (lent_state ws bs)
 
@@ -100,6 +97,15 @@ same_size ws bs ws₀ bs₀ h h₀ =
     let k = known ws bs h in
     let k₀ = known ws₀ bs₀ h₀ in
     (k.size ∙ sym k₀.size, k.arena_size ∙ sym k₀.arena_size)
+
+-- an answer is accepted or refused
+pub not_err : (a : Answer) → false ≡ is_err a → is_accepted a ≡ true
+not_err (Ok x) h = refl
+not_err (Err e) h = cc
+
+pub an_err : (a : Answer) → true ≡ is_err a → is_accepted a ≡ false
+an_err (Ok x) h = cc
+an_err (Err e) h = refl
 
 abbrev pub lines_at : List ℕ → List ℕ → ℕ → List Line
 lines_at us bytes i = lines_in (items_at us i) bytes
@@ -172,19 +178,19 @@ module _ (us bytes ws₀ bs₀ : List ℕ) (i : ℕ) (ws bs : List ℕ) (r : Run
                 (subst (λ (s : State). Chain (tried (lines_at us bytes (i + 1)) s) s) left_is k));
           }
 
-      pub run_stops : is_accepted a ≡ false → Ran us bytes ws₀ bs₀ (Ended a i) ws' bs'
+      pub run_stops : is_accepted a ≡ false → Ran us bytes ws₀ bs₀ (ended a i) ws' bs'
       run_stops h =
           let one = refused g.line (lines_at us bytes (i + 1)) (lent_state ws bs) (sym taken ∙ h) in
           let none = one.1.0 in
           let before = as_line.counts in
           let count : i ≡ accepted_in (tried (lines_of us bytes) (lent_state ws₀ bs₀)) = omega arith in
           record {
-            ends = ap₂ Ended (g.answers ∙ sym one.0 ∙ sym as_line.answers) count;
+            ends = ap₂ ended (g.answers ∙ sym one.0 ∙ sym as_line.answers) count;
             left = left_is ∙ sym one.1.1 ∙ sym as_line.left;
             chain = chain_line (refused_chain g.line (lines_at us bytes (i + 1)) (lent_state ws bs) g.lent_bytes g.lent_arena (sym taken ∙ h));
           }
 
-  pub run_ends : count_in us ≤ i → Ran us bytes ws₀ bs₀ (Ended Done (count_in us)) ws bs
+  pub run_ends : count_in us ≤ i → Ran us bytes ws₀ bs₀ (ended Done (count_in us)) ws bs
   unfolding lines_in tried last_answer accepted_in left_by Chain
   run_ends h =
       let last =
@@ -194,7 +200,7 @@ module _ (us bytes ws₀ bs₀ : List ℕ) (i : ℕ) (ws bs : List ℕ) (r : Run
       let counted = last.counts in
       let count : count_in us ≡ accepted_in (tried (lines_of us bytes) (lent_state ws₀ bs₀)) = omega arith in
       record {
-        ends = ap₂ Ended (sym last.answers) count;
+        ends = ap₂ ended (sym last.answers) count;
         left = sym last.left;
         chain = r.chain (subst (λ (l : List Item). Chain (tried (lines_in l bytes) (lent_state ws bs)) (lent_state ws bs)) (sym (items_last us i h)) tt);
       }

@@ -1,6 +1,6 @@
 -- A list's items from a place on: what is left of the list, as a walk along it finds them.
-use Rattle.std.specs.Prelude.{ℕ, suc, ◌+◌, ◌*◌, ◌-◌, ◌<◌, ◌≤◌, ◌≡◌, List, [], ◌∷◌, drop}
-use Rattle.std.proofs.Common.{ap, ◌∙◌, arith, drop-drop}
+use Rattle.std.specs.Prelude.{ℕ, suc, ◌+◌, ◌*◌, ◌-◌, ◌<◌, ◌≤◌, ◌≡◌, List, [], ◌∷◌, length, take, drop}
+use Rattle.std.proofs.Common.{ap, ◌∙◌, arith, drop-drop, length-drop, take_all}
 use Rattle.lists.specs.Lent.{Item, item_words, item_in, items_from, count_in, items_of}
 
 abbrev pub item_at : List ℕ → ℕ → Item
@@ -8,6 +8,10 @@ item_at us i = item_in (drop (item_words * i) us)
 
 abbrev pub items_at : List ℕ → ℕ → List Item
 items_at us i = items_from (count_in us - i) (drop (item_words * i) us)
+
+-- the words of a list from a place on, as the code lends them
+pub tail_is : (n : ℕ) (us : List ℕ) → take (length us - n) (drop n us) ≡ drop n us
+tail_is n us = take_all (length us - n) (drop n us) (simp length-drop (omega arith))
 
 pub items_first : (us : List ℕ) → items_at us 0 ≡ items_of us
 items_first us = let e : count_in us - 0 ≡ count_in us = omega arith in rw e

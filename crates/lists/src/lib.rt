@@ -15,7 +15,8 @@ pub const ITEM_WORDS: usize = 12;
 pub const MOST_COMMANDS: usize = 512;
 
 // A list as a whole: none, one that is refused with 34, or one whose commands are tried.
-#[derive(Clone, Copy)]
+// Kept: three cases; an Option of a Result would be read twice.
+#[derive(Clone, Copy, Debug, PartialEq, Eq)]
 pub enum Verdict {
     NoList,
     Unfit,
@@ -23,19 +24,16 @@ pub enum Verdict {
 }
 
 // One item: none, a command that no list holds (one that replies, a recall), or one that is tried.
-#[derive(Clone, Copy)]
+// Kept: three kinds.
+#[derive(Clone, Copy, Debug, PartialEq, Eq)]
 pub enum Kind {
     NoItem,
     Unlisted,
     Acts,
 }
 
-// What a list ends in: that it is none; or an answer, and how many commands were accepted before it.
-#[derive(Clone, Copy)]
-pub enum Outcome {
-    NoList,
-    Ended(Answer, usize),
-}
+// What a list ends in: an answer, and how many commands were accepted before it; none where it is no list.
+pub type Outcome = Option<(Answer, usize)>;
 
 pub use judged::judge;
 pub use number::{list_number, refusal_in};

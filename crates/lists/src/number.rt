@@ -5,19 +5,16 @@ ghost use Rattle.lists.specs.OneByOne.{place_in, list_number};
 
 use crate::Outcome;
 use calls::NO_COMMAND;
-use faults::fault_number;
-use model::Answer;
-use refusals::refusal_number;
+use model::{Answer, Denied};
 
 // The number of the refusal that an answer gives, 0 where it gives none.
 pub fn refusal_in(answer: Answer) -> u32
     ensures { result ≡ refusal_in answer }
 {
     match answer {
-        Answer::Done => 0,
-        Answer::Replied(n) => 0,
-        Answer::Refused(refusal) => refusal_number(refusal),
-        Answer::RefusedAt(fault, place) => fault_number(fault),
+        Ok(_) => 0,
+        Err(Denied::Refused(refusal)) => u32::from(refusal),
+        Err(Denied::RefusedAt(fault, _)) => u32::from(fault),
     }
 }
 
@@ -26,10 +23,8 @@ fn place_in(answer: Answer) -> usize
     ensures { result ≡ place_in answer }
 {
     match answer {
-        Answer::Done => 0,
-        Answer::Replied(n) => 0,
-        Answer::Refused(refusal) => 0,
-        Answer::RefusedAt(fault, place) => place,
+        Ok(_) | Err(Denied::Refused(_)) => 0,
+        Err(Denied::RefusedAt(_, place)) => place,
     }
 }
 
@@ -38,9 +33,9 @@ pub fn list_number(outcome: Outcome) -> u64
     ensures { result ≡ list_number outcome }
 {
     match outcome {
-        Outcome::NoList => NO_COMMAND,
-        Outcome::Ended(answer, accepted) => {
-            refusal_in(answer) as u64
+        None => NO_COMMAND,
+        Some((answer, accepted)) => {
+            u64::from(refusal_in(answer))
                 + 256 * (accepted as u64 % 65536)
                 + 16777216 * (place_in(answer) as u64 % 549755813888)
         }

@@ -7,8 +7,8 @@ use Rattle.std.proofs.Math.Seq.{take-length}
 use Rattle.words.specs.Choice.{pick, both}
 use Rattle.refusals.specs.declared.Refusal.TheVariants.{NoRoom, Malformed, UnknownMessage}
 use Rattle.format.specs.Fields.{name_bytes}
-use Rattle.model.specs.declared.Answer.{Answer}
-use Rattle.model.specs.declared.Answer.TheVariants.{Replied, Refused}
+use Rattle.model.specs.Answers.{Answer}
+use Rattle.model.specs.Answers.{Replied, Refused}
 use Rattle.model.specs.Checks.{first_of}
 use Rattle.model.specs.Apply.{written}
 use Rattle.calls.specs.Ops.{recall}

@@ -1,14 +1,14 @@
 -- Reading what the writer wrote: the message of a call, read and looked up, gives the call's command.
-use Rattle.std.specs.Prelude.{ℕ, ◌≡◌, refl, List, [], length}
+use Rattle.std.specs.Prelude.{ℕ, ◌≡◌, refl, List, [], length, Some}
 use Rattle.std.proofs.Common.{ap, ap₂, ◌∙◌}
 use Rattle.std.proofs.Math.Option.{Option}
 use Rattle.words.specs.Choice.{pick}
 use Rattle.osc.specs.Message.{Argument, message}
 use Rattle.model.specs.declared.Command.{Command}
-use Rattle.calls.specs.declared.Parsed.TheVariants.{Call}
+use Rattle.calls.specs.Ops.{command_in}
 use Rattle.messages.specs.Form.{Message, parsed, read_message}
 use Rattle.messages.specs.Table.{Row, Given, Words, give_all}
-use Rattle.messages.specs.Receive.{bare, means, command_in, calls, known, meaning_of, meaning}
+use Rattle.messages.specs.Receive.{bare, means, calls, known, meaning_of, meaning}
 use Rattle.messages.specs.Write.{message_from, message_of}
 use Rattle.messagelaws.specs.Form.{message_back}
 use Rattle.messagelaws.specs.Slots.{given_fits, all_well}
@@ -21,7 +21,7 @@ use Rattle.messagelaws.specs.Answers.{Fits}
 abbrev pub part_of : Row → Given → List ℕ
 part_of r g = pick (beside r.slots) g.bytes []
 
-pub back : (g : Given) (f : Fits g) (c : Command) → Words g.numbers → command_in g.numbers ≡ Call c → meaning (message_of g) ≡ means c (part_of f.row g)
+pub back : (g : Given) (f : Fits g) (c : Command) → Words g.numbers → command_in g.numbers ≡ Some c → meaning (message_of g) ≡ means c (part_of f.row g)
 unfolding meaning message_of
 back g f c w h =
     let r : Row = f.row in

@@ -1,5 +1,5 @@
 -- Every command is that of a call, and every one but export of a call whose op has a row.
-use Rattle.std.specs.Prelude.{ℕ, ◌≡◌, refl, List}
+use Rattle.std.specs.Prelude.{ℕ, ◌≡◌, refl, List, Some}
 use Rattle.std.proofs.Math.Option.{some}
 use Rattle.values.specs.declared.Key.TheVariants.{Index, Name}
 use Rattle.values.specs.declared.Value.{Value}
@@ -11,12 +11,10 @@ use Rattle.model.specs.declared.BusCommand.TheVariants as buses
 use Rattle.model.specs.declared.Query.TheVariants as query
 use Rattle.model.specs.declared.Command.{Command}
 use Rattle.model.specs.declared.Command.TheVariants as command
-use Rattle.calls.specs.declared.Parsed.TheVariants.{Call}
 use Rattle.calls.specs.Ops as ops
-use Rattle.calls.specs.Ops.{command_of}
-use Rattle.messages.specs.declared.Numbers.{Numbers}
+use Rattle.calls.specs.Ops.{command_of, command_in}
+use Rattle.calls.specs.declared.Numbers.{Numbers}
 use Rattle.messages.specs.Table.{Row, Given}
-use Rattle.messages.specs.Receive.{command_in}
 use Rattle.messages.specs.Write.{row_from, row_of}
 
 -- an op with its numbers, and with its numbers and a value
@@ -63,10 +61,10 @@ call_of c part = record { numbers = numbers_of c; bytes = part }
 -- a command's numbers, whose op has a row
 pub record Called (c : Command) : Type 0 where
   pub row : Row
-  pub is : command_in (numbers_of c) ≡ Call c
+  pub is : command_in (numbers_of c) ≡ Some c
   pub known : row_of (numbers_of c).op ≡ some row
 
-called : {c : Command} {r : Row} → command_in (numbers_of c) ≡ Call c → row_of (numbers_of c).op ≡ some r → Called c
+called : {c : Command} {r : Row} → command_in (numbers_of c) ≡ Some c → row_of (numbers_of c).op ≡ some r → Called c
 called {c} {r} e k = record { row = r; is = e; known = k }
 
 pub every_called : (c : Command) → (c ≡ command.Query query.Export → ⊥) → Called c

@@ -4,7 +4,8 @@ use Rattle.std.proofs.Common.{sym, ap, ap₂, ◌∙◌, arith}
 use Rattle.std.proofs.Math.Option.{Option, some}
 use Rattle.osc.specs.Message.{message}
 use Rattle.messages.specs.Form.{Message}
-use Rattle.messages.specs.Table.{Slot, Row, table, Given, Words, give_all}
+use Rattle.messages.specs.declared.Slot.{Slot}
+use Rattle.messages.specs.Table.{Row, table, Given, Words, give_all}
 use Rattle.messages.specs.Receive.{bare, look_up}
 use Rattle.messages.specs.Write.{row_of, message_from, message_of}
 use Rattle.messagelaws.specs.Arguments.{AllWell}

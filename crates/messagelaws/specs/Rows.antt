@@ -10,7 +10,9 @@ use Rattle.format.specs.Bounds.{every}
 use Rattle.order.specs.Same.{same_true, same_refl}
 use Rattle.osc.specs.Message.{tags}
 use Rattle.messages.specs.Form.{Message}
-use Rattle.messages.specs.Table.{Slot, at_a, at_b, at_c, value, name, file, Row, table, Given, takes, fit_all, take_all}
+use Rattle.messages.specs.declared.Slot.{Slot}
+use Rattle.messages.specs.declared.Slot.TheVariants.{NumberA, NumberB, NumberC, Value, Name, File}
+use Rattle.messages.specs.Table.{Row, table, Given, takes, fit_all, take_all}
 use Rattle.messages.specs.Receive.{bare, look_up}
 use Rattle.messages.specs.Write.{row_from, row_of}
 use Rattle.messagelaws.specs.Slots.{among, apart}
@@ -100,27 +102,27 @@ look_found op (r ∷ rows) m g e = by (both (same_name m.address r.address) (fit
 
 -- slots by the kind of what they take: a number, a string, a blob
 abbrev kind : Slot → ℕ
-kind at_a = 105
-kind at_b = 105
-kind at_c = 105
-kind value = 105
-kind name = 115
-kind file = 98
+kind NumberA = 105
+kind NumberB = 105
+kind NumberC = 105
+kind Value = 105
+kind Name = 115
+kind File = 98
 
 abbrev kind_of : ℕ → ℕ
 kind_of tag = pick (eqb tag 102) 105 tag
 
 kind_taken : (slot : Slot) (tag : ℕ) → takes slot tag ≡ true → kind_of tag ≡ kind slot
-kind_taken at_a tag h = rw (eqb-true tag 105 h)
-kind_taken at_b tag h = rw (eqb-true tag 105 h)
-kind_taken at_c tag h = rw (eqb-true tag 105 h)
-kind_taken value tag h = by (eqb tag 102) h
+kind_taken NumberA tag h = rw (eqb-true tag 105 h)
+kind_taken NumberB tag h = rw (eqb-true tag 105 h)
+kind_taken NumberC tag h = rw (eqb-true tag 105 h)
+kind_taken Value tag h = by (eqb tag 102) h
   where
     by : (b : Bool) → either b (eqb tag 105) ≡ true → pick b 105 tag ≡ 105
     by true h = refl
     by false h = eqb-true tag 105 h
-kind_taken name tag h = rw (eqb-true tag 115 h)
-kind_taken file tag h = rw (eqb-true tag 98 h)
+kind_taken Name tag h = rw (eqb-true tag 115 h)
+kind_taken File tag h = rw (eqb-true tag 98 h)
 
 -- slots that the same tags may fit
 unfoldable alike : List Slot → List Slot → Bool

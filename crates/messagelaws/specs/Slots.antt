@@ -6,7 +6,9 @@ use Rattle.words.specs.Choice.{pick, both, either}
 use Rattle.words.specs.ChoiceLaws.{both_true, either_false}
 use Rattle.format.specs.Fields.{name_bytes, highest32}
 use Rattle.osc.specs.Message.{Argument, int, float, text, blob, tag_of, tags}
-use Rattle.messages.specs.Table.{Slot, at_a, at_b, at_c, value, name, file, Given, Words, takes, number_in, bytes_in, take, give, fit_all, take_all, give_all}
+use Rattle.messages.specs.declared.Slot.{Slot}
+use Rattle.messages.specs.declared.Slot.TheVariants.{NumberA, NumberB, NumberC, Value, Name, File}
+use Rattle.messages.specs.Table.{Given, Words, takes, number_in, bytes_in, take, give, fit_all, take_all, give_all}
 use Rattle.messages.specs.Write.{unfit, any_unfit}
 use Rattle.messagelaws.specs.Arguments.{Well, AllWell}
 
@@ -29,7 +31,7 @@ blob_of (float p) h = cc
 blob_of (text s) h = cc
 blob_of (blob s) h = refl
 
-value_of : (x : Argument) → either (eqb (tag_of x) 102) (eqb (tag_of x) 105) ≡ true → (g : Given) → give value (take value x g) ≡ x
+value_of : (x : Argument) → either (eqb (tag_of x) 102) (eqb (tag_of x) 105) ≡ true → (g : Given) → give Value (take Value x g) ≡ x
 value_of (int n) h g = refl
 value_of (float p) h g = refl
 value_of (text s) h g = cc
@@ -37,60 +39,60 @@ value_of (blob s) h g = cc
 
 -- what a slot takes it gives
 give-take : (slot : Slot) (x : Argument) (g : Given) → takes slot (tag_of x) ≡ true → give slot (take slot x g) ≡ x
-give-take at_a x g h = int_of x h
-give-take at_b x g h = int_of x h
-give-take at_c x g h = int_of x h
-give-take value x g h = value_of x h g
-give-take name x g h = text_of x h
-give-take file x g h = blob_of x h
+give-take NumberA x g h = int_of x h
+give-take NumberB x g h = int_of x h
+give-take NumberC x g h = int_of x h
+give-take Value x g h = value_of x h g
+give-take Name x g h = text_of x h
+give-take File x g h = blob_of x h
 
 -- which part of the call a slot stands for: the name and the file are one
 abbrev part : Slot → ℕ
-part at_a = 1
-part at_b = 2
-part at_c = 3
-part value = 4
-part name = 5
-part file = 5
+part NumberA = 1
+part NumberB = 2
+part NumberC = 3
+part Value = 4
+part Name = 5
+part File = 5
 
 -- a slot keeps what it gives where another takes
 give_kept : (slot other : Slot) (x : Argument) (g : Given) → eqb (part slot) (part other) ≡ false → give slot (take other x g) ≡ give slot g
-give_kept at_a at_a x g h = cc
-give_kept at_a at_b x g h = refl
-give_kept at_a at_c x g h = refl
-give_kept at_a value x g h = refl
-give_kept at_a name x g h = refl
-give_kept at_a file x g h = refl
-give_kept at_b at_a x g h = refl
-give_kept at_b at_b x g h = cc
-give_kept at_b at_c x g h = refl
-give_kept at_b value x g h = refl
-give_kept at_b name x g h = refl
-give_kept at_b file x g h = refl
-give_kept at_c at_a x g h = refl
-give_kept at_c at_b x g h = refl
-give_kept at_c at_c x g h = cc
-give_kept at_c value x g h = refl
-give_kept at_c name x g h = refl
-give_kept at_c file x g h = refl
-give_kept value at_a x g h = refl
-give_kept value at_b x g h = refl
-give_kept value at_c x g h = refl
-give_kept value value x g h = cc
-give_kept value name x g h = refl
-give_kept value file x g h = refl
-give_kept name at_a x g h = refl
-give_kept name at_b x g h = refl
-give_kept name at_c x g h = refl
-give_kept name value x g h = refl
-give_kept name name x g h = cc
-give_kept name file x g h = cc
-give_kept file at_a x g h = refl
-give_kept file at_b x g h = refl
-give_kept file at_c x g h = refl
-give_kept file value x g h = refl
-give_kept file name x g h = cc
-give_kept file file x g h = cc
+give_kept NumberA NumberA x g h = cc
+give_kept NumberA NumberB x g h = refl
+give_kept NumberA NumberC x g h = refl
+give_kept NumberA Value x g h = refl
+give_kept NumberA Name x g h = refl
+give_kept NumberA File x g h = refl
+give_kept NumberB NumberA x g h = refl
+give_kept NumberB NumberB x g h = cc
+give_kept NumberB NumberC x g h = refl
+give_kept NumberB Value x g h = refl
+give_kept NumberB Name x g h = refl
+give_kept NumberB File x g h = refl
+give_kept NumberC NumberA x g h = refl
+give_kept NumberC NumberB x g h = refl
+give_kept NumberC NumberC x g h = cc
+give_kept NumberC Value x g h = refl
+give_kept NumberC Name x g h = refl
+give_kept NumberC File x g h = refl
+give_kept Value NumberA x g h = refl
+give_kept Value NumberB x g h = refl
+give_kept Value NumberC x g h = refl
+give_kept Value Value x g h = cc
+give_kept Value Name x g h = refl
+give_kept Value File x g h = refl
+give_kept Name NumberA x g h = refl
+give_kept Name NumberB x g h = refl
+give_kept Name NumberC x g h = refl
+give_kept Name Value x g h = refl
+give_kept Name Name x g h = cc
+give_kept Name File x g h = cc
+give_kept File NumberA x g h = refl
+give_kept File NumberB x g h = refl
+give_kept File NumberC x g h = refl
+give_kept File Value x g h = refl
+give_kept File Name x g h = cc
+give_kept File File x g h = cc
 
 -- slots that stand for different parts
 unfoldable pub among : ℕ → List Slot → Bool
@@ -124,16 +126,16 @@ give_all_taken (slot ∷ slots) (x ∷ xs) g a h =
 
 -- what is given fits
 takes_given : (slot : Slot) (g : Given) → takes slot (tag_of (give slot g)) ≡ true
-takes_given at_a g = refl
-takes_given at_b g = refl
-takes_given at_c g = refl
-takes_given value g = by (eqb g.numbers.d 0)
+takes_given NumberA g = refl
+takes_given NumberB g = refl
+takes_given NumberC g = refl
+takes_given Value g = by (eqb g.numbers.d 0)
   where
-    by : (b : Bool) → takes value (tag_of (pick b (float g.numbers.e) (int g.numbers.e))) ≡ true
+    by : (b : Bool) → takes Value (tag_of (pick b (float g.numbers.e) (int g.numbers.e))) ≡ true
     by true = refl
     by false = refl
-takes_given name g = refl
-takes_given file g = refl
+takes_given Name g = refl
+takes_given File g = refl
 
 pub given_fits : (slots : List Slot) (g : Given) → fit_all slots (tags (give_all slots g)) ≡ true
 unfolding fit_all tags give_all
@@ -142,16 +144,16 @@ given_fits (slot ∷ slots) g = rw (takes_given slot g) (given_fits slots g)
 
 -- what the writer accepts is well, and what is well it accepts
 well_given : (slot : Slot) (g : Given) → Words g.numbers → unfit g.bytes slot ≡ false → Well (give slot g)
-well_given at_a g w h = w.a
-well_given at_b g w h = w.b
-well_given at_c g w h = w.c
-well_given value g w h = by (eqb g.numbers.d 0)
+well_given NumberA g w h = w.a
+well_given NumberB g w h = w.b
+well_given NumberC g w h = w.c
+well_given Value g w h = by (eqb g.numbers.d 0)
   where
     by : (b : Bool) → Well (pick b (float g.numbers.e) (int g.numbers.e))
     by true = w.e
     by false = w.e
-well_given name g w h = not-false (name_bytes g.bytes) h
-well_given file g w h = ltb-false highest32 (length g.bytes) h
+well_given Name g w h = not-false (name_bytes g.bytes) h
+well_given File g w h = ltb-false highest32 (length g.bytes) h
 
 pub all_well : (slots : List Slot) (g : Given) → Words g.numbers → any_unfit g.bytes slots ≡ false → AllWell (give_all slots g)
 unfolding any_unfit AllWell give_all
@@ -161,12 +163,12 @@ all_well (slot ∷ slots) g w h =
     (well_given slot g w t.0, all_well slots g w t.1)
 
 fit_given : (slot : Slot) (g : Given) → Well (give slot g) → unfit g.bytes slot ≡ false
-fit_given at_a g w = refl
-fit_given at_b g w = refl
-fit_given at_c g w = refl
-fit_given value g w = refl
-fit_given name g w = rw w
-fit_given file g w = le-ltb highest32 (length g.bytes) w
+fit_given NumberA g w = refl
+fit_given NumberB g w = refl
+fit_given NumberC g w = refl
+fit_given Value g w = refl
+fit_given Name g w = rw w
+fit_given File g w = le-ltb highest32 (length g.bytes) w
 
 pub none_unfit : (slots : List Slot) (g : Given) → AllWell (give_all slots g) → any_unfit g.bytes slots ≡ false
 unfolding any_unfit AllWell give_all

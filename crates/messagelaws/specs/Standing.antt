@@ -1,11 +1,11 @@
 -- What a message stands for, by its reading and its row: what is looked up is always a command.
-use Rattle.std.specs.Prelude.{ℕ, ◌≡◌, refl, List}
+use Rattle.std.specs.Prelude.{ℕ, ◌≡◌, refl, List, Some}
 use Rattle.std.proofs.Math.Option.{Option, none, some}
 use Rattle.model.specs.declared.Command.{Command}
-use Rattle.calls.specs.declared.Parsed.TheVariants.{Call}
+use Rattle.calls.specs.Ops.{command_in}
 use Rattle.messages.specs.Form.{Parse, parsed, faulty, Message, read_message}
 use Rattle.messages.specs.Table.{table, Given}
-use Rattle.messages.specs.Receive.{look_up, Meaning, malformed, unknown, means, command_in, known, meaning_of, meaning}
+use Rattle.messages.specs.Receive.{look_up, Meaning, malformed, unknown, means, known, meaning_of, meaning}
 use Rattle.messagelaws.specs.Commands.{IsCommand, row_command}
 use Rattle.messagelaws.specs.Looked.{looked}
 
@@ -22,7 +22,7 @@ pub record Unfound (s : List ℕ) : Type 0 where
 pub data Standing (s : List ℕ) : Meaning → Type 0 where
   no_form : read_message s ≡ faulty → Standing s malformed
   no_row : Unfound s → Standing s unknown
-  in_row : (m : Message) (end : ℕ) (g : Given) (c : Command) → read_message s ≡ parsed m end → look_up 1 table m ≡ some g → command_in g.numbers ≡ Call c → Standing s (means c g.bytes)
+  in_row : (m : Message) (end : ℕ) (g : Given) (c : Command) → read_message s ≡ parsed m end → look_up 1 table m ≡ some g → command_in g.numbers ≡ Some c → Standing s (means c g.bytes)
 
 pub standing : (s : List ℕ) → Standing s (meaning s)
 unfolding meaning

@@ -1,23 +1,23 @@
 -- The laws of messages: paper 02, 1/14, "Also write each command that has an address as a message; reading it gives the command back."
 -- They are of calls: `Writes` is what `messagewrite::write` promises of every input, and `message_write` by it; `Reads` what `messageread::read`
 -- promises, and `Sends` what `engine::message` does.
-use Rattle.std.specs.Prelude.{ℕ, ◌-◌, ◌≤◌, ◌≡◌, refl, List, ◌++◌, length, take, drop}
+use Rattle.std.specs.Prelude.{ℕ, ◌-◌, ◌≤◌, ◌≡◌, refl, List, ◌++◌, length, take, drop, Some, Result, Ok}
 use Rattle.std.proofs.Common.{sym, ap, ◌∙◌, subst}
 use Rattle.std.proofs.Math.Option.{some}
 use Rattle.words.specs.Bytes.{AreBytes}
 use Rattle.words.specs.Parts.{region}
-use Rattle.model.specs.declared.Answer.{Answer}
-use Rattle.model.specs.declared.Answer.TheVariants.{Replied}
+use Rattle.refusals.specs.declared.Refusal.{Refusal}
+use Rattle.model.specs.Answers.{Answer}
+use Rattle.model.specs.Answers.{Replied}
 use Rattle.model.specs.declared.Query.TheVariants as query
 use Rattle.model.specs.declared.Command.{Command}
 use Rattle.model.specs.declared.Command.TheVariants as command
 use Rattle.model.specs.Apply.{written, Does}
-use Rattle.calls.specs.declared.Parsed.TheVariants.{Call}
+use Rattle.calls.specs.Ops.{command_in}
 use Rattle.messages.specs.declared.Received.{Received}
-use Rattle.messages.specs.declared.Received.TheVariants as received
 use Rattle.messages.specs.Form.{parsed, Message, read_message}
 use Rattle.messages.specs.Table.{Row, table, Given, Words}
-use Rattle.messages.specs.Receive.{look_up, Meaning, unknown, means, command_in, meaning, handed, Reads}
+use Rattle.messages.specs.Receive.{look_up, Meaning, unknown, means, meaning, handed, Reads}
 use Rattle.messages.specs.Write.{row_of, message_of, write_answer, Writes}
 use Rattle.messages.specs.Sent.{Serves, Sends}
 use Rattle.messagelaws.specs.Form.{message_forth}
@@ -35,11 +35,11 @@ pub record ReadBack (s : List ℕ) (g : Given) (c : Command) : Type 0 where
   pub row : Row
   pub known : row_of g.numbers.op ≡ some row
   pub stands : meaning s ≡ means c (part_of row g)
-  pub read : (r : Received) → Reads s r → handed s r ≡ means c (part_of row g)
+  pub read : (r : Result Received Refusal) → Reads s r → handed s r ≡ means c (part_of row g)
   pub sent : (ws bs out : List ℕ) (a : Answer) (ws' bs' out' : List ℕ) → Sends s ws bs out a ws' bs' out' → Does c (part_of row g) ws bs out a ws' bs' out'
 
 -- Reading what the writer wrote gives the command back: of every call of a command that it accepts, the bytes that it wrote
-pub read_written : (g : Given) (c : Command) (out out' : List ℕ) (n : ℕ) → command_in g.numbers ≡ Call c → Writes g out (Replied n) out' → ReadBack (take n out') g c
+pub read_written : (g : Given) (c : Command) (out out' : List ℕ) (n : ℕ) → command_in g.numbers ≡ Some c → Writes g out (Replied n) out' → ReadBack (take n out') g c
 read_written g c out out' n h w =
     let s = take n out' in
     let fits = answer-fits g (length out) n (sym w.answers) in
@@ -81,12 +81,12 @@ rewrites s g bytes fits =
 -- a message that stands for a command is written from a call of that command, of numbers of 32 bits, with the same name or file
 pub record WrittenBack (s : List ℕ) (c : Command) (part : List ℕ) : Type 0 where
   pub call : Given
-  pub command : command_in call.numbers ≡ Call c
+  pub command : command_in call.numbers ≡ Some c
   pub numbers : Words call.numbers
   pub beside : call.bytes ≡ part
   pub rewrites : Rewrites s call
 
-looked_back : (s : List ℕ) → AreBytes s → (m : Message) (end : ℕ) → read_message s ≡ parsed m end → (g : Given) → look_up 1 table m ≡ some g → (c : Command) → command_in g.numbers ≡ Call c
+looked_back : (s : List ℕ) → AreBytes s → (m : Message) (end : ℕ) → read_message s ≡ parsed m end → (g : Given) → look_up 1 table m ≡ some g → (c : Command) → command_in g.numbers ≡ Some c
     → WrittenBack s c g.bytes
 looked_back s b m end e g l c h =
     let k = looked m g l in
@@ -107,7 +107,7 @@ meant_back s b c part e = by c part (rw e at (standing s))
 
 -- Writing what was read gives the message back: of every message that the reader hands on as a command, and of every one that the engine takes for
 -- one
-pub write_read : (s : List ℕ) (c : Command) (start end : ℕ) → Reads s (received.Command c start end) → WrittenBack s c (region start (end - start) s)
+pub write_read : (s : List ℕ) (c : Command) (start end : ℕ) → Reads s (Ok (record { command = c; start = start; end = end })) → WrittenBack s c (region start (end - start) s)
 write_read s c start end r = meant_back s r.lent_message c (region start (end - start) s) r.stands
 
 pub write_sent : (s ws bs out : List ℕ) (a : Answer) (ws' bs' out' : List ℕ) → Sends s ws bs out a ws' bs' out' → (c : Command) (part : List ℕ) → meaning s ≡ means c part → WrittenBack s c part

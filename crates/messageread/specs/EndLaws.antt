@@ -4,8 +4,8 @@ use Rattle.std.proofs.Common.{◌∙◌, arith, drop_of_length-le, le-leb}
 use Rattle.std.proofs.lemmas.Bool.{lt-leb}
 use Rattle.words.specs.Parts.{region}
 use Rattle.format.specs.Fields.{name_bytes}
-use Rattle.messages.specs.Form.{text_length}
-use Rattle.messageread.specs.Ends.{Ends}
+use Rattle.messages.specs.Form.{text_length, string_at, faulty}
+use Rattle.messageread.specs.Ends.{Ended}
 use Rattle.messageread.specs.FormLaws.{padded_cut, padded-unfit}
 use Rattle.messageread.specs.TextLaws.{text_good, text-good, length-zero, length_turn, good_zero, good_turn}
 
@@ -32,34 +32,26 @@ module _ (s : List ℕ) (at : ℕ) where
           good = rw (le-leb (get_or s i 0) 127 low) at (p.good ∙ good_turn s i h e);
         }
 
-    pub ends_zero : i < length s → get_or s i 0 ≡ 0 → Ends s at i
+    pub ends_zero : i < length s → get_or s i 0 ≡ 0 → Ended s at i
     ends_zero h e =
         let none = length-zero s i h e in
         let size : text_length (drop at s) ≡ i - at = (let z = p.size in omega arith) in
         record {
-          ended = λ l. record {
-            behind = p.behind;
-            size = size;
-            good = rw size at (text-good (drop at s)) ∙ p.good ∙ good_zero s i h e;
-          };
-          cut = λ l. absurd (omega arith);
+          behind = p.behind;
+          within = h;
+          size = size;
+          good = rw size at (text-good (drop at s)) ∙ p.good ∙ good_zero s i h e;
         }
 
-    pub ends_high : i < length s → (get_or s i 0 ≡ 0 → ⊥) → 127 < get_or s i 0 → Ends s at (length s)
+    pub ends_high : i < length s → (get_or s i 0 ≡ 0 → ⊥) → 127 < get_or s i 0 → faulty ≡ string_at s at
     ends_high h e high =
         let bad : name_bytes (region at (text_length (drop at s)) s) ≡ false =
         text-good (drop at s) ∙ (rw (lt-leb (get_or s i 0) 127 high) at (p.good ∙ good_turn s i h e)) in
-        record {
-          ended = λ l. absurd (omega arith);
-          cut = λ l. padded-unfit (text_length (drop at s)) (4 - text_length (drop at s) % 4) name_bytes s at bad;
-        }
+        padded-unfit (text_length (drop at s)) (4 - text_length (drop at s) % 4) name_bytes s at bad
 
-    pub ends_cut : length s ≤ i → Ends s at (length s)
+    pub ends_cut : length s ≤ i → faulty ≡ string_at s at
     unfolding text_length
     ends_cut h =
         let rest : text_length (drop i s) ≡ 0 = rw (drop_of_length-le s h) in
         let size = p.size in
-        record {
-          ended = λ l. absurd (omega arith);
-          cut = λ l. padded_cut (text_length (drop at s)) (4 - text_length (drop at s) % 4) name_bytes s at (omega arith);
-        }
+        padded_cut (text_length (drop at s)) (4 - text_length (drop at s) % 4) name_bytes s at (omega arith)

@@ -20,10 +20,7 @@ use Rattle.messages.specs.Write.{row_from, row_of}
 use Rattle.messageread.specs.Lookup.{meets, op_from, candidates, key_of, candidate_of}
 use Rattle.messageread.specs.LookupLaws.{miss, hit}
 
--- the op at a key
-pub op_at : (n key : ℕ) → key ≡ n → get_or candidates n 0 ≡ get_or candidates key 0
-op_at n key h = ap (λ (k : ℕ). get_or candidates k 0) (sym h)
-
+-- a key past the last
 pub op_past : (key : ℕ) → 28 < key → 0 ≡ get_or candidates key 0
 op_past key h = sym (get_or-eq_default candidates 0 {n = key} (omega arith))
 

@@ -1,10 +1,10 @@
 -- Laws of padded bytes.
-use Rattle.std.specs.Prelude.{ℕ, ◌+◌, ◌-◌, ◌≤◌, ◌<◌, Bool, true, false, ◌≡◌, refl, List, length, get_or, leb, eqb}
-use Rattle.std.proofs.Common.{ap, le-leb}
+use Rattle.std.specs.Prelude.{ℕ, ◌+◌, ◌≤◌, ◌<◌, Bool, true, false, ◌≡◌, refl, List, [], ◌∷◌, zero, suc, length, get_or, leb, eqb, EachIndex, IsTrue, ◌↔◌}
+use Rattle.std.proofs.Common.{sym, ap, arith, le-leb, eqb-true}
 use Rattle.std.proofs.lemmas.Bool.{lt-leb}
 use Rattle.words.specs.Choice.{pick, both}
+use Rattle.words.specs.ChoiceLaws.{both_true}
 use Rattle.words.specs.Parts.{region}
-use Rattle.format.specs.NameLaws.{region-cons}
 use Rattle.messages.specs.Form.{Parse, parsed, faulty, and_then, zeros, padded_at}
 
 pick_same : {A : Type 0} (b : Bool) (x : A) → x ≡ pick b x x
@@ -23,11 +23,25 @@ module _ {A B : Type 0} where
   pub stops : (p : Parse A) (more : A → ℕ → Parse B) → faulty ≡ p → faulty ≡ and_then p more
   stops p more h = ap (λ (q : Parse A). and_then q more) h
 
--- one zero more
-pub zeros_turn : (s : List ℕ) (i to : ℕ) → i < to → i < length s
-    → zeros (region i (to - i) s) ≡ both (eqb (get_or s i 0) 0) (zeros (region (i + 1) (to - (i + 1)) s))
+-- zeros are bytes that are each zero
+zeros-each : (l : List ℕ) → zeros l ≡ true → EachIndex l (λ k. get_or l k 0 ≡ 0)
 unfolding zeros
-zeros_turn s i to h l = rw region-cons
+zeros-each [] h k lt = absurd (omega arith)
+zeros-each (b ∷ bs) h zero lt = eqb-true b 0 (both_true (eqb b 0) (zeros bs) h).0
+zeros-each (b ∷ bs) h (suc k) lt = zeros-each bs (both_true (eqb b 0) (zeros bs) h).1 k (omega arith)
+
+each-zeros : (l : List ℕ) → EachIndex l (λ k. get_or l k 0 ≡ 0) → zeros l ≡ true
+unfolding zeros
+each-zeros [] h = refl
+each-zeros (b ∷ bs) h = rw (h 0 (omega arith)) (each-zeros bs (λ k lt. h (suc k) (omega arith)))
+
+pub zeros_all : (l : List ℕ) (b : Bool) → (IsTrue b ↔ EachIndex l (λ k. get_or l k 0 ≡ 0)) → b ≡ zeros l
+zeros_all l true h = sym (each-zeros l (h.0 refl))
+zeros_all l false h = by (zeros l) refl
+  where
+    by : (z : Bool) → zeros l ≡ z → false ≡ z
+    by true e = h.1 (zeros-each l e)
+    by false e = refl
 
 module _ (n pad : ℕ) (fits : List ℕ → Bool) (s : List ℕ) (at : ℕ) where
   pub padded_cut : length s < at + (n + pad) → faulty ≡ padded_at n pad fits s at

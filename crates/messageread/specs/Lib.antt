@@ -6,7 +6,6 @@ pub mod EndLaws
 pub mod PartLaws
 pub mod Keep
 pub mod TakeLaws
-pub mod StepLaws
 pub mod WalkLaws
 pub mod Lookup
 pub mod AddressLaws

@@ -1,10 +1,12 @@
 -- The op of an address and its tags.
-use Rattle.std.specs.Prelude.{ℕ, suc, ◌+◌, ◌-◌, ◌*◌, ◌%◌, Bool, false, List, [], ◌∷◌, length, get_or, eqb, ltb}
+use Rattle.std.specs.Prelude.{ℕ, suc, ◌+◌, ◌-◌, ◌*◌, ◌%◌, Bool, false, List, [], ◌∷◌, length, get_or, ltb}
+use Rattle.std.specs.Prelude as rattle
 use Rattle.std.proofs.Math.Option.{Option, none, some}
-use Rattle.words.specs.Choice.{pick, both, either}
+use Rattle.words.specs.Choice.{pick, both}
 use Rattle.format.specs.Reader.{same_name}
 use Rattle.calls.specs.Ops as ops
-use Rattle.messages.specs.Table.{Row, fit_all}
+use Rattle.messages.specs.declared.Slot.{Slot}
+use Rattle.messages.specs.Table.{Row, takes, fit_all}
 
 -- a row of the address whose slots the tags fit
 abbrev pub meets : Option Row → List ℕ → List ℕ → Bool
@@ -16,13 +18,10 @@ unfoldable pub op_from : ℕ → List Row → List ℕ → List ℕ → ℕ
 op_from op [] address tags = ops.no_op
 op_from op (r ∷ rows) address tags = pick (meets (some r) address tags) op (op_from (suc op) rows address tags)
 
--- whether the slot of a code takes an argument of a tag
-abbrev pub takes_by : ℕ → ℕ → Bool
-takes_by code tag =
-    pick (eqb code 0) false
-    (pick (eqb code 4) (either (eqb tag 102) (eqb tag 105))
-    (pick (eqb code 5) (eqb tag 115)
-    (pick (eqb code 6) (eqb tag 98) (eqb tag 105))))
+-- whether there is a slot, and it takes an argument of a tag
+abbrev pub takes_in : rattle.Option Slot → ℕ → Bool
+takes_in (rattle.Some slot) tag = takes slot tag
+takes_in rattle.None tag = false
 
 -- the first op of an address by three of its bytes: the only one that can have it, with the op behind it
 abbrev pub candidates : List ℕ

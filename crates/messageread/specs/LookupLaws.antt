@@ -1,55 +1,47 @@
 -- Laws of the lookup.
 use Prim.Native.Nat.{ℕ, zero, suc, ◌+◌, ◌≤◌, ◌<◌}
-use Rattle.std.specs.Prelude.{Bool, true, false, ◌≡◌, length, drop, get_or, eqb}
+use Rattle.std.specs.Prelude.{Bool, true, false, ◌≡◌, length, drop, not, get_or, slice_get, Option, Some, None}
+use Rattle.std.specs.Option.{is_none, is_some}
 use Rattle.std.proofs.Math.Path.{refl}
-use Rattle.std.proofs.Common.{ap, ◌∙◌, add-one, add-zero, drop_of_length-le, drop-cons}
+use Rattle.std.proofs.Common.{◌∙◌, add-one, add-zero, drop_of_length-le, drop-cons}
 use mathlib.Core.List.{List, [], ◌∷◌}
 use native.Mathlib.Omega.{arith}
 use Rattle.words.specs.Choice.{both}
 use Rattle.format.specs.Reader.{same_name}
 use Rattle.calls.specs.Ops.{last_with_address}
-use Rattle.messages.specs.Table.{Slot, at_a, at_b, at_c, value, name, file, Row, table, takes, fit_all}
-use Rattle.messages.specs.Rows.{code_of, code_at, slots_in, address_in, slots_of, address_of}
+use Rattle.messages.specs.declared.Slot.{Slot}
+use Rattle.messages.specs.Table.{Row, table, fit_all}
+use Rattle.messages.specs.Rows.{slots_in, address_in, slots_of, address_of}
 use Rattle.messages.specs.Write.{row_from, row_of}
-use Rattle.messageread.specs.Lookup.{meets, op_from, takes_by}
+use Rattle.messageread.specs.Lookup.{meets, op_from, takes_in}
 
 -- tags against slots, one more and none
-takes_code : (slot : Slot) (tag : ℕ) → takes slot tag ≡ takes_by (code_of slot) tag
-takes_code at_a tag = refl
-takes_code at_b tag = refl
-takes_code at_c tag = refl
-takes_code value tag = refl
-takes_code name tag = refl
-takes_code file tag = refl
-
-fit_one : (slots : List Slot) (k tag : ℕ) (ts : List ℕ) → fit_all (drop k slots) (tag ∷ ts) ≡ both (takes_by (code_at slots k) tag) (fit_all (drop (suc k) slots) ts)
-unfolding fit_all code_at
+fit_one : (slots : List Slot) (k tag : ℕ) (ts : List ℕ) → fit_all (drop k slots) (tag ∷ ts) ≡ both (takes_in (slice_get slots k) tag) (fit_all (drop (suc k) slots) ts)
+unfolding fit_all
 fit_one [] zero tag ts = refl
 fit_one [] (suc k) tag ts = refl
-fit_one (slot ∷ slots) zero tag ts = ap (λ (b : Bool). both b (fit_all slots ts)) (takes_code slot tag)
+fit_one (slot ∷ slots) zero tag ts = refl
 fit_one (slot ∷ slots) (suc k) tag ts = fit_one slots k tag ts
 
 pub fit_turn : (slots : List Slot) (ts : List ℕ) (k : ℕ) → k < length ts
-    → fit_all (drop k slots) (drop k ts) ≡ both (takes_by (code_at slots k) (get_or ts k 0)) (fit_all (drop (k + 1) slots) (drop (k + 1) ts))
+    → fit_all (drop k slots) (drop k ts) ≡ both (takes_in (slice_get slots k) (get_or ts k 0)) (fit_all (drop (k + 1) slots) (drop (k + 1) ts))
 fit_turn slots ts k h = rw (add-one, drop-cons ts k 0 h) (fit_one slots k (get_or ts k 0) (drop (suc k) ts))
 
-code_none : (slot : Slot) → false ≡ eqb (code_of slot) 0
-code_none at_a = refl
-code_none at_b = refl
-code_none at_c = refl
-code_none value = refl
-code_none name = refl
-code_none file = refl
-
-fit_none : (slots : List Slot) (k : ℕ) → fit_all (drop k slots) [] ≡ eqb (code_at slots k) 0
-unfolding fit_all code_at
+fit_none : (slots : List Slot) (k : ℕ) → fit_all (drop k slots) [] ≡ is_none (slice_get slots k)
+unfolding fit_all
 fit_none [] zero = refl
 fit_none [] (suc k) = refl
-fit_none (slot ∷ slots) zero = code_none slot
+fit_none (slot ∷ slots) zero = refl
 fit_none (slot ∷ slots) (suc k) = fit_none slots k
 
-pub fit_end : (slots : List Slot) (ts : List ℕ) (k : ℕ) → length ts ≤ k → fit_all (drop k slots) (drop k ts) ≡ eqb (code_at slots k) 0
+pub fit_end : (slots : List Slot) (ts : List ℕ) (k : ℕ) → length ts ≤ k → fit_all (drop k slots) (drop k ts) ≡ is_none (slice_get slots k)
 fit_end slots ts k h = rw (drop_of_length-le ts h) (fit_none slots k)
+
+pub no_slot : (o : Option Slot) (b : Bool) → is_some o ≡ not b → b ≡ is_none o
+no_slot (Some slot) true h = cc
+no_slot (Some slot) false h = refl
+no_slot None true h = refl
+no_slot None false h = cc
 
 module _ (address ts : List ℕ) where
   -- a row of the table by its parts

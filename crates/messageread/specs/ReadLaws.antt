@@ -2,17 +2,18 @@
 use Prim.Native.Nat.{ℕ, zero, suc, ◌+◌}
 use Rattle.std.specs.Prelude.{Bool, true, false, ◌≡◌, length, eqb}
 use Rattle.std.proofs.Math.Path.{refl, ap}
-use Rattle.std.proofs.Common.{sym, ap₂, ◌∙◌, add-zero, ne_eqb, eqb-true}
+use Rattle.std.proofs.Common.{sym, ap₂, ◌∙◌, add-zero, eqb-true}
 use mathlib.Core.List.{List, [], ◌∷◌}
 use Rattle.std.proofs.Math.Option.{Option, none, some}
 use native.Mathlib.Omega.{arith}
 use Rattle.words.specs.Choice.{pick}
 use Rattle.osc.specs.Message.{Argument, int, float, text, blob, tag_of, tags}
+use Rattle.calls.specs.Ops.{command_of, command_in}
 use Rattle.messages.specs.Form.{Parse, parsed, faulty, and_then, map_parse, Message, number_at, string_at, blob_at, argument_at, arguments_at}
 use Rattle.messages.specs.Table.{Row, table, Given, take_all}
 use Rattle.messages.specs.Rows.{slots_in, slots_of}
 use Rattle.messages.specs.Write.{row_from}
-use Rattle.messages.specs.Receive.{bare, look_up, malformed, unknown, command_in, calls, known, meaning_of}
+use Rattle.messages.specs.Receive.{bare, look_up, malformed, calls, known, meaning_of}
 use Rattle.messageread.specs.Lookup.{meets, op_from}
 use Rattle.messageread.specs.Finish.{end_of, message_end}
 use Rattle.messageread.specs.Keep.{taken_at}
@@ -81,15 +82,15 @@ unfolding arguments_at tags
 tags-read [] s at = refl
 tags-read (tag ∷ ts) s at = tags_one tag ts (argument_at tag s at) (λ next. arguments_at ts s next) (tag-read tag s at) (λ next. tags-read ts s next)
 
-chosen_known : (op : ℕ) (xs : List Argument)
-    → known (chosen op xs) ≡ pick (eqb op 0) unknown (calls (command_in (take_all (slots_of op) xs (bare op)).numbers) (take_all (slots_of op) xs (bare op)).bytes)
+chosen_known : (op : ℕ) (xs : List Argument) → known (chosen op xs) ≡ calls (command_in (take_all (slots_of op) xs (bare op)).numbers) (take_all (slots_of op) xs (bare op)).bytes
+unfolding slots_of row_from take_all command_of
 chosen_known zero xs = refl
-chosen_known (suc n) xs = rw (ne_eqb (suc n) 0 (λ z. omega arith))
+chosen_known (suc n) xs = refl
 
 module _ (s address ts : List ℕ) (op : ℕ) (found : op ≡ op_from 1 table address ts) where
   ended : (whole : Bool) (xs : List Argument) (end : ℕ) → tags xs ≡ ts
       → meaning_of (pick whole (parsed (record { address = address; arguments = xs }) end) faulty)
-      ≡ pick whole (pick (eqb op 0) unknown (calls (command_in (take_all (slots_of op) xs (bare op)).numbers) (take_all (slots_of op) xs (bare op)).bytes)) malformed
+      ≡ pick whole (calls (command_in (take_all (slots_of op) xs (bare op)).numbers) (take_all (slots_of op) xs (bare op)).bytes) malformed
   ended true xs end e =
       ap known (lookup_is (record { address = address; arguments = xs })
       ∙ ap (λ (l : List ℕ). chosen (op_from 1 table address l) xs) e
@@ -98,10 +99,10 @@ module _ (s address ts : List ℕ) (op : ℕ) (found : op ≡ op_from 1 table ad
   ended false xs end e = refl
 
   walked : (p : Parse (List Argument)) → tags_read p ts ≡ ts
-      → meaning_of (and_then p (message_end s address)) ≡ end_of s op (and_then p (λ xs end. parsed (take_all (slots_of op) xs (bare op)) end))
+      → meaning_of (and_then p (message_end s address)) ≡ end_of s (and_then p (λ xs end. parsed (take_all (slots_of op) xs (bare op)) end))
   walked (parsed xs end) e = ended (eqb end (length s)) xs end e
   walked faulty e = refl
 
   -- the meaning of a message by its op, and what was taken of its arguments
-  pub taken_meaning : (start : ℕ) → meaning_of (and_then (arguments_at ts s start) (message_end s address)) ≡ end_of s op (taken_at (slots_of op) ts s start (bare op))
+  pub taken_meaning : (start : ℕ) → meaning_of (and_then (arguments_at ts s start) (message_end s address)) ≡ end_of s (taken_at (slots_of op) ts s start (bare op))
   taken_meaning start = walked (arguments_at ts s start) (tags-read ts s start)

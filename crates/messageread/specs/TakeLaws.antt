@@ -1,27 +1,18 @@
 -- Laws of taking arguments, one by one.
-use Rattle.std.specs.Prelude.{ℕ, zero, suc, ◌+◌, ◌<◌, ◌≤◌, ◌≡◌, refl, List, [], ◌∷◌, length, drop, get_or}
+use Rattle.std.specs.Prelude.{ℕ, zero, suc, ◌+◌, ◌<◌, ◌≤◌, ◌≡◌, refl, List, [], ◌∷◌, length, drop, get_or, slice_get}
 use Rattle.std.proofs.Common.{sym, ap, subst, ◌∙◌, add-one, drop_of_length-le, drop-cons}
 use Rattle.osc.specs.Message.{Argument}
 use Rattle.messages.specs.Form.{Parse, parsed, faulty, and_then, map_parse, argument_at, arguments_at}
-use Rattle.messages.specs.Table.{Slot, at_a, at_b, at_c, value, name, file, Given, take, take_all}
-use Rattle.messages.specs.Rows.{code_of, code_at}
-use Rattle.messageread.specs.Keep.{take_by, argument_taken, taken_at}
-
--- the code of a slot says what it takes
-take_code : (slot : Slot) (x : Argument) (g : Given) → take slot x g ≡ take_by (code_of slot) x g
-take_code at_a x g = refl
-take_code at_b x g = refl
-take_code at_c x g = refl
-take_code value x g = refl
-take_code name x g = refl
-take_code file x g = refl
+use Rattle.messages.specs.declared.Slot.{Slot}
+use Rattle.messages.specs.Table.{Given, take_all}
+use Rattle.messageread.specs.Keep.{take_in, argument_taken, taken_at}
 
 take_one : (slots : List Slot) (k : ℕ) (x : Argument) (xs : List Argument) (g : Given)
-    → take_all (drop k slots) (x ∷ xs) g ≡ take_all (drop (suc k) slots) xs (take_by (code_at slots k) x g)
-unfolding take_all code_at
+    → take_all (drop k slots) (x ∷ xs) g ≡ take_all (drop (suc k) slots) xs (take_in (slice_get slots k) x g)
+unfolding take_all
 take_one [] zero x xs g = refl
 take_one [] (suc k) x xs g = refl
-take_one (slot ∷ slots) zero x xs g = ap (λ (h : Given). take_all slots xs h) (take_code slot x g)
+take_one (slot ∷ slots) zero x xs g = refl
 take_one (slot ∷ slots) (suc k) x xs g = take_one slots k x xs g
 
 -- what was read under a name
@@ -37,13 +28,13 @@ take_none (slot ∷ slots) g = refl
 module _ (slots : List Slot) (k : ℕ) (g : Given) where
   after_rest : (x : Argument) (q : Parse (List Argument))
       → and_then (and_then q (λ xs end. parsed (x ∷ xs) end)) (λ xs end. parsed (take_all (drop k slots) xs g) end)
-      ≡ and_then q (λ xs end. parsed (take_all (drop (suc k) slots) xs (take_by (code_at slots k) x g)) end)
+      ≡ and_then q (λ xs end. parsed (take_all (drop (suc k) slots) xs (take_in (slice_get slots k) x g)) end)
   after_rest x (parsed xs end) = ap (λ (h : Given). parsed h end) (take_one slots k x xs g)
   after_rest x faulty = refl
 
   after_one : (p : Parse Argument) (rest : ℕ → Parse (List Argument))
       → and_then (and_then p (λ x next. and_then (rest next) (λ xs end. parsed (x ∷ xs) end))) (λ xs end. parsed (take_all (drop k slots) xs g) end)
-      ≡ and_then (and_then p (λ x next. parsed (take_by (code_at slots k) x g) next)) (λ h next. and_then (rest next) (λ xs end. parsed (take_all (drop (suc k) slots) xs h) end))
+      ≡ and_then (and_then p (λ x next. parsed (take_in (slice_get slots k) x g) next)) (λ h next. and_then (rest next) (λ xs end. parsed (take_all (drop (suc k) slots) xs h) end))
   after_one (parsed x next) rest = after_rest x (rest next)
   after_one faulty rest = refl
 

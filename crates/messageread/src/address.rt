@@ -9,13 +9,6 @@ use calls::ops;
 use fields::word_at;
 use messages::{address_end, address_length, address_middle, address_start};
 
-// A byte as an index.
-fn wide(byte: u8) -> usize
-    ensures { (result ≡ byte) × (result < 256) }
-{
-    byte as usize
-}
-
 // The first op of an address by the key of its bytes.
 fn first_op(key: usize) -> u32
     ensures { result ≡ get_or candidates key 0 }
@@ -62,7 +55,12 @@ pub(crate) fn candidate(address: &[u8]) -> u32
         return ops::NONE;
     }
     let last = size - 1;
-    first_op((3 * wide(address[1]) + 2 * wide(address[3]) + 19 * wide(address[last])) % 32)
+    first_op(
+        (3 * usize::from(address[1])
+            + 2 * usize::from(address[3])
+            + 19 * usize::from(address[last]))
+            % 32,
+    )
 }
 
 // The address is that of an op: four bytes at a time, the last four from the end.

@@ -1,79 +1,88 @@
 // What a command takes of the arguments of its message, one after the other.
-ghost use Rattle.std.specs.Prelude.{ℕ, List, []};
-ghost use Rattle.messages.specs.Form.{and_then, parsed};
-ghost use Rattle.messageread.specs.Answers.{number_of, text_of, Inside};
-ghost use Rattle.messageread.specs.Keep.{Keeps, Steps, taken, given};
+ghost use Rattle.std.specs.Prelude.{◌≡◌};
+ghost use Rattle.messageread.specs.Keep.{Keeps, number_of, kind_of, part_of};
 
-use crate::cursor::{Cursor, Number, Text};
+use crate::cursor::{Argument, Part};
+use calls::Numbers;
+use messages::Slot;
 
-// The five numbers of a call, and where the name or the file beside it starts and ends in the message.
+// The numbers of a call, and the part of the message that is the name or the file beside it.
 #[derive(Clone, Copy)]
 pub struct Kept {
-    pub a: u32,
-    pub b: u32,
-    pub c: u32,
-    pub d: u32,
-    pub e: u32,
-    pub start: usize,
-    pub end: usize,
+    pub numbers: Numbers,
+    pub part: Part,
 }
 
-// What was kept and the next cursor, or a fault of form.
-#[derive(Clone, Copy)]
-pub enum Step {
-    Next(Kept, Cursor),
-    Faulty,
+impl Argument {
+    // The number in it; 0 where it is a part.
+    fn number(self) -> u32
+        ensures { result ≡ number_of self }
+    {
+        match self {
+            Argument::Integer(n) => n,
+            Argument::Float(n) => n,
+            Argument::Text(_) => 0,
+            Argument::Blob(_) => 0,
+        }
+    }
+
+    // Its kind as a value's: 0 a float's pattern, 1 an integer.
+    fn kind(self) -> u32
+        ensures { result ≡ kind_of self }
+    {
+        match self {
+            Argument::Float(_) => 0,
+            _ => 1,
+        }
+    }
+
+    // Its part of the message; none where it is a number.
+    fn part(self) -> Part
+        ensures { result ≡ part_of self }
+    {
+        match self {
+            Argument::Text(part) => part,
+            Argument::Blob(part) => part,
+            _ => Part { start: 0, end: 0 },
+        }
+    }
 }
 
-// An argument at a slot of a code: its number, or its part of the message.
-fn keep(kept: Kept, code: u32, kind: u32, n: u32, start: usize, end: usize) -> Kept
-    ensures { Keeps code kind n start end kept result }
+// An argument at a slot of its command; one that has no slot is not taken.
+pub(crate) fn keep(kept: Kept, slot: Option<Slot>, argument: Argument) -> Kept
+    ensures { Keeps slot argument kept result }
 {
-    let mut r = kept;
-    if code == 1 {
-        r.a = n;
-        return r;
-    }
-    if code == 2 {
-        r.b = n;
-        return r;
-    }
-    if code == 3 {
-        r.c = n;
-        return r;
-    }
-    if code == 4 {
-        r.d = kind;
-        r.e = n;
-        return r;
-    }
-    if code == 5 {
-        r.start = start;
-        r.end = end;
-        return r;
-    }
-    if code == 6 {
-        r.start = start;
-        r.end = end;
-        return r;
-    }
-    r
-}
-
-pub(crate) fn keep_number(read: Number, code: u32, kind: u32, kept: Kept) -> Step
-    ensures { (s : List ℕ) (op : ℕ) → Steps s op kept (and_then (number_of read) (λ n next. parsed (taken code kind n [] (given s op kept)) next)) result }
-{
-    match read {
-        Number::Value(n, next) => Step::Next(keep(kept, code, kind, n, 0, 0), next),
-        Number::Faulty => Step::Faulty,
-    }
-}
-
-pub(crate) fn keep_part(read: Text, code: u32, kept: Kept) -> Step
-    ensures { (s : List ℕ) (op : ℕ) → Inside s read → Steps s op kept (and_then (text_of s read) (λ l next. parsed (taken code 1 0 l (given s op kept)) next)) result }
-{
-    match read {
-        Text::Value(start, end, next) => Step::Next(keep(kept, code, 1, 0, start, end), next),
-        Text::Faulty => Step::Faulty,
+    let numbers = kept.numbers;
+    let n = argument.number();
+    match slot {
+        Some(Slot::NumberA) => Kept {
+            numbers: Numbers { a: n, ..numbers },
+            ..kept
+        },
+        Some(Slot::NumberB) => Kept {
+            numbers: Numbers { b: n, ..numbers },
+            ..kept
+        },
+        Some(Slot::NumberC) => Kept {
+            numbers: Numbers { c: n, ..numbers },
+            ..kept
+        },
+        Some(Slot::Value) => Kept {
+            numbers: Numbers {
+                d: argument.kind(),
+                e: n,
+                ..numbers
+            },
+            ..kept
+        },
+        Some(Slot::Name) => Kept {
+            part: argument.part(),
+            ..kept
+        },
+        Some(Slot::File) => Kept {
+            part: argument.part(),
+            ..kept
+        },
+        None => kept,
     }
 }

@@ -1,17 +1,17 @@
 // Reading a message: its form, then the command that it stands for.
 #![tactic(auto)]
 
-ghost use Rattle.std.specs.Prelude.{◌-◌};
-ghost use Rattle.words.specs.Parts.{region};
 ghost use Rattle.messages.specs.Receive.{Reads, meaning_of};
+ghost use Rattle.messageread.specs.Answers.{bytes_of};
 ghost use Rattle.messageread.specs.Keep.{step_of, StepHolds};
 ghost use Rattle.messageread.specs.Finish.{Stands, end_of, after_address};
 
-use calls::{Parsed, command_of, ops};
-use cursor::{Cursor, Text};
+use calls::command_of;
+use cursor::{Cursor, Part};
 use fields::part;
-use keep::Step;
+use keep::Kept;
 use messages::Received;
+use refusals::Refusal;
 use rows::find;
 use walk::walk;
 
@@ -21,51 +21,37 @@ mod keep;
 mod rows;
 mod walk;
 
-// The command of an op and what it took, where the message ends with its arguments.
-fn finish(message: &[u8], step: Step, op: u32) -> Received
-    ensures { StepHolds message.now step → Stands message.now (end_of message.now op (step_of message.now op step)) result }
+// The command of what was kept, where the message ends with its arguments.
+fn finish(message: &[u8], walked: Option<(Kept, Cursor)>) -> Result<Received, Refusal>
+    ensures { StepHolds message.now walked → Stands message.now (end_of message.now (step_of message.now walked)) result }
 {
-    match step {
-        Step::Faulty => Received::Malformed,
-        Step::Next(kept, next) => {
-            let end = next.at;
-            if end != message.len() {
-                return Received::Malformed;
-            }
-            if op == ops::NONE {
-                return Received::Unknown;
-            }
-            match command_of(op, kept.a, kept.b, kept.c, kept.d, kept.e) {
-                Parsed::Nothing => Received::Unknown,
-                Parsed::Call(command) => Received::Command(command, kept.start, kept.end),
-            }
-        }
+    let (kept, next) = walked.ok_or(Refusal::Malformed)?;
+    if next.at != message.len() {
+        return Err(Refusal::Malformed);
     }
+    let command = command_of(kept.numbers).ok_or(Refusal::UnknownMessage)?;
+    Ok(Received {
+        command,
+        start: kept.part.start,
+        end: kept.part.end,
+    })
 }
 
-// The message behind its address, which lies from one place to another.
-fn behind_address(message: &[u8], from: usize, to: usize, next: Cursor) -> Received
-    ensures { Stands message.now (meaning_of (after_address message.now (region from (to - from) message.now) next.at)) result }
+// The message behind its address.
+fn behind_address(message: &[u8], address: Part, next: Cursor) -> Result<Received, Refusal>
+    ensures { Stands message.now (meaning_of (after_address message.now (bytes_of message.now address) next.at)) result }
 {
-    match next.headed(message, 44) {
-        Text::Faulty => Received::Malformed,
-        Text::Value(start, end, arguments) => {
-            let address = part(message, from, to);
-            let tags = part(message, start + 1, end);
-            let op = find(address, tags);
-            let place = arguments.at;
-            finish(message, walk(message, tags, place, op), op)
-        }
-    }
+    let (tags, arguments) = next.headed(message, b',').ok_or(Refusal::Malformed)?;
+    let tags = part(message, tags.start + 1, tags.end);
+    let op = find(part(message, address.start, address.end), tags);
+    finish(message, walk(message, tags, arguments, op))
 }
 
 // What a message stands for.
-pub fn read(message: &[u8]) -> Received
+pub fn read(message: &[u8]) -> Result<Received, Refusal>
     ensures { Reads message.now result }
 {
     let first = Cursor { at: 0 };
-    match first.headed(message, 47) {
-        Text::Faulty => Received::Malformed,
-        Text::Value(start, end, next) => behind_address(message, start, end, next),
-    }
+    let (address, next) = first.headed(message, b'/').ok_or(Refusal::Malformed)?;
+    behind_address(message, address, next)
 }

@@ -3,49 +3,37 @@ ghost use Rattle.std.specs.Prelude.{◌≡◌};
 ghost use Rattle.messages.specs.Table.{table, fit_all};
 ghost use Rattle.messages.specs.Rows.{slots_of};
 ghost use Rattle.messages.specs.Write.{row_of};
-ghost use Rattle.messageread.specs.Lookup.{meets, op_from, takes_by};
+ghost use Rattle.messageread.specs.Lookup.{meets, op_from, takes_in};
 
 use crate::address::{candidate, same_address};
 use calls::ops;
-use messages::slot_codes;
+use messages::{Slot, slot_at};
 
-// The slot of a code takes an argument of a tag.
-fn takes(code: u32, tag: u8) -> bool
-    ensures { result ≡ takes_by code tag }
+// There is a slot, and it takes an argument of a tag.
+fn takes(slot: Option<Slot>, tag: u8) -> bool
+    ensures { result ≡ takes_in slot tag }
 {
-    if code == 0 {
-        return false;
+    match slot {
+        Some(Slot::NumberA) => tag == b'i',
+        Some(Slot::NumberB) => tag == b'i',
+        Some(Slot::NumberC) => tag == b'i',
+        Some(Slot::Value) => tag == b'f' || tag == b'i',
+        Some(Slot::Name) => tag == b's',
+        Some(Slot::File) => tag == b'b',
+        None => false,
     }
-    if code == 4 {
-        if tag == 102 {
-            return true;
-        }
-        return tag == 105;
-    }
-    if code == 5 {
-        return tag == 115;
-    }
-    if code == 6 {
-        return tag == 98;
-    }
-    tag == 105
 }
 
 // The tags fit an op's slots, one for one.
 fn fits(tags: &[u8], op: u32) -> bool
     ensures { result ≡ fit_all (slots_of op) tags.now }
 {
-    let mut codes = slot_codes(op);
-    let mut k = 0;
-    while k < tags.len() {
-        if takes(codes % 16, tags[k]) {
-            codes = codes / 16;
-            k += 1;
-        } else {
+    for (k, tag) in tags.iter().enumerate() {
+        if !takes(slot_at(op, k), *tag) {
             return false;
         }
     }
-    codes % 16 == 0
+    slot_at(op, tags.len()).is_none()
 }
 
 // An op's row has the address, and the tags fit its slots.
@@ -58,13 +46,11 @@ fn meets_row(address: &[u8], tags: &[u8], op: u32) -> bool
     if ops::LAST_WITH_ADDRESS < op {
         return false;
     }
-    if same_address(address, op) {
-        return fits(tags, op);
-    }
-    false
+    same_address(address, op) && fits(tags, op)
 }
 
-// The op of a message's address and tags, 0 where it has none.
+// The op of a message's address and tags, `NONE` where it has none.
+// Kept: `NONE` is an op as the others are, without slots: the walk goes over the arguments by it, before the message is refused.
 pub(crate) fn find(address: &[u8], tags: &[u8]) -> u32
     ensures { result ≡ op_from 1 table address.now tags.now }
 {

@@ -1,28 +1,12 @@
 -- The table's rows by op, as code has them.
-use Rattle.std.specs.Prelude.{ℕ, zero, suc, ◌+◌, ◌*◌, List, [], ◌∷◌}
+use Rattle.std.specs.Prelude.{ℕ, ◌-◌, List, [], length, slice_get}
 use Rattle.std.proofs.Math.Option.{Option, none, some}
-use Rattle.messages.specs.Table.{Slot, at_a, at_b, at_c, value, name, file, Row}
+use Rattle.format.specs.Fields.{word}
+use Rattle.messages.specs.declared.Slot.{Slot}
+use Rattle.messages.specs.declared.table.Slots.{Slots}
+use Rattle.messages.specs.declared.table.Address.{Address}
+use Rattle.messages.specs.Table.{Row}
 use Rattle.messages.specs.Write.{row_of}
-
--- the code of a slot
-abbrev pub code_of : Slot → ℕ
-code_of at_a = 1
-code_of at_b = 2
-code_of at_c = 3
-code_of value = 4
-code_of name = 5
-code_of file = 6
-
--- the code of the slot k, 0 past the last
-unfoldable pub code_at : List Slot → ℕ → ℕ
-code_at [] k = 0
-code_at (slot ∷ slots) zero = code_of slot
-code_at (slot ∷ slots) (suc k) = code_at slots k
-
--- the codes of slots as digits of sixteen, the first one's lowest
-unfoldable pub packed : List Slot → ℕ
-packed [] = 0
-packed (slot ∷ slots) = code_of slot + 16 * packed slots
 
 abbrev pub slots_in : Option Row → List Slot
 slots_in none = []
@@ -38,3 +22,16 @@ slots_of op = slots_in (row_of op)
 
 unfoldable pub address_of : ℕ → List ℕ
 address_of op = address_in (row_of op)
+
+-- the slots and an address as code has them: four slots; of an address the length and four words
+abbrev pub slots_for : List Slot → Slots
+slots_for slots = record { 0 = slice_get slots 0; 1 = slice_get slots 1; 2 = slice_get slots 2; 3 = slice_get slots 3 }
+
+abbrev pub address_for : List ℕ → Address
+address_for address = record {
+  size = length address;
+  start = word address 0;
+  middle = word address 4;
+  third = word address 8;
+  end = word address (length address - 4);
+}

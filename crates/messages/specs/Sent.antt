@@ -1,14 +1,14 @@
 -- What a call with a message answers and leaves, for every input: "Both come before all others but 1."
-use Rattle.std.specs.Prelude.{ℕ, ◌≡◌, List}
+use Rattle.std.specs.Prelude.{ℕ, ◌≡◌, List, Ok, Err}
 use Rattle.words.specs.Choice.{pick}
 use Rattle.words.specs.Bytes.{AreBytes}
 use Rattle.refusals.specs.declared.Refusal.{Refusal}
-use Rattle.refusals.specs.declared.Refusal.TheVariants.{BadState, Malformed, UnknownMessage}
-use Rattle.model.specs.declared.Answer.{Answer}
-use Rattle.model.specs.declared.Answer.TheVariants.{Refused}
+use Rattle.refusals.specs.declared.Refusal.TheVariants.{BadState}
+use Rattle.model.specs.Answers.{Answer}
+use Rattle.model.specs.Answers.{Refused}
 use Rattle.model.specs.Formed.{formed}
 use Rattle.model.specs.Apply.{Does}
-use Rattle.messages.specs.Receive.{Meaning, malformed, unknown, means, meaning}
+use Rattle.messages.specs.Receive.{Meaning, meaning}
 
 -- a message that is no command: 1 where the state is not well formed, else its own refusal; no lent byte changes
 pub record Refuses (r : Refusal) (ws bs out : List ℕ) (a : Answer) (ws' bs' out' : List ℕ) : Type 0 where
@@ -19,9 +19,8 @@ pub record Refuses (r : Refusal) (ws bs out : List ℕ) (a : Answer) (ws' bs' ou
 
 -- what is done by a meaning: a command does what `engine::apply` promises of it
 abbrev pub Serves : Meaning → (ws bs out : List ℕ) (a : Answer) (ws' bs' out' : List ℕ) → Type 0
-Serves malformed ws bs out a ws' bs' out' = Refuses Malformed ws bs out a ws' bs' out'
-Serves unknown ws bs out a ws' bs' out' = Refuses UnknownMessage ws bs out a ws' bs' out'
-Serves (means c bytes) ws bs out a ws' bs' out' = Does c bytes ws bs out a ws' bs' out'
+Serves (Err r) ws bs out a ws' bs' out' = Refuses r ws bs out a ws' bs' out'
+Serves (Ok (c, bytes)) ws bs out a ws' bs' out' = Does c bytes ws bs out a ws' bs' out'
 
 -- a call of a message on the lent words, arena and reply buffer
 pub record Sends (message ws bs out : List ℕ) (a : Answer) (ws' bs' out' : List ℕ) : Type 0 where

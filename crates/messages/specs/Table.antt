@@ -3,20 +3,9 @@
 use Rattle.std.specs.Prelude.{ℕ, ◌<◌, Bool, true, false, List, [], ◌∷◌, eqb}
 use Rattle.words.specs.Choice.{pick, both, either}
 use Rattle.osc.specs.Message.{Argument, int, float, text, blob, tag_of}
-use Rattle.messages.specs.declared.Numbers.{Numbers}
-
--- where an argument of a message stands in the call of its command
-pub data Slot : Type 0 where
-  -- i: the number a, b or c
-  at_a : Slot
-  at_b : Slot
-  at_c : Slot
-  -- f or i: a value, whose kind is d and whose pattern is e
-  value : Slot
-  -- s: the name beside the command
-  name : Slot
-  -- b: the file beside the command
-  file : Slot
+use Rattle.calls.specs.declared.Numbers.{Numbers}
+use Rattle.messages.specs.declared.Slot.{Slot}
+use Rattle.messages.specs.declared.Slot.TheVariants.{NumberA, NumberB, NumberC, Value, Name, File}
 
 pub record Row : Type 0 where
   pub address : List ℕ
@@ -28,55 +17,55 @@ row address slots = record { address = address; slots = slots }
 abbrev pub table : List Row
 table =
     -- /d_recv: b
-    row (47 ∷ (100 ∷ (95 ∷ (114 ∷ (101 ∷ (99 ∷ (118 ∷ []))))))) (file ∷ [])
+    row (47 ∷ (100 ∷ (95 ∷ (114 ∷ (101 ∷ (99 ∷ (118 ∷ []))))))) (File ∷ [])
     -- /d_free: s
-    ∷ (row (47 ∷ (100 ∷ (95 ∷ (102 ∷ (114 ∷ (101 ∷ (101 ∷ []))))))) (name ∷ [])
+    ∷ (row (47 ∷ (100 ∷ (95 ∷ (102 ∷ (114 ∷ (101 ∷ (101 ∷ []))))))) (Name ∷ [])
     -- /s_new: siii
-    ∷ (row (47 ∷ (115 ∷ (95 ∷ (110 ∷ (101 ∷ (119 ∷ [])))))) (name ∷ (at_a ∷ (at_b ∷ (at_c ∷ []))))
+    ∷ (row (47 ∷ (115 ∷ (95 ∷ (110 ∷ (101 ∷ (119 ∷ [])))))) (Name ∷ (NumberA ∷ (NumberB ∷ (NumberC ∷ []))))
     -- /g_new: iii
-    ∷ (row (47 ∷ (103 ∷ (95 ∷ (110 ∷ (101 ∷ (119 ∷ [])))))) (at_a ∷ (at_b ∷ (at_c ∷ [])))
+    ∷ (row (47 ∷ (103 ∷ (95 ∷ (110 ∷ (101 ∷ (119 ∷ [])))))) (NumberA ∷ (NumberB ∷ (NumberC ∷ [])))
     -- /n_free: i
-    ∷ (row (47 ∷ (110 ∷ (95 ∷ (102 ∷ (114 ∷ (101 ∷ (101 ∷ []))))))) (at_a ∷ [])
+    ∷ (row (47 ∷ (110 ∷ (95 ∷ (102 ∷ (114 ∷ (101 ∷ (101 ∷ []))))))) (NumberA ∷ [])
     -- /g_freeAll: i
-    ∷ (row (47 ∷ (103 ∷ (95 ∷ (102 ∷ (114 ∷ (101 ∷ (101 ∷ (65 ∷ (108 ∷ (108 ∷ [])))))))))) (at_a ∷ [])
+    ∷ (row (47 ∷ (103 ∷ (95 ∷ (102 ∷ (114 ∷ (101 ∷ (101 ∷ (65 ∷ (108 ∷ (108 ∷ [])))))))))) (NumberA ∷ [])
     -- /g_deepFree: i
-    ∷ (row (47 ∷ (103 ∷ (95 ∷ (100 ∷ (101 ∷ (101 ∷ (112 ∷ (70 ∷ (114 ∷ (101 ∷ (101 ∷ []))))))))))) (at_a ∷ [])
+    ∷ (row (47 ∷ (103 ∷ (95 ∷ (100 ∷ (101 ∷ (101 ∷ (112 ∷ (70 ∷ (114 ∷ (101 ∷ (101 ∷ []))))))))))) (NumberA ∷ [])
     -- /n_before: ii
-    ∷ (row (47 ∷ (110 ∷ (95 ∷ (98 ∷ (101 ∷ (102 ∷ (111 ∷ (114 ∷ (101 ∷ []))))))))) (at_a ∷ (at_b ∷ []))
+    ∷ (row (47 ∷ (110 ∷ (95 ∷ (98 ∷ (101 ∷ (102 ∷ (111 ∷ (114 ∷ (101 ∷ []))))))))) (NumberA ∷ (NumberB ∷ []))
     -- /n_after: ii
-    ∷ (row (47 ∷ (110 ∷ (95 ∷ (97 ∷ (102 ∷ (116 ∷ (101 ∷ (114 ∷ [])))))))) (at_a ∷ (at_b ∷ []))
+    ∷ (row (47 ∷ (110 ∷ (95 ∷ (97 ∷ (102 ∷ (116 ∷ (101 ∷ (114 ∷ [])))))))) (NumberA ∷ (NumberB ∷ []))
     -- /g_head: ii
-    ∷ (row (47 ∷ (103 ∷ (95 ∷ (104 ∷ (101 ∷ (97 ∷ (100 ∷ []))))))) (at_a ∷ (at_b ∷ []))
+    ∷ (row (47 ∷ (103 ∷ (95 ∷ (104 ∷ (101 ∷ (97 ∷ (100 ∷ []))))))) (NumberA ∷ (NumberB ∷ []))
     -- /g_tail: ii
-    ∷ (row (47 ∷ (103 ∷ (95 ∷ (116 ∷ (97 ∷ (105 ∷ (108 ∷ []))))))) (at_a ∷ (at_b ∷ []))
+    ∷ (row (47 ∷ (103 ∷ (95 ∷ (116 ∷ (97 ∷ (105 ∷ (108 ∷ []))))))) (NumberA ∷ (NumberB ∷ []))
     -- /n_run: ii
-    ∷ (row (47 ∷ (110 ∷ (95 ∷ (114 ∷ (117 ∷ (110 ∷ [])))))) (at_a ∷ (at_b ∷ []))
+    ∷ (row (47 ∷ (110 ∷ (95 ∷ (114 ∷ (117 ∷ (110 ∷ [])))))) (NumberA ∷ (NumberB ∷ []))
     -- /n_set: i, i, f or i
-    ∷ (row (47 ∷ (110 ∷ (95 ∷ (115 ∷ (101 ∷ (116 ∷ [])))))) (at_a ∷ (at_b ∷ (value ∷ [])))
+    ∷ (row (47 ∷ (110 ∷ (95 ∷ (115 ∷ (101 ∷ (116 ∷ [])))))) (NumberA ∷ (NumberB ∷ (Value ∷ [])))
     -- /n_set: i, s, f or i
-    ∷ (row (47 ∷ (110 ∷ (95 ∷ (115 ∷ (101 ∷ (116 ∷ [])))))) (at_a ∷ (name ∷ (value ∷ [])))
+    ∷ (row (47 ∷ (110 ∷ (95 ∷ (115 ∷ (101 ∷ (116 ∷ [])))))) (NumberA ∷ (Name ∷ (Value ∷ [])))
     -- /n_fill: i, i, i, f or i
-    ∷ (row (47 ∷ (110 ∷ (95 ∷ (102 ∷ (105 ∷ (108 ∷ (108 ∷ []))))))) (at_a ∷ (at_b ∷ (at_c ∷ (value ∷ []))))
+    ∷ (row (47 ∷ (110 ∷ (95 ∷ (102 ∷ (105 ∷ (108 ∷ (108 ∷ []))))))) (NumberA ∷ (NumberB ∷ (NumberC ∷ (Value ∷ []))))
     -- /n_fill: i, s, i, f or i
-    ∷ (row (47 ∷ (110 ∷ (95 ∷ (102 ∷ (105 ∷ (108 ∷ (108 ∷ []))))))) (at_a ∷ (name ∷ (at_c ∷ (value ∷ []))))
+    ∷ (row (47 ∷ (110 ∷ (95 ∷ (102 ∷ (105 ∷ (108 ∷ (108 ∷ []))))))) (NumberA ∷ (Name ∷ (NumberC ∷ (Value ∷ []))))
     -- /n_map: iii
-    ∷ (row (47 ∷ (110 ∷ (95 ∷ (109 ∷ (97 ∷ (112 ∷ [])))))) (at_a ∷ (at_b ∷ (at_c ∷ [])))
+    ∷ (row (47 ∷ (110 ∷ (95 ∷ (109 ∷ (97 ∷ (112 ∷ [])))))) (NumberA ∷ (NumberB ∷ (NumberC ∷ [])))
     -- /n_map: isi
-    ∷ (row (47 ∷ (110 ∷ (95 ∷ (109 ∷ (97 ∷ (112 ∷ [])))))) (at_a ∷ (name ∷ (at_c ∷ [])))
+    ∷ (row (47 ∷ (110 ∷ (95 ∷ (109 ∷ (97 ∷ (112 ∷ [])))))) (NumberA ∷ (Name ∷ (NumberC ∷ [])))
     -- /c_set: i, f or i
-    ∷ (row (47 ∷ (99 ∷ (95 ∷ (115 ∷ (101 ∷ (116 ∷ [])))))) (at_a ∷ (value ∷ []))
+    ∷ (row (47 ∷ (99 ∷ (95 ∷ (115 ∷ (101 ∷ (116 ∷ [])))))) (NumberA ∷ (Value ∷ []))
     -- /c_fill: ii, f or i
-    ∷ (row (47 ∷ (99 ∷ (95 ∷ (102 ∷ (105 ∷ (108 ∷ (108 ∷ []))))))) (at_a ∷ (at_c ∷ (value ∷ [])))
+    ∷ (row (47 ∷ (99 ∷ (95 ∷ (102 ∷ (105 ∷ (108 ∷ (108 ∷ []))))))) (NumberA ∷ (NumberC ∷ (Value ∷ [])))
     -- /s_get: ii
-    ∷ (row (47 ∷ (115 ∷ (95 ∷ (103 ∷ (101 ∷ (116 ∷ [])))))) (at_a ∷ (at_b ∷ []))
+    ∷ (row (47 ∷ (115 ∷ (95 ∷ (103 ∷ (101 ∷ (116 ∷ [])))))) (NumberA ∷ (NumberB ∷ []))
     -- /s_get: is
-    ∷ (row (47 ∷ (115 ∷ (95 ∷ (103 ∷ (101 ∷ (116 ∷ [])))))) (at_a ∷ (name ∷ []))
+    ∷ (row (47 ∷ (115 ∷ (95 ∷ (103 ∷ (101 ∷ (116 ∷ [])))))) (NumberA ∷ (Name ∷ []))
     -- /c_get: i
-    ∷ (row (47 ∷ (99 ∷ (95 ∷ (103 ∷ (101 ∷ (116 ∷ [])))))) (at_a ∷ [])
+    ∷ (row (47 ∷ (99 ∷ (95 ∷ (103 ∷ (101 ∷ (116 ∷ [])))))) (NumberA ∷ [])
     -- /n_query: i
-    ∷ (row (47 ∷ (110 ∷ (95 ∷ (113 ∷ (117 ∷ (101 ∷ (114 ∷ (121 ∷ [])))))))) (at_a ∷ [])
+    ∷ (row (47 ∷ (110 ∷ (95 ∷ (113 ∷ (117 ∷ (101 ∷ (114 ∷ (121 ∷ [])))))))) (NumberA ∷ [])
     -- /g_queryTree: ii
-    ∷ (row (47 ∷ (103 ∷ (95 ∷ (113 ∷ (117 ∷ (101 ∷ (114 ∷ (121 ∷ (84 ∷ (114 ∷ (101 ∷ (101 ∷ [])))))))))))) (at_a ∷ (at_b ∷ []))
+    ∷ (row (47 ∷ (103 ∷ (95 ∷ (113 ∷ (117 ∷ (101 ∷ (114 ∷ (121 ∷ (84 ∷ (114 ∷ (101 ∷ (101 ∷ [])))))))))))) (NumberA ∷ (NumberB ∷ []))
     -- /status: none
     ∷ (row (47 ∷ (115 ∷ (116 ∷ (97 ∷ (116 ∷ (117 ∷ (115 ∷ []))))))) ([])
     ∷ [])))))))))))))))))))))))))
@@ -97,12 +86,12 @@ pub record Words (n : Numbers) : Type 0 where
 
 -- whether a slot takes an argument of a tag
 abbrev pub takes : Slot → ℕ → Bool
-takes at_a tag = eqb tag 105
-takes at_b tag = eqb tag 105
-takes at_c tag = eqb tag 105
-takes value tag = either (eqb tag 102) (eqb tag 105)
-takes name tag = eqb tag 115
-takes file tag = eqb tag 98
+takes NumberA tag = eqb tag 105
+takes NumberB tag = eqb tag 105
+takes NumberC tag = eqb tag 105
+takes Value tag = either (eqb tag 102) (eqb tag 105)
+takes Name tag = eqb tag 115
+takes File tag = eqb tag 98
 
 -- the number and the bytes in an argument
 abbrev pub number_in : Argument → ℕ
@@ -119,21 +108,21 @@ bytes_in (blob s) = s
 
 -- what an argument gives to the call: of a value the kind is 0 for a float, 1 for an integer
 abbrev pub take : Slot → Argument → Given → Given
-take at_a x g = record { numbers = record { op = g.numbers.op; a = number_in x; b = g.numbers.b; c = g.numbers.c; d = g.numbers.d; e = g.numbers.e }; bytes = g.bytes }
-take at_b x g = record { numbers = record { op = g.numbers.op; a = g.numbers.a; b = number_in x; c = g.numbers.c; d = g.numbers.d; e = g.numbers.e }; bytes = g.bytes }
-take at_c x g = record { numbers = record { op = g.numbers.op; a = g.numbers.a; b = g.numbers.b; c = number_in x; d = g.numbers.d; e = g.numbers.e }; bytes = g.bytes }
-take value x g = record { numbers = record { op = g.numbers.op; a = g.numbers.a; b = g.numbers.b; c = g.numbers.c; d = pick (eqb (tag_of x) 102) 0 1; e = number_in x }; bytes = g.bytes }
-take name x g = record { numbers = g.numbers; bytes = bytes_in x }
-take file x g = record { numbers = g.numbers; bytes = bytes_in x }
+take NumberA x g = record { numbers = record { op = g.numbers.op; a = number_in x; b = g.numbers.b; c = g.numbers.c; d = g.numbers.d; e = g.numbers.e }; bytes = g.bytes }
+take NumberB x g = record { numbers = record { op = g.numbers.op; a = g.numbers.a; b = number_in x; c = g.numbers.c; d = g.numbers.d; e = g.numbers.e }; bytes = g.bytes }
+take NumberC x g = record { numbers = record { op = g.numbers.op; a = g.numbers.a; b = g.numbers.b; c = number_in x; d = g.numbers.d; e = g.numbers.e }; bytes = g.bytes }
+take Value x g = record { numbers = record { op = g.numbers.op; a = g.numbers.a; b = g.numbers.b; c = g.numbers.c; d = pick (eqb (tag_of x) 102) 0 1; e = number_in x }; bytes = g.bytes }
+take Name x g = record { numbers = g.numbers; bytes = bytes_in x }
+take File x g = record { numbers = g.numbers; bytes = bytes_in x }
 
 -- what the call gives to an argument
 abbrev pub give : Slot → Given → Argument
-give at_a g = int g.numbers.a
-give at_b g = int g.numbers.b
-give at_c g = int g.numbers.c
-give value g = pick (eqb g.numbers.d 0) (float g.numbers.e) (int g.numbers.e)
-give name g = text g.bytes
-give file g = blob g.bytes
+give NumberA g = int g.numbers.a
+give NumberB g = int g.numbers.b
+give NumberC g = int g.numbers.c
+give Value g = pick (eqb g.numbers.d 0) (float g.numbers.e) (int g.numbers.e)
+give Name g = text g.bytes
+give File g = blob g.bytes
 
 -- tags that fit slots, one for one
 unfoldable pub fit_all : List Slot → List ℕ → Bool

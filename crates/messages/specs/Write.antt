@@ -6,12 +6,14 @@ use Rattle.words.specs.Bytes.{AreBytes}
 use Rattle.refusals.specs.declared.Refusal.TheVariants.{NoRoom, Malformed, UnknownMessage}
 use Rattle.format.specs.Fields.{name_bytes, highest32}
 use Rattle.osc.specs.Message.{message}
-use Rattle.model.specs.declared.Answer.{Answer}
-use Rattle.model.specs.declared.Answer.TheVariants.{Replied}
+use Rattle.model.specs.Answers.{Answer}
+use Rattle.model.specs.Answers.{Replied}
 use Rattle.model.specs.Checks.{Check, check, first_of}
 use Rattle.model.specs.Apply.{written}
 use Rattle.calls.specs.Ops.{recall}
-use Rattle.messages.specs.Table.{Slot, at_a, at_b, at_c, value, name, file, Row, table, Given, Words, give_all}
+use Rattle.messages.specs.declared.Slot.{Slot}
+use Rattle.messages.specs.declared.Slot.TheVariants.{NumberA, NumberB, NumberC, Value, Name, File}
+use Rattle.messages.specs.Table.{Row, table, Given, Words, give_all}
 
 -- the row of an op; none for one that has no address
 unfoldable pub row_from : List Row → ℕ → Option Row
@@ -25,12 +27,12 @@ row_of op = row_from table op
 
 -- "The writer refuses a name with any other byte, or a file over 2,147,483,647 bytes, with 26"
 abbrev pub unfit : List ℕ → Slot → Bool
-unfit bytes at_a = false
-unfit bytes at_b = false
-unfit bytes at_c = false
-unfit bytes value = false
-unfit bytes name = not (name_bytes bytes)
-unfit bytes file = ltb highest32 (length bytes)
+unfit bytes NumberA = false
+unfit bytes NumberB = false
+unfit bytes NumberC = false
+unfit bytes Value = false
+unfit bytes Name = not (name_bytes bytes)
+unfit bytes File = ltb highest32 (length bytes)
 
 unfoldable pub any_unfit : List ℕ → List Slot → Bool
 any_unfit bytes [] = false

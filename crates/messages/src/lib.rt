@@ -6,25 +6,28 @@ use model::Command;
 mod table;
 
 pub use table::{
-    address_end, address_length, address_middle, address_start, address_third, slot_code,
-    slot_codes,
+    address_end, address_length, address_middle, address_start, address_third, slot_at,
 };
 
-// A command by its op and its five numbers, as calls have them.
-#[derive(Clone, Copy)]
-pub struct Numbers {
-    pub op: u32,
-    pub a: u32,
-    pub b: u32,
-    pub c: u32,
-    pub d: u32,
-    pub e: u32,
+// Where an argument of a message stands in the call of its command.
+#[derive(Clone, Copy, Debug, PartialEq, Eq)]
+pub enum Slot {
+    // i: the number a, b or c.
+    NumberA,
+    NumberB,
+    NumberC,
+    // f or i: a value, whose kind is d and whose pattern is e.
+    Value,
+    // s: the name beside the command.
+    Name,
+    // b: the file beside the command.
+    File,
 }
 
 // What a message stands for: a command, and where the name or the file beside it starts and ends in the message.
 #[derive(Clone, Copy)]
-pub enum Received {
-    Malformed,
-    Unknown,
-    Command(Command, usize, usize),
+pub struct Received {
+    pub command: Command,
+    pub start: usize,
+    pub end: usize,
 }

@@ -4,9 +4,10 @@ use Rattle.std.proofs.Common.{ap, ◌∙◌, append_assoc, arith, length-append}
 use Rattle.format.specs.Fields.{highest32}
 use Rattle.words.specs.Parts.{over}
 use Rattle.osc.specs.Over.{over_over}
-use Rattle.messages.specs.Write.{any_unfit}
+use Rattle.messages.specs.declared.Slot.{Slot}
+use Rattle.messages.specs.Write.{unfit, any_unfit}
 use Rattle.messages.specs.Rows.{slots_of, address_of}
-use Rattle.messagewrite.specs.Codes.{size_by, unfit_by}
+use Rattle.messagewrite.specs.Codes.{size_by}
 use Rattle.messagewrite.specs.Slots.{sizes}
 use Rattle.messagewrite.specs.Whole.{whole_size}
 
@@ -14,9 +15,9 @@ pub record BlobRoom (at : ℕ) (bytes out : List ℕ) : Type 0 where
   pub small : length bytes ≤ highest32
   pub room : at + (4 + (length bytes + (4 - length bytes % 4) % 4)) ≤ length out
 
-pub record ArgumentRoom (code at : ℕ) (bytes out : List ℕ) : Type 0 where
-  pub fit : unfit_by code bytes ≡ false
-  pub room : at + size_by code (length bytes) ≤ length out
+pub record ArgumentRoom (slot : Slot) (at : ℕ) (bytes out : List ℕ) : Type 0 where
+  pub fit : unfit bytes slot ≡ false
+  pub room : at + size_by slot (length bytes) ≤ length out
 
 pub record AddressRoom (op size : ℕ) (out : List ℕ) : Type 0 where
   pub is : size ≡ length (address_of op)

@@ -12,8 +12,8 @@ use Rattle.osc.specs.Message.{message, arguments}
 use Rattle.words.specs.Parts.{over}
 use Rattle.osc.specs.Over.{over_first}
 use Rattle.osc.specs.Lengths.{front_size, message_size}
-use Rattle.model.specs.declared.Answer.{Answer}
-use Rattle.model.specs.declared.Answer.TheVariants.{Replied, Refused}
+use Rattle.model.specs.Answers.{Answer}
+use Rattle.model.specs.Answers.{Replied, Refused}
 use Rattle.model.specs.Checks.{first_of}
 use Rattle.model.specs.Apply.{written}
 use Rattle.calls.specs.Ops.{recall}

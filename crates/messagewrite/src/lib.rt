@@ -7,10 +7,11 @@ ghost use Rattle.messagewrite.specs.Whole.{without_address};
 
 use crate::put::put_message;
 use crate::row::{any_unfit, message_size, slot_count};
-use crate::slot::{NAME, is_unfit};
+use crate::slot::is_unfit;
+use calls::Numbers;
 use calls::ops::RECALL;
-use messages::{Numbers, address_length};
-use model::Answer;
+use messages::{Slot, address_length};
+use model::{Accepted, Answer};
 use refusals::Refusal;
 
 mod put;
@@ -21,10 +22,7 @@ mod slot;
 fn without_address(op: u32, bytes: &[u8]) -> Refusal
     ensures { result ≡ without_address op bytes.now }
 {
-    if op != RECALL {
-        return Refusal::UnknownMessage;
-    }
-    if is_unfit(NAME, bytes) {
+    if op == RECALL && is_unfit(Slot::Name, bytes) {
         return Refusal::Malformed;
     }
     Refusal::UnknownMessage
@@ -36,16 +34,13 @@ pub fn write(numbers: Numbers, bytes: &[u8], out: &mut [u8]) -> Answer
 {
     let op = numbers.op;
     if address_length(op) == 0 {
-        return Answer::Refused(without_address(op, bytes));
+        return Err(without_address(op, bytes).into());
     }
     let count = slot_count(op);
     if any_unfit(op, count, bytes) {
-        return Answer::Refused(Refusal::Malformed);
+        return Err(Refusal::Malformed.into());
     }
-    let size = message_size(op, count, bytes.len(), out.len());
-    if size == 0 {
-        return Answer::Refused(Refusal::NoRoom);
-    }
+    let size = message_size(op, count, bytes.len(), out.len()).ok_or(Refusal::NoRoom)?;
     put_message(out, numbers, bytes, count);
-    Answer::Replied(size)
+    Ok(Accepted::Replied(size))
 }

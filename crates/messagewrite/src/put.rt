@@ -7,8 +7,9 @@ ghost use Rattle.messages.specs.Table.{give_all};
 ghost use Rattle.messagewrite.specs.Codes.{given};
 ghost use Rattle.messagewrite.specs.Pieces.{AddressRoom, TagsRoom, TagStringRoom, ArgumentsRoom, MessageRoom};
 
-use crate::slot::{argument_size, argument_tag, put_argument};
-use messages::{Numbers, address_length, address_middle, address_start, address_third, slot_code};
+use crate::slot::{argument_size, argument_tag, put_argument, slot};
+use calls::Numbers;
+use messages::{address_length, address_middle, address_start, address_third};
 use osc::{padded_length, put_byte, put_int, put_zeros};
 
 // The address and the zeros that end it: two words, a third where it has eight bytes, and zeros behind twelve.
@@ -33,10 +34,8 @@ fn put_tags(out: &mut [u8], at: usize, numbers: Numbers, count: usize)
     ensures { (bytes : List ℕ) → out.new ≡ over at (tags (give_all (slots_of numbers.op) (given numbers bytes))) out.old }
 {
     let op = numbers.op;
-    let mut k = 0;
-    while k < count {
-        put_byte(out, at + k, argument_tag(numbers, slot_code(op, k)));
-        k += 1;
+    for k in 0..count {
+        put_byte(out, at + k, argument_tag(numbers, slot(op, k)));
     }
 }
 
@@ -45,7 +44,7 @@ fn put_tag_string(out: &mut [u8], at: usize, numbers: Numbers, count: usize)
     requires { TagStringRoom at numbers.op count out.old }
     ensures { (bytes : List ℕ) → out.new ≡ over at (padded (44 ∷ tags (give_all (slots_of numbers.op) (given numbers bytes)))) out.old }
 {
-    put_byte(out, at, 44);
+    put_byte(out, at, b',');
     put_tags(out, at + 1, numbers, count);
     put_zeros(out, at + 1 + count, 4 - (count + 1) % 4);
 }
@@ -56,13 +55,11 @@ fn put_arguments(out: &mut [u8], start: usize, numbers: Numbers, bytes: &[u8], c
 {
     let op = numbers.op;
     let mut at = start;
-    let mut k = 0;
-    while k < count {
-        let code = slot_code(op, k);
-        let more = argument_size(code, bytes.len(), out.len() - at);
-        put_argument(out, at, numbers, code, bytes);
+    for k in 0..count {
+        let slot = slot(op, k);
+        let more = argument_size(slot, bytes.len(), out.len() - at).unwrap();
+        put_argument(out, at, numbers, slot, bytes);
         at += more;
-        k += 1;
     }
 }
 

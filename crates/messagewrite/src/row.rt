@@ -5,21 +5,19 @@ ghost use Rattle.messages.specs.Write.{any_unfit};
 ghost use Rattle.messagewrite.specs.Codes.{fitting};
 ghost use Rattle.messagewrite.specs.Whole.{whole_size};
 
-use crate::slot::{argument_size, is_unfit};
-use messages::{address_length, slot_code};
+use crate::slot::{argument_size, fitting, is_unfit, slot};
+use messages::{address_length, slot_at};
 use osc::padded_length;
 
 pub(crate) fn slot_count(op: u32) -> usize
     ensures { result ≡ length (slots_of op) }
 {
-    let mut k = 0;
-    while k < 4 {
-        if slot_code(op, k) == 0 {
+    for k in 0..4 {
+        if slot_at(op, k).is_none() {
             return k;
         }
-        k += 1;
     }
-    k
+    4
 }
 
 // A name or a file that its slot does not take.
@@ -27,33 +25,23 @@ pub(crate) fn any_unfit(op: u32, count: usize, bytes: &[u8]) -> bool
     requires { count ≡ length (slots_of op) }
     ensures { result ≡ any_unfit bytes.now (slots_of op) }
 {
-    let mut k = 0;
-    while k < count {
-        if is_unfit(slot_code(op, k), bytes) {
+    for k in 0..count {
+        if is_unfit(slot(op, k), bytes) {
             return true;
         }
-        k += 1;
     }
     false
 }
 
-// The size of the message beside a name or a file of so many bytes; 0 where it is more than the room.
-pub(crate) fn message_size(op: u32, count: usize, size: usize, room: usize) -> usize
+// The size of the message beside a name or a file of so many bytes; none where it is more than the room.
+pub(crate) fn message_size(op: u32, count: usize, size: usize, room: usize) -> Option<usize>
     requires { count ≡ length (slots_of op) }
     ensures { result ≡ fitting (whole_size op size) room }
 {
-    let mut at = padded_length(address_length(op)) + padded_length(count + 1);
-    if room < at {
-        return 0;
+    let front = padded_length(address_length(op)) + padded_length(count + 1);
+    let mut at = fitting(front, room)?;
+    for k in 0..count {
+        at += argument_size(slot(op, k), size, room - at)?;
     }
-    let mut k = 0;
-    while k < count {
-        let more = argument_size(slot_code(op, k), size, room - at);
-        if more == 0 {
-            return 0;
-        }
-        at += more;
-        k += 1;
-    }
-    at
+    Some(at)
 }

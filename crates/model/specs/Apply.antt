@@ -1,5 +1,5 @@
 -- What every call answers and leaves, for every input: the one function that commands go through.
-use Rattle.std.specs.Prelude.{ℕ, ◌*◌, ◌+◌, Bool, true, false, ◌≡◌, List, [], ◌∷◌, ◌++◌, length, drop, eqb}
+use Rattle.std.specs.Prelude.{ℕ, ◌*◌, ◌+◌, Bool, ◌≡◌, List, [], ◌∷◌, ◌++◌, length, drop, eqb, Ok, Err, is_ok}
 use Rattle.words.specs.Choice.{pick, both}
 use Rattle.words.specs.Bytes.{AreBytes}
 use Rattle.faults.specs.Faults.{fault_number}
@@ -8,8 +8,10 @@ use Rattle.refusals.specs.declared.Refusal.TheVariants.{BadState}
 use Rattle.model.specs.declared.Query.{Query}
 use Rattle.model.specs.declared.Command.{Command}
 use Rattle.model.specs.declared.Command.TheVariants as command
-use Rattle.model.specs.declared.Answer.{Answer}
-use Rattle.model.specs.declared.Answer.TheVariants.{Done, Replied, Refused, RefusedAt}
+use Rattle.model.specs.declared.Accepted.TheVariants as accepted
+use Rattle.model.specs.declared.Denied.TheVariants as denied
+use Rattle.model.specs.Answers.{Answer}
+use Rattle.model.specs.Answers.{Done, Replied, Refused}
 use Rattle.model.specs.Layout.{words_length, arena_length}
 use Rattle.model.specs.Engine.{Engine, decode}
 use Rattle.model.specs.Formed.{formed}
@@ -34,17 +36,13 @@ unfoldable pub answer : Command → List ℕ → List ℕ → List ℕ → List 
 answer c bytes ws arena out = pick (formed ws arena) (answer_in c bytes (decode ws arena) (length out)) (Refused BadState)
 
 abbrev pub is_accepted : Answer → Bool
-is_accepted Done = true
-is_accepted (Replied n) = true
-is_accepted (Refused r) = false
-is_accepted (RefusedAt r at) = false
+is_accepted a = is_ok a
 
 -- "Bytes past a reply stay"
 abbrev pub written : Answer → List ℕ → List ℕ → List ℕ
-written Done bytes out = out
-written (Replied n) bytes out = bytes ++ drop n out
-written (Refused r) bytes out = out
-written (RefusedAt r at) bytes out = out
+written (Ok accepted.Done) bytes out = out
+written (Ok (accepted.Replied n)) bytes out = bytes ++ drop n out
+written (Err d) bytes out = out
 
 abbrev pub reply_of : Command → List ℕ → Engine → List ℕ
 reply_of (command.Definitions c) bytes e = []
@@ -85,7 +83,7 @@ pub record Freshly (ws bs : List ℕ) (a : Answer) (ws' bs' : List ℕ) : Type 0
 
 -- an answer as one number: the refusal's number (0 accepted) plus 256 times the place (refusals 2 to 11) or the length written
 abbrev pub answer_number : Answer → ℕ
-answer_number Done = 0
-answer_number (Replied n) = 256 * n
-answer_number (Refused r) = number_of r
-answer_number (RefusedAt r at) = fault_number r + 256 * at
+answer_number (Ok accepted.Done) = 0
+answer_number (Ok (accepted.Replied n)) = 256 * n
+answer_number (Err (denied.Refused r)) = number_of r
+answer_number (Err (denied.RefusedAt r at)) = fault_number r + 256 * at

@@ -3,8 +3,8 @@
 use Prim.{Unit}
 use Rattle.std.specs.Prelude.{ℕ, List, [], ◌∷◌}
 use Rattle.model.specs.declared.Command.{Command}
-use Rattle.model.specs.declared.Answer.{Answer}
-use Rattle.model.specs.declared.Answer.TheVariants.{Done}
+use Rattle.model.specs.Answers.{Answer}
+use Rattle.model.specs.Answers.{Done}
 use Rattle.model.specs.Engine.{Engine, decode}
 use Rattle.model.specs.Apply.{Does, Freshly}
 

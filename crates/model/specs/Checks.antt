@@ -23,8 +23,8 @@ use Rattle.model.specs.declared.BusCommand.{BusCommand}
 use Rattle.model.specs.declared.BusCommand.TheVariants as buses
 use Rattle.model.specs.declared.Query.{Query}
 use Rattle.model.specs.declared.Query.TheVariants as query
-use Rattle.model.specs.declared.Answer.{Answer}
-use Rattle.model.specs.declared.Answer.TheVariants.{Done, Refused, RefusedAt}
+use Rattle.model.specs.Answers.{Answer}
+use Rattle.model.specs.Answers.{Done, Refused, RefusedAt}
 use Rattle.model.specs.Layout.{slot_count}
 use Rattle.model.specs.Engine.{Slot, Engine, held, name_in, definition_of, resident_of}
 use Rattle.words.specs.Patterns.{minus_one}

@@ -1,6 +1,6 @@
 -- The three demands, each as a statement over the definitions that the contracts cite.
 use Prim.{Unit}
-use Rattle.std.specs.Prelude.{ℕ, ◌≤◌, ◌<◌, true, false, ◌≡◌, List, [], ◌∷◌, ◌++◌, length, drop, ltb, eqb}
+use Rattle.std.specs.Prelude.{ℕ, ◌≤◌, ◌<◌, true, false, ◌≡◌, List, [], ◌∷◌, ◌++◌, length, drop, ltb, eqb, Ok, Err}
 use Rattle.std.proofs.Math.Option.{Option, none, some}
 use Rattle.words.specs.Choice.{pick}
 use Rattle.faults.specs.Faults.{fault_number}
@@ -22,8 +22,9 @@ use Rattle.model.specs.declared.Query.{Query}
 use Rattle.model.specs.declared.Query.TheVariants as query
 use Rattle.model.specs.declared.Command.{Command}
 use Rattle.model.specs.declared.Command.TheVariants as command
-use Rattle.model.specs.declared.Answer.{Answer}
-use Rattle.model.specs.declared.Answer.TheVariants.{Done, Replied, Refused, RefusedAt}
+use Rattle.model.specs.declared.Denied.TheVariants as denied
+use Rattle.model.specs.Answers.{Answer}
+use Rattle.model.specs.Answers.{Done, Replied, Refused}
 use Rattle.model.specs.Checks.{definitions_of}
 use Rattle.model.specs.Engine.{Slot, Engine, slot_at, definition_in, resident_of, residents}
 use Rattle.model.specs.Formed.{formed}
@@ -46,10 +47,9 @@ meaning_in name e = definition_at_slot e.slots (resident_of name e.slots)
 
 -- the number of the refusal that an answer gives, 0 where it gives none
 abbrev pub refusal_in : Answer → ℕ
-refusal_in Done = 0
-refusal_in (Replied n) = 0
-refusal_in (Refused r) = number_of r
-refusal_in (RefusedAt r at) = fault_number r
+refusal_in (Ok x) = 0
+refusal_in (Err (denied.Refused r)) = number_of r
+refusal_in (Err (denied.RefusedAt r at)) = fault_number r
 
 -- of a call in a state: any bytes and any command, in any lent state, end in the effect asked for or in one numbered refusal, by the table's order
 -- of checks. A refusal

@@ -1,7 +1,10 @@
 // The values that travel: commands and answers. What they mean stands in specs/.
 #![tactic(auto)]
 
-use faults::Fault;
+ghost use Rattle.std.specs.Prelude.{◌≡◌};
+ghost use Rattle.model.specs.declared.Denied.TheVariants.{Refused, RefusedAt};
+
+use faults::{Fault, FileError};
 use refusals::Refusal;
 use values::{Key, NodeArgument, Value};
 
@@ -134,11 +137,34 @@ pub enum Command {
     Query(Query),
 }
 
-// Done; done with a reply of so many bytes; refused; refused at a place in a file.
-#[derive(Clone, Copy)]
-pub enum Answer {
+// What a call that is accepted answers: that it is done, or that a reply of so many bytes stands in the buffer.
+#[derive(Clone, Copy, Debug, PartialEq, Eq)]
+pub enum Accepted {
     Done,
     Replied(usize),
+}
+
+// Why a call is refused: by a row of the table, or by a fault of a file, at its place.
+#[derive(Clone, Copy, Debug, PartialEq, Eq)]
+pub enum Denied {
     Refused(Refusal),
     RefusedAt(Fault, usize),
+}
+
+pub type Answer = Result<Accepted, Denied>;
+
+impl From<Refusal> for Denied {
+    ghost from_gives = { λ refusal denied. denied ≡ Refused refusal };
+
+    fn from(refusal: Refusal) -> Denied {
+        Denied::Refused(refusal)
+    }
+}
+
+impl From<FileError> for Denied {
+    ghost from_gives = { λ error denied. denied ≡ RefusedAt error.0 error.1 };
+
+    fn from(error: FileError) -> Denied {
+        Denied::RefusedAt(error.0, error.1)
+    }
 }

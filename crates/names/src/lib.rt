@@ -1,10 +1,10 @@
 // The node that an argument means, by its place, and whether the node at a place is a group.
 #![tactic(auto)]
 
-ghost use Rattle.std.specs.Prelude.{◌<◌, ◌≡◌, length};
+ghost use Rattle.std.specs.Prelude.{◌<◌, ◌≡◌, IfSome, length, unwrap_or};
 ghost use Rattle.nodes.specs.Place.{place, is_group};
 ghost use Rattle.nodes.specs.Formed.{most_nodes};
-ghost use Rattle.model.specs.Layout.{words_length, nodes_in, record_in};
+ghost use Rattle.model.specs.Layout.{words_length, count_in, nodes_in, record_in};
 ghost use Rattle.names.specs.Named.{Findable, Named};
 ghost use Rattle.names.specs.Judged.{Judged};
 
@@ -14,13 +14,6 @@ use refusals::Refusal;
 use values::{NodeArgument, Target, target_of};
 use words::wide;
 
-// What a node argument comes to: the place of the node that it means, or its refusal.
-#[derive(Clone, Copy)]
-pub enum NodePlace {
-    At(usize),
-    Refused(Refusal),
-}
-
 // The node at a place is a group.
 pub fn node_is_group(words: &[u32], place: usize) -> bool
     requires { (length words.now ≡ words_length) × (place < most_nodes) }
@@ -29,10 +22,11 @@ pub fn node_is_group(words: &[u32], place: usize) -> bool
     words[NODES + RECORD * place + SLOT] == GROUP
 }
 
-// The place of the node with a number, or the count.
-pub fn place_of(words: &[u32], number: u32) -> usize
+// The place of the node with a number.
+pub fn place_of(words: &[u32], number: u32) -> Option<usize>
     requires { Findable words.now }
-    ensures { result ≡ place number (nodes_in words.now) }
+    ensures place { unwrap_or result (count_in words.now) ≡ place number (nodes_in words.now) }
+    ensures below { IfSome result (λ at. at < count_in words.now) }
 {
     let count = wide(words[COUNT]);
     find_indexed(
@@ -43,34 +37,29 @@ pub fn place_of(words: &[u32], number: u32) -> usize
     )
 }
 
-// The place of the node whose number an argument means, or the count where there is none.
-fn meant_place(words: &[u32], argument: NodeArgument) -> usize
+// The place of the node whose number an argument means.
+fn meant_place(words: &[u32], argument: NodeArgument) -> Option<usize>
     requires { Findable words.now }
-    ensures { Named argument words.now result }
+    ensures named { Named argument words.now (unwrap_or result (count_in words.now)) }
+    ensures below { IfSome result (λ at. at < count_in words.now) }
 {
-    let count = wide(words[COUNT]);
-    let target = target_of(argument.number);
-    match target {
+    match target_of(argument.number) {
         Target::Latest => {
             let latest = words[LATEST];
             if latest == 0 {
-                return count;
+                return None;
             }
             place_of(words, latest)
         }
         Target::Number(number) => place_of(words, number),
-        Target::Reserved => count,
+        Target::Reserved => None,
     }
 }
 
 // A node argument, judged: every command and query that has one passes the refusal on as it comes.
-pub fn node_place(words: &[u32], argument: NodeArgument) -> NodePlace
+pub fn node_place(words: &[u32], argument: NodeArgument) -> Result<usize, Refusal>
     requires { Findable words.now }
     ensures { Judged argument words.now result }
 {
-    let at = meant_place(words, argument);
-    if at < wide(words[COUNT]) {
-        return NodePlace::At(at);
-    }
-    NodePlace::Refused(Refusal::NoNode)
+    meant_place(words, argument).ok_or(Refusal::NoNode)
 }

@@ -21,9 +21,9 @@ use Rattle.index.specs.Index.{index_of}
 use Rattle.values.specs.declared.NodeArgument.{NodeArgument}
 use Rattle.model.specs.declared.TreeCommand.TheVariants as tree
 use Rattle.model.specs.declared.Command.TheVariants as command
-use Rattle.model.specs.declared.Answer.TheVariants.{Done, Refused}
+use Rattle.model.specs.Answers.{Done, Refused}
 use Rattle.model.specs.Layout.{slot_count, row_words, words_length, lengths_place, nodes_place, nodes_words, controls_place, controls_words, count_in, next_in, lengths_in, nodes_in, controls_in, put_header, put_controls, put_index, put_order, put_nodes, slot_in, node_words}
-use Rattle.model.specs.Engine.{Engine, decode, definition_in, no_definition, value_or, definition_of, resident_of, slot_at}
+use Rattle.model.specs.Engine.{Engine, decode, definition_in, no_definition, value_or, definition_of, slot_at}
 use Rattle.model.specs.Checks.{first_of, tree_checks}
 use Rattle.model.specs.Effects.{staying_nodes, new_synth, number_for, next_after, initial_words, synth_made, effect}
 use Rattle.model.specs.After.{put_tree, words_after}
@@ -41,7 +41,7 @@ use Rattle.tree.specs.declared.add.Gap.{Gap}
 use Rattle.tree.specs.Action.{number_of, add_here, add_number}
 use Rattle.tree.specs.Gaps.{gap_by, in_gap, gap_leaves}
 use Rattle.reindex.specs.declared.edit.Edit.TheVariants as edit
-use Rattle.slots.specs.Slots.{slots_on, slot_on, slots_lent, part_word}
+use Rattle.slots.specs.Slots.{slot_on, slots_lent, part_word}
 use Rattle.definitions.specs.Slots.{Whole, Formed}
 use Rattle.definitions.specs.Retiring.{slot_is}
 use Rattle.definitions.specs.Lent.{table_in, formed_lent}
@@ -51,15 +51,14 @@ use Rattle.treecommands.specs.Edits.{edit_by, add_does}
 use Rattle.names.specs.Judged.{meant_in}
 use Rattle.treecommands.specs.Settle.{Changed, settled, settled_tree, order_size, index_size, nodes_size, changed_left}
 use Rattle.treecommands.specs.Adding.{after_few}
-use Rattle.newsynth.specs.Checks.{Meant, Clear, Answers}
+use Rattle.newsynth.specs.Checks.{Clear, Answers}
 use Rattle.newsynth.specs.Rows.{Standing, staying_at, staying_first}
 use Rattle.newsynth.specs.Parts.{header_put}
 
 -- no check fires on the name in the bytes
 pub record MakingReady (number : ℕ) (action : Action) (target : NodeArgument) (at slot : ℕ) (bytes ws bs : List ℕ) : Type 0 where
   pub known : Known ws bs
-  pub meant : Meant slot bytes ws bs
-  pub clear : Clear number action target slot ws at
+  pub clear : Clear number action target slot bytes ws bs at
 
 pub record Fit (number : ℕ) (action : Action) (at slot : ℕ) (ws bs : List ℕ) : Type 0 where
   pub target : NodeArgument
@@ -112,11 +111,11 @@ module _ (number : ℕ) (action : Action) (target : NodeArgument) (at slot : ℕ
   after = add_by (number_of action) made n (nodes_in ws)
 
   done : first_of (tree_checks (tree.NewSynth number (number_of action) target) bytes (decode ws bs)) Done ≡ Done
-  done = g.clear.passed bytes bs g.meant
+  done = g.clear.passed
 
   few : length after ≤ most_nodes
   unfolding answer_in decode
-  few = rw g.meant (after_few (tree.NewSynth number (number_of action) target) bytes ws bs k done)
+  few = rw g.clear.meant (after_few (tree.NewSynth number (number_of action) target) bytes ws bs k done)
 
   pub next_some : 1 ≤ next_in ws
   next_some =
@@ -135,7 +134,7 @@ module _ (number : ℕ) (action : Action) (target : NodeArgument) (at slot : ℕ
   row-low = comes.row_low
 
   resident : (slot_at (decode ws bs).slots slot).resident ≡ true
-  resident = rw g.meant comes.resident
+  resident = rw g.clear.meant comes.resident
 
   pub definition_readable : (size : ℕ) → size ≡ get_or ws (lengths_place + slot) 0 → Readable (lent_bytes slot size bs)
   definition_readable size same = resident_readable ws bs k slot g.clear.there resident size same
@@ -246,22 +245,17 @@ module _ (number : ℕ) (action : Action) (target : NodeArgument) (at slot : ℕ
         unfolding answer_in decode words_after effect
         synth_done =
             step_done (command.Tree (tree.NewSynth number (number_of action) target)) bytes ws bs out done
-            (made_left ∙ ap (λ (s : ℕ). put_tree (synth_made number (number_of action) n s (decode ws bs)) ws) g.meant)
+            (made_left ∙ ap (λ (s : ℕ). put_tree (synth_made number (number_of action) n s (decode ws bs)) ws) g.clear.meant)
 
 -- a number that asks for no add action
 pub synth_unasked : (number action : ℕ) (target : NodeArgument) (bytes ws bs : List ℕ) → 4 < action → WordsStep (command.Tree (tree.NewSynth number action target)) bytes ws bs (Refused BadFlag) ws
 unfolding answer_in first_of
 synth_unasked number action target bytes ws bs h = step_refused (command.Tree (tree.NewSynth number action target)) bytes ws bs BadFlag (rw (lt-ltb 4 action h))
 
--- a refusal, and the ground for the rest
-module _ (number : ℕ) (action : Action) (target : NodeArgument) (slot : ℕ) (bytes ws bs : List ℕ) (m : Meant slot bytes ws bs) where
-  pub synth_refused : (r : Refusal) → Answers number action target slot ws r → WordsStep (command.Tree (tree.NewSynth number (number_of action) target)) bytes ws bs (Refused r) ws
-  unfolding answer_in
-  synth_refused r h = step_refused (command.Tree (tree.NewSynth number (number_of action) target)) bytes ws bs r (h bytes bs m)
-
--- the slot that was found, in the table lent from the words
-pub meant_lent : (slot : ℕ) (bytes ws bs : List ℕ) → slot ≡ resident_of bytes (slots_on (table_in ws) bs) → Meant slot bytes ws bs
-meant_lent slot bytes ws bs h = h ∙ ap (λ l. resident_of bytes l) (slots_lent ws bs)
+pub synth_refused : (number : ℕ) (action : Action) (target : NodeArgument) (bytes ws bs : List ℕ) (r : Refusal) → Answers number action target bytes ws bs r
+    → WordsStep (command.Tree (tree.NewSynth number (number_of action) target)) bytes ws bs (Refused r) ws
+unfolding answer_in
+synth_refused number action target bytes ws bs r h = step_refused (command.Tree (tree.NewSynth number (number_of action) target)) bytes ws bs r h
 
 pub table_formed : (ws bs : List ℕ) → Known ws bs → Formed (table_in ws) bs
 table_formed ws bs k = formed_lent ws bs k.size k.arena_size k.flags k.slots

@@ -1,51 +1,47 @@
 // The checks of /s_new behind the add action's: 14, 15, 16, 17, 18, 25, 20.
-ghost use Rattle.treecommands.specs.Ready.{Ready};
+ghost use Rattle.state.specs.Known.{Known};
 ghost use Rattle.newsynth.specs.Checks.{SynthPlaced};
 
 use crate::numbers::{bad_number, is_live, is_spent};
-use layout::{COUNT, GROUP, NEXT};
-use names::{NodePlace, node_place};
+use definitions::find_resident;
+use layout::{COUNT, LENGTHS, NEXT, RESIDENT_END};
+use names::node_place;
 use refusals::Refusal;
 use tree::Action;
-use treecommands::{TargetPlace, bad_target, is_full};
+use treecommands::{bad_target, is_full};
 use values::NodeArgument;
 use words::wide;
 
-// The place of a new synth's target, or the first refusal; the slot is that of the name's resident, 32 where there is none.
+// The slot of a new synth's definition, whose name is in the bytes, and the place of its target.
 pub fn synth_spot(
     number: u32,
     action: Action,
     target: NodeArgument,
-    slot: u32,
+    bytes: &[u8],
     words: &[u32],
-) -> TargetPlace
-    requires { Ready words.now }
-    ensures { SynthPlaced number action target slot words.now result }
+    arena: &[u8],
+) -> Result<(usize, usize), Refusal>
+    requires { Known words.now arena.now }
+    ensures { SynthPlaced number action target bytes.now words.now arena.now result }
 {
     if bad_number(number) {
-        return TargetPlace::Refused(Refusal::BadNumber);
+        return Err(Refusal::BadNumber);
     }
     if is_live(number, words) {
-        return TargetPlace::Refused(Refusal::NumberLive);
+        return Err(Refusal::NumberLive);
     }
-    if GROUP <= slot {
-        return TargetPlace::Refused(Refusal::NoDefinition);
-    }
-    let count = wide(words[COUNT]);
-    let at = match node_place(words, target) {
-        NodePlace::At(at) => at,
-        NodePlace::Refused(refusal) => {
-            return TargetPlace::Refused(refusal);
-        }
-    };
+    let named = find_resident(&words[LENGTHS..RESIDENT_END], arena, bytes);
+    let slot = named.ok_or(Refusal::NoDefinition)?;
+    let at = node_place(words, target)?;
     if bad_target(action, at, words) {
-        return TargetPlace::Refused(Refusal::WrongKind);
+        return Err(Refusal::WrongKind);
     }
     if is_spent(number, words[NEXT]) {
-        return TargetPlace::Refused(Refusal::NoNumber);
+        return Err(Refusal::NoNumber);
     }
+    let count = wide(words[COUNT]);
     if is_full(action, count) {
-        return TargetPlace::Refused(Refusal::NodesFull);
+        return Err(Refusal::NodesFull);
     }
-    TargetPlace::At(at)
+    Ok((slot, at))
 }

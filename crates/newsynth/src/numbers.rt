@@ -4,18 +4,14 @@ ghost use Rattle.model.specs.Effects.{number_for, next_after};
 ghost use Rattle.treecommands.specs.Ready.{Ready};
 ghost use Rattle.newsynth.specs.Checks.{bad_number, live_in, spent};
 
-use layout::COUNT;
 use names::place_of;
-use words::{MINUS_ONE, wide};
+use words::MINUS_ONE;
 
 // Below -1.
 pub fn bad_number(number: u32) -> bool
     ensures { result ≡ bad_number number }
 {
-    if number < 2147483648 {
-        return false;
-    }
-    number != MINUS_ONE
+    2147483648 <= number && number != MINUS_ONE
 }
 
 // A number other than -1 that is live.
@@ -23,38 +19,25 @@ pub fn is_live(number: u32, words: &[u32]) -> bool
     requires { Ready words.now }
     ensures { result ≡ live_in number words.now }
 {
-    if number == MINUS_ONE {
-        return false;
-    }
-    let count = wide(words[COUNT]);
-    place_of(words, number) < count
+    number != MINUS_ONE && place_of(words, number).is_some()
 }
 
 // For -1, that no number is left.
 pub fn is_spent(number: u32, next: u32) -> bool
     ensures { result ≡ spent number next }
 {
-    if number == MINUS_ONE {
-        return next == 2147483647;
-    }
-    false
+    number == MINUS_ONE && next == 2147483647
 }
 
 pub fn number_for(number: u32, next: u32) -> u32
     ensures { result ≡ number_for number next }
 {
-    if number == MINUS_ONE {
-        return next;
-    }
-    number
+    if number == MINUS_ONE { next } else { number }
 }
 
 pub fn next_after(number: u32, next: u32) -> u32
     requires { 1 ≤ next }
     ensures { result ≡ next_after number next }
 {
-    if number == MINUS_ONE {
-        return next - 1;
-    }
-    next
+    if number == MINUS_ONE { next - 1 } else { next }
 }

@@ -4,7 +4,7 @@
 // definition (32 for a group) and its row of controls.
 #![tactic(auto)]
 
-#[derive(Clone, Copy)]
+#[derive(Clone, Copy, Debug, PartialEq, Eq)]
 pub struct Node {
     pub number: u32,
     pub depth: u32,

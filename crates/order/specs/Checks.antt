@@ -9,7 +9,7 @@ use Rattle.words.specs.Choice.{pick, both, either}
 use Rattle.words.specs.ChoiceLaws.{both_true}
 use Rattle.nodes.specs.declared.Node.{Node}
 use Rattle.nodes.specs.Table.{width, node_from, rows, depth_field, slot_field}
-use Rattle.nodes.specs.TableLaws.{rows_end, row-from}
+use Rattle.nodes.specs.TableLaws.{rows_end, rows-length, row-from}
 use Rattle.nodes.specs.Place.{group_slot}
 use Rattle.nodes.specs.Formed.{first_given, last_given, most_rows, most_nodes, count_formed, reach, steps, rooted, apart, number_formed, fields_formed, row_formed, all_formed, rows_apart, next_formed, synth_lives, latest_formed, nodes_formed}
 use Rattle.order.specs.Marks.{rows_formed, rows_hold}
@@ -103,3 +103,6 @@ module _ (next latest : ℕ) (t : List Node) where
           → both f (both (rows_apart t) (both (next_formed next) (latest_formed latest t))) ≡ both f (both (rows_hold t) (both (next_formed next) (latest_formed latest t)))
       go true h = rw (h refl)
       go false h = refl
+
+-- the rules together, by a table's count
+pub ruleset by_rule = (hold_none, hold_many, hold_some, rows-length)

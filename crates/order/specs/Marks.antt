@@ -135,3 +135,6 @@ module _ (count : ℕ) (us : List ℕ) (i : ℕ) (seen : List Bool) (whole : Boo
 pub pass_end : (count : ℕ) (us : List ℕ) (i : ℕ) (seen : List Bool) (whole : Bool) → count ≤ i → pass seen (drop i (rows count us)) ≡ whole → true ≡ whole
 unfolding pass
 pass_end count us i seen whole h s = ap (λ (l : List Node). pass seen l) (sym (rows_end count us i h)) ∙ s
+
+-- the marks along the table
+pub ruleset along_marks = (pass_none, pass_group, pass_past, pass_taken, pass_mark, pass_end)

@@ -1,10 +1,10 @@
 -- The order kept against the one worked out afresh.
-use Rattle.std.specs.Prelude.{ℕ, suc, ◌+◌, ◌-◌, ◌≤◌, ◌<◌, Bool, true, false, ◌≡◌, refl, take, get_or, leb, eqb}
-use Rattle.std.proofs.Common.{sym, ◌∙◌, arith, add-one, drop-cons, get_or-take, length-take-le, take_at, le-leb, eq-eqb, eqb-true}
+use Rattle.std.specs.Prelude.{ℕ, suc, ◌-◌, ◌≤◌, ◌<◌, Bool, true, false, ◌≡◌, refl, take, leb, eqb}
+use Rattle.std.specs.Cmp.Lexicographic.{pointwise}
+use Rattle.std.proofs.Common.{◌&&◌, sym, ◌∙◌, arith, length-take-le, take_at, le-leb, eq-eqb, eqb-true}
 use Rattle.std.proofs.Math.Path.{ap, ap₂}
 use mathlib.Core.List.{List, [], ◌∷◌}
-use Rattle.std.proofs.Math.ListN.{length, drop, length-take}
-use Rattle.std.proofs.Math.Seq.{drop-length}
+use Rattle.std.proofs.Math.ListN.{length}
 use Rattle.std.proofs.lemmas.Bool.{lt-leb}
 use Rattle.words.specs.Choice.{both}
 use Rattle.words.specs.ChoiceLaws.{both_true}
@@ -44,24 +44,17 @@ same_length (x ∷ a) (y ∷ b) h = rw (same_length a b (λ e. h (ap suc e))) (n
     nothing true = refl
     nothing false = refl
 
--- the first so many numbers of two runs, from a place on: one step, and the end
-module _ (many : ℕ) (a b : List ℕ) (ha : many ≤ length a) (hb : many ≤ length b) where
-  pub front_turn : (i : ℕ) → i < many
-      → same_name (drop i (take many a)) (drop i (take many b)) ≡ both (eqb (get_or a i 0) (get_or b i 0)) (same_name (drop (i + 1) (take many a)) (drop (i + 1) (take many b)))
-  unfolding same_name
-  front_turn i h =
-      let la : i < length (take many a) = simp length-take (omega arith) in
-      let lb : i < length (take many b) = simp length-take (omega arith) in
-      ap₂ (λ (x y : List ℕ). same_name x y) (drop-cons (take many a) i 0 la) (drop-cons (take many b) i 0 lb)
-      ∙ ap (λ (j : ℕ). both (eqb (get_or (take many a) i 0) (get_or (take many b) i 0)) (same_name (drop j (take many a)) (drop j (take many b)))) (sym (add-one i))
-      ∙ ap₂ (λ (x y : ℕ). both (eqb x y) (same_name (drop (i + 1) (take many a)) (drop (i + 1) (take many b)))) (get_or-take many a i 0 h) (get_or-take many b i 0 h)
-
-  pub front_end : same_name (drop many (take many a)) (drop many (take many b)) ≡ true
-  unfolding same_name
-  front_end =
-      ap₂ (λ (x y : List ℕ). same_name x y)
-      (ap (λ (j : ℕ). drop j (take many a)) (sym (length-take-le many a ha)) ∙ drop-length (take many a))
-      (ap (λ (j : ℕ). drop j (take many b)) (sym (length-take-le many b hb)) ∙ drop-length (take many b))
+-- `==` on two runs of numbers
+pub same_pointwise : (a b : List ℕ) → pointwise eqb a b ≡ same_name a b
+unfolding same_name
+same_pointwise [] [] = refl
+same_pointwise [] (y ∷ b) = refl
+same_pointwise (x ∷ a) [] = refl
+same_pointwise (x ∷ a) (y ∷ b) = go (eqb x y) (same_pointwise a b)
+  where
+    go : (m : Bool) → pointwise eqb a b ≡ same_name a b → (m && pointwise eqb a b) ≡ both m (same_name a b)
+    go true e = e
+    go false e = refl
 
 -- the test of the order kept, by its length and by its numbers
 module _ (kept : List ℕ) (many : ℕ) (t : List Node) where

@@ -16,6 +16,7 @@ ghost use Rattle.order.specs.Visits.{marks};
 use layout::{DEPTH, GROUP, MOST_NODES, MOST_ORDER, NUMBER, RECORD, ROW, ROWS, RUN, SLOT};
 
 // The running order: its numbers, with zeros past them, and how many they are.
+// Kept: memory is fixed and nothing is allocated, so the numbers are an array with its length.
 #[derive(Clone, Copy)]
 pub struct Order {
     pub numbers: [u32; MOST_ORDER],
@@ -30,8 +31,7 @@ fn visit(nodes: &[u32], count: usize) -> [bool; MOST_NODES]
 {
     let mut visited = [false; MOST_NODES];
     let mut limit: u32 = 0;
-    let mut i = 0;
-    while i < count {
+    for i in 0..count {
         let at = RECORD * i;
         let depth = nodes[at + DEPTH];
         if depth <= limit {
@@ -41,7 +41,6 @@ fn visit(nodes: &[u32], count: usize) -> [bool; MOST_NODES]
                 visited[i] = true;
             }
         }
-        i += 1;
     }
     visited
 }
@@ -54,45 +53,34 @@ pub fn running_order(nodes: &[u32], count: usize) -> Order
     let visited = visit(nodes, count);
     let mut numbers: [u32; MOST_ORDER] = [0; MOST_ORDER];
     let mut length = 0;
-    let mut i = 0;
-    while i < count {
-        if visited[i] {
-            let at = RECORD * i;
-            if nodes[at + SLOT] != GROUP {
-                if length < MOST_ORDER {
-                    numbers[length] = nodes[at];
-                }
-                length += 1;
+    for i in 0..count {
+        let at = RECORD * i;
+        if visited[i] && nodes[at + SLOT] != GROUP {
+            if length < MOST_ORDER {
+                numbers[length] = nodes[at];
             }
+            length += 1;
         }
-        i += 1;
     }
-    Order {
-        numbers: numbers,
-        length: length,
-    }
+    Order { numbers, length }
 }
 
 // Each synth has a row of its own among the 256.
+#[tactic(auto, using(crate::specs::Marks::along_marks))]
 fn rows_apart(nodes: &[u32], count: usize) -> bool
     requires { TableFits nodes.now count }
     ensures { result ≡ rows_hold (rows count nodes.now) }
 {
     let mut seen = [false; ROWS];
-    let mut i = 0;
-    while i < count {
+    for i in 0..count {
         let at = RECORD * i;
         if nodes[at + SLOT] != GROUP {
             let row = words::wide(nodes[at + ROW]);
-            if ROWS <= row {
-                return false;
-            }
-            if seen[row] {
+            if ROWS <= row || seen[row] {
                 return false;
             }
             seen[row] = true;
         }
-        i += 1;
     }
     true
 }
@@ -102,12 +90,7 @@ pub fn write_order(order: &mut [u32], from: Order)
     requires { length order.old ≡ most_order }
     ensures { order.new ≡ from.numbers }
 {
-    let numbers = from.numbers;
-    let mut i = 0;
-    while i < MOST_ORDER {
-        order[i] = numbers[i];
-        i += 1;
-    }
+    order.copy_from_slice(&from.numbers);
 }
 
 // Two runs have the same first so many numbers.
@@ -115,14 +98,7 @@ fn same_numbers(kept: &[u32], fresh: &[u32], many: usize) -> bool
     requires { (many ≤ length kept.now) × (many ≤ length fresh.now) }
     ensures { result ≡ same_name (take many kept.now) (take many fresh.now) }
 {
-    let mut i = 0;
-    while i < many {
-        if kept[i] != fresh[i] {
-            return false;
-        }
-        i += 1;
-    }
-    true
+    kept[..many] == fresh[..many]
 }
 
 // The order kept, of this length, is the one worked out afresh.
@@ -134,51 +110,42 @@ pub fn same_order(kept: &[u32], many: usize, nodes: &[u32], count: usize) -> boo
         return false;
     }
     let fresh = running_order(nodes, count);
-    if many != fresh.length {
-        return false;
-    }
-    same_numbers(kept, &fresh.numbers, many)
+    many == fresh.length && same_numbers(kept, &fresh.numbers, many)
 }
 
 // Every record past the first is below the root, and none deeper than the one before it lets it be.
+#[tactic(auto, using(crate::specs::Checks::steps_turn, crate::specs::Checks::steps_end))]
 fn steps_hold(nodes: &[u32], count: usize) -> bool
     requires { TableFits nodes.now count × (1 ≤ count) }
     ensures { result ≡ steps 1 (drop 1 (rows count nodes.now)) }
 {
     let mut most: u32 = 1;
-    let mut i = 1;
-    while i < count {
+    for i in 1..count {
         let at = RECORD * i;
         let depth = nodes[at + DEPTH];
-        if depth == 0 {
+        if depth == 0 || most < depth {
             return false;
         }
-        if most < depth {
-            return false;
-        }
-        most = depth;
-        if nodes[at + SLOT] == GROUP {
-            most = depth + 1;
-        }
-        i += 1;
+        most = if nodes[at + SLOT] == GROUP {
+            depth + 1
+        } else {
+            depth
+        };
     }
     true
 }
 
 // A synth has the number.
+#[tactic(auto, using(crate::specs::Checks::latest_turn, crate::specs::Checks::latest_end))]
 fn synth_lives(nodes: &[u32], count: usize, number: u32) -> bool
     requires { TableFits nodes.now count }
     ensures { result ≡ synth_lives number (rows count nodes.now) }
 {
-    let mut i = 0;
-    while i < count {
+    for i in 0..count {
         let at = RECORD * i;
-        if nodes[at + SLOT] != GROUP {
-            if nodes[at] == number {
-                return true;
-            }
+        if nodes[at + SLOT] != GROUP && nodes[at] == number {
+            return true;
         }
-        i += 1;
     }
     false
 }
@@ -187,100 +154,56 @@ fn synth_lives(nodes: &[u32], count: usize, number: u32) -> bool
 fn number_holds(number: u32, slot: u32, next: u32) -> bool
     ensures { result ≡ number_holds next number slot }
 {
-    if number < 2147483648 {
-        return true;
-    }
-    if 4294967288 < number {
-        return false;
-    }
-    if number <= next {
-        return false;
-    }
-    slot != GROUP
+    number < 2147483648 || (number <= 4294967288 && next < number && slot != GROUP)
 }
 
 // A run flag, a slot and a row are in bounds.
 fn fields_hold(run: u32, slot: u32, row: u32) -> bool
     ensures { result ≡ fields_hold run slot row }
 {
-    if 1 < run {
-        return false;
-    }
-    if GROUP < slot {
-        return false;
-    }
-    if slot == GROUP {
-        return true;
-    }
-    words::wide(row) < ROWS
+    run <= 1 && (slot == GROUP || (slot < GROUP && words::wide(row) < ROWS))
 }
 
 // Every record's fields are in bounds.
+#[tactic(auto, using(crate::specs::Checks::fields_turn, crate::specs::Checks::fields_end))]
 fn records_hold(nodes: &[u32], count: usize, next: u32) -> bool
     requires { TableFits nodes.now count }
     ensures { result ≡ all_formed next (rows count nodes.now) }
 {
-    let mut i = 0;
-    while i < count {
+    for i in 0..count {
         let at = RECORD * i;
         let slot = nodes[at + SLOT];
-        if !number_holds(nodes[at], slot, next) {
+        let row = nodes[at + ROW];
+        if !number_holds(nodes[at], slot, next) || !fields_hold(nodes[at + RUN], slot, row) {
             return false;
         }
-        if !fields_hold(nodes[at + RUN], slot, nodes[at + ROW]) {
-            return false;
-        }
-        i += 1;
     }
     true
 }
 
 // The first record is the root, with all others below it.
+#[tactic(auto, using(crate::specs::Checks::rooted_turn))]
 fn root_holds(nodes: &[u32], count: usize) -> bool
     requires { TableFits nodes.now count × (1 ≤ count) }
     ensures { result ≡ rooted (rows count nodes.now) }
 {
-    if nodes[NUMBER] != 0 {
-        return false;
-    }
-    if nodes[DEPTH] != 0 {
-        return false;
-    }
-    if nodes[SLOT] != GROUP {
-        return false;
-    }
-    steps_hold(nodes, count)
+    nodes[NUMBER] == 0 && nodes[DEPTH] == 0 && nodes[SLOT] == GROUP && steps_hold(nodes, count)
 }
 
 // The state check's part on nodes: the table of `count` records, the next number to give and the latest synth.
 // That numbers differ is not tested here: the rule of the index says it too.
+#[tactic(auto, using(crate::specs::Checks::by_rule))]
 pub fn nodes_hold(nodes: &[u32], count: usize, next: u32, latest: u32) -> bool
     requires { length nodes.now ≡ width * most_nodes }
     ensures { result ≡ nodes_hold next latest (rows count nodes.now) }
 {
-    if count < 1 {
+    if count < 1 || MOST_NODES < count {
         return false;
     }
-    if MOST_NODES < count {
-        return false;
-    }
-    if !root_holds(nodes, count) {
-        return false;
-    }
-    if !records_hold(nodes, count, next) {
-        return false;
-    }
-    if !rows_apart(nodes, count) {
-        return false;
-    }
-    if next < 2147483647 {
-        return false;
-    }
-    if 4294967288 < next {
-        return false;
-    }
-    if latest == 0 {
-        return true;
-    }
-    synth_lives(nodes, count, latest)
+    root_holds(nodes, count)
+        && records_hold(nodes, count, next)
+        && rows_apart(nodes, count)
+        && 2147483647 <= next
+        && next <= 4294967288
+        && (latest == 0 || synth_lives(nodes, count, latest))
 }

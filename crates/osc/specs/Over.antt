@@ -1,6 +1,6 @@
 -- Bytes over a run from a place on, and pieces written one behind the other.
 use Rattle.std.specs.Prelude.{ℕ, suc, ◌+◌, ◌≤◌, ◌<◌, ◌≡◌, refl, List, [], ◌∷◌, ◌++◌, length, take, drop, set}
-use Rattle.std.proofs.Common.{sym, ap, ap₂, ◌∙◌, append_assoc, arith, length-append, length-take, length-drop, take_at, drop_at, drop-drop, length-take-le, lt-ltb, le-ltb}
+use Rattle.std.proofs.Common.{sym, ap, ap₂, ◌∙◌, append_assoc, arith, length-append, length-take, length-drop, take_at, drop_at, drop-drop, length-take-le}
 use Rattle.std.proofs.lemmas.List.Edits.{sets-eq}
 use Rattle.osc.specs.Message.{decimal}
 use Rattle.words.specs.Parts.{over}
@@ -34,36 +34,10 @@ module _ (us : List ℕ) (at : ℕ) where
   two_on : at + 2 ≡ suc (suc at)
   two_on = omega arith
 
-  three_on : at + 3 ≡ suc (suc (suc at))
-  three_on = omega arith
-
-  pub stores_1 : (a : ℕ) → at + 1 ≤ length us → set us at a ≡ over at (a ∷ []) us
-  stores_1 a h = sets-eq (a ∷ []) us at h
-
-  pub stores_2 : (a b : ℕ) → at + 2 ≤ length us → set (set us at a) (at + 1) b ≡ over at (a ∷ (b ∷ [])) us
-  stores_2 a b h = rw one_on (sets-eq (a ∷ (b ∷ [])) us at h)
-
   pub stores_3 : (a b c : ℕ) → at + 3 ≤ length us → set (set (set us at a) (at + 1) b) (at + 2) c ≡ over at (a ∷ (b ∷ (c ∷ []))) us
   stores_3 a b c h = rw (one_on, two_on) (sets-eq (a ∷ (b ∷ (c ∷ []))) us at h)
-
-  pub stores_4 : (a b c d : ℕ) → at + 4 ≤ length us → set (set (set (set us at a) (at + 1) b) (at + 2) c) (at + 3) d ≡ over at (a ∷ (b ∷ (c ∷ (d ∷ [])))) us
-  stores_4 a b c d h = rw (one_on, two_on, three_on) (sets-eq (a ∷ (b ∷ (c ∷ (d ∷ [])))) us at h)
 
 -- a number that has decimal digits here, and room for them
 pub record Decimal (n at : ℕ) (us : List ℕ) : Type 0 where
   pub small : n < 10000
   pub room : at + length (decimal n) ≤ length us
-
--- the digits, by how many there are
-module _ (n : ℕ) where
-  pub digits_1 : n < 10 → length (decimal n) ≡ 1
-  digits_1 h = rw (lt-ltb n 10 h)
-
-  pub digits_2 : 10 ≤ n → n < 100 → length (decimal n) ≡ 2
-  digits_2 l h = rw (le-ltb n 10 l, lt-ltb n 100 h)
-
-  pub digits_3 : 100 ≤ n → n < 1000 → length (decimal n) ≡ 3
-  digits_3 l h = rw (le-ltb n 10 (omega arith), le-ltb n 100 l, lt-ltb n 1000 h)
-
-  pub digits_4 : 1000 ≤ n → length (decimal n) ≡ 4
-  digits_4 l = rw (le-ltb n 10 (omega arith), le-ltb n 100 (omega arith), le-ltb n 1000 l)

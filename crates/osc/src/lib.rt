@@ -20,10 +20,7 @@ pub fn put_int(out: &mut [u8], at: usize, n: u32)
     requires { at + 4 ≤ length out.old }
     ensures { out.new ≡ over at (bytes32 n) out.old }
 {
-    out[at] = (n / 16777216 % 256) as u8;
-    out[at + 1] = (n / 65536 % 256) as u8;
-    out[at + 2] = (n / 256 % 256) as u8;
-    out[at + 3] = (n % 256) as u8;
+    out[at..at + 4].copy_from_slice(&n.to_be_bytes());
 }
 
 // Bytes as they stand.
@@ -31,11 +28,7 @@ pub fn put_bytes(out: &mut [u8], at: usize, bytes: &[u8])
     requires { at + length bytes.now ≤ length out.old }
     ensures { out.new ≡ over at bytes.now out.old }
 {
-    let mut i = 0;
-    while i < bytes.len() {
-        out[at + i] = bytes[i];
-        i += 1;
-    }
+    out[at..at + bytes.len()].copy_from_slice(bytes);
 }
 
 // So many zeros.
@@ -43,11 +36,7 @@ pub fn put_zeros(out: &mut [u8], at: usize, count: usize)
     requires { at + count ≤ length out.old }
     ensures { out.new ≡ over at (replicate count 0) out.old }
 {
-    let mut i = 0;
-    while i < count {
-        out[at + i] = 0;
-        i += 1;
-    }
+    out[at..at + count].fill(0);
 }
 
 // The length of a string of so many bytes with the zeros that end it.
@@ -62,21 +51,15 @@ pub fn padded_length(bytes: usize) -> usize
 fn byte_or_zero(bytes: &[u8], i: usize) -> u8
     ensures { result ≡ get_or bytes.now i 0 }
 {
-    if i < bytes.len() {
-        return bytes[i];
-    }
-    0
+    bytes.get(i).copied().unwrap_or(0)
 }
 
 // Four bytes at a place.
-fn put_four(out: &mut [u8], at: usize, a: u8, b: u8, c: u8, d: u8)
+fn put_four(out: &mut [u8], at: usize, four: [u8; 4])
     requires { at + 4 ≤ length out.old }
-    ensures { out.new ≡ over at (a ∷ (b ∷ (c ∷ (d ∷ [])))) out.old }
+    ensures { out.new ≡ over at four out.old }
 {
-    out[at] = a;
-    out[at + 1] = b;
-    out[at + 2] = c;
-    out[at + 3] = d;
+    out[at..at + 4].copy_from_slice(&four);
 }
 
 // A string and the zeros that end it, four bytes at a time: for strings as short as names are, the compiler would make calls of loops over single
@@ -91,20 +74,19 @@ pub fn put_padded(out: &mut [u8], at: usize, bytes: &[u8])
         put_four(
             out,
             at + i,
-            bytes[i],
-            bytes[i + 1],
-            bytes[i + 2],
-            bytes[i + 3],
+            [bytes[i], bytes[i + 1], bytes[i + 2], bytes[i + 3]],
         );
         i += 4;
     }
     put_four(
         out,
         at + i,
-        byte_or_zero(bytes, i),
-        byte_or_zero(bytes, i + 1),
-        byte_or_zero(bytes, i + 2),
-        0,
+        [
+            byte_or_zero(bytes, i),
+            byte_or_zero(bytes, i + 1),
+            byte_or_zero(bytes, i + 2),
+            0,
+        ],
     );
 }
 
@@ -112,16 +94,12 @@ pub fn put_padded(out: &mut [u8], at: usize, bytes: &[u8])
 pub fn decimal_length(n: u32) -> usize
     ensures { result ≡ length (decimal n) }
 {
-    if n < 10 {
-        return 1;
+    match n {
+        0..=9 => 1,
+        10..=99 => 2,
+        100..=999 => 3,
+        _ => 4,
     }
-    if n < 100 {
-        return 2;
-    }
-    if n < 1000 {
-        return 3;
-    }
-    4
 }
 
 // A number below 10,000 in decimal digits.
@@ -129,23 +107,14 @@ pub fn put_decimal(out: &mut [u8], at: usize, n: u32)
     requires { Decimal n at out.old }
     ensures { out.new ≡ over at (decimal n) out.old }
 {
-    if n < 10 {
-        out[at] = (48 + n) as u8;
-        return;
+    let ones = (48 + n % 10) as u8;
+    let tens = (48 + n / 10 % 10) as u8;
+    let hundreds = (48 + n / 100 % 10) as u8;
+    let thousands = (48 + n / 1000) as u8;
+    match n {
+        0..=9 => put_bytes(out, at, &[ones]),
+        10..=99 => put_bytes(out, at, &[tens, ones]),
+        100..=999 => put_bytes(out, at, &[hundreds, tens, ones]),
+        _ => put_bytes(out, at, &[thousands, hundreds, tens, ones]),
     }
-    if n < 100 {
-        out[at] = (48 + n / 10) as u8;
-        out[at + 1] = (48 + n % 10) as u8;
-        return;
-    }
-    if n < 1000 {
-        out[at] = (48 + n / 100) as u8;
-        out[at + 1] = (48 + n / 10 % 10) as u8;
-        out[at + 2] = (48 + n % 10) as u8;
-        return;
-    }
-    out[at] = (48 + n / 1000) as u8;
-    out[at + 1] = (48 + n / 100 % 10) as u8;
-    out[at + 2] = (48 + n / 10 % 10) as u8;
-    out[at + 3] = (48 + n % 10) as u8;
 }

@@ -11,8 +11,8 @@ use Rattle.values.specs.declared.Key.{Key}
 use Rattle.values.specs.declared.Key.TheVariants.{Index, Name}
 use Rattle.values.specs.declared.NodeArgument.{NodeArgument}
 use Rattle.model.specs.declared.Query.TheVariants as query
-use Rattle.model.specs.declared.Answer.{Answer}
-use Rattle.model.specs.declared.Answer.TheVariants.{Refused}
+use Rattle.model.specs.Answers.{Answer}
+use Rattle.model.specs.Answers.{Refused}
 use Rattle.model.specs.Layout.{nodes_in, controls_in, buses_in, record_in}
 use Rattle.model.specs.Engine.{decode, definition_of, controls_of}
 use Rattle.model.specs.View.{PlainNode, synth}

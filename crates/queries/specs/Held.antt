@@ -1,11 +1,10 @@
 -- The nodes of a well-formed state by their places, and the definitions that synths hold, by their slots' bytes.
-use Rattle.std.specs.Prelude.{ℕ, ◌+◌, ◌*◌, ◌<◌, true, false, ◌≡◌, refl, List, ◌∷◌, length, drop, get_or, leb}
+use Rattle.std.specs.Prelude.{Some, ℕ, ◌+◌, ◌*◌, ◌<◌, true, false, ◌≡◌, refl, List, ◌∷◌, length, drop, get_or, leb}
 use Rattle.std.proofs.Common.{sym, ap, ◌∙◌, arith, zero-add}
 use Rattle.words.specs.Choice.{both}
 use Rattle.words.specs.ChoiceLaws.{both_true}
 use Rattle.words.specs.Parts.{region}
 use Rattle.words.specs.PartsLaws.{region-length}
-use Rattle.readable.specs.declared.found.Found.TheVariants as found
 use Rattle.format.specs.Read.{Read, got, bad}
 use Rattle.format.specs.Definition.{Definition}
 use Rattle.format.specs.Reader.{size_limit, read_definition}
@@ -78,7 +77,7 @@ module _ (ws bs : List ℕ) (i : ℕ) (a : At ws bs i) (single : is_group (recor
   held_readable = (synth_ready ws bs (ready ws bs a.state) i a.live single).whole
 
   -- what its bytes tell is what its definition has
-  pub held_units : units_in (slot_bytes ws bs slot) ≡ found.At (length (definition_of slots (record_in ws i)).units)
+  pub held_units : units_in (slot_bytes ws bs slot) ≡ Some (length (definition_of slots (record_in ws i)).units)
   held_units = held_whole (λ next e. units-of (slot_bytes ws bs slot) e)
 
   pub held_name : name_in (slot_bytes ws bs slot) ≡ (definition_of slots (record_in ws i)).front.name

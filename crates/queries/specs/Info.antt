@@ -8,9 +8,11 @@ use Rattle.nodes.specs.Structure.{head_of, tail_of, parent_of, previous_of, next
 use Rattle.osc.specs.Message.{int, message, tags, arguments}
 use Rattle.values.specs.declared.NodeArgument.{NodeArgument}
 use Rattle.model.specs.declared.Query.TheVariants as query
-use Rattle.model.specs.declared.Answer.{Answer}
-use Rattle.model.specs.declared.Answer.TheVariants.{Refused}
-use Rattle.model.specs.Layout.{nodes_in, controls_in, record_in}
+use Rattle.model.specs.Answers.{Answer}
+use Rattle.model.specs.Answers.{Refused}
+use Rattle.model.specs.Layout.{nodes_in, controls_in, record_in, count_in, nodes_place, nodes_words}
+use Rattle.tree.specs.Around.{parent_at, previous_at, next_at, parent_of_at, previous_of-at, next_of-at}
+use Rattle.words.specs.Parts.{region}
 use Rattle.model.specs.Engine.{decode}
 use Rattle.model.specs.View.{PlainNode, is_group_kind, view}
 use Rattle.model.specs.Meaning.{meant}
@@ -51,6 +53,20 @@ pub record Around (n : ℕ) (t : List Node) (parent previous next : ℕ) : Type 
   pub is_parent : parent ≡ parent_of n t
   pub is_previous : previous ≡ previous_of n t
   pub is_next : next ≡ next_of n t
+
+-- by what the words around its place say
+pub around : (argument : NodeArgument) (ws bs : List ℕ) (at : ℕ) → NodeFound argument ws at → At ws bs at → (parent previous next : ℕ)
+    → parent ≡ parent_at (region nodes_place nodes_words ws) at → previous ≡ previous_at (region nodes_place nodes_words ws) at
+    → next ≡ next_at (count_in ws) (region nodes_place nodes_words ws) at → Around (record_in ws at).number (nodes_in ws) parent previous next
+around argument ws bs at n a parent previous next p q r =
+    let us = region nodes_place nodes_words ws in
+    let m = (record_in ws at).number in
+    let stands = here_number argument ws bs at n a in
+    record {
+      is_parent = p ∙ sym (parent_of_at (count_in ws) us m at stands n.live);
+      is_previous = q ∙ sym (previous_of-at (count_in ws) us m at stands n.live);
+      is_next = r ∙ sym (next_of-at (count_in ws) us m at stands n.live);
+    }
 
 info_from : (n : ℕ) (ws bs : List ℕ) (b : Bool) (parent previous next : ℕ) → Around n (nodes_in ws) parent previous next → is_group_kind (plain_named n (view_from ws bs 0)).kind ≡ b
     → info_reply n (view (decode ws bs)) ≡ message info_address (int n ∷ (int parent ∷ (int previous ∷ (int next ∷ info_kind n (view_from ws bs 0) b))))

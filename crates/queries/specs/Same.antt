@@ -3,8 +3,8 @@ use Rattle.std.specs.Prelude.{ℕ, true, false, ◌≡◌, refl, List, [], ◌�
 use Rattle.refusals.specs.declared.Refusal.TheVariants.{NoBus}
 use Rattle.osc.specs.Message.{int, float, message, tags, arguments}
 use Rattle.model.specs.declared.Query.TheVariants as query
-use Rattle.model.specs.declared.Answer.{Answer}
-use Rattle.model.specs.declared.Answer.TheVariants.{Refused}
+use Rattle.model.specs.Answers.{Answer}
+use Rattle.model.specs.Answers.{Refused}
 use Rattle.model.specs.Layout.{buses_in}
 use Rattle.model.specs.Engine.{Engine, decode}
 use Rattle.model.specs.Meaning.{is_bus}

@@ -12,7 +12,7 @@ use Rattle.nodes.specs.declared.Node.{Node}
 use Rattle.nodes.specs.TableLaws.{rows_end, rows-length}
 use Rattle.nodes.specs.Place.{is_group}
 use Rattle.model.specs.declared.Query.TheVariants as query
-use Rattle.model.specs.declared.Answer.{Answer}
+use Rattle.model.specs.Answers.{Answer}
 use Rattle.model.specs.Layout.{nodes_place, nodes_words, count_in, nodes_in, controls_in, record_in}
 use Rattle.model.specs.Engine.{Slot, Engine, decode, residents}
 use Rattle.model.specs.View.{Kind, group, Row, kind_in, view_rows, view, is_group_kind}

@@ -116,6 +116,13 @@ tallied_few ws from i s counts t k h =
     omega
     (arith, t.same k h, tally-list k (drop from (nodes_in ws)), length-drop from (nodes_in ws), rows-length (count_in ws) (region nodes_place nodes_words ws), s.few)
 
+-- so the slot of the next one can be counted
+pub tallied_next : (ws : List ℕ) (from i : ℕ) → Slotted ws → from + i < count_in ws → (counts : List ℕ) → Tallied ws from i counts → (slot : ℕ) → slot ≡ (record_in ws (from + i)).slot
+    → (slot < slot_words) × (get_or counts slot 0 ≤ most_nodes)
+tallied_next ws from i s h counts t slot is =
+    let low : slot < slot_words = omega (arith, is, s.low (from + i) h) in
+    (low, tallied_few ws from i s counts t slot low)
+
 -- of each of four parts side by side i were counted
 pub record PartsTallied (ws : List ℕ) (part i : ℕ) (a b c d : List ℕ) : Type 0 where
   pub first : Tallied ws 0 i a

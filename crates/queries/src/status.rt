@@ -2,6 +2,7 @@
 ghost use Rattle.std.specs.Prelude.{◌+◌, ◌*◌, ◌-◌, ◌≤◌, ◌≡◌};
 ghost use Rattle.model.specs.declared.Query.TheVariants as query;
 ghost use Rattle.nodes.specs.Place.{group_slot};
+ghost use Rattle.model.specs.Answers.{replied_or};
 ghost use Rattle.model.specs.Layout.{count_in, nodes_in};
 ghost use Rattle.model.specs.Replies.{unit_count};
 ghost use Rattle.state.specs.Known.{Known};
@@ -11,7 +12,7 @@ ghost use Rattle.queries.specs.Tally.{slot_tally, Slotted, Tallied, PartsTallied
 
 use controls::node_slot;
 use layout::{COUNT, LENGTHS, RESIDENT_END, SLOTS};
-use model::Answer;
+use refusals::Refusal;
 use replies::send_words;
 use slots::{resident_count, slot_bytes};
 use words::wide;
@@ -39,8 +40,7 @@ fn tally_parts(
     requires { Slotted words.now × (4 * part ≤ count_in words.now) × PartsTallied words.now part 0 a.old b.old c.old d.old }
     ensures { PartsTallied words.now part part a.new b.new c.new d.new }
 {
-    let mut i = 0;
-    while i < part {
+    for i in 0..part {
         let first = node_slot(words, i);
         a[first] += 1;
         let second = node_slot(words, part + i);
@@ -49,7 +49,6 @@ fn tally_parts(
         c[third] += 1;
         let fourth = node_slot(words, 3 * part + i);
         d[fourth] += 1;
-        i += 1;
     }
 }
 
@@ -59,11 +58,9 @@ fn tally_rest(words: &[u32], from: usize, counted: usize, counts: &mut [u32; COU
     ensures { Tallied words.now from (count_in words.now - from) counts.new }
 {
     let count = wide(words[COUNT]);
-    let mut i = counted;
-    while from + i < count {
+    for i in counted..count - from {
         let slot = node_slot(words, from + i);
         counts[slot] += 1;
-        i += 1;
     }
 }
 
@@ -82,8 +79,7 @@ fn units_held(
 {
     let mut left = synths;
     let mut units: usize = 0;
-    let mut k = 0;
-    while k < SLOTS {
+    for k in 0..SLOTS {
         let many = a[k] + b[k] + c[k] + d[k];
         if many != 0 {
             units += wide(many) * wide(readable::units(slot_bytes(words, arena, k)));
@@ -92,7 +88,6 @@ fn units_held(
                 return units;
             }
         }
-        k += 1;
     }
     units
 }
@@ -112,14 +107,19 @@ fn totals(words: &[u32], arena: &[u8]) -> Sums
     let groups = a[SLOTS] + b[SLOTS] + c[SLOTS] + d[SLOTS];
     Sums {
         units: units_held(words, arena, words[COUNT] - groups, &a, &b, &c, &d),
-        groups: groups,
+        groups,
     }
 }
 
 // Units over live synths, synths, groups with the root, residents, as /status.reply.
-pub fn status_query(words: &[u32], arena: &[u8], bytes: &[u8], out: &mut [u8]) -> Answer
+pub fn status_query(
+    words: &[u32],
+    arena: &[u8],
+    bytes: &[u8],
+    out: &mut [u8],
+) -> Result<usize, Refusal>
     requires { Known words.now arena.now }
-    ensures { Reply query.Status bytes.now words.now arena.now out.old result out.new }
+    ensures { Reply query.Status bytes.now words.now arena.now out.old (replied_or result) out.new }
 {
     let told = totals(words, arena);
     let synths = words[COUNT] - told.groups;

@@ -1,7 +1,7 @@
 -- Parameter names by their shape: where each stands and ends, from its bytes alone.
-use Rattle.std.specs.Prelude.{ℕ, zero, suc, ◌+◌, ◌-◌, ◌≤◌, ◌<◌, Bool, true, false, ◌≡◌, refl, List, [], ◌∷◌, length, get_or, ltb}
+use Rattle.std.specs.Prelude.{ℕ, zero, suc, ◌+◌, ◌-◌, ◌≤◌, ◌<◌, Bool, true, false, ◌≡◌, List, [], ◌∷◌, length, get_or, ltb}
 use Rattle.std.proofs.Common.{sym, ap, ap₂, ◌∙◌, subst, arith, ltb-true}
-use Rattle.std.proofs.Math.Option.{Option, none, some, none-ne-some, some-injective}
+use Rattle.std.proofs.Math.Option.{none, some, none-ne-some, some-injective}
 use Rattle.words.specs.Choice.{pick, both}
 use Rattle.words.specs.Parts.{region}
 use Rattle.faults.specs.declared.Fault.TheVariants.{BadIndex}
@@ -74,10 +74,6 @@ entries_step {s} {count} {first} {left} {at} n e l =
 pub entries_none : (s : List ℕ) (n i at : ℕ) → n ≤ i → entries_from s (n - i) at ≡ []
 unfolding entries_from
 entries_none s n i at h = let e : n - i ≡ 0 = omega arith in rw e
-
-pub entries_past : (s : List ℕ) (bound n at : ℕ) → at ≤ length s → Entries s bound (n - n) at
-unfolding Entries
-entries_past s bound n at h = let e : n - n ≡ 0 = omega arith in rw e h
 
 -- where none is left
 pub entries_last : {s : List ℕ} {count first left at : ℕ} → left ≤ 0 → Left s count first left at → at ≡ entries_end s count first
@@ -182,12 +178,3 @@ module _ (s name : List ℕ) (n i at : ℕ) (t : Turn s most_parameters n i at) 
 
   pub named_behind : same ≡ false → first_index name (entries_from s (n - i) at) ≡ first_index name (entries_from s (n - (i + 1)) (entry_end s at))
   named_behind e = named_turn s name n i at t ∙ rw (tested ∙ e)
-
--- one that was found stands, and where none was, the entries behind decide
-abbrev pub or_later : Option ℕ → Option ℕ → Option ℕ
-or_later (some n) later = some n
-or_later none later = later
-
-pub or-none : (found : Option ℕ) → or_later found none ≡ found
-or-none (some n) = refl
-or-none none = refl

@@ -1,8 +1,6 @@
 -- What each lookup answers where the bytes are a definition: the same as its record says.
-use Rattle.std.specs.Prelude.{ℕ, zero, suc, ◌≡◌, List, [], ◌∷◌, ◌++◌, length}
+use Rattle.std.specs.Prelude.{ℕ, zero, suc, ◌≡◌, List, [], ◌∷◌, ◌++◌, length, Some}
 use Rattle.std.proofs.Common.{sym}
-use Rattle.readable.specs.declared.found.Found.TheVariants as found
-use Rattle.readable.specs.declared.found.ValuesFound.TheVariants as values
 use Rattle.format.specs.declared.Width.TheVariants.{Long}
 use Rattle.format.specs.Read.{got, repeat}
 use Rattle.format.specs.Fields.{count, short_count_to, highest16}
@@ -38,13 +36,13 @@ module _ (s : List ℕ) {d : Definition} {end : ℕ} (e : read_definition s 0 �
   pub name-of : name_in s ≡ d.front.name
   name-of = definition_on s 0 e (λ p q f u. rw f)
 
-  pub parameters_of : parameters_in s ≡ found.At (length d.front.values)
+  pub parameters_of : parameters_in s ≡ Some (length d.front.values)
   parameters_of = definition_on s 0 e (λ p q f u. rw f)
 
-  pub units-of : units_in s ≡ found.At (length d.units)
+  pub units-of : units_in s ≡ Some (length d.units)
   units-of = definition_on s 0 e (λ p q f u. rw (f, u))
 
-  pub values_of : values_in s ≡ values.At (values_at Long 0 d.front) (length d.front.values)
+  pub values_of : values_in s ≡ Some (values_at Long 0 d.front, length d.front.values)
   values_of = definition_on s 0 e (λ p q f u. rw f)
 
   pub cover-of : (n : List ℕ) → cover_in n s ≡ covered_by n (length d.front.values) d.front.names

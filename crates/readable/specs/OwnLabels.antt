@@ -1,9 +1,8 @@
 -- Where the name that a control is saved under stands: its first name that looks up to it.
-use Rattle.std.specs.Prelude.{ℕ, zero, suc, ◌+◌, ◌-◌, ◌≤◌, ◌<◌, Bool, true, false, ◌≡◌, refl, List, length, get_or, eqb}
+use Rattle.std.specs.Prelude.{ℕ, zero, suc, ◌+◌, ◌≤◌, ◌<◌, Bool, true, false, ◌≡◌, refl, List, length, get_or, eqb}
 use Rattle.std.proofs.Math.Option.{Option, some}
 use Rattle.std.proofs.Common.{sym, ap, ◌∙◌, arith, eqb-true}
 use Rattle.words.specs.Choice.{pick, both}
-use Rattle.words.specs.Parts.{region}
 use Rattle.format.specs.declared.Width.TheVariants.{Long}
 use Rattle.format.specs.Fields.{word, string_at}
 use Rattle.format.specs.Definition.{Front}
@@ -11,8 +10,7 @@ use Rattle.format.specs.Names.{first_index, looks_up_to, name_among, name_for}
 use Rattle.format.specs.Read.{got}
 use Rattle.format.specs.Reader.{most_parameters, read_front}
 use Rattle.front.specs.Front.{names_at}
-use Rattle.readable.specs.declared.found.Found.{Found}
-use Rattle.readable.specs.Lookup.{found_at, name_for_in}
+use Rattle.readable.specs.Lookup.{name_for_in}
 use Rattle.readable.specs.Entries.{index_place, entry_end, entries_from, Entries}
 use Rattle.readable.specs.Labels.{label_from, label_at, LabelledFrom, named_by, from_within}
 use Rattle.readable.specs.Readable.{parts}
@@ -20,15 +18,6 @@ use Rattle.readable.specs.Readable.{parts}
 -- whether the name of the entry at a place, looked up among so many entries, means the index of that entry
 abbrev pub looks_up : List ℕ → ℕ → ℕ → ℕ → Bool
 looks_up s count first at = looks_up_to (first_index (string_at s at) (entries_from s count first)) (word s (index_place s at))
-
--- by what was found of the name's bytes
-pub looked : (s : List ℕ) (count first at : ℕ) (found : Found)
-    → found_at found ≡ first_index (region (at + 1) (at + 1 + get_or s at 0 - (at + 1)) s) (entries_from s count first)
-    → looks_up_to (found_at found) (word s (index_place s at)) ≡ looks_up s count first at
-looked s count first at found e =
-    let size : at + 1 + get_or s at 0 - (at + 1) ≡ get_or s at 0 = omega arith in
-    ap (λ (o : Option ℕ). looks_up_to o (word s (index_place s at)))
-    (e ∙ ap (λ (k : ℕ). first_index (region (at + 1) k s) (entries_from s count first)) size)
 
 -- for each index the place of the length byte of its first name that looks up to it, 0 where it has none
 pub record OwnLabelled (s table : List ℕ) : Type 0 where

@@ -1,5 +1,5 @@
 -- A definition whose front is known to be readable: where its parts stand.
-use Rattle.std.specs.Prelude.{ℕ, ◌+◌, ◌-◌, ◌*◌, ◌≤◌, ◌<◌, ◌≡◌, List, length, get_or, leb}
+use Rattle.std.specs.Prelude.{ℕ, ◌+◌, ◌-◌, ◌*◌, ◌≤◌, ◌<◌, ◌≡◌, List, length, get_or, leb, Some}
 use Rattle.std.proofs.Common.{sym, ap, ◌∙◌, arith, leb-true}
 use Rattle.std.proofs.Math.Option.{Option, none, some}
 use Rattle.faults.specs.declared.Fault.TheVariants.{BadName, BadCount}
@@ -15,8 +15,9 @@ use Rattle.format.specs.Definition.{Front, Definition}
 use Rattle.format.specs.Names.{first_index, next_index, cover_from, covered_by}
 use Rattle.format.specs.Widths.{next_above}
 use Rattle.format.specs.Reader.{most_parameters, size_limit, parameter_name, front_by, read_front, definition_by, read_definition}
+use Rattle.front.specs.declared.Counts.{Counts}
 use Rattle.front.specs.Front.{name_end, values_at, names_at, counts_of}
-use Rattle.readable.specs.Lookup.{at_number, name_in, units_in, cover_in}
+use Rattle.readable.specs.Lookup.{name_in, units_in, cover_in}
 use Rattle.front.specs.FrontLaws.{front_got}
 use Rattle.readable.specs.Entries.{entries_from, entries_end, Entries, entries_got, entries_below, named_below}
 
@@ -133,6 +134,17 @@ front_entries s k =
     let w = parts s k.reads in
     entries_below s (length k.front.values) most_parameters (length k.front.names) (names_at Long 0 k.front) w.few w.known
 
+-- .. by its counts
+module _ {s : List ℕ} (k : Readable s) {p : Counts} (told : (f : Front) (end : ℕ) → read_front s 0 ≡ got f end → p ≡ counts_of Long 0 f) where
+  pub told_counts : p ≡ counts_of Long 0 k.front
+  told_counts = told k.front k.past k.reads
+
+  pub told_entries : Entries s most_parameters p.names p.first
+  told_entries = rw told_counts (front_entries s k)
+
+  pub told_known : (0 < p.first) × (length s ≤ size_limit) × Entries s most_parameters p.names p.first
+  told_known = let first : p.first ≡ names_at Long 0 k.front = ap (λ (q : Counts). q.first) told_counts in (omega arith, k.short, told_entries)
+
 -- what a name covers, by what is found along the entries
 module _ (s name : List ℕ) (k : Readable s) (p n at : ℕ) (few : p ≡ length k.front.values) (many : n ≡ length k.front.names) (here : at ≡ names_at Long 0 k.front) where
   by_entries : cover_in name s ≡ cover_from (first_index name (entries_from s n at)) p (entries_from s n at)
@@ -158,7 +170,7 @@ module _ (s name : List ℕ) (k : Readable s) (p n at : ℕ) (few : p ≡ length
 pub record UnitsAt (s : List ℕ) : Type 0 where
   pub readable : Readable s
   pub within : readable.past + 4 ≤ length s
-  pub same : at_number (word s readable.past) ≡ units_in s
+  pub same : Some (word s readable.past) ≡ units_in s
 
 pub units_at : (s : List ℕ) → ReadableWhole s → UnitsAt s
 unfolding definition_by
@@ -169,7 +181,7 @@ units_at s w =
     record {
       readable = record { front = f; past = p; reads = e; short = w.short };
       within = omega arith;
-      same = ap at_number b.0 ∙ rw (e, g);
+      same = ap (λ (k : ℕ). Some k) b.0 ∙ rw (e, g);
     }))
 
 -- the name stands at the first byte

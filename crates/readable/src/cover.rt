@@ -1,9 +1,8 @@
 // What a control name covers among a definition's controls.
 
-// Its index and its width, or nothing.
-#[derive(Clone, Copy)]
+// Its index and its width.
+#[derive(Clone, Copy, Debug, PartialEq, Eq)]
 pub struct Cover {
-    pub found: bool,
     pub index: u32,
     pub width: u32,
 }

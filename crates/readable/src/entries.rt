@@ -6,59 +6,45 @@ ghost use Rattle.readable.specs.Lookup.{found_at};
 ghost use Rattle.format.specs.Reader.{most_parameters};
 ghost use Rattle.readable.specs.Entries.{Entries, entry_end, entries_from, entries_end};
 
-use crate::found::Found;
 use fields::{same_name, word_at};
 
 // The index of a name among so many entries: it stops at the first that has it.
-pub(crate) fn find_entry(s: &[u8], first: usize, count: u32, name: &[u8]) -> Found
+#[tactic(auto, using(crate::specs::Entries::entries_turn))]
+pub(crate) fn find_entry(s: &[u8], first: usize, count: u32, name: &[u8]) -> Option<u32>
     requires { Entries s.now most_parameters count first }
     ensures { found_at result ≡ first_index name.now (entries_from s.now count first) }
 {
-    let mut found = Found::Nothing;
-    let mut at = first;
-    let mut i = 0;
-    while i < count {
-        let size = s[at] as usize;
-        let start = at + 1;
-        let end = start + size;
-        at = end + 4;
-        i += 1;
+    let mut entry = first;
+    for _ in 0..count {
+        let start = entry + 1;
+        let end = start + s[entry] as usize;
         if same_name(&s[start..end], name) {
-            found = Found::At(word_at(s, end));
-            i = count;
+            return Some(word_at(s, end));
         }
+        entry = end + 4;
     }
-    found
+    None
 }
 
 // The lower of two indices, where the first is larger than i; else the second.
 fn lower(i: u32, index: u32, end: u32) -> u32
     ensures { result ≡ pick (both (ltb i index) (ltb index end)) index end }
 {
-    if index <= i {
-        return end;
-    }
-    if end <= index {
-        return end;
-    }
-    index
+    if i < index { index.min(end) } else { end }
 }
 
 // The next index larger than i that so many entries have, else the end.
+#[tactic(auto, using(crate::specs::Entries::entries_turn))]
 pub(crate) fn next_index(s: &[u8], first: usize, count: u32, i: u32, end: u32) -> u32
     requires { Entries s.now most_parameters count first }
     ensures { result ≡ next_index i end (entries_from s.now count first) }
 {
     let mut next = end;
     let mut at = first;
-    let mut k = 0;
-    while k < count {
-        let size = s[at] as usize;
-        let place = at + 1 + size;
-        let index = word_at(s, place);
-        next = lower(i, index, next);
+    for _ in 0..count {
+        let place = at + 1 + s[at] as usize;
+        next = lower(i, word_at(s, place), next);
         at = place + 4;
-        k += 1;
     }
     next
 }
@@ -77,17 +63,14 @@ pub(crate) fn skip_entries(s: &[u8], first: usize, count: u32) -> usize
     ensures { result ≡ entries_end s.now count first }
 {
     let mut at = first;
-    let mut left = count;
-    while 4 <= left {
+    for _ in 0..count / 4 {
         at = past_entry(s, at);
         at = past_entry(s, at);
         at = past_entry(s, at);
         at = past_entry(s, at);
-        left -= 4;
     }
-    while 0 < left {
+    for _ in 0..count % 4 {
         at = past_entry(s, at);
-        left -= 1;
     }
     at
 }

@@ -3,14 +3,12 @@
 
 mod cover;
 mod entries;
-mod found;
 mod labelled;
 mod lookups;
 mod own;
 mod places;
 
 pub use cover::Cover;
-pub use found::ValuesFound;
 pub use labelled::labels;
 pub use lookups::{name, name_cover, parameters, units, values};
 pub use own::own_labels;

@@ -1,30 +1,28 @@
 // The lookups.
-ghost use Rattle.std.specs.Prelude.{◌≡◌};
-ghost use Rattle.readable.specs.Lookup.{at_number, cover_at, name_in, parameters_in, units_in, values_in, cover_in};
+ghost use Rattle.std.specs.Prelude.{◌≡◌, Some};
+ghost use Rattle.readable.specs.Lookup.{cover_at, name_in, parameters_in, units_in, values_in, cover_in};
 ghost use Rattle.readable.specs.Readable.{Readable, ReadableWhole};
 
 use crate::cover::Cover;
 use crate::entries::{find_entry, next_index, skip_entries};
-use crate::found::{Found, ValuesFound};
 use crate::places::counts;
 use fields::{name_at, word_at};
 
 // P, the number of parameters.
 pub fn parameters(s: &[u8]) -> u32
     requires { Readable s.now }
-    ensures { at_number result ≡ parameters_in s.now }
+    ensures { Some result ≡ parameters_in s.now }
 {
-    let places = counts(s);
-    places.parameters
+    counts(s).parameters
 }
 
 // Where the initial values start, and how many there are.
-pub fn values(s: &[u8]) -> ValuesFound
+pub fn values(s: &[u8]) -> (usize, u32)
     requires { Readable s.now }
-    ensures { result ≡ values_in s.now }
+    ensures { Some result ≡ values_in s.now }
 {
     let places = counts(s);
-    ValuesFound::At(places.values, places.parameters)
+    (places.values, places.parameters)
 }
 
 // The definition's name, a part of the lent bytes.
@@ -36,32 +34,23 @@ pub fn name(s: &[u8]) -> &[u8]
 }
 
 // What a control name covers: it means its first entry, and its width ends at the next larger index that has a name.
-pub fn name_cover(s: &[u8], name: &[u8]) -> Cover
+pub fn name_cover(s: &[u8], name: &[u8]) -> Option<Cover>
     requires { Readable s.now }
     ensures { cover_at result ≡ cover_in name.now s.now }
 {
     let places = counts(s);
-    match find_entry(s, places.first, places.names, name) {
-        Found::At(index) => {
-            let next = next_index(s, places.first, places.names, index, places.parameters);
-            Cover {
-                found: true,
-                index: index,
-                width: next - index,
-            }
-        }
-        Found::Nothing => Cover {
-            found: false,
-            index: 0,
-            width: 0,
-        },
-    }
+    let index = find_entry(s, places.first, places.names, name)?;
+    let next = next_index(s, places.first, places.names, index, places.parameters);
+    Some(Cover {
+        index,
+        width: next - index,
+    })
 }
 
 // U, the number of units, which stands behind the names.
 pub fn units(s: &[u8]) -> u32
     requires { ReadableWhole s.now }
-    ensures { at_number result ≡ units_in s.now }
+    ensures { Some result ≡ units_in s.now }
 {
     let places = counts(s);
     word_at(s, skip_entries(s, places.first, places.names))

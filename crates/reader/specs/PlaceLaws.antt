@@ -10,7 +10,7 @@ use Rattle.format.specs.Read.{Read, got, bad, ending, on_read}
 use Rattle.format.specs.Definition.{Definition}
 use Rattle.format.specs.Reader.{file_width}
 use Rattle.files.specs.Forward.{definition_whole}
-use Rattle.reader.specs.declared.places.Span.TheVariants.{Between, Nowhere}
+use Rattle.std.specs.Prelude.{Some, None}
 use Rattle.reader.specs.Places.{definition_here, place_after, place_past, span_at, bytes_at}
 
 module _ {A B : Type 0} (none : B) (ask : ℕ → B) where
@@ -37,11 +37,11 @@ module _ (s : List ℕ) (at : ℕ) where
   pub bytes_bad : {q : Fault} {place : ℕ} → ending (definition_here s at) ≡ bad q place → bytes_at s at ≡ []
   bytes_bad e = on_bad [] (λ n. region at (n - at) s) (definition_here s at) e
 
-  pub span_got : {u : Unit {0}} {next : ℕ} → ending (definition_here s at) ≡ got u next → span_at s at ≡ Between at next
-  span_got e = on_got Nowhere (λ n. Between at n) (definition_here s at) e
+  pub span_got : {u : Unit {0}} {next : ℕ} → ending (definition_here s at) ≡ got u next → span_at s at ≡ Some (at, next)
+  span_got e = on_got None (λ n. Some (at, n)) (definition_here s at) e
 
-  pub span_bad : {q : Fault} {place : ℕ} → ending (definition_here s at) ≡ bad q place → span_at s at ≡ Nowhere
-  span_bad e = on_bad Nowhere (λ n. Between at n) (definition_here s at) e
+  pub span_bad : {q : Fault} {place : ℕ} → ending (definition_here s at) ≡ bad q place → span_at s at ≡ None
+  span_bad e = on_bad None (λ n. Some (at, n)) (definition_here s at) e
 
   -- from the file's end on no definition can be read
   module _ {B : Type 0} (none : B) (ask : ℕ → B) (h : length s ≤ at) where
@@ -54,8 +54,8 @@ module _ (s : List ℕ) (at : ℕ) where
   after_end : length s ≤ at → place_after s at ≡ length s
   after_end h = on_end (length s) (λ n. n) h
 
-  pub span_end : length s ≤ at → span_at s at ≡ Nowhere
-  span_end h = on_end Nowhere (λ n. Between at n) h
+  pub span_end : length s ≤ at → span_at s at ≡ None
+  span_end h = on_end None (λ n. Some (at, n)) h
 
 -- from the file's end on the place past so many is the end
 pub past_length : (s : List ℕ) (n : ℕ) → place_past s n (length s) ≡ length s

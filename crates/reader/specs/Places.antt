@@ -1,27 +1,24 @@
 -- What a reader meets at a place of a file.
-use Rattle.std.specs.Prelude.{ℕ, zero, suc, ◌-◌, Bool, ◌≡◌, List, [], length, leb}
+use Rattle.std.specs.Prelude.{ℕ, zero, suc, ◌-◌, Bool, ◌≡◌, List, [], length, leb, Option, Some, None, Result, Ok, Err}
 use Rattle.words.specs.Bytes.{AreBytes}
 use Rattle.words.specs.Parts.{region}
-use Rattle.files.specs.declared.file.Checked.{Checked}
-use Rattle.files.specs.declared.file.Checked.TheVariants.{Accepted, Refused}
+use Rattle.faults.specs.declared.FileError.{FileError}
 use Rattle.format.specs.Definition.{Definition}
 use Rattle.format.specs.Reader.{definition_by, file_width}
 use Rattle.files.specs.File.{first_place}
 use Rattle.format.specs.Read.{Read, on_read}
-use Rattle.reader.specs.declared.places.Span.{Span}
-use Rattle.reader.specs.declared.places.Span.TheVariants.{Between, Nowhere}
 
 -- the definition that starts at a place of a file, by the width of the file's fields
 abbrev pub definition_here : List ℕ → ℕ → Read Definition
 definition_here s at = definition_by (file_width s) s at
 
 -- where a reader of a file starts: at the first definition, and at the end of a file that is refused
-abbrev pub start_of : List ℕ → Checked → ℕ
-start_of s (Accepted n) = first_place
-start_of s (Refused r at) = length s
+abbrev pub start_of : List ℕ → Result ℕ FileError → ℕ
+start_of s (Ok n) = first_place
+start_of s (Err e) = length s
 
 -- the promise of that place; what is lent as bytes is bytes
-pub record Starts (s : List ℕ) (checked : Checked) (r : ℕ) : Type 0 where
+pub record Starts (s : List ℕ) (checked : Result ℕ FileError) (r : ℕ) : Type 0 where
   pub starts : r ≡ start_of s checked
   pub lent_file : AreBytes s
 
@@ -38,9 +35,9 @@ unfoldable pub place_past : List ℕ → ℕ → ℕ → ℕ
 place_past s zero at = at
 place_past s (suc n) at = place_past s n (place_after s at)
 
--- where the definition that starts at a place starts and ends, and nowhere where none can be read
-abbrev pub span_at : List ℕ → ℕ → Span
-span_at s at = on_read (definition_here s at) Nowhere (λ d next. Between at next)
+-- where the definition that starts at a place starts and ends, and none where none can be read
+abbrev pub span_at : List ℕ → ℕ → Option (ℕ × ℕ)
+span_at s at = on_read (definition_here s at) None (λ d next. Some (at, next))
 
 -- the definition's own bytes, and none where none can be read
 abbrev pub bytes_at : List ℕ → ℕ → List ℕ

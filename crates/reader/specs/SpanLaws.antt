@@ -11,7 +11,8 @@ use Rattle.std.proofs.Math.Dec.{ltb}
 use borrow.Author.Tests.{lt-ltb, ltb-true, ltb-false}
 use Rattle.words.specs.Choice.{pick}
 use Rattle.faults.specs.declared.Fault.TheVariants.{BytesLeft}
-use Rattle.reader.specs.declared.places.Span.TheVariants.{Between, Nowhere}
+use Rattle.std.specs.Prelude.{Option, Some, None}
+use Rattle.std.proofs.lemmas.Option.{some_pair_parts}
 use Rattle.format.specs.Read.{Read, got, bad, and_then, repeat}
 use Rattle.format.specs.Definition.{Definition}
 use Rattle.format.specs.Reader.{fits, read_definitions, read_header, read_file, file_width}
@@ -120,7 +121,7 @@ module _ (s : List ℕ) where
     this : Definition
     there : place_past s i first_place ≡ start
     read : definition_here s start ≡ got this end
-    span : definition_span s i ≡ Between start end
+    span : definition_span s i ≡ Some (start, end)
 
   spanned : (i : ℕ) {ds : List Definition} {end : ℕ} → read_file s ≡ got ds end → i < length ds → Spanned i
   unfolding definition_span
@@ -131,7 +132,7 @@ module _ (s : List ℕ) where
         this = x;
         there = past_read i first_place e1;
         read = e2;
-        span = rw (h, lt-ltb i (length ds) l) (ap₂ Between (ap end_of e1) (repeat-last (definition_here s) i first_place e1 e2));
+        span = rw (h, lt-ltb i (length ds) l) (ap₂ (λ (p q : ℕ). Some (p, q)) (ap end_of e1) (repeat-last (definition_here s) i first_place e1 e2));
       })
 
   -- where a reader of the file comes to past so many definitions the definition of that number starts and ends, or there is none
@@ -143,7 +144,7 @@ module _ (s : List ℕ) where
       chosen : (b : Bool) → ltb i (length ds) ≡ b → span_at s (place_past s i first_place) ≡ span_in s i (got ds end)
       chosen true l =
           let w = spanned i e (ltb-true i (length ds) l) in
-          let here : span_at s w.start ≡ Between w.start w.end = rw w.read in
+          let here : span_at s w.start ≡ Some (w.start, w.end) = rw w.read in
           ap (span_at s) w.there ∙ here ∙ sym w.span ∙ ap (span_in s i) e
       chosen false l =
           let w = read_whole s e in
@@ -151,19 +152,17 @@ module _ (s : List ℕ) where
     cases (bad q at) e = ap (span_at s) (past_length s i) ∙ span_end s (length s) (omega arith)
 
   -- the name lies in the file
-  pub span_inside : (i : ℕ) {start end : ℕ} → definition_span s i ≡ Between start end → start + 1 + get_or s start 0 ≤ length s
+  pub span_inside : (i : ℕ) {start end : ℕ} → definition_span s i ≡ Some (start, end) → start + 1 + get_or s start 0 ≤ length s
   unfolding definition_span
   span_inside i {start} {end} h = cases (read_file s) refl h where
     inside : Spanned i → start + 1 + get_or s start 0 ≤ length s
     inside w =
-        let same : start ≡ w.start = starts (sym h ∙ w.span) in
-        rw same (definition_whole (file_width s) s w.start w.read).inside where
-          starts : {a b c d : ℕ} → Between a b ≡ Between c d → a ≡ c
-          starts e = cc
+        let same : start ≡ w.start = (some_pair_parts start w.start end w.end (sym h ∙ w.span)).0 in
+        rw same (definition_whole (file_width s) s w.start w.read).inside
 
-    cases : (r : Read (List Definition)) → read_file s ≡ r → span_in s i r ≡ Between start end → start + 1 + get_or s start 0 ≤ length s
+    cases : (r : Read (List Definition)) → read_file s ≡ r → span_in s i r ≡ Some (start, end) → start + 1 + get_or s start 0 ≤ length s
     cases (got ds last) e v = chosen (ltb i (length ds)) refl v where
-      chosen : (b : Bool) → ltb i (length ds) ≡ b → pick b (Between (definition_start s i) (definition_start s (suc i))) Nowhere ≡ Between start end
+      chosen : (b : Bool) → ltb i (length ds) ≡ b → pick {A = Option (ℕ × ℕ)} b (Some (definition_start s i, definition_start s (suc i))) None ≡ Some (start, end)
           → start + 1 + get_or s start 0 ≤ length s
       chosen true l v = inside (spanned i e (ltb-true i (length ds) l))
       chosen false l v = absurd (let z : ◌≡◌ {A = ℕ} 0 1 = cc in omega arith)

@@ -1,5 +1,5 @@
 -- "a reader that holds the lent file and its place walks the definitions".
-use Rattle.std.specs.Prelude.{ℕ, zero, suc, Bool, ◌≡◌, List, [], ◌∷◌, ◌++◌, length, take}
+use Rattle.std.specs.Prelude.{ℕ, zero, suc, Option, Bool, ◌≡◌, List, [], ◌∷◌, ◌++◌, length, take}
 use Rattle.std.specs.Borrow.{Bor}
 use Rattle.words.specs.Choice.{pick}
 use Rattle.words.specs.Bytes.{AreBytes}
@@ -8,7 +8,6 @@ use Rattle.format.specs.Definition.{Definition}
 use Rattle.format.specs.declared.Width.{Width}
 use Rattle.format.specs.Reader.{definition_by, read_file, file_width}
 use Rattle.files.specs.File.{verdict, first_place}
-use Rattle.reader.specs.declared.places.Span.{Span}
 use Rattle.reader.specs.declared.reader.Reader.{Reader}
 use Rattle.reader.specs.declared.reader.Opened.{Opened}
 use Rattle.reader.specs.Places.{start_of, ended_at, place_after, place_past, span_at, bytes_at}
@@ -38,7 +37,7 @@ abbrev pub ended : Reader → Bool
 ended r = ended_at r.file.now r.place
 
 -- where the definition at a reader's place starts and ends
-abbrev pub spanned : Reader → Span
+abbrev pub spanned : Reader → Option (ℕ × ℕ)
 spanned r = span_at r.file.now r.place
 
 -- what a reader hands out at its place: a definition's bytes

@@ -4,5 +4,5 @@
 mod places;
 mod reader;
 
-pub use places::{Span, place_after};
+pub use places::place_after;
 pub use reader::{Opened, Reader, definition_span, open};

@@ -3,8 +3,9 @@ ghost use Rattle.std.specs.Prelude.{◌≡◌};
 ghost use Rattle.reader.specs.Walk.{Opens, ended, spanned, handed, past};
 ghost use Rattle.reader.specs.Spans.{definition_span};
 
-use crate::places::{Span, bytes_at, ended_at, place_past, span_at, start_of};
-use files::{Checked, check_file};
+use crate::places::{bytes_at, ended_at, place_past, span_at, start_of};
+use faults::FileError;
+use files::check_file;
 
 #[derive(Clone, Copy)]
 pub struct Reader<'a> {
@@ -16,7 +17,7 @@ pub struct Reader<'a> {
 #[derive(Clone, Copy)]
 pub struct Opened<'a> {
     pub reader: Reader<'a>,
-    pub checked: Checked,
+    pub checked: Result<u32, FileError>,
 }
 
 pub fn open<'a>(file: &'a [u8]) -> Opened<'a>
@@ -37,7 +38,7 @@ impl<'a> Reader<'a> {
     }
 
     // Where the next definition starts and ends.
-    pub fn span(self) -> Span
+    pub fn span(self) -> Option<(usize, usize)>
         ensures { result ≡ spanned self.entry }
     {
         span_at(self.file, self.place)
@@ -55,15 +56,12 @@ impl<'a> Reader<'a> {
         ensures { result ≡ past count self.entry }
     {
         let place = place_past(self.file, self.place, count);
-        Reader {
-            file: self.file,
-            place,
-        }
+        Reader { place, ..self }
     }
 }
 
 // Where the definition of a number starts and ends, in a file that is accepted and has as many.
-pub fn definition_span(file: &[u8], index: u32) -> Span
+pub fn definition_span(file: &[u8], index: u32) -> Option<(usize, usize)>
     ensures { result ≡ definition_span file.now index }
 {
     open(file).reader.skip(index).span()

@@ -8,20 +8,21 @@ use crate::edit::Edit;
 use crate::one::{cut_entry, entry_spot, open_entries};
 
 // From this place on, a new place says that the node is gone.
+// Kept: entries and their new places are plain words in fixed arrays, and a pass over them compares and copies words.
 pub(crate) const GONE: u32 = 256;
 
 // The new place where the nodes from one place up to another went, and so many came there.
-fn closed_place(place: u32, from: u32, to: u32, by: u32) -> u32
+pub(crate) fn closed_place(place: u32, from: u32, to: u32, by: u32) -> u32
     requires { (from ≤ to) × ((by ≤ 1) × (place < gone)) }
     ensures { result ≡ closed from to by place }
 {
     if place < from {
-        return place;
+        place
+    } else if place < to {
+        GONE
+    } else {
+        place - (to - from) + by
     }
-    if place < to {
-        return GONE;
-    }
-    place - (to - from) + by
 }
 
 // The entries at those places, in their order, without those of nodes that are gone; and how many are left.
@@ -29,11 +30,9 @@ fn close_entries(index: &mut [u32], count: usize, from: u32, to: u32, by: u32) -
     requires { (from ≤ to) × ((by ≤ 1) × Entries index.old count) }
     ensures { Followed (closed from to by) index.old count index.new result }
 {
-    let mut i = 0;
     let mut left = 0;
-    while i < count {
+    for i in 0..count {
         let place = closed_place(index[i], from, to, by);
-        i += 1;
         if place < GONE {
             index[left] = place;
             left += 1;
@@ -48,15 +47,14 @@ fn swapped_place(place: u32, a: u32, b: u32, c: u32) -> u32
     ensures { result ≡ swapped a b c place }
 {
     if place < a {
-        return place;
+        place
+    } else if place < b {
+        place + (c - b)
+    } else if place < c {
+        place - (b - a)
+    } else {
+        place
     }
-    if place < b {
-        return place + (c - b);
-    }
-    if place < c {
-        return place - (b - a);
-    }
-    place
 }
 
 // The entries at those places; all are left.
@@ -64,10 +62,8 @@ fn swap_entries(index: &mut [u32], count: usize, a: u32, b: u32, c: u32)
     requires { (a ≤ b) × ((b ≤ c) × ((c ≤ gone) × Entries index.old count)) }
     ensures { Followed (swapped a b c) index.old count index.new count }
 {
-    let mut i = 0;
-    while i < count {
+    for i in 0..count {
         index[i] = swapped_place(index[i], a, b, c);
-        i += 1;
     }
 }
 
@@ -78,10 +74,8 @@ fn follow_cut(index: &mut [u32], count: usize, from: u32, to: u32) -> usize
 {
     if to - from == 1 {
         let spot = entry_spot(index, count, from);
-        if spot < count {
-            if index[spot] == from {
-                return cut_entry(index, count, spot, from);
-            }
+        if spot < count && index[spot] == from {
+            return cut_entry(index, count, spot, from);
         }
     }
     close_entries(index, count, from, to, 0)
@@ -94,9 +88,10 @@ fn follow_put(index: &mut [u32], count: usize, from: u32, to: u32) -> usize
 {
     if from == to {
         open_entries(index, count, to);
-        return count;
+        count
+    } else {
+        close_entries(index, count, from, to, 1)
     }
-    close_entries(index, count, from, to, 1)
 }
 
 // The entries after an edit, but for that of a new node; and how many they are.

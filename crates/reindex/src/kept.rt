@@ -14,13 +14,7 @@ fn stays_at(nodes: &[u32], at: usize, from: usize, to: usize) -> bool
     requires { width * at + width ≤ length nodes.now }
     ensures { result ≡ stays from to at (node_from nodes.now (width * at)) }
 {
-    if at < from {
-        return true;
-    }
-    if to <= at {
-        return true;
-    }
-    nodes[RECORD * at + SLOT] == GROUP
+    at < from || to <= at || nodes[RECORD * at + SLOT] == GROUP
 }
 
 // The new place of each node, by its place.
@@ -30,13 +24,11 @@ pub fn kept_places(nodes: &[u32], count: usize, from: usize, to: usize) -> [u32;
 {
     let mut places = [GONE; MOST_NODES];
     let mut next: u32 = 0;
-    let mut i = 0;
-    while i < count {
+    for i in 0..count {
         if stays_at(nodes, i, from, to) {
             places[i] = next;
             next += 1;
         }
-        i += 1;
     }
     places
 }
@@ -46,21 +38,21 @@ fn place_in(places: &[u32], place: usize) -> u32
     ensures { result ≡ place_in places.now place }
 {
     if place < places.len() {
-        return places[place];
+        places[place]
+    } else {
+        GONE
     }
-    GONE
 }
 
 // The entries at these places, in their order, without those of nodes that are gone; and how many are left.
+// Kept: one pass with a closure would ask for a closure that any word can be given, and `closed_place` takes places alone.
 pub fn follow_places(index: &mut [u32], count: usize, places: &[u32]) -> usize
     requires { count ≤ length index.old }
     ensures { Followed (place_in places.now) index.old count index.new result }
 {
-    let mut i = 0;
     let mut left = 0;
-    while i < count {
+    for i in 0..count {
         let place = place_in(places, wide(index[i]));
-        i += 1;
         if place < GONE {
             index[left] = place;
             left += 1;

@@ -1,6 +1,5 @@
 // A new node's entry put in.
-ghost use Rattle.std.specs.Prelude.{◌≡◌, ◌∷◌, ◌++◌, ◌+◌, ◌*◌, ◌-◌, ◌≤◌, ◌<◌, length, take, drop, get_or};
-ghost use Rattle.std.proofs.Math.Seq.{paste};
+ghost use Rattle.std.specs.Prelude.{◌≡◌, ◌∷◌, ◌++◌, ◌+◌, ◌*◌, ◌≤◌, ◌<◌, length, take, drop, get_or};
 ghost use Rattle.nodes.specs.Table.{width, rows, numbers};
 ghost use Rattle.reindex.specs.Spot.{spot, Reads};
 
@@ -13,6 +12,7 @@ pub fn spot_of(nodes: &[u32], index: &[u32], count: usize, at: usize) -> usize
     ensures { result ≡ spot (numbers (rows (count + 1) nodes.now)) (get_or nodes.now (width * at) 0) (take count index.now) }
 {
     let number = nodes[RECORD * at];
+    // Kept: `partition_point` asks for a test that can be made of any word, and a word past the table can't be looked up.
     let mut low = 0;
     let mut high = count;
     while low < high {
@@ -27,23 +27,11 @@ pub fn spot_of(nodes: &[u32], index: &[u32], count: usize, at: usize) -> usize
     low
 }
 
-// The entries from `at` up to `end` moved up by one.
-fn open_entry(index: &mut [u32], at: usize, end: usize)
-    requires { (at ≤ end) × (end < length index.old) }
-    ensures { index.new ≡ paste index.old (at + 1) (drop at index.old) (end - at) }
-{
-    let mut i = end;
-    while at < i {
-        i -= 1;
-        index[i + 1] = index[i];
-    }
-}
-
 // An entry put in before those from a spot on.
 pub fn put_entry(index: &mut [u32], count: usize, spot: usize, place: usize)
     requires { (spot ≤ count) × ((count < length index.old) × (place ≤ 256)) }
     ensures { index.new ≡ (take spot (take count index.old) ++ place ∷ drop spot (take count index.old)) ++ drop (count + 1) index.old }
 {
-    open_entry(index, spot, count);
+    index.copy_within(spot..count, spot + 1);
     index[spot] = place as u32;
 }

@@ -7,8 +7,8 @@ use Rattle.words.specs.Bytes.{bytes32}
 use Rattle.osc.specs.Message.{padded}
 use Rattle.words.specs.Parts.{over}
 use Rattle.osc.specs.Over.{over_first}
-use Rattle.model.specs.declared.Answer.{Answer}
-use Rattle.model.specs.declared.Answer.TheVariants.{Replied, Refused}
+use Rattle.model.specs.Answers.{Answer}
+use Rattle.model.specs.Answers.{Replied, Refused}
 use Rattle.model.specs.Checks.{first_of, room_check}
 use Rattle.model.specs.Apply.{written}
 use Rattle.osc.specs.Lengths.{padded_size}

@@ -3,10 +3,10 @@
 
 ghost use Rattle.std.specs.Prelude.{◌+◌, ◌*◌, ◌≤◌, ◌≡◌, length};
 ghost use Rattle.words.specs.Parts.{over};
+ghost use Rattle.model.specs.Answers.{replied_or};
 ghost use Rattle.replies.specs.Words.{word_bytes};
 ghost use Rattle.replies.specs.Sent.{Sends, Short, Roomy, word_message, named_message};
 
-use model::Answer;
 use osc::{padded_length, put_int, put_padded};
 use refusals::Refusal;
 
@@ -15,15 +15,13 @@ pub fn put_words(out: &mut [u8], at: usize, words: &[u32])
     requires { at + 4 * length words.now ≤ length out.old }
     ensures { out.new ≡ over at (word_bytes words.now) out.old }
 {
-    let mut i = 0;
-    while i < words.len() {
-        let word = words[i];
-        put_int(out, at + 4 * i, word);
-        i += 1;
+    for (i, word) in words.iter().enumerate() {
+        put_int(out, at + 4 * i, *word);
     }
 }
 
 // A message of integers and floats, from the first byte on: of so many bytes.
+#[tactic(auto, using(osc::specs::Lengths::padded_size))]
 pub fn put_message(out: &mut [u8], address: &[u8], tags: &[u8], words: &[u32])
     requires { Roomy address.now tags.now words.now out.old }
     ensures { out.new ≡ over 0 (word_message address.now tags.now words.now) out.old }
@@ -35,39 +33,35 @@ pub fn put_message(out: &mut [u8], address: &[u8], tags: &[u8], words: &[u32])
     put_words(out, front, words);
 }
 
-// A message of integers and floats.
-pub fn send_words(out: &mut [u8], address: &[u8], tags: &[u8], words: &[u32]) -> Answer
+// A message of integers and floats: how many bytes it has.
+pub fn send_words(
+    out: &mut [u8],
+    address: &[u8],
+    tags: &[u8],
+    words: &[u32],
+) -> Result<usize, Refusal>
     requires { Short address.now tags.now words.now }
-    ensures { Sends (word_message address.now tags.now words.now) out.old result out.new }
+    ensures { Sends (word_message address.now tags.now words.now) out.old (replied_or result) out.new }
 {
     let front = padded_length(address.len()) + padded_length(tags.len());
     let size = front + 4 * words.len();
     if out.len() < size {
-        return Answer::Refused(Refusal::NoRoom);
+        return Err(Refusal::NoRoom);
     }
     put_message(out, address, tags, words);
-    Answer::Replied(size)
+    Ok(size)
 }
 
 // A message of an integer, a string and a float: /n_set with a control's name.
-pub fn send_named(out: &mut [u8], number: u32, name: &[u8], value: u32) -> Answer
-    ensures { Sends (named_message number name.now value) out.old result out.new }
+pub fn send_named(out: &mut [u8], number: u32, name: &[u8], value: u32) -> Result<usize, Refusal>
+    ensures { Sends (named_message number name.now value) out.old (replied_or result) out.new }
 {
-    let size = name.len();
-    let room = out.len();
-    if room < 24 {
-        return Answer::Refused(Refusal::NoRoom);
+    let end = 20 + padded_length(name.len());
+    if out.len() < end + 4 {
+        return Err(Refusal::NoRoom);
     }
-    if room - 24 < size {
-        return Answer::Refused(Refusal::NoRoom);
-    }
-    if room - 24 - size < 4 - size % 4 {
-        return Answer::Refused(Refusal::NoRoom);
-    }
-    let end = 20 + padded_length(size);
-    let front = [number];
-    put_message(out, b"/n_set", b",isf", &front);
+    put_message(out, b"/n_set", b",isf", &[number]);
     put_padded(out, 20, name);
     put_int(out, end, value);
-    Answer::Replied(end + 4)
+    Ok(end + 4)
 }

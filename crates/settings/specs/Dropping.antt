@@ -7,7 +7,7 @@ use Rattle.words.specs.Bytes.{AreBytes}
 use Rattle.words.specs.Choice.{pick}
 use Rattle.words.specs.Bytes.{AreBytes}
 use Rattle.refusals.specs.declared.Refusal.TheVariants.{StoreUnformed, NoVersion}
-use Rattle.model.specs.declared.Answer.TheVariants.{Done, Refused}
+use Rattle.model.specs.Answers.{Done, Refused}
 use Rattle.model.specs.Checks.{first_of}
 use Rattle.store.specs.Store.{Version, store_formed, entries_of}
 use Rattle.store.specs.Writing.{version_in}

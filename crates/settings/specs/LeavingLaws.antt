@@ -1,19 +1,19 @@
 -- What saves and drops leave of a store: every other name and version, and the names in the order of their first saves.
-use Rattle.std.specs.Prelude.{ℕ, ◌+◌, Bool, true, false, ◌≡◌, refl, List, [], ◌∷◌, ◌++◌, length}
+use Rattle.std.specs.Prelude.{ℕ, ◌+◌, Bool, true, false, ◌≡◌, refl, List, [], ◌∷◌, ◌++◌, length, Ok, Err}
 use Rattle.std.proofs.Common.{sym, ap, ◌∙◌}
 use Rattle.std.proofs.Math.Option.{none}
 use Rattle.words.specs.Choice.{pick, either}
 use Rattle.format.specs.Reader.{same_name, among}
 use Rattle.values.specs.declared.NodeArgument.{NodeArgument}
-use Rattle.model.specs.declared.Answer.{Answer}
-use Rattle.model.specs.declared.Answer.TheVariants.{Done, Replied, Refused, RefusedAt}
+use Rattle.model.specs.declared.Accepted.TheVariants as accepted
+use Rattle.model.specs.declared.Denied.TheVariants as denied
+use Rattle.model.specs.Answers.{Answer}
 use Rattle.model.specs.Apply.{is_accepted}
 use Rattle.store.specs.Store.{Setting, Entry, entries_of}
 use Rattle.store.specs.Writing.{laid, with_version, saved, without_version, dropped, version_in, highest_for}
 use Rattle.store.specs.VersionLaws.{versions_saved, version_dropped, versions_dropped}
 use Rattle.store.specs.ReadingLaws.{store_stands}
-use Rattle.settings.specs.declared.Saved.{Saved}
-use Rattle.settings.specs.Settings.{save_judged, drop_answer, saved_by, Saves, Drops}
+use Rattle.settings.specs.Settings.{Saved, save_judged, drop_answer, saved_by, Saves, Drops}
 use Rattle.settings.specs.Versions.{StoreCall, saves, drops, store_left, PromisedOn, StoreSession, store_after}
 use Rattle.settings.specs.Restoring.{own_name, own_settings, LeavesOthers, entry_names, with_name, names_saved, names_after, first_saved}
 use Rattle.settings.specs.SavedLaws.{save_left, save_answered, drop_accepted, drop_left}
@@ -78,10 +78,10 @@ names_dropped name number (e ∷ es) = go (same_name e.name name) (names_dropped
     go false more = ap (λ (l : List (List ℕ)). e.name ∷ l) more
 
 refused_names : (own : List ℕ) (v : ℕ) (names : List (List ℕ)) (x : Answer) → is_accepted x ≡ false → names_saved own (saved_by x v) names ≡ names
-refused_names own v names Done h = cc
-refused_names own v names (Replied n) h = cc
-refused_names own v names (Refused r) h = refl
-refused_names own v names (RefusedAt r at) h = refl
+refused_names own v names (Ok accepted.Done) h = cc
+refused_names own v names (Ok (accepted.Replied n)) h = cc
+refused_names own v names (Err (denied.Refused r)) h = refl
+refused_names own v names (Err (denied.RefusedAt r at)) h = refl
 
 save_names : (a : NodeArgument) (ws bs store : List ℕ) (r : Saved) (store' : List ℕ) → Saves a ws bs store r store'
     → entry_names (entries_of store') ≡ names_saved (own_name a ws bs) r (entry_names (entries_of store))

@@ -1,5 +1,5 @@
 -- Laws of `OwnFields`: the settings of a row measured and written one by one.
-use Rattle.std.specs.Prelude.{ℕ, suc, ◌+◌, ◌-◌, ◌*◌, ◌≤◌, ◌<◌, Bool, true, false, ◌≡◌, refl, drop, get_or, eqb}
+use Rattle.std.specs.Prelude.{Option, Some, ℕ, suc, ◌+◌, ◌-◌, ◌*◌, ◌≤◌, ◌<◌, Bool, true, false, ◌≡◌, refl, drop, get_or, eqb}
 use Rattle.std.proofs.Common.{sym, ap, ◌∙◌, arith, add-zero, zero-add, length-take, length-drop, take-append-drop, drop_of_length-le, drop-drop, get_or-drop, ne_eqb, eqb-true}
 use mathlib.Core.List.{List, [], ◌∷◌, ◌++◌, append_assoc, append-nil}
 use Rattle.std.proofs.Math.Nat.{sub-zero}
@@ -12,7 +12,7 @@ use Rattle.format.specs.Fields.{string_at}
 use Rattle.format.specs.Names.{name_for}
 use Rattle.format.specs.Reader.{most_parameters, size_limit}
 use Rattle.osc.specs.Over.{over_length, over_over, over_first}
-use Rattle.readable.specs.Lookup.{at_number, parameters_in}
+use Rattle.readable.specs.Lookup.{parameters_in}
 use Rattle.readable.specs.Labels.{label_at}
 use Rattle.readable.specs.OwnLabels.{OwnLabelled}
 use Rattle.readable.specs.Readable.{Readable, parts}
@@ -115,8 +115,8 @@ unfolding settings_from controls_from
 taken_none i f row h = let none-left : length f.values - i ≡ 0 = omega arith in rw none-left
 
 -- as many controls as the front has values
-pub parameters_many : (s : List ℕ) (k : Readable s) (n : ℕ) → at_number n ≡ parameters_in s → n ≡ length k.front.values
-parameters_many s k n e = let f : at_number n ≡ at_number (length k.front.values) = rw k.reads at e in cc
+pub parameters_many : (s : List ℕ) (k : Readable s) (n : ℕ) → Some n ≡ parameters_in s → n ≡ length k.front.values
+parameters_many s k n e = let f : ◌≡◌ {A = Option ℕ} (Some n) (Some (length k.front.values)) = rw k.reads at e in cc
 
 module _ (s table : List ℕ) (k : Readable s) (labels : OwnLabelled s table) (row : List ℕ) where
   all_left : left_in 0 s row ≡ taken_in s row

@@ -7,8 +7,8 @@ use Rattle.words.specs.Choice.{pick}
 use Rattle.refusals.specs.declared.Refusal.TheVariants.{NoNode, WrongKind, VersionsFull, StoreUnformed, NoVersion, StoreFull}
 use Rattle.nodes.specs.Place.{is_group}
 use Rattle.values.specs.declared.NodeArgument.{NodeArgument}
-use Rattle.model.specs.declared.Answer.{Answer}
-use Rattle.model.specs.declared.Answer.TheVariants.{Done, Refused}
+use Rattle.model.specs.Answers.{Answer}
+use Rattle.model.specs.Answers.{Done, Refused}
 use Rattle.model.specs.Engine.{Engine, decode}
 use Rattle.model.specs.Meaning.{known, node}
 use Rattle.model.specs.Formed.{formed}

@@ -20,7 +20,7 @@ use Rattle.values.specs.Values.{in_bounds, pattern}
 use Rattle.model.specs.declared.ControlCommand.TheVariants as controls
 use Rattle.model.specs.declared.Command.{Command}
 use Rattle.model.specs.declared.Command.TheVariants as command
-use Rattle.model.specs.declared.Answer.TheVariants.{Done, Refused}
+use Rattle.model.specs.Answers.{Done, Refused}
 use Rattle.model.specs.Layout.{row_words}
 use Rattle.model.specs.Engine.{Engine, definition_of, controls_of}
 use Rattle.model.specs.View.{Kind, group, synth, PlainNode, view_of}

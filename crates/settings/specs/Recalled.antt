@@ -17,8 +17,8 @@ use Rattle.values.specs.declared.Key.TheVariants.{Name}
 use Rattle.values.specs.declared.Value.TheVariants.{Float}
 use Rattle.values.specs.declared.NodeArgument.{NodeArgument}
 use Rattle.model.specs.declared.ControlCommand.TheVariants as controls
-use Rattle.model.specs.declared.Answer.{Answer}
-use Rattle.model.specs.declared.Answer.TheVariants.{Done, Refused}
+use Rattle.model.specs.Answers.{Answer}
+use Rattle.model.specs.Answers.{Done, Refused}
 use Rattle.model.specs.Engine.{decode}
 use Rattle.model.specs.Meaning.{node}
 use Rattle.model.specs.Formed.{formed}

@@ -9,7 +9,7 @@ use Rattle.values.specs.declared.Value.TheVariants.{Float}
 use Rattle.values.specs.declared.NodeArgument.{NodeArgument}
 use Rattle.model.specs.declared.ControlCommand.TheVariants as controls
 use Rattle.model.specs.declared.Command.TheVariants as command
-use Rattle.model.specs.declared.Answer.{Answer}
+use Rattle.model.specs.Answers.{Answer}
 use Rattle.model.specs.Apply.{is_accepted}
 use Rattle.model.specs.Chain.{State, Call, Chain, left_by}
 use Rattle.model.specs.Script.{Line, line}

@@ -1,6 +1,6 @@
 -- What a save stores, what a recall makes of it, and what saves and drops leave of a store: paper 02, 8/14. "what a save stored a recall sets, bit
 -- for bit and unmapped, into a synth of the same definition, all other controls as they were".
-use Rattle.std.specs.Prelude.{ℕ, ◌+◌, true, false, ◌≡◌, List, [], ◌∷◌, ◌++◌, length}
+use Rattle.std.specs.Prelude.{ℕ, ◌+◌, true, false, ◌≡◌, List, [], ◌∷◌, ◌++◌, length, Ok, Err}
 use Rattle.std.proofs.Math.Option.{Option, none, some}
 use Rattle.words.specs.Choice.{pick}
 use Rattle.format.specs.Definition.{ParameterName, Definition}
@@ -11,16 +11,14 @@ use Rattle.values.specs.declared.NodeArgument.{NodeArgument}
 use Rattle.values.specs.declared.Mapping.TheVariants.{Unmapped}
 use Rattle.values.specs.Controls.{ControlValue}
 use Rattle.model.specs.Engine.{decode, definition_of, controls_of}
-use Rattle.model.specs.declared.Answer.TheVariants.{Done}
+use Rattle.model.specs.Answers.{Done}
 use Rattle.model.specs.Meaning.{known, node}
 use Rattle.model.specs.Formed.{formed}
 use Rattle.model.specs.View.{synth}
 use Rattle.lists.specs.OneByOne.{lent_state}
 use Rattle.store.specs.Store.{Setting, Entry, store_formed, entries_of}
 use Rattle.store.specs.Writing.{version_in}
-use Rattle.settings.specs.declared.Saved.{Saved}
-use Rattle.settings.specs.declared.Saved.TheVariants as saving
-use Rattle.settings.specs.Settings.{name_of, settings_of, recall_answer}
+use Rattle.settings.specs.Settings.{Saved, name_of, settings_of, recall_answer}
 use Rattle.settings.specs.Recalling.{stored, setting_lines, all_sent, recall_calls}
 use Rattle.settings.specs.PlainRecall.{recall_kind}
 use Rattle.settings.specs.Versions.{StoreCall, saves, drops}
@@ -76,8 +74,8 @@ abbrev pub with_name : List ℕ → List (List ℕ) → List (List ℕ)
 with_name name names = pick (among name names) names (names ++ (name ∷ []))
 
 abbrev pub names_saved : List ℕ → Saved → List (List ℕ) → List (List ℕ)
-names_saved own (saving.Version v) names = with_name own names
-names_saved own (saving.Refused r) names = names
+names_saved own (Ok v) names = with_name own names
+names_saved own (Err r) names = names
 
 abbrev pub names_after : StoreCall → List (List ℕ) → List (List ℕ)
 names_after (saves a ws bs r store') names = names_saved (own_name a ws bs) r names

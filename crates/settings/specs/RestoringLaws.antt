@@ -1,5 +1,5 @@
 -- Laws of `Restoring`: a save and a recall of what it stored.
-use Rattle.std.specs.Prelude.{ℕ, ◌+◌, ◌*◌, min, Bool, true, false, ◌≡◌, length, drop, eqb}
+use Rattle.std.specs.Prelude.{ℕ, ◌+◌, ◌*◌, min, Bool, true, false, ◌≡◌, length, drop, eqb, Ok}
 use Rattle.std.proofs.Math.Path.{refl, ap}
 use Rattle.std.proofs.Common.{sym, ◌∙◌, subst, arith, length-append, take_at, drop_at, eqb-true}
 use mathlib.Core.List.{List, [], ◌∷◌, ◌++◌, append_assoc}
@@ -17,7 +17,7 @@ use Rattle.model.specs.Engine.{decode}
 use Rattle.model.specs.Meaning.{known, node}
 use Rattle.model.specs.Formed.{formed}
 use Rattle.model.specs.Checks.{first_of}
-use Rattle.model.specs.declared.Answer.TheVariants.{Done}
+use Rattle.model.specs.Answers.{Done}
 use Rattle.nodes.specs.Place.{is_group}
 use Rattle.lists.specs.OneByOne.{lent_state}
 use Rattle.model.specs.View.{synth}
@@ -28,8 +28,7 @@ use Rattle.store.specs.Store.{Version, store_formed, entries_of}
 use Rattle.store.specs.Writing.{version_in, highest_for}
 use Rattle.store.specs.VersionLaws.{version_saved}
 use Rattle.store.specs.ReadingLaws.{store_stands}
-use Rattle.settings.specs.declared.Saved.TheVariants as saving
-use Rattle.settings.specs.Settings.{setting_by, settings_from, recall_answer, Saves}
+use Rattle.settings.specs.Settings.{Saved, setting_by, settings_from, recall_answer, Saves}
 use Rattle.settings.specs.Recalling.{settings_by, setting_lines, all_sent, recall_calls}
 use Rattle.settings.specs.PlainRecall.{recall_kind}
 use Rattle.settings.specs.Restoring.{own_definition, own_controls, own_name, own_settings, restored_by, restored, SaveRecalled}
@@ -127,19 +126,19 @@ calls_are : (name : List ℕ) (number : ℕ) (b : NodeArgument) (store vs cs : L
     → recall_calls name number b store (lent_state vs cs) ≡ all_sent (setting_lines b v.settings) (lent_state vs cs)
 calls_are name number b store vs cs v done found = rw (done, found)
 
-version_same : (v w : ℕ) → saving.Version v ≡ saving.Version w → v ≡ w
+version_same : (v w : ℕ) → ◌≡◌ {A = Saved} (Ok v) (Ok w) → v ≡ w
 version_same v w e = cc
 
 -- "what a save stored a recall sets"
-pub save_recalled : (a : NodeArgument) (ws bs store : List ℕ) (v : ℕ) (store' : List ℕ) → Saves a ws bs store (saving.Version v) store'
+pub save_recalled : (a : NodeArgument) (ws bs store : List ℕ) (v : ℕ) (store' : List ℕ) → Saves a ws bs store (Ok v) store'
     → SaveRecalled a ws bs v store'
 save_recalled a ws bs store v store' s =
     let accepted = version_accepted a ws bs store v store' s in
     let p = save_accepted a ws bs store accepted in
-    let k = save_left a ws bs store (saving.Version v) store' s.lent s accepted in
+    let k = save_left a ws bs store (Ok v) store' s.lent s accepted in
     let es = entries_of store in
     let n = highest_for (own_name a ws bs) es + 1 in
-    let same : v ≡ n = version_same v n (save_answered a ws bs store (saving.Version v) store' s accepted) in
+    let same : v ≡ n = version_same v n (save_answered a ws bs store (Ok v) store' s accepted) in
     let here : version_in (own_name a ws bs) n (entries_of store') ≡ some (record { number = n; settings = own_settings a ws bs }) =
     ap (version_in (own_name a ws bs) n) k.entries
     ∙ version_saved (own_name a ws bs) (own_settings a ws bs) es (store_stands store s.lent_store p.read).formed in

@@ -1,5 +1,5 @@
 -- What an accepted save and an accepted drop passed, and the stores that they leave.
-use Rattle.std.specs.Prelude.{ℕ, ◌+◌, ◌≤◌, ◌<◌, Bool, true, false, ◌≡◌, refl, List, [], length, leb, ltb, eqb}
+use Rattle.std.specs.Prelude.{ℕ, ◌+◌, ◌≤◌, ◌<◌, Bool, true, false, ◌≡◌, refl, List, [], length, leb, ltb, eqb, Ok, Err}
 use Rattle.std.proofs.Common.{sym, ap, ◌∙◌, subst, arith, leb-false, ltb-false}
 use Rattle.std.proofs.lemmas.Bool.{not-false, eqb-false}
 use Rattle.words.specs.Choice.{pick}
@@ -7,8 +7,10 @@ use Rattle.words.specs.ChoiceLaws.{either_false}
 use Rattle.refusals.specs.declared.Refusal.TheVariants.{BadState, VersionsFull, StoreFull}
 use Rattle.nodes.specs.Place.{is_group}
 use Rattle.values.specs.declared.NodeArgument.{NodeArgument}
-use Rattle.model.specs.declared.Answer.{Answer}
-use Rattle.model.specs.declared.Answer.TheVariants.{Done, Replied, Refused, RefusedAt}
+use Rattle.model.specs.declared.Accepted.TheVariants as accepted
+use Rattle.model.specs.declared.Denied.TheVariants as denied
+use Rattle.model.specs.Answers.{Answer}
+use Rattle.model.specs.Answers.{Done, Refused}
 use Rattle.model.specs.Engine.{decode}
 use Rattle.model.specs.Meaning.{known, node}
 use Rattle.model.specs.Formed.{formed}
@@ -17,9 +19,7 @@ use Rattle.model.specs.Apply.{is_accepted}
 use Rattle.store.specs.Store.{most_versions, store_formed, entries_of}
 use Rattle.store.specs.Writing.{writing, laid, saved, dropped, versions_for, highest_for, last_version, no_room_for}
 use Rattle.store.specs.StoreKeptLaws.{StoreKept, save_kept, drop_kept}
-use Rattle.settings.specs.declared.Saved.{Saved}
-use Rattle.settings.specs.declared.Saved.TheVariants as saving
-use Rattle.settings.specs.Settings.{store_check, synth_check, save_checks, save_judged, drop_answer, saved_by, Saves, Drops, Lent}
+use Rattle.settings.specs.Settings.{Saved, store_check, synth_check, save_checks, save_judged, drop_answer, saved_by, Saves, Drops, Lent}
 use Rattle.settings.specs.RecallLaws.{first_passed}
 use Rattle.settings.specs.Restoring.{own_name, own_settings}
 use Rattle.settings.specs.TakenLaws.{save_taken}
@@ -77,26 +77,26 @@ save_left a ws bs store r store' lent s h =
 
 -- the version that it answers is one more than the highest
 pub save_answered : (a : NodeArgument) (ws bs store : List ℕ) (r : Saved) (store' : List ℕ) → Saves a ws bs store r store'
-    → is_accepted (save_judged a ws bs store) ≡ true → r ≡ saving.Version (highest_for (own_name a ws bs) (entries_of store) + 1)
+    → is_accepted (save_judged a ws bs store) ≡ true → r ≡ Ok (highest_for (own_name a ws bs) (entries_of store) + 1)
 save_answered a ws bs store r store' s h = s.answers ∙ by (save_judged a ws bs store) h
   where
     by : (x : Answer) → is_accepted x ≡ true
-        → saved_by x (highest_for (own_name a ws bs) (entries_of store) + 1) ≡ saving.Version (highest_for (own_name a ws bs) (entries_of store) + 1)
-    by Done q = refl
-    by (Replied n) q = refl
-    by (Refused x) q = let z : ◌≡◌ {A = ℕ} 0 1 = cc in absurd (omega arith)
-    by (RefusedAt x at) q = let z : ◌≡◌ {A = ℕ} 0 1 = cc in absurd (omega arith)
+        → saved_by x (highest_for (own_name a ws bs) (entries_of store) + 1) ≡ Ok (highest_for (own_name a ws bs) (entries_of store) + 1)
+    by (Ok accepted.Done) q = refl
+    by (Ok (accepted.Replied n)) q = refl
+    by (Err (denied.Refused x)) q = let z : ◌≡◌ {A = ℕ} 0 1 = cc in absurd (omega arith)
+    by (Err (denied.RefusedAt x at)) q = let z : ◌≡◌ {A = ℕ} 0 1 = cc in absurd (omega arith)
 
 -- .. and only an accepted save answers a version
-pub version_accepted : (a : NodeArgument) (ws bs store : List ℕ) (v : ℕ) (store' : List ℕ) → Saves a ws bs store (saving.Version v) store'
+pub version_accepted : (a : NodeArgument) (ws bs store : List ℕ) (v : ℕ) (store' : List ℕ) → Saves a ws bs store (Ok v) store'
     → is_accepted (save_judged a ws bs store) ≡ true
 version_accepted a ws bs store v store' s = by (save_judged a ws bs store) s.answers
   where
-    by : (x : Answer) → saving.Version v ≡ saved_by x (highest_for (own_name a ws bs) (entries_of store) + 1) → is_accepted x ≡ true
-    by Done q = refl
-    by (Replied n) q = refl
-    by (Refused x) q = cc
-    by (RefusedAt x at) q = cc
+    by : (x : Answer) → Ok v ≡ saved_by x (highest_for (own_name a ws bs) (entries_of store) + 1) → is_accepted x ≡ true
+    by (Ok accepted.Done) q = refl
+    by (Ok (accepted.Replied n)) q = refl
+    by (Err (denied.Refused x)) q = cc
+    by (Err (denied.RefusedAt x at)) q = cc
 
 -- an accepted drop
 pub drop_accepted : (name : List ℕ) (number : ℕ) (store : List ℕ) → is_accepted (drop_answer name number store) ≡ true → store_formed store ≡ true

@@ -1,5 +1,5 @@
 -- Laws of `Saves`: a law for each refusal of a save, and one for its end.
-use Rattle.std.specs.Prelude.{ℕ, ◌+◌, ◌-◌, ◌*◌, ◌<◌, true, false, ◌≡◌, List, take, drop}
+use Rattle.std.specs.Prelude.{ℕ, ◌+◌, ◌-◌, ◌*◌, ◌<◌, true, false, ◌≡◌, List, take, drop, Err}
 use Rattle.std.proofs.Common.{sym, ◌∙◌, arith, drop-drop}
 use Rattle.std.proofs.Math.Path.{ap}
 use Rattle.words.specs.Bytes.{AreBytes}
@@ -11,7 +11,7 @@ use Rattle.format.specs.Definition.{Front}
 use Rattle.nodes.specs.Place.{is_group}
 use Rattle.nodes.specs.Formed.{most_rows}
 use Rattle.values.specs.declared.NodeArgument.{NodeArgument}
-use Rattle.model.specs.declared.Answer.TheVariants.{Refused}
+use Rattle.model.specs.Answers.{Refused}
 use Rattle.model.specs.Layout.{row_words, controls_place, controls_words, buses_place, count_in, controls_in, record_in}
 use Rattle.model.specs.Engine.{decode}
 use Rattle.model.specs.Formed.{formed}
@@ -25,33 +25,31 @@ use Rattle.names.specs.Here.{node_here}
 use Rattle.readable.specs.Lookup.{name_in}
 use Rattle.readable.specs.Readable.{Readable, whole_readable}
 use Rattle.store.specs.Store.{store_formed}
-use Rattle.settings.specs.declared.Saved.{Saved}
-use Rattle.settings.specs.declared.Saved.TheVariants as saving
-use Rattle.settings.specs.Settings.{name_of, settings_of, save_judged, Lent, Saves}
+use Rattle.settings.specs.Settings.{Saved, name_of, settings_of, save_judged, Lent, Saves}
 use Rattle.settings.specs.OwnFields.{taken, taken_in}
 use Rattle.settings.specs.Saving.{room_judged, SavesTaken}
 
 -- a refusal leaves the store
 module _ (a : NodeArgument) (ws bs store : List ℕ) (bytes : AreBytes store) (lent : Lent ws bs) where
-  saves_refused : (r : Refusal) → save_judged a ws bs store ≡ Refused r → Saves a ws bs store (saving.Refused r) store
+  saves_refused : (r : Refusal) → save_judged a ws bs store ≡ Refused r → Saves a ws bs store (Err r) store
   saves_refused r e = record { answers = rw e; kept = rw e; lent_store = bytes; lent = lent }
 
-  pub saves_bad_state : formed ws bs ≡ false → Saves a ws bs store (saving.Refused BadState) store
+  pub saves_bad_state : formed ws bs ≡ false → Saves a ws bs store (Err BadState) store
   unfolding save_judged
   saves_bad_state e = saves_refused BadState (rw e)
 
   module _ (whole : formed ws bs ≡ true) where
-    pub saves_unformed : store_formed store ≡ false → Saves a ws bs store (saving.Refused StoreUnformed) store
+    pub saves_unformed : store_formed store ≡ false → Saves a ws bs store (Err StoreUnformed) store
     unfolding save_judged first_of
     saves_unformed e = saves_refused StoreUnformed (rw (whole, e))
 
     module _ (stands : store_formed store ≡ true) where
-      pub saves_unknown : (r : Refusal) → NodeRefused a ws r → Saves a ws bs store (saving.Refused r) store
+      pub saves_unknown : (r : Refusal) → NodeRefused a ws r → Saves a ws bs store (Err r) store
       unfolding save_judged first_of
       saves_unknown r n = saves_refused r (rw (whole, stands, n.fires bs) (n.answer bs))
 
       module _ (at : ℕ) (n : NodeFound a ws at) where
-        pub saves_group : is_group (record_in ws at) ≡ true → Saves a ws bs store (saving.Refused WrongKind) store
+        pub saves_group : is_group (record_in ws at) ≡ true → Saves a ws bs store (Err WrongKind) store
         unfolding save_judged first_of
         saves_group g = saves_refused WrongKind (rw (whole, stands, n.passes bs, node_here a ws at n bs, g))
 

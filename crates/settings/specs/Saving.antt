@@ -2,14 +2,13 @@
 use Rattle.std.specs.Prelude.{ℕ, ◌+◌, ◌≡◌, List, [], ◌∷◌, length, leb}
 use Rattle.words.specs.Choice.{pick}
 use Rattle.refusals.specs.declared.Refusal.TheVariants.{VersionsFull, StoreFull}
-use Rattle.model.specs.declared.Answer.{Answer}
-use Rattle.model.specs.declared.Answer.TheVariants.{Done}
+use Rattle.model.specs.Answers.{Answer}
+use Rattle.model.specs.Answers.{Done}
 use Rattle.model.specs.Checks.{Check, check, first_of}
 use Rattle.model.specs.Apply.{is_accepted}
 use Rattle.store.specs.Store.{Setting, most_versions, entries_of}
 use Rattle.store.specs.Writing.{laid, saved, versions_for, highest_for, no_room_for}
-use Rattle.settings.specs.declared.Saved.{Saved}
-use Rattle.settings.specs.Settings.{saved_by}
+use Rattle.settings.specs.Settings.{Saved, saved_by}
 
 -- 30 and 33
 abbrev pub room_checks : List ℕ → List Setting → List ℕ → List Check

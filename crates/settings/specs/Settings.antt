@@ -1,8 +1,9 @@
 -- Saved settings at the engine: paper 02, 8/14. What a save takes from a synth, and the checks of a save, a recall and a drop in the paper's order.
-use Rattle.std.specs.Prelude.{ℕ, ◌+◌, ◌<◌, Bool, true, false, not, ◌≡◌, List, [], ◌∷◌, ◌++◌, length, get_or, leb}
+use Rattle.std.specs.Prelude.{ℕ, ◌+◌, ◌<◌, Bool, true, false, not, ◌≡◌, List, [], ◌∷◌, ◌++◌, length, get_or, leb, Ok, Err, Result}
 use Rattle.std.proofs.Math.Option.{Option, none, some}
 use Rattle.words.specs.Choice.{pick}
 use Rattle.words.specs.Bytes.{AreBytes}
+use Rattle.refusals.specs.declared.Refusal.{Refusal}
 use Rattle.refusals.specs.declared.Refusal.TheVariants.{BadState, WrongKind, VersionsFull, StoreUnformed, NoVersion, StoreFull}
 use Rattle.format.specs.Definition.{ParameterName}
 use Rattle.format.specs.Names.{name_for}
@@ -10,8 +11,9 @@ use Rattle.nodes.specs.declared.Node.{Node}
 use Rattle.nodes.specs.Place.{is_group}
 use Rattle.values.specs.declared.NodeArgument.{NodeArgument}
 use Rattle.values.specs.Controls.{ControlValue}
-use Rattle.model.specs.declared.Answer.{Answer}
-use Rattle.model.specs.declared.Answer.TheVariants.{Done, Replied, Refused, RefusedAt}
+use Rattle.model.specs.declared.Denied.TheVariants as denied
+use Rattle.model.specs.Answers.{Answer}
+use Rattle.model.specs.Answers.{Done, Refused}
 use Rattle.model.specs.Engine.{Engine, decode, definition_of, controls_of}
 use Rattle.model.specs.Meaning.{node}
 use Rattle.model.specs.Formed.{formed}
@@ -19,8 +21,10 @@ use Rattle.model.specs.Checks.{Check, check, first_of, node_check}
 use Rattle.model.specs.Apply.{is_accepted}
 use Rattle.store.specs.Store.{Setting, most_versions, store_formed, entries_of}
 use Rattle.store.specs.Writing.{laid, saved, dropped, version_in, versions_for, highest_for, no_room_for}
-use Rattle.settings.specs.declared.Saved.{Saved}
-use Rattle.settings.specs.declared.Saved.TheVariants as saving
+
+-- what a save answers: the new version, or its refusal
+abbrev pub Saved : Type 0
+Saved = Result ℕ Refusal
 
 abbrev pub setting_by : Option (List ℕ) → ℕ → List Setting
 setting_by none float = []
@@ -82,10 +86,9 @@ drop_answer name number store = first_of (drop_checks name number store) Done
 
 -- a save "answers the new version": the highest ever given for the name, and one more
 abbrev pub saved_by : Answer → ℕ → Saved
-saved_by Done version = saving.Version version
-saved_by (Replied n) version = saving.Version version
-saved_by (Refused r) version = saving.Refused r
-saved_by (RefusedAt r at) version = saving.Refused BadState
+saved_by (Ok x) version = Ok version
+saved_by (Err (denied.Refused r)) version = Err r
+saved_by (Err (denied.RefusedAt r at)) version = Err BadState
 
 -- what is lent as words has 32 bits, and what is lent as bytes is bytes
 abbrev pub AreWords : List ℕ → Type 0

@@ -1,18 +1,16 @@
 -- Saves and drops in a row, each in the store that the one before left, with any engine states between. Paper 02, 8/14: "Version numbers rise from 1
 -- for each name and are never given again, even after a version is dropped."
 use Prim.{Unit}
-use Rattle.std.specs.Prelude.{ℕ, zero, suc, ◌+◌, true, ◌≡◌, List, [], ◌∷◌, ◌++◌, length}
+use Rattle.std.specs.Prelude.{ℕ, zero, suc, ◌+◌, true, ◌≡◌, List, [], ◌∷◌, ◌++◌, length, Ok, Err}
 use Rattle.words.specs.Choice.{pick}
 use Rattle.format.specs.Reader.{same_name}
 use Rattle.values.specs.declared.NodeArgument.{NodeArgument}
-use Rattle.model.specs.declared.Answer.{Answer}
+use Rattle.model.specs.Answers.{Answer}
 use Rattle.model.specs.Engine.{decode}
 use Rattle.model.specs.Meaning.{node}
 use Rattle.store.specs.Store.{store_formed, entries_of}
 use Rattle.store.specs.Writing.{highest_for}
-use Rattle.settings.specs.declared.Saved.{Saved}
-use Rattle.settings.specs.declared.Saved.TheVariants.{Version, Refused}
-use Rattle.settings.specs.Settings.{name_of, Saves, Drops}
+use Rattle.settings.specs.Settings.{Saved, name_of, Saves, Drops}
 
 -- a call on a store as it was made: a save of a node in a lent state and what it answered, or a drop of a version; and the store that it left
 pub data StoreCall : Type 0 where
@@ -38,8 +36,8 @@ store_after (c ∷ cs) store = store_after cs (store_left c)
 
 -- the versions that saves gave under a name, in the order of the calls
 abbrev pub given_to : List ℕ → List ℕ → Saved → List ℕ
-given_to name own (Version v) = pick (same_name own name) (v ∷ []) []
-given_to name own (Refused r) = []
+given_to name own (Ok v) = pick (same_name own name) (v ∷ []) []
+given_to name own (Err r) = []
 
 abbrev pub given_by : List ℕ → StoreCall → List ℕ
 given_by name (saves a ws bs r store') = given_to name (name_of (node a (decode ws bs)) (decode ws bs)) r

@@ -1,20 +1,20 @@
 -- "each new version is one more than the highest ever given for that name, 1 where there was none, and none is given again", over every sequence of
 -- saves and drops.
-use Rattle.std.specs.Prelude.{ℕ, zero, suc, ◌+◌, Bool, true, false, ◌≡◌, refl, List, [], ◌∷◌, ◌++◌, length}
+use Rattle.std.specs.Prelude.{ℕ, zero, suc, ◌+◌, Bool, true, false, ◌≡◌, refl, List, [], ◌∷◌, ◌++◌, length, Ok, Err}
 use Rattle.std.proofs.Common.{sym, ap, ap₂, ◌∙◌, subst, arith, add-zero, length-append}
 use Rattle.words.specs.Choice.{pick}
 use Rattle.format.specs.Reader.{same_name}
 use Rattle.values.specs.declared.NodeArgument.{NodeArgument}
-use Rattle.model.specs.declared.Answer.{Answer}
-use Rattle.model.specs.declared.Answer.TheVariants.{Done, Replied, Refused, RefusedAt}
+use Rattle.model.specs.declared.Accepted.TheVariants as accepted
+use Rattle.model.specs.declared.Denied.TheVariants as denied
+use Rattle.model.specs.Answers.{Answer}
 use Rattle.model.specs.Apply.{is_accepted}
 use Rattle.store.specs.Store.{store_formed, entries_of}
 use Rattle.store.specs.Writing.{laid, saved, dropped, highest_by, highest_for}
 use Rattle.store.specs.NameLaws.{same_equal}
 use Rattle.store.specs.VersionLaws.{saved_other, highest_saved, highest_dropped}
 use Rattle.store.specs.StoreKeptLaws.{StoreKept}
-use Rattle.settings.specs.declared.Saved.{Saved}
-use Rattle.settings.specs.Settings.{save_judged, drop_answer, saved_by, Saves, Drops, Lent}
+use Rattle.settings.specs.Settings.{Saved, save_judged, drop_answer, saved_by, Saves, Drops, Lent}
 use Rattle.settings.specs.Versions.{StoreCall, saves, drops, store_left, PromisedOn, StoreSession, store_after, given_to, given_by, given, rising, VersionsRise}
 use Rattle.settings.specs.Restoring.{own_name, own_settings}
 use Rattle.settings.specs.SavedLaws.{save_left, save_answered, drop_left}
@@ -42,10 +42,10 @@ nothing_given name store = record { rises = refl; known = omega arith; formed = 
 
 -- a refused save gives nothing
 refused_gives : (name own : List ℕ) (v : ℕ) (x : Answer) → is_accepted x ≡ false → given_to name own (saved_by x v) ≡ []
-refused_gives name own v Done h = cc
-refused_gives name own v (Replied n) h = cc
-refused_gives name own v (Refused r) h = refl
-refused_gives name own v (RefusedAt r at) h = refl
+refused_gives name own v (Ok accepted.Done) h = cc
+refused_gives name own v (Ok (accepted.Replied n)) h = cc
+refused_gives name own v (Err (denied.Refused r)) h = refl
+refused_gives name own v (Err (denied.RefusedAt r at)) h = refl
 
 save_rises : (name : List ℕ) (a : NodeArgument) (ws bs store : List ℕ) (r : Saved) (store' : List ℕ) → Saves a ws bs store r store' → Lent ws bs
     → CallRises name store (given_to name (own_name a ws bs) r) store'

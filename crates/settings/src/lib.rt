@@ -7,15 +7,6 @@ mod recalling;
 mod saving;
 mod taken;
 
-use refusals::Refusal;
-
-// What a save answers: the new version, or a refusal.
-#[derive(Clone, Copy)]
-pub enum Saved {
-    Version(u32),
-    Refused(Refusal),
-}
-
 pub use dropping::drop;
 pub use number::saved_number;
 pub use recalling::recall;

@@ -1,5 +1,6 @@
 // A recall: the settings of a version set in a synth, one by one.
 ghost use Rattle.std.specs.Prelude.{◌+◌, ◌≤◌, true, ◌≡◌, length};
+ghost use Rattle.model.specs.Answers.{done_or};
 ghost use Rattle.model.specs.Formed.{formed};
 ghost use Rattle.tagged.specs.Fields.{head_size};
 ghost use Rattle.store.specs.Store.{number_size, store_formed};
@@ -8,11 +9,11 @@ ghost use Rattle.settings.specs.Recalled.{SettingSet, setting_at, VersionSet};
 
 use controlcommands::control_step;
 use fields::word_at;
-use model::{Answer, ControlCommand};
-use names::{NodePlace, node_is_group, node_place};
+use model::ControlCommand;
+use names::{node_is_group, node_place};
 use refusals::Refusal;
 use statecheck::well_formed;
-use store::{VersionPlace, store_formed, version_place};
+use store::{store_formed, version_place};
 use tagged::{HEAD_SIZE, size_at};
 use values::{Key, NodeArgument, Value};
 
@@ -29,11 +30,11 @@ fn set_at(node: NodeArgument, store: &[u8], at: usize, size: usize, words: &mut 
     let end = start + (size - FLOAT_SIZE);
     let value = Value::Float(word_at(store, end));
     let command = ControlCommand::Set {
-        node: node,
+        node,
         key: Key::Name,
-        value: value,
+        value,
     };
-    control_step(command, &store[start..end], words, arena);
+    let _ = control_step(command, &store[start..end], words, arena);
 }
 
 // The settings of a version, in stored order; refusal 32 where there is none of this name and number.
@@ -44,22 +45,18 @@ fn recall_version(
     store: &[u8],
     words: &mut [u32],
     arena: &[u8],
-) -> Answer
+) -> Result<(), Refusal>
     requires { (store_formed store.now ≡ true) × (formed words.old arena.now ≡ true) }
-    ensures { VersionSet name.now number node store.now words.old arena.now result words.new }
+    ensures { VersionSet name.now number node store.now words.old arena.now (done_or result) words.new }
 {
-    match version_place(store, name, number) {
-        VersionPlace::At(start, end) => {
-            let mut at = start;
-            while at < end {
-                let size = size_at(store, at);
-                set_at(node, store, at, size, words, arena);
-                at = at + (HEAD_SIZE + size);
-            }
-            Answer::Done
-        }
-        VersionPlace::Nothing => Answer::Refused(Refusal::NoVersion),
+    let (start, end) = version_place(store, name, number).ok_or(Refusal::NoVersion)?;
+    let mut at = start;
+    while at < end {
+        let size = size_at(store, at);
+        set_at(node, store, at, size, words, arena);
+        at += HEAD_SIZE + size;
     }
+    Ok(())
 }
 
 // A recall in any state and any store at all, by the order of its checks; the state check is made once.
@@ -70,23 +67,18 @@ pub fn recall(
     store: &[u8],
     words: &mut [u32],
     arena: &[u8],
-) -> Answer
-    ensures { Recalls name.now number node store.now words.old arena.now result words.new }
+) -> Result<(), Refusal>
+    ensures { Recalls name.now number node store.now words.old arena.now (done_or result) words.new }
 {
     if !well_formed(words, arena) {
-        return Answer::Refused(Refusal::BadState);
+        return Err(Refusal::BadState);
     }
     if !store_formed(store) {
-        return Answer::Refused(Refusal::StoreUnformed);
+        return Err(Refusal::StoreUnformed);
     }
-    let at = match node_place(words, node) {
-        NodePlace::At(at) => at,
-        NodePlace::Refused(refusal) => {
-            return Answer::Refused(refusal);
-        }
-    };
+    let at = node_place(words, node)?;
     if node_is_group(words, at) {
-        return Answer::Refused(Refusal::WrongKind);
+        return Err(Refusal::WrongKind);
     }
     recall_version(name, number, node, store, words, arena)
 }

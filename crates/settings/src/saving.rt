@@ -8,11 +8,10 @@ ghost use Rattle.settings.specs.OwnFields.{taken_in};
 ghost use Rattle.settings.specs.Settings.{Saves};
 ghost use Rattle.settings.specs.Saving.{SavesTaken};
 
-use crate::Saved;
 use crate::taken::{settings_size, write_settings};
 use controls::{node_definition, node_row};
 use layout::{CONTROLS, CONTROLS_END, ROW_WORDS};
-use names::{NodePlace, node_is_group, node_place};
+use names::{node_is_group, node_place};
 use readable::own_labels;
 use refusals::Refusal;
 use statecheck::well_formed;
@@ -28,50 +27,47 @@ const LAST_VERSION: u32 = 4294967295;
 
 // The settings of a row of controls, by their definition's bytes, saved under its name. Whether there is room is known before the first byte is
 // written.
-fn save_taken(definition: &[u8], row: &[u32], store: &mut [u8]) -> Saved
+fn save_taken(definition: &[u8], row: &[u32], store: &mut [u8]) -> Result<u32, Refusal>
     requires { Readable definition.now × (row_words ≤ length row.now) × (store_formed store.old ≡ true) }
     ensures { SavesTaken (name_in definition.now) (taken_in definition.now row.now) store.old result store.new }
 {
     let name = readable::name(definition);
     let known = measure(store, name);
     if MOST_VERSIONS <= known.versions {
-        return Saved::Refused(Refusal::VersionsFull);
+        return Err(Refusal::VersionsFull);
     }
     if known.highest == LAST_VERSION {
-        return Saved::Refused(Refusal::StoreFull);
+        return Err(Refusal::StoreFull);
     }
     let labels = own_labels(definition);
     let size = settings_size(definition, &labels);
-    if store.len() < known.length {
-        return Saved::Refused(Refusal::StoreFull);
-    }
-    if store.len() - known.length < size {
-        return Saved::Refused(Refusal::StoreFull);
+    if store.len() < known.length || store.len() - known.length < size {
+        return Err(Refusal::StoreFull);
     }
     let at = open_version(store, name, size);
     let end = at + size;
     write_settings(&mut store[at..end], definition, &labels, row);
-    Saved::Version(known.highest + 1)
+    Ok(known.highest + 1)
 }
 
 // A save of the node that an argument means.
-pub fn save(node: NodeArgument, words: &[u32], arena: &[u8], store: &mut [u8]) -> Saved
+pub fn save(
+    node: NodeArgument,
+    words: &[u32],
+    arena: &[u8],
+    store: &mut [u8],
+) -> Result<u32, Refusal>
     ensures { Saves node words.now arena.now store.old result store.new }
 {
     if !well_formed(words, arena) {
-        return Saved::Refused(Refusal::BadState);
+        return Err(Refusal::BadState);
     }
     if !store_formed(store) {
-        return Saved::Refused(Refusal::StoreUnformed);
+        return Err(Refusal::StoreUnformed);
     }
-    let at = match node_place(words, node) {
-        NodePlace::At(at) => at,
-        NodePlace::Refused(refusal) => {
-            return Saved::Refused(refusal);
-        }
-    };
+    let at = node_place(words, node)?;
     if node_is_group(words, at) {
-        return Saved::Refused(Refusal::WrongKind);
+        return Err(Refusal::WrongKind);
     }
     let definition = node_definition(words, arena, at);
     let row = CONTROLS + ROW_WORDS * wide(node_row(words, at));

@@ -1,16 +1,15 @@
 // The fields of the settings that a save takes: how long they are, and their bytes.
-ghost use Rattle.std.specs.Prelude.{ℕ, ◌+◌, ◌≤◌, ◌≡◌, List, ◌∷◌, length};
+ghost use Rattle.std.specs.Prelude.{ℕ, ◌+◌, ◌≤◌, ◌≡◌, List, length};
 ghost use Rattle.words.specs.Parts.{over};
-ghost use Rattle.words.specs.Bytes.{bytes16};
 ghost use Rattle.format.specs.Reader.{size_limit};
 ghost use Rattle.readable.specs.OwnLabels.{OwnLabelled};
 ghost use Rattle.readable.specs.Readable.{Readable};
-ghost use Rattle.tagged.specs.Fields.{head_size};
 ghost use Rattle.model.specs.Layout.{row_words};
 ghost use Rattle.settings.specs.OwnFields.{setting_bytes, control_bytes, taken_in};
 
 use fields::name_at;
 use osc::{put_bytes, put_int};
+use store::put_head;
 use tagged::HEAD_SIZE;
 use words::wide;
 
@@ -19,16 +18,6 @@ const SETTING_TAG: u8 = 3;
 
 // The bytes of a float.
 const NUMBER_SIZE: usize = 4;
-
-// The tag and the length of a field.
-fn put_head(out: &mut [u8], at: usize, tag: u8, size: usize)
-    requires { at + head_size ≤ length out.old }
-    ensures { out.new ≡ over at (tag ∷ bytes16 size) out.old }
-{
-    out[at] = tag;
-    out[at + 1] = (size / 256 % 256) as u8;
-    out[at + 2] = (size % 256) as u8;
-}
 
 // How many bytes the setting of a control takes whose name stands at a place, none where that is 0.
 fn setting_size(definition: &[u8], place: u32) -> usize
@@ -66,10 +55,8 @@ pub(crate) fn settings_size(definition: &[u8], labels: &[u32; 32]) -> usize
 {
     let count = wide(readable::parameters(definition));
     let mut size = 0;
-    let mut i = 0;
-    while i < count {
+    for i in 0..count {
         size += setting_size(definition, labels[i]);
-        i += 1;
     }
     size
 }
@@ -81,9 +68,7 @@ pub(crate) fn write_settings(out: &mut [u8], definition: &[u8], labels: &[u32; 3
 {
     let count = wide(readable::parameters(definition));
     let mut at = 0;
-    let mut i = 0;
-    while i < count {
+    for i in 0..count {
         at = write_setting(out, at, definition, labels[i], row[2 * i]);
-        i += 1;
     }
 }

@@ -1,11 +1,12 @@
 -- The slots in the table of 64 words (32 lengths, then 32 resident flags), in the words, and in the arena.
-use Rattle.std.specs.Prelude.{ℕ, zero, suc, ◌+◌, ◌-◌, ◌≤◌, ◌<◌, min, Bool, true, false, ◌≡◌, refl, take, drop, get_or, eqb}
-use Rattle.std.proofs.Common.{sym, ◌∙◌, arith, zero-add, add-zero, drop_of_length-le, get_or-take, get_or-drop, drop-drop, take-take}
+use Rattle.std.specs.Prelude.{ℕ, zero, suc, ◌+◌, ◌-◌, ◌≤◌, ◌<◌, min, Bool, true, false, ◌≡◌, refl, take, drop, get_or, eqb, cond, count_by, ◌==◌}
+use Rattle.std.proofs.Common.{sym, ◌∙◌, arith, zero-add, add-zero, drop_of_length-le, get_or-take, get_or-drop, drop-drop, take-take, length-take}
 use Rattle.std.proofs.Math.Path.{ap}
 use mathlib.Core.List.{List, [], ◌∷◌}
 use Rattle.std.proofs.Math.Nat.{sub-zero}
 use Rattle.std.proofs.Math.ListN.{length}
 use Rattle.std.proofs.Math.Seq.{take-nil}
+use Rattle.std.proofs.lemmas.List.Sums.{sum_by-cons}
 use Rattle.words.specs.Choice.{pick}
 use Rattle.words.specs.Parts.{region}
 use Rattle.model.specs.Layout.{slot_count, lengths_place, lengths_in, flags_in, slot_in}
@@ -132,26 +133,29 @@ drop_min (suc n) (x ∷ l) =
     let more : min (suc n) (suc (length l)) ≡ suc (min n (length l)) = omega arith in
     rw more (drop_min n l)
 
+-- as many slots are resident as flags are 1
+flags_many : (k n : ℕ) (lengths flags arena : List ℕ) → length flags ≤ n → length (residents (slots_from k n lengths flags arena)) ≡ count_by (λ x. x == 1) flags
+unfolding slots_from residents
+flags_many k zero lengths [] arena h = refl
+flags_many k zero lengths (f ∷ flags) arena h = absurd (omega arith)
+flags_many k (suc n) lengths [] arena h = flags_many (k + 1) n (drop 1 lengths) [] arena (omega arith)
+flags_many k (suc n) lengths (f ∷ flags) arena h =
+    by (eqb f 1) _ (flags_many (k + 1) n (drop 1 lengths) flags arena (omega arith)) ∙ sym (sum_by-cons (λ x. cond (x == 1) 1 0) f flags)
+  where
+    rest : List Slot
+    rest = slots_from (k + 1) n (drop 1 lengths) flags arena
+
+    by : (b : Bool) (x : Slot) → length (residents rest) ≡ count_by (λ x. x == 1) flags → length (pick b (x ∷ residents rest) (residents rest)) ≡ cond b 1 0 + count_by (λ x. x == 1) flags
+    by true x e = omega arith
+    by false x e = omega arith
+
+pub residents_many : (table arena : List ℕ) → length (residents (slots_on table arena)) ≡ count_by (λ x. x == 1) (flags_on table)
+residents_many table arena =
+    flags_many 0 slot_count (lengths_on table) (flags_on table) arena (omega (arith, length-take slot_count (drop slot_count table)))
+
 -- how many of the slots from k on are resident
 abbrev pub count_from : List ℕ → List ℕ → ℕ → ℕ
 count_from table arena k = length (residents (drop k (slots_on table arena)))
-
--- the count: one step, and the end
-module _ (table arena : List ℕ) where
-  pub count_turn : (k : ℕ) → k < slot_count → count_from table arena k ≡ pick (resident_on table k) 1 0 + count_from table arena (k + 1)
-  unfolding residents
-  count_turn k h = ap (λ (l : List Slot). length (residents l)) (slot-at table arena k h) ∙ by (resident_on table k)
-    where
-      rest : List Slot
-      rest = residents (drop (k + 1) (slots_on table arena))
-
-      by : (b : Bool) → length (pick b (slot_on table arena k ∷ rest) rest) ≡ pick b 1 0 + length rest
-      by true = omega arith
-      by false = omega arith
-
-  pub count_end : (k : ℕ) → slot_count ≤ k → count_from table arena k ≡ 0
-  unfolding residents
-  count_end k h = ap (λ (l : List Slot). length (residents l)) (slots_end table arena k h)
 
 -- there are at most as many residents as slots
 residents_most : (slots : List Slot) → length (residents slots) ≤ length slots

@@ -2,7 +2,7 @@
 // resident.
 #![tactic(auto)]
 
-ghost use Rattle.std.specs.Prelude.{ℕ, ◌<◌, min, ◌≡◌, List, length};
+ghost use Rattle.std.specs.Prelude.{ℕ, ◌<◌, min, ◌≡◌, List, length, ◌==◌, count_by};
 ghost use Rattle.model.specs.Layout.{slot_count, words_length, start_of};
 ghost use Rattle.model.specs.Engine.{residents};
 ghost use Rattle.slots.specs.Slots.{table_words, slots_on, bytes_on, slot_bytes};
@@ -10,16 +10,6 @@ ghost use Rattle.slots.specs.Slots.{table_words, slots_on, bytes_on, slot_bytes}
 use format::SIZE_LIMIT;
 use layout::{LENGTHS, RESIDENT_END, SLOT_ROOM, SLOTS};
 use words::wide;
-
-// The lesser of two numbers.
-fn least(a: usize, b: usize) -> usize
-    ensures { result ≡ min a b }
-{
-    if a < b {
-        return a;
-    }
-    b
-}
 
 // Where a slot's bytes start in the arena; the arena's end where that is past it.
 pub fn start_of(arena: &[u8], slot: usize) -> usize
@@ -35,13 +25,10 @@ pub fn start_of(arena: &[u8], slot: usize) -> usize
 pub fn bytes_on<'a, 'b>(table: &'b [u32], arena: &'a [u8], slot: usize) -> &'a [u8]
     ensures { result.now ≡ bytes_on table.now arena.now slot }
 {
-    if table.len() <= slot {
-        return &arena[..0];
-    }
     let start = start_of(arena, slot);
-    let room = least(SIZE_LIMIT, arena.len() - start);
-    let end = start + least(room, wide(table[slot]));
-    &arena[start..end]
+    let room = SIZE_LIMIT.min(arena.len() - start);
+    let size = wide(table.get(slot).copied().unwrap_or(0));
+    &arena[start..start + room.min(size)]
 }
 
 // By the words.
@@ -52,18 +39,17 @@ pub fn slot_bytes<'a, 'b>(words: &'b [u32], arena: &'a [u8], slot: usize) -> &'a
     bytes_on(&words[LENGTHS..RESIDENT_END], arena, slot)
 }
 
+// How many flags are 1.
+fn ones(flags: &[u32]) -> usize
+    ensures { result ≡ count_by (λ x. x == 1) flags.now }
+{
+    flags.iter().filter(|flag| **flag == 1).count()
+}
+
 // How many definitions are resident.
 pub fn resident_count(table: &[u32]) -> u32
     requires { length table.now ≡ table_words }
     ensures { (arena : List ℕ) → result ≡ length (residents (slots_on table.now arena)) }
 {
-    let mut n: u32 = 0;
-    let mut k = 0;
-    while k < SLOTS {
-        if table[SLOTS + k] == 1 {
-            n += 1;
-        }
-        k += 1;
-    }
-    n
+    ones(&table[SLOTS..]) as u32
 }

@@ -34,7 +34,7 @@ use Rattle.model.specs.declared.Query.{Query}
 use Rattle.model.specs.declared.Query.TheVariants as query
 use Rattle.model.specs.declared.Command.{Command}
 use Rattle.model.specs.declared.Command.TheVariants as command
-use Rattle.model.specs.declared.Answer.TheVariants.{Done}
+use Rattle.model.specs.Answers.{Done}
 use Rattle.model.specs.Layout.{bus_count}
 use Rattle.model.specs.Engine.{Engine}
 use Rattle.words.specs.Patterns.{minus_one}

@@ -1,5 +1,5 @@
 -- What the functions behind the state check do, by what they may touch; and that it is what `Does` asks of `apply`.
-use Rattle.std.specs.Prelude.{ℕ, Bool, true, false, ◌≡◌, refl, List, [], length}
+use Rattle.std.specs.Prelude.{ℕ, Bool, true, false, ◌≡◌, refl, List, [], length, Ok, Err}
 use Rattle.std.proofs.Common.{sym, ap, ◌∙◌}
 use Rattle.words.specs.Choice.{pick}
 use Rattle.words.specs.Bytes.{AreBytes}
@@ -12,8 +12,10 @@ use Rattle.model.specs.declared.BusCommand.{BusCommand}
 use Rattle.model.specs.declared.Query.{Query}
 use Rattle.model.specs.declared.Command.{Command}
 use Rattle.model.specs.declared.Command.TheVariants as command
-use Rattle.model.specs.declared.Answer.{Answer}
-use Rattle.model.specs.declared.Answer.TheVariants.{Done, Replied, Refused, RefusedAt}
+use Rattle.model.specs.declared.Accepted.TheVariants as accepted
+use Rattle.model.specs.declared.Denied.TheVariants as denied
+use Rattle.model.specs.Answers.{Answer}
+use Rattle.model.specs.Answers.{Done, Replied, Refused, RefusedAt}
 use Rattle.model.specs.Engine.{Engine, decode}
 use Rattle.model.specs.Formed.{formed}
 use Rattle.model.specs.Checks.{first_of}
@@ -83,10 +85,10 @@ silent : (c : Command) (bytes : List ℕ) (e : Engine) (out : List ℕ) → writ
 silent c bytes e out = by_checks (λ a. written a [] out ≡ out) refused c bytes e Done (λ p. refl)
   where
     refused : (a : Answer) → is_refusal a ≡ true → written a [] out ≡ out
-    refused Done h = refl
-    refused (Replied n) h = cc
-    refused (Refused r) h = refl
-    refused (RefusedAt r at) h = refl
+    refused (Ok accepted.Done) h = refl
+    refused (Ok (accepted.Replied n)) h = cc
+    refused (Err (denied.Refused r)) h = refl
+    refused (Err (denied.RefusedAt r at)) h = refl
 
 -- each kind of step is what `Does` asks
 module _ (bytes ws bs out : List ℕ) (a : Answer) (lent : AreBytes bytes) (kept : AreBytes bs) where

@@ -1,6 +1,6 @@
 -- The refusal table: a check that fires refuses, and never with 1. So a command is answered by a refusal, or each of its checks passed.
 use Prim.{Unit, tt}
-use Rattle.std.specs.Prelude.{ℕ, Bool, not, ◌≡◌, eqb}
+use Rattle.std.specs.Prelude.{ℕ, Bool, not, ◌≡◌, eqb, Ok, Err}
 use Rattle.std.proofs.Math.Bool.{true, false}
 use Rattle.std.proofs.Math.Path.{refl}
 use mathlib.Core.List.{List, [], ◌∷◌}
@@ -19,18 +19,20 @@ use Rattle.model.specs.declared.BusCommand.TheVariants as buses
 use Rattle.model.specs.declared.Query.TheVariants as query
 use Rattle.model.specs.declared.Command.{Command}
 use Rattle.model.specs.declared.Command.TheVariants as command
-use Rattle.model.specs.declared.Answer.{Answer}
-use Rattle.model.specs.declared.Answer.TheVariants.{Done, Replied, Refused, RefusedAt}
+use Rattle.model.specs.declared.Accepted.TheVariants as accepted
+use Rattle.model.specs.declared.Denied.TheVariants as denied
+use Rattle.model.specs.Answers.{Answer}
+use Rattle.model.specs.Answers.{Done, Replied, Refused, RefusedAt}
 use Rattle.model.specs.Engine.{Engine}
 use Rattle.model.specs.Checks.{Check, first_of, fault_of, definition_checks, tree_checks, control_checks, bus_checks, query_checks}
 use Rattle.model.specs.Apply.{is_accepted}
 
 -- a refusal that is not 1
 abbrev pub is_refusal : Answer → Bool
-is_refusal Done = false
-is_refusal (Replied n) = false
-is_refusal (Refused r) = not (eqb (number_of r) 1)
-is_refusal (RefusedAt r at) = true
+is_refusal (Ok accepted.Done) = false
+is_refusal (Ok (accepted.Replied n)) = false
+is_refusal (Err (denied.Refused r)) = not (eqb (number_of r) 1)
+is_refusal (Err (denied.RefusedAt r at)) = true
 
 -- a check that refuses where it fires
 abbrev refuses : Check → Bool
@@ -103,7 +105,7 @@ pub all_passed : (c : Command) (bytes : List ℕ) (e : Engine) (a : Answer) → 
 all_passed c bytes e a h = by_checks (λ x. is_accepted x ≡ true → Passed (checks_of c bytes e)) (λ x r q. absurd (never x r q)) c bytes e a (λ p q. p) h
   where
     never : (x : Answer) → is_refusal x ≡ true → is_accepted x ≡ true → ⊥
-    never Done r q = let z : ◌≡◌ {A = ℕ} 0 1 = cc in omega arith
-    never (Replied n) r q = let z : ◌≡◌ {A = ℕ} 0 1 = cc in omega arith
-    never (Refused f) r q = let z : ◌≡◌ {A = ℕ} 0 1 = cc in omega arith
-    never (RefusedAt f at) r q = let z : ◌≡◌ {A = ℕ} 0 1 = cc in omega arith
+    never (Ok accepted.Done) r q = let z : ◌≡◌ {A = ℕ} 0 1 = cc in omega arith
+    never (Ok (accepted.Replied n)) r q = let z : ◌≡◌ {A = ℕ} 0 1 = cc in omega arith
+    never (Err (denied.Refused f)) r q = let z : ◌≡◌ {A = ℕ} 0 1 = cc in omega arith
+    never (Err (denied.RefusedAt f at)) r q = let z : ◌≡◌ {A = ℕ} 0 1 = cc in omega arith

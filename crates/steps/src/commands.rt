@@ -6,7 +6,7 @@ ghost use Rattle.model.specs.Apply.{Does};
 use crate::query::query_step;
 use controlcommands::{bus_step, control_step};
 use definitioncommands::definition_step;
-use model::{Answer, Command};
+use model::{Accepted, Answer, Command};
 use newsynth::tree_step;
 
 // A command in a well-formed state.
@@ -21,10 +21,25 @@ pub fn step(
     ensures { Does command bytes.now words.old arena.old reply.old result words.new arena.new reply.new }
 {
     match command {
-        Command::Definitions(of) => definition_step(of, bytes, words, arena),
-        Command::Tree(of) => tree_step(of, bytes, words, arena),
-        Command::Controls(of) => control_step(of, bytes, words, arena),
-        Command::Buses(of) => bus_step(of, words),
-        Command::Query(of) => query_step(of, bytes, words, arena, reply),
+        Command::Definitions(of) => {
+            definition_step(of, bytes, words, arena)?;
+            Ok(Accepted::Done)
+        }
+        Command::Tree(of) => {
+            tree_step(of, bytes, words, arena)?;
+            Ok(Accepted::Done)
+        }
+        Command::Controls(of) => {
+            control_step(of, bytes, words, arena)?;
+            Ok(Accepted::Done)
+        }
+        Command::Buses(of) => {
+            bus_step(of, words)?;
+            Ok(Accepted::Done)
+        }
+        Command::Query(of) => {
+            let size = query_step(of, bytes, words, arena, reply)?;
+            Ok(Accepted::Replied(size))
+        }
     }
 }

@@ -1,13 +1,9 @@
 -- Fields of a store from a place on: what the functions that look for an entry and a version stand on.
 use Rattle.std.specs.Prelude.{ℕ, ◌+◌, ◌≤◌, true, ◌≡◌, List, [], ◌∷◌, ◌++◌, length, drop, leb}
-use Rattle.std.proofs.Math.Option.{none, some}
 use Rattle.words.specs.Choice.{pick}
 use Rattle.tagged.specs.Fields.{Field, write_fields}
-use Rattle.store.specs.declared.VersionPlace.{VersionPlace}
-use Rattle.store.specs.declared.VersionPlace.TheVariants.{At, Nothing}
 use Rattle.store.specs.Store.{Version, Entry, closes}
-use Rattle.store.specs.Writing.{version_fields, entry_fields, fields_for, version_numbered}
-use Rattle.store.specs.Places.{SettingsStand}
+use Rattle.store.specs.Writing.{version_fields, entry_fields, fields_for}
 use Rattle.store.specs.Sizes.{AreVersions}
 use Rattle.store.specs.WritingLaws.{AreFields}
 
@@ -54,17 +50,3 @@ VersionsStart s at start = (e : Entry) (es : List Entry) → FieldsAhead s at (e
 
 abbrev pub PastEntry : List ℕ → ℕ → ℕ → Type 0
 PastEntry s at end = (e : Entry) (es : List Entry) → FieldsAhead s at (entry_fields e ++ fields_for es) → end ≡ at + length (write_fields (entry_fields e))
-
--- the settings of the version of a number among versions, found or not
-pub record NumberStands (vs : List Version) (number : ℕ) (s : List ℕ) (start end : ℕ) : Type 0 where
-  pub version : Version
-  pub there : version_numbered number vs ≡ some version
-  pub settings : SettingsStand s start end version.settings
-
-abbrev pub FoundNumber : VersionPlace → List Version → ℕ → List ℕ → Type 0
-FoundNumber (At start end) vs number s = NumberStands vs number s start end
-FoundNumber Nothing vs number s = version_numbered number vs ≡ none
-
-abbrev pub FoundAmong : VersionPlace → ℕ → List ℕ → ℕ → Type 0
-FoundAmong r number s at =
-    (vs : List Version) (es : List Entry) → FieldsAhead s at (version_fields vs ++ fields_for es) → AreVersions vs → FoundNumber r vs number s

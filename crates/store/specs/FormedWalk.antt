@@ -1,37 +1,28 @@
--- A formed store by one walk along its fields: what stands at a place, and what is left to be found formed there.
-use Rattle.std.specs.Prelude.{ℕ, ◌+◌, ◌-◌, ◌≤◌, Bool, true, false, ◌≡◌, List, [], ◌∷◌, length, drop, get_or, leb, eqb}
+-- A formed store by one walk along its fields: what comes first in what is left of it, and what is left to be found formed there.
+use Rattle.std.specs.Prelude.{ℕ, ◌<◌, Bool, true, false, ◌≡◌, List, [], ◌∷◌, length, leb, eqb, Option, Some, None}
+use Rattle.std.specs.Borrow.{Bor}
 use Rattle.words.specs.Choice.{pick, both}
-use Rattle.words.specs.Parts.{region}
 use Rattle.format.specs.Reader.{same_name}
-use Rattle.tagged.specs.Fields.{Field, head_size}
-use Rattle.store.specs.declared.formed.NextField.{NextField}
-use Rattle.store.specs.declared.formed.NextField.TheVariants.{Whole, Cut, Closed}
+use Rattle.tagged.specs.Fields.{Field}
+use Rattle.store.specs.declared.formed.Tagged.{Tagged}
 use Rattle.store.specs.declared.formed.Walk.{Walk}
-use Rattle.store.specs.declared.formed.Step.{Step}
-use Rattle.store.specs.declared.formed.Step.TheVariants.{Next, Unformed}
-use Rattle.store.specs.Store.{name_tag, cut_field, fields_of, settings_at, versions_at, highest_at, entries_at, may_follow, in_place, contents_formed, all_contents_formed, rising, up_to, settings_apart, all_apart, most_versions, entry_formed, entries_formed}
+use Rattle.store.specs.Store.{name_tag, closes, cut_field, fields_of, settings_at, versions_at, highest_at, entries_at, may_follow, in_place, contents_formed, all_contents_formed, rising, up_to, settings_apart, all_apart, most_versions, entry_formed, entries_formed}
 
--- the field from a place up to another, and the fields from a place on
-abbrev pub field_between : List ℕ → ℕ → ℕ → Field
-field_between s at end = record { tag = get_or s at 0; contents = region (at + head_size) (end - (at + head_size)) s }
+-- a field as its tag and its contents
+abbrev pub field_with : ℕ → List ℕ → Field
+field_with tag contents = record { tag = tag; contents = contents }
 
-unfoldable pub fields_at : List ℕ → ℕ → List Field
-fields_at s at = fields_of (drop at s)
+abbrev pub field_of : Tagged → Field
+field_of t = field_with t.tag t.contents.now
 
--- a place and an end that have room for a field's head
-pub record FieldInside (s : List ℕ) (at end : ℕ) : Type 0 where
-  pub head : at + head_size ≤ end
-  pub inside : end ≤ length s
+-- the first field of what is left of a store, and what lies behind it
+pub record FieldFirst (s : List ℕ) (f : Field) (rest : List ℕ) : Type 0 where
+  pub fields : fields_of s ≡ f ∷ fields_of rest
+  pub shorter : length rest < length s
 
--- a whole field at a place
-pub record FieldStands (s : List ℕ) (at end : ℕ) : Type 0 where
-  pub field : FieldInside s at end
-  pub fields : fields_at s at ≡ field_between s at end ∷ fields_at s end
-
-abbrev pub FoundField : NextField → List ℕ → ℕ → Type 0
-FoundField (Whole end) s at = FieldStands s at end
-FoundField Cut s at = fields_at s at ≡ cut_field ∷ []
-FoundField Closed s at = fields_at s at ≡ []
+abbrev pub FirstField : Option (Tagged × Bor (List ℕ)) → List ℕ → Type 0
+FirstField (Some (t, rest)) s = FieldFirst s (field_of t) rest.now
+FirstField None s = fields_of s ≡ pick (closes s) [] (cut_field ∷ [])
 
 -- a field that is a definition name, and this one
 abbrev pub is_named : List ℕ → Field → Bool
@@ -55,17 +46,13 @@ entry_left w fs =
 unfoldable pub left_formed : Walk → List Field → Bool
 left_formed w fs = both (in_place w.before fs) (both (all_contents_formed fs) (both (entry_left w fs) (entries_formed (entries_at fs))))
 
-abbrev pub left_after : Step → List Field → Bool
-left_after (Next w) fs = left_formed w fs
-left_after Unformed fs = false
+abbrev pub left_after : Option Walk → List Field → Bool
+left_after (Some w) fs = left_formed w fs
+left_after None fs = false
 
 -- what a step past a field leaves is what was left at it
-abbrev pub StepsPast : Walk → Field → List Field → Step → Type 0
+abbrev pub StepsPast : Walk → Field → List Field → Option Walk → Type 0
 StepsPast w f fs r = left_after r fs ≡ left_formed w (f ∷ fs)
-
--- a field of a tag and its contents
-abbrev pub field_with : ℕ → List ℕ → Field
-field_with tag contents = record { tag = tag; contents = contents }
 
 -- it stands in its place and has its tag's contents
 pub record FieldTaken (w : Walk) (f : Field) : Type 0 where

@@ -11,8 +11,8 @@ use Rattle.format.specs.Fields.{word}
 use Rattle.format.specs.Reader.{same_name}
 use Rattle.tagged.specs.Fields.{Field}
 use Rattle.store.specs.declared.formed.Walk.{Walk}
-use Rattle.store.specs.Store.{Entry, name_tag, version_tag, setting_tag, highest_tag, number_size, cut_field, fields_of, setting_name_in, settings_at, versions_at, highest_at, entries_at, may_follow, in_place, contents_formed, all_contents_formed, rising, up_to, is_set, settings_apart, all_apart, has_entry, entries_formed, formed_by, store_formed}
-use Rattle.store.specs.FormedWalk.{is_named, walk_under, left_formed, field_with, fields_at, FieldTaken}
+use Rattle.store.specs.Store.{Entry, name_tag, version_tag, setting_tag, highest_tag, cut_field, fields_of, setting_name_in, settings_at, versions_at, highest_at, entries_at, may_follow, in_place, contents_formed, all_contents_formed, rising, up_to, is_set, settings_apart, all_apart, has_entry, entries_formed, formed_by, store_formed}
+use Rattle.store.specs.FormedWalk.{is_named, walk_under, left_formed, field_with, FieldTaken}
 
 both_no : (a : Bool) → both a false ≡ false
 both_no true = refl
@@ -60,21 +60,18 @@ left_start (f ∷ fs) =
     (both_true (may_follow f.tag 0) (in_place f.tag fs) p).0 in
     rw (eqb-true f.tag name_tag named))
 
-pub walk_begins : (s : List ℕ) → left_formed (walk_under 0 0) (fields_at s 0) ≡ store_formed s
-unfolding fields_at store_formed
+pub walk_begins : (s : List ℕ) → left_formed (walk_under 0 0) (fields_of s) ≡ store_formed s
+unfolding store_formed
 walk_begins s = left_start (fields_of s)
 
--- where the store closes, it isn't behind a name
-pub left_end : (w : Walk) → left_formed w [] ≡ not (eqb w.before name_tag)
+-- where no whole field is left, the store closes and isn't behind a name
+pub left_end : (w : Walk) (closed : Bool) → left_formed w (pick closed [] (cut_field ∷ [])) ≡ both closed (not (eqb w.before name_tag))
 unfolding left_formed in_place all_contents_formed settings_at versions_at entries_at rising up_to settings_apart all_apart entries_formed
-left_end w = rw leb-zero (go (eqb w.before name_tag)) where
+left_end w false = refl
+left_end w true = rw leb-zero (go (eqb w.before name_tag)) where
   go : (a : Bool) → both (not a) (both (pick a false true) true) ≡ not a
   go true = refl
   go false = refl
-
-pub left_cut : (w : Walk) → left_formed w (cut_field ∷ []) ≡ false
-unfolding left_formed in_place
-left_cut w = refl
 
 module _ (w : Walk) (f : Field) (fs : List Field) where
   pub left_misplaced : may_follow f.tag w.before ≡ false → left_formed w (f ∷ fs) ≡ false
@@ -87,31 +84,20 @@ module _ (w : Walk) (f : Field) (fs : List Field) where
 
 -- a field by its tag
 module _ (w : Walk) (f : Field) (fs : List Field) (tag : ℕ) (told : f.tag ≡ tag) where
-  pub left_told : left_formed w (f ∷ fs) ≡ left_formed w (field_with tag f.contents ∷ fs)
+  left_told : left_formed w (f ∷ fs) ≡ left_formed w (field_with tag f.contents ∷ fs)
   left_told = ap (λ (t : ℕ). left_formed w (field_with t f.contents ∷ fs)) told
 
-  pub taken_told : may_follow f.tag w.before ≡ true → contents_formed f ≡ true → FieldTaken w (field_with tag f.contents)
+  taken_told : may_follow f.tag w.before ≡ true → contents_formed f ≡ true → FieldTaken w (field_with tag f.contents)
   taken_told p c = subst (λ (t : ℕ). FieldTaken w (field_with t f.contents)) told (record { placed = p; formed = c })
-
--- one that is neither a name nor a setting has a number; and where it is no version either, but stands in its place, it is a highest version
-module _ (f : Field) (unnamed : f.tag ≡ name_tag → ⊥) (unset : f.tag ≡ setting_tag → ⊥) where
-  pub number_length : contents_formed f ≡ true → length f.contents ≡ number_size
-  number_length h = eqb-true (length f.contents) number_size (rw (ne_eqb f.tag name_tag unnamed, ne_eqb f.tag setting_tag unset) at h)
-
-  pub highest_told : (before : ℕ) → (f.tag ≡ version_tag → ⊥) → may_follow f.tag before ≡ true → f.tag ≡ highest_tag
-  highest_told before other h =
-      let left : both (eqb f.tag highest_tag) (eqb before name_tag) ≡ true =
-      rw (ne_eqb f.tag name_tag unnamed, ne_eqb f.tag setting_tag unset, ne_eqb f.tag version_tag other) at h in
-      eqb-true f.tag highest_tag (both_true (eqb f.tag highest_tag) (eqb before name_tag) left).0
 
 -- a field of each tag
 module _ (w : Walk) (b : List ℕ) (fs : List Field) where
   module _ (h : FieldTaken w (field_with name_tag b)) where
-    pub left_name_again : has_entry b (entries_at fs) ≡ true → left_formed w (field_with name_tag b ∷ fs) ≡ false
+    left_name_again : has_entry b (entries_at fs) ≡ true → left_formed w (field_with name_tag b ∷ fs) ≡ false
     unfolding left_formed in_place all_contents_formed settings_at versions_at entries_at rising up_to settings_apart all_apart entries_formed
     left_name_again e = rw e (simp both_no)
 
-    pub left_name : has_entry b (entries_at fs) ≡ false → left_formed w (field_with name_tag b ∷ fs) ≡ left_formed (walk_under name_tag 0) fs
+    left_name : has_entry b (entries_at fs) ≡ false → left_formed w (field_with name_tag b ∷ fs) ≡ left_formed (walk_under name_tag 0) fs
     unfolding left_formed in_place all_contents_formed settings_at versions_at entries_at rising up_to settings_apart all_apart entries_formed
     left_name e = rw (not-true (eqb w.before name_tag) h.placed, h.formed, leb-zero, e)
 
@@ -159,14 +145,30 @@ module _ (w : Walk) (b : List ℕ) (fs : List Field) where
       no : false ≡ true → ⊥
       no h = let z : ◌≡◌ {A = ℕ} 0 1 = cc in omega arith
 
-    pub left_setting_again : is_set (setting_name_in (field_with setting_tag b)) (settings_at fs) ≡ true → left_formed w (field_with setting_tag b ∷ fs) ≡ false
+    left_setting_again : is_set (setting_name_in (field_with setting_tag b)) (settings_at fs) ≡ true → left_formed w (field_with setting_tag b ∷ fs) ≡ false
     unfolding left_formed in_place all_contents_formed settings_at versions_at entries_at settings_apart
     left_setting_again e = rw (behind_version, e) (simp both_no)
 
-    pub left_setting : is_set (setting_name_in (field_with setting_tag b)) (settings_at fs) ≡ false
+    left_setting : is_set (setting_name_in (field_with setting_tag b)) (settings_at fs) ≡ false
         → left_formed w (field_with setting_tag b ∷ fs) ≡ left_formed (record { before = setting_tag; last = w.last; highest = w.highest; room = w.room }) fs
     unfolding left_formed in_place all_contents_formed settings_at versions_at entries_at settings_apart
     left_setting e = rw (behind_version, h.placed, h.formed, e)
+
+-- a name and a setting that are formed and in their place
+module _ (w : Walk) (f : Field) (fs : List Field) (placed : may_follow f.tag w.before ≡ true) (formed : contents_formed f ≡ true) where
+  pub past_name_again : f.tag ≡ name_tag → has_entry f.contents (entries_at fs) ≡ true → left_formed w (f ∷ fs) ≡ false
+  past_name_again told again = left_told w f fs name_tag told ∙ left_name_again w f.contents fs (taken_told w f fs name_tag told placed formed) again
+
+  pub past_name : f.tag ≡ name_tag → has_entry f.contents (entries_at fs) ≡ false → left_formed w (f ∷ fs) ≡ left_formed (walk_under name_tag 0) fs
+  past_name told first = left_told w f fs name_tag told ∙ left_name w f.contents fs (taken_told w f fs name_tag told placed formed) first
+
+  pub past_setting_again : f.tag ≡ setting_tag → is_set (setting_name_in f) (settings_at fs) ≡ true → left_formed w (f ∷ fs) ≡ false
+  past_setting_again told again =
+      left_told w f fs setting_tag told ∙ left_setting_again w f.contents fs (taken_told w f fs setting_tag told placed formed) again
+
+  pub past_setting : f.tag ≡ setting_tag → is_set (setting_name_in f) (settings_at fs) ≡ false
+      → left_formed w (f ∷ fs) ≡ left_formed (record { before = setting_tag; last = w.last; highest = w.highest; room = w.room }) fs
+  past_setting told first = left_told w f fs setting_tag told ∙ left_setting w f.contents fs (taken_told w f fs setting_tag told placed formed) first
 
 -- a name that is looked for among the fields from a place on
 module _ (name : List ℕ) (f : Field) (fs : List Field) where
@@ -202,20 +204,14 @@ module _ (name : List ℕ) (f : Field) (fs : List Field) where
     unfolding settings_at is_set
     set_later h = rw (told, h)
 
--- none where the fields end or one is cut
+-- none where no whole field is left
 module _ (name : List ℕ) where
-  pub named_end : has_entry name (entries_at []) ≡ false
+  pub named_end : (closed : Bool) → has_entry name (entries_at (pick closed [] (cut_field ∷ []))) ≡ false
   unfolding entries_at has_entry
-  named_end = refl
+  named_end true = refl
+  named_end false = refl
 
-  pub named_cut : has_entry name (entries_at (cut_field ∷ [])) ≡ false
-  unfolding entries_at has_entry
-  named_cut = refl
-
-  pub set_end : is_set name (settings_at []) ≡ false
+  pub set_end : (closed : Bool) → is_set name (settings_at (pick closed [] (cut_field ∷ []))) ≡ false
   unfolding settings_at is_set
-  set_end = refl
-
-  pub set_cut : is_set name (settings_at (cut_field ∷ [])) ≡ false
-  unfolding settings_at is_set
-  set_cut = refl
+  set_end true = refl
+  set_end false = refl

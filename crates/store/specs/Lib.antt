@@ -1,7 +1,6 @@
 pub mod Store
 pub mod Writing
 pub mod Places
-pub mod Moves
 pub mod NameLaws
 pub mod VersionLaws
 pub mod KeptLaws
@@ -16,7 +15,7 @@ pub mod AheadLaws
 pub mod FindLaws
 pub mod VersionPlaceLaws
 pub mod FormedWalk
-pub mod FieldsAtLaws
+pub mod FirstFieldLaws
 pub mod FormedWalkLaws
 pub mod Walk
 pub mod WalkLaws

@@ -1,14 +1,11 @@
 -- What the functions on a formed store promise.
 use Prim.{Unit}
-use Rattle.std.specs.Prelude.{ℕ, ◌+◌, ◌-◌, ◌≤◌, ◌<◌, Bool, true, false, ◌≡◌, List, [], ◌∷◌, ◌++◌, length}
+use Rattle.std.specs.Prelude as std
+use Rattle.std.specs.Prelude.{Result, Ok, Err, ℕ, ◌+◌, ◌-◌, ◌≤◌, ◌<◌, Bool, true, false, ◌≡◌, List, [], ◌∷◌, ◌++◌, length}
 use Rattle.std.proofs.Math.Option.{Option, none, some}
 use Rattle.words.specs.Choice.{pick}
 use Rattle.words.specs.Parts.{region, put}
 use Rattle.tagged.specs.Fields.{write_fields}
-use Rattle.store.specs.declared.VersionPlace.{VersionPlace}
-use Rattle.store.specs.declared.VersionPlace.TheVariants.{At, Nothing}
-use Rattle.store.specs.declared.EntryPlace.{EntryPlace}
-use Rattle.store.specs.declared.EntryPlace.TheVariants as entry
 use Rattle.store.specs.Store.{Setting, Version, Entry, entries_of, is_name, has_entry}
 use Rattle.store.specs.Writing.{setting_fields, writing, laid, saved, dropped, version_in, versions_for, highest_for}
 
@@ -52,9 +49,9 @@ pub record VersionStands (name : List ℕ) (number : ℕ) (s : List ℕ) (start 
   pub there : version_in name number (entries_of s) ≡ some version
   pub settings : SettingsStand s start end version.settings
 
-abbrev pub FoundVersion : VersionPlace → List ℕ → ℕ → List ℕ → Type 0
-FoundVersion (At start end) name number s = VersionStands name number s start end
-FoundVersion Nothing name number s = version_in name number (entries_of s) ≡ none
+abbrev pub FoundVersion : std.Option (ℕ × ℕ) → List ℕ → ℕ → List ℕ → Type 0
+FoundVersion (std.Some (start, end)) name number s = VersionStands name number s start end
+FoundVersion std.None name number s = version_in name number (entries_of s) ≡ none
 
 -- the entry of a name where it stands: the entries before it, of other names, take the bytes up to its place
 pub record EntryStands (name s : List ℕ) (at : ℕ) : Type 0 where
@@ -71,6 +68,6 @@ pub record NoEntry (name s : List ℕ) (at : ℕ) : Type 0 where
   pub apart : has_entry name (entries_of s) ≡ false
   pub place : at ≡ length (writing (entries_of s))
 
-abbrev pub FoundEntry : EntryPlace → List ℕ → List ℕ → Type 0
-FoundEntry (entry.At at) name s = EntryStands name s at
-FoundEntry (entry.Nothing at) name s = NoEntry name s at
+abbrev pub FoundEntry : Result ℕ ℕ → List ℕ → List ℕ → Type 0
+FoundEntry (Ok at) name s = EntryStands name s at
+FoundEntry (Err at) name s = NoEntry name s at

@@ -1,140 +1,70 @@
--- Laws of the search for a version, and of its place under a name.
-use Rattle.std.specs.Prelude.{ℕ, ◌+◌, ◌-◌, ◌≤◌, ◌<◌, ◌≡◌, drop, get_or}
-use Rattle.std.proofs.Math.Path.{sym, ap}
-use Rattle.std.proofs.Common.{◌∙◌, eq-eqb, ne_eqb, get_or-drop}
-use mathlib.Core.List.{List, [], ◌∷◌, ◌++◌, append_assoc}
+-- Laws of a version where it stands, and of its place under a name.
+use Rattle.std.specs.Prelude.{ℕ, ◌+◌, ◌-◌, ◌≤◌, ◌≡◌, List, [], ◌∷◌, ◌++◌, length}
+use Rattle.std.proofs.Common.{ap, ◌∙◌, subst, append_assoc, arith, length-append}
 use Rattle.std.proofs.Math.Option.{none}
-use native.Mathlib.Omega.{arith}
-use Rattle.std.proofs.Math.ListN.{length}
 use Rattle.words.specs.Parts.{region}
-use Rattle.words.specs.Bytes.{bytes32}
-use Rattle.format.specs.Fields.{word}
-use Rattle.tagged.specs.Fields.{Field, head_size, size_in, write_fields}
-use Rattle.tagged.specs.FieldsLaws.{fields_cons}
-use Rattle.store.specs.declared.VersionPlace.{VersionPlace}
-use Rattle.store.specs.declared.VersionPlace.TheVariants.{At, Nothing}
-use Rattle.store.specs.Store.{Version, Entry, version_tag, setting_tag, entries_of}
+use Rattle.tagged.specs.Fields.{Field, write_fields}
+use Rattle.tagged.specs.FieldsLaws.{fields_append}
+use Rattle.store.specs.Store.{Version, Entry, entries_of}
 use Rattle.store.specs.Writing.{setting_fields, version_field, version_fields, entry_fields, fields_for, writing, entry_named, version_numbered, version_by, version_in}
-use Rattle.store.specs.Places.{AreSettings, EntryStands, NoEntry, FoundVersion}
-use Rattle.store.specs.Sizes.{AreVersions, EntrySized, AreEntries, word_limit}
+use Rattle.store.specs.Places.{AreSettings, SettingsStand, EntryStands, NoEntry, VersionStands}
+use Rattle.store.specs.Sizes.{AreVersions, EntrySized, AreEntries}
 use Rattle.store.specs.NameLaws.{same_self}
-use Rattle.store.specs.SplitLaws.{entries_append, named_split, named_none}
-use Rattle.store.specs.WritingLaws.{word_back}
+use Rattle.store.specs.SplitLaws.{entries_append, versions_append, named_split, named_none, numbered_split}
 use Rattle.store.specs.ReadingLaws.{StoreStands}
-use Rattle.store.specs.Ahead.{FieldsAhead, PastTags, NumberStands, FoundNumber}
-use Rattle.store.specs.AheadLaws.{FieldAhead, field_ahead, none_ahead, ahead_behind, ahead_front, leading_settings}
-use Rattle.store.specs.FindLaws.{name_ahead, entries_ahead}
+use Rattle.store.specs.Edit.{number_field}
+use Rattle.store.specs.Ahead.{FieldsAhead, VersionsAhead, VersionsStart}
+use Rattle.store.specs.AheadLaws.{ahead_behind, ahead_front}
+use Rattle.store.specs.FindLaws.{entries_ahead}
+use Rattle.store.specs.Walk.{NumberedAt}
+use Rattle.store.specs.VersionWalkLaws.{version_length}
 
--- the search for a version: those that are left hold the version of the number where all did
-pub record VersionsLeft (number : ℕ) (s : List ℕ) (vs : List Version) (es : List Entry) (at : ℕ) : Type 0 where
-  pub left : List Version
-  pub ahead : FieldsAhead s at (version_fields left ++ fields_for es)
-  pub sized : AreVersions left
-  pub same : version_numbered number left ≡ version_numbered number vs
+numbered_settings : (before : List Version) (v : Version) (after : List Version) → AreVersions (before ++ (v ∷ after)) → AreSettings v.settings
+unfolding AreVersions
+numbered_settings [] v after h = h.1.0
+numbered_settings (x ∷ before) v after h = numbered_settings before v after h.1.1
 
--- the number in a field of four bytes
-pub number_ahead : (s : List ℕ) (at n : ℕ) (tag : ℕ) (fs : List Field) → n < word_limit
-    → FieldsAhead s at (record { tag = tag; contents = bytes32 n } ∷ fs) → word s (at + head_size) ≡ n
-number_ahead s at n tag fs h p =
-    let here : drop at s ≡ tag ∷ (0 ∷ (4 ∷ (bytes32 n ++ (write_fields fs ++ p.rest)))) =
-    p.split ∙ fields_cons (record { tag = tag; contents = bytes32 n }) fs p.rest in
-    let one : at + head_size + 1 ≡ at + 4 = omega arith in
-    let two : at + head_size + 2 ≡ at + 5 = omega arith in
-    let three : at + head_size + 3 ≡ at + 6 = omega arith in
-    let moved : word s (at + head_size) ≡ word (drop at s) 3 =
-    rw (one, two, three, get_or-drop at s 3 0, get_or-drop at s 4 0, get_or-drop at s 5 0, get_or-drop at s 6 0) in
-    moved ∙ ap (λ (l : List ℕ). word l 3) here ∙ word_back n h
+-- the version of a number where it stands among others: behind its own field its settings, up to its end
+module _ (s : List ℕ) (at number from to : ℕ) (p : VersionsAhead s at) (d : NumberedAt at number p.versions from to) where
+  abbrev settings : List Field
+  settings = setting_fields d.version.settings
 
--- a version that is left, at its place
-pub record NextVersion (number : ℕ) (s : List ℕ) (vs : List Version) (es : List Entry) (at : ℕ) : Type 0 where
-  pub version : Version
-  pub more : List Version
-  pub ahead : FieldsAhead s at (version_field version.number ∷ (setting_fields version.settings ++ (version_fields more ++ fields_for es)))
-  pub small : version.number < word_limit
-  pub settings : AreSettings version.settings
-  pub sized : AreVersions more
-  pub same : version_numbered number (version ∷ more) ≡ version_numbered number vs
+  abbrev later : List Field
+  later = version_fields d.after ++ fields_for p.after
 
-module _ (number : ℕ) (s : List ℕ) (vs : List Version) (es : List Entry) (at : ℕ) where
-  -- there is one where the byte is a version's tag, and else none
-  pub next_version : get_or s at 0 ≡ version_tag → VersionsLeft number s vs es at → NextVersion number s vs es at
-  unfolding version_fields fields_for AreVersions
-  next_version h w = go w.left es w.ahead w.sized w.same where
-    go : (left : List Version) (after : List Entry) → FieldsAhead s at (version_fields left ++ fields_for after) → AreVersions left
-        → version_numbered number left ≡ version_numbered number vs → NextVersion number s vs after at
-    go [] [] p z e = absurd (omega (arith, none_ahead s at p))
-    go [] (x ∷ after) p z e = absurd (omega (arith, (name_ahead s at x after p).tag))
-    go (v ∷ left) after p z e = record {
-      version = v;
-      more = left;
-      ahead = rw append_assoc at p;
-      small = z.0;
-      settings = z.1.0;
-      sized = z.1.1;
-      same = e;
-    }
+  settings_ahead : FieldsAhead s (from + number_field) (settings ++ later)
+  unfolding version_fields write_fields
+  settings_ahead =
+      let own : List Field = version_field d.version.number ∷ [] in
+      let first : List Field = version_fields d.before ++ own in
+      let group : version_fields p.versions ++ fields_for p.after ≡ first ++ (settings ++ later) =
+      ap (λ (vs : List Version). version_fields vs ++ fields_for p.after) d.split
+      ∙ ap (λ (fs : List Field). fs ++ fields_for p.after) (versions_append d.before (d.version ∷ d.after))
+      ∙ simp append_assoc in
+      let place : at + length (write_fields first) ≡ from + number_field =
+      omega (arith, ap length (fields_append (version_fields d.before) own), length-append (write_fields (version_fields d.before)) (write_fields own), d.start) in
+      let there : FieldsAhead s at (first ++ (settings ++ later)) = subst (λ (fs : List Field). FieldsAhead s at fs) group p.ahead in
+      subst (λ (k : ℕ). FieldsAhead s k (settings ++ later)) place (ahead_behind s at first (settings ++ later) there)
 
-  pub no_version : (get_or s at 0 ≡ version_tag → ⊥) → VersionsLeft number s vs es at → version_numbered number vs ≡ none
-  unfolding version_fields version_numbered
-  no_version h w = go w.left w.ahead w.same where
-    go : (left : List Version) → FieldsAhead s at (version_fields left ++ fields_for es) → version_numbered number left ≡ version_numbered number vs
-        → version_numbered number vs ≡ none
-    go [] p e = sym e
-    go (v ∷ left) p e =
-        absurd (h (field_ahead s at (version_field v.number) ((setting_fields v.settings ++ version_fields left) ++ fields_for es) p).tag)
+  settings_length : to ≡ from + number_field + length (write_fields settings)
+  settings_length = omega (arith, d.end, version_length d.version)
 
-  module _ (n : NextVersion number s vs es at) where
-    pub version_ahead : FieldAhead s at (version_field n.version.number) (setting_fields n.version.settings ++ (version_fields n.more ++ fields_for es))
-    version_ahead = field_ahead s at (version_field n.version.number) (setting_fields n.version.settings ++ (version_fields n.more ++ fields_for es)) n.ahead
+  pub version_inside : (from + number_field ≤ to) × (to ≤ length s)
+  version_inside =
+      let behind = ahead_behind s (from + number_field) settings later settings_ahead in
+      (omega (arith, settings_length), omega (arith, settings_length, behind.inside))
 
-    pub number_there : word s (at + head_size) ≡ n.version.number
-    number_there =
-        number_ahead s at n.version.number version_tag (setting_fields n.version.settings ++ (version_fields n.more ++ fields_for es)) n.small n.ahead
-
-    pub number_inside : at + head_size + 4 ≤ length s
-    number_inside = omega (arith, version_ahead.size, version_ahead.inside)
-
-    module _ (start : ℕ) (f : start ≡ at + (head_size + size_in (drop at s))) where
-      pub settings_ahead : FieldsAhead s start (setting_fields n.version.settings ++ (version_fields n.more ++ fields_for es))
-      settings_ahead = rw f version_ahead.next
-
-      module _ (end : ℕ) (past : PastTags setting_tag s start end) where
-        settings_end : end ≡ start + length (write_fields (setting_fields n.version.settings))
-        settings_end =
-            past (setting_fields n.version.settings ++ (version_fields n.more ++ fields_for es)) settings_ahead
-            ∙ ap (λ (fs : List Field). start + length (write_fields fs)) (leading_settings n.version.settings n.more es)
-
-        behind_settings : FieldsAhead s end (version_fields n.more ++ fields_for es)
-        behind_settings = rw settings_end (ahead_behind s start (setting_fields n.version.settings) (version_fields n.more ++ fields_for es) settings_ahead)
-
-        pub version_takes : at < end
-        version_takes = omega (arith, settings_end, f)
-
-        pub version_found : word s (at + head_size) ≡ number → NumberStands vs number s start end
-        unfolding version_numbered
-        version_found h =
-            let size : end - start ≡ length (write_fields (setting_fields n.version.settings)) = omega (arith, settings_end) in
-            record {
-              version = n.version;
-              there = sym n.same ∙ rw (eq-eqb n.version.number number (sym number_there ∙ h));
-              settings = record {
-                ordered = omega (arith, settings_end);
-                inside = behind_settings.inside;
-                fields =
-                    ap (λ (k : ℕ). region start k s) size
-                    ∙ ahead_front s start (setting_fields n.version.settings) (version_fields n.more ++ fields_for es) settings_ahead;
-                settings = n.settings;
-              };
-            }
-
-        pub version_passed : (word s (at + head_size) ≡ number → ⊥) → VersionsLeft number s vs es end
-        unfolding version_numbered
-        version_passed h = record {
-          left = n.more;
-          ahead = behind_settings;
-          sized = n.sized;
-          same = rw (ne_eqb n.version.number number (λ q. h (number_there ∙ q))) at n.same;
-        }
+  pub settings_stand : SettingsStand s (from + number_field) to d.version.settings
+  settings_stand =
+      let size : to - (from + number_field) ≡ length (write_fields settings) = omega (arith, settings_length) in
+      record {
+        ordered = version_inside.0;
+        inside = version_inside.1;
+        fields =
+            ap (λ (k : ℕ). region (from + number_field) k s) size
+            ∙ ahead_front s (from + number_field) settings later settings_ahead;
+        settings = numbered_settings d.before d.version d.after (subst AreVersions d.split p.sized);
+      }
 
 sized_in : (before : List Entry) (e : Entry) (after : List Entry) → AreEntries (before ++ (e ∷ after)) → EntrySized e
 unfolding AreEntries
@@ -160,10 +90,22 @@ module _ (name s : List ℕ) (at : ℕ) (t : StoreStands s) (e : EntryStands nam
       (ap (entry_named name) e.split
       ∙ named_split name e.before e.entry e.after e.apart (rw e.same (same_self name)))
 
+  abbrev pub versions_ahead : (start : ℕ) → VersionsStart s at start → VersionsAhead s start
+  versions_ahead start from = record {
+    versions = e.entry.versions;
+    after = e.after;
+    ahead = (from e.entry e.after entry_there).ahead;
+    sized = versions_there;
+  }
+
 pub version_none : (name s : List ℕ) (at number : ℕ) → NoEntry name s at → version_in name number (entries_of s) ≡ none
 version_none name s at number e = ap (version_by number) (named_none name (entries_of s) e.apart)
 
-pub version_answer : (r : VersionPlace) (name s : List ℕ) (number : ℕ) (vs : List Version)
-    → version_in name number (entries_of s) ≡ version_numbered number vs → FoundNumber r vs number s → FoundVersion r name number s
-version_answer (At start end) name s number vs e h = record { version = h.version; there = e ∙ h.there; settings = h.settings }
-version_answer Nothing name s number vs e h = e ∙ h
+pub version_stands : (name s : List ℕ) (number at from to : ℕ) (p : VersionsAhead s at)
+    → version_in name number (entries_of s) ≡ version_numbered number p.versions → NumberedAt at number p.versions from to
+    → VersionStands name number s (from + number_field) to
+version_stands name s number at from to p e d = record {
+  version = d.version;
+  there = e ∙ ap (version_numbered number) d.split ∙ numbered_split number d.before d.version d.after d.apart d.same;
+  settings = settings_stand s at number from to p d;
+}

@@ -1,10 +1,8 @@
 -- Versions of a store from a place on: how many there are, and the one of a number.
-use Rattle.std.specs.Prelude.{ℕ, ◌+◌, ◌≡◌, List, [], ◌∷◌, ◌++◌, length}
+use Rattle.std.specs.Prelude.{Option, Some, None, ℕ, ◌+◌, ◌≡◌, List, [], ◌∷◌, ◌++◌, length}
 use Rattle.std.proofs.Math.Option.{none}
 use Rattle.format.specs.Fields.{word}
 use Rattle.tagged.specs.Fields.{head_size, write_fields}
-use Rattle.store.specs.declared.VersionPlace.{VersionPlace}
-use Rattle.store.specs.declared.VersionPlace.TheVariants.{At, Nothing}
 use Rattle.store.specs.Store.{Version}
 use Rattle.store.specs.Writing.{version_fields, version_numbered}
 use Rattle.store.specs.Ahead.{VersionsAhead}
@@ -37,9 +35,9 @@ pub record NumberedAt (at number : ℕ) (vs : List Version) (from to : ℕ) : Ty
   pub start : from ≡ at + length (write_fields (version_fields before))
   pub end : to ≡ from + length (write_fields (version_fields (version ∷ [])))
 
-abbrev pub NumberedBy : VersionPlace → ℕ → ℕ → List Version → Type 0
-NumberedBy (At from to) at number vs = NumberedAt at number vs from to
-NumberedBy Nothing at number vs = version_numbered number vs ≡ none
+abbrev pub NumberedBy : Option (ℕ × ℕ) → ℕ → ℕ → List Version → Type 0
+NumberedBy (Some (from, to)) at number vs = NumberedAt at number vs from to
+NumberedBy None at number vs = version_numbered number vs ≡ none
 
-abbrev pub Numbered : List ℕ → ℕ → ℕ → VersionPlace → Type 0
+abbrev pub Numbered : List ℕ → ℕ → ℕ → Option (ℕ × ℕ) → Type 0
 Numbered s at number r = (p : VersionsAhead s at) → NumberedBy r at number p.versions

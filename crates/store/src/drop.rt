@@ -7,9 +7,8 @@ ghost use Rattle.store.specs.Edit.{run_cut};
 ghost use Rattle.store.specs.Opening.{RunStands, HeadStands, NumberCut};
 
 use crate::find::find_entry;
-use crate::gap::{close_gap, zero_from};
+use crate::put::zero_from;
 use crate::walk::{NUMBER_FIELD, contents_end, version_from};
-use crate::{EntryPlace, VersionPlace};
 use tagged::HEAD_SIZE;
 
 // A run of a formed store's contents taken out.
@@ -18,7 +17,7 @@ fn cut_run(store: &mut [u8], from: usize, to: usize)
     ensures { store.new ≡ run_cut from to (length (writing (entries_of store.old))) store.old }
 {
     let contents = contents_end(store);
-    close_gap(store, from, to, contents);
+    store.copy_within(to..contents, from);
     zero_from(store, from + (contents - to));
 }
 
@@ -28,21 +27,22 @@ fn drop_from(store: &mut [u8], head: usize, number: u32) -> bool
     ensures { NumberCut store.old head number result store.new }
 {
     match version_from(store, head + NUMBER_FIELD, number) {
-        VersionPlace::At(from, to) => {
+        Some((from, to)) => {
             cut_run(store, from, to);
             true
         }
-        VersionPlace::Nothing => false,
+        None => false,
     }
 }
 
 // A version of a name dropped, where there is one.
+#[tactic(auto, using(crate::specs::OpeningLaws::head_inside, crate::specs::OpeningLaws::head_stands, crate::specs::OpeningLaws::dropped_none))]
 pub fn drop_version(store: &mut [u8], name: &[u8], number: u32) -> bool
     requires { store_formed store.old ≡ true }
     ensures { Dropped name.now number store.old result store.new }
 {
     match find_entry(store, name) {
-        EntryPlace::At(at) => drop_from(store, at + (HEAD_SIZE + name.len()), number),
-        EntryPlace::Nothing(at) => false,
+        Ok(at) => drop_from(store, at + (HEAD_SIZE + name.len()), number),
+        Err(_) => false,
     }
 }

@@ -4,23 +4,22 @@ ghost use Rattle.format.specs.Reader.{same_name};
 ghost use Rattle.tagged.specs.Fields.{head_size, size_in, field_in};
 ghost use Rattle.store.specs.Store.{version_tag, store_formed};
 ghost use Rattle.store.specs.Places.{FoundVersion, FoundEntry};
-ghost use Rattle.store.specs.Ahead.{SomeAhead, EntryAhead, VersionsAhead, PastTags, VersionsStart, PastEntry, FoundAmong};
+ghost use Rattle.store.specs.ReadingLaws.{StoreStands};
+ghost use Rattle.store.specs.Ahead.{SomeAhead, EntryAhead, PastTags, VersionsStart, PastEntry};
 
-use crate::tags::{SETTING_TAG, VERSION_TAG};
-use crate::{EntryPlace, VersionPlace};
-use fields::{same_name, word_at};
+use crate::tags::VERSION_TAG;
+use crate::walk::{NUMBER_FIELD, version_from};
+use fields::same_name;
 use tagged::{HEAD_SIZE, past_field};
 
 // Past the fields from a place on whose tags are a lowest one or above.
+#[tactic(auto, using(crate::specs::AheadLaws::walk_starts, crate::specs::AheadLaws::walk_turn))]
 pub(crate) fn past_tags(store: &[u8], at: usize, lowest: u8) -> usize
     requires { (0 < lowest) × SomeAhead store.now at }
     ensures { PastTags lowest store.now at result }
 {
     let mut end = at;
-    while end < store.len() {
-        if store[end] < lowest {
-            return end;
-        }
+    while end < store.len() && lowest <= store[end] {
         end = past_field(store, end);
     }
     end
@@ -60,51 +59,30 @@ fn holds_name(store: &[u8], at: usize, name: &[u8]) -> bool
     same_name(&store[start..end], name)
 }
 
-// The entry of a name.
-pub(crate) fn find_entry(store: &[u8], name: &[u8]) -> EntryPlace
+// The entry of a name; or where the contents end, which no entry of the name is among.
+pub(crate) fn find_entry(store: &[u8], name: &[u8]) -> Result<usize, usize>
     requires { store_formed store.now ≡ true }
-    ensures { FoundEntry result name.now store.now }
+    ensures stands { StoreStands store.now }
+    ensures found { FoundEntry result name.now store.now }
 {
     let mut at = 0;
-    while at < store.len() {
-        if store[at] == 0 {
-            return EntryPlace::Nothing(at);
-        }
+    while at < store.len() && store[at] != 0 {
         if holds_name(store, at, name) {
-            return EntryPlace::At(at);
+            return Ok(at);
         }
         at = past_entry(store, at);
     }
-    EntryPlace::Nothing(at)
+    Err(at)
 }
 
-// The settings of the version of a number, among versions from a place on.
-fn find_version(store: &[u8], at: usize, number: u32) -> VersionPlace
-    requires { VersionsAhead store.now at }
-    ensures { FoundAmong result number store.now at }
-{
-    let mut place = at;
-    while place < store.len() {
-        if store[place] != VERSION_TAG {
-            return VersionPlace::Nothing;
-        }
-        let start = past_field(store, place);
-        let end = past_tags(store, start, SETTING_TAG);
-        if word_at(store, place + HEAD_SIZE) == number {
-            return VersionPlace::At(start, end);
-        }
-        place = end;
-    }
-    VersionPlace::Nothing
-}
-
-// The settings of a version of a name.
-pub fn version_place(store: &[u8], name: &[u8], number: u32) -> VersionPlace
+// Where the settings of a version of a name stand: their fields fill the part from the first place up to the second.
+pub fn version_place(store: &[u8], name: &[u8], number: u32) -> Option<(usize, usize)>
     requires { store_formed store.now ≡ true }
     ensures { FoundVersion result name.now number store.now }
 {
-    match find_entry(store, name) {
-        EntryPlace::At(at) => find_version(store, versions_at(store, at), number),
-        EntryPlace::Nothing(at) => VersionPlace::Nothing,
-    }
+    let Ok(at) = find_entry(store, name) else {
+        return None;
+    };
+    let (from, to) = version_from(store, versions_at(store, at), number)?;
+    Some((from + NUMBER_FIELD, to))
 }

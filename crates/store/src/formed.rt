@@ -1,30 +1,28 @@
 // Whether a store is formed: refusal 31.
-ghost use Rattle.std.specs.Prelude.{ℕ, ◌-◌, ◌≤◌, ◌≡◌, List, length};
-ghost use Rattle.words.specs.Parts.{region};
+ghost use Rattle.std.specs.Prelude.{ℕ, ◌≡◌, List};
 ghost use Rattle.format.specs.Fields.{word};
 ghost use Rattle.tagged.specs.Fields.{Field};
-ghost use Rattle.store.specs.Store.{version_tag, setting_name_in, settings_at, entries_at};
+ghost use Rattle.store.specs.declared.formed.Walk.{Walk};
+ghost use Rattle.store.specs.Store.{version_tag, highest_tag, fields_of, setting_name_in, settings_at, entries_at, closes};
 ghost use Rattle.store.specs.Store.{may_follow, is_name, contents_formed, is_set, has_entry, store_formed};
-ghost use Rattle.store.specs.FormedWalk.{FieldInside, FieldTaken, FoundField, StepsPast};
-ghost use Rattle.store.specs.FormedWalk.{field_between, field_with, fields_at, is_named, walk_under};
+ghost use Rattle.store.specs.FormedWalk.{FieldTaken, FirstField, StepsPast, field_of, field_with, is_named, walk_under};
 
 use crate::tags::{
     HIGHEST_TAG, LONGEST_NAME, MOST_VERSIONS, NAME_TAG, NUMBER_SIZE, SETTING_TAG, VERSION_TAG,
 };
-use fields::{name_bytes, part, same_name, word_at};
+use fields::{name_bytes, same_name, word_at};
 use tagged::{HEAD_SIZE, size_at};
 
-// What stands at a place: a whole field, up to an end; a cut one; or what closes the store.
+// A field of the store: its tag and its contents.
 #[derive(Clone, Copy)]
-pub enum NextField {
-    Whole(usize),
-    Cut,
-    Closed,
+pub struct Tagged<'a> {
+    pub tag: u8,
+    pub contents: &'a [u8],
 }
 
 // What is known on the walk along the fields: the tag of the field before, 0 at the start; under the name of the last tag 1 the last version,
 // the highest version and how many versions more it may have.
-#[derive(Clone, Copy)]
+#[derive(Clone, Copy, Debug, PartialEq, Eq)]
 pub struct Walk {
     pub before: u8,
     pub last: u32,
@@ -32,179 +30,128 @@ pub struct Walk {
     pub room: usize,
 }
 
-// One field further, or a field that is not so formed.
-#[derive(Clone, Copy)]
-pub enum Step {
-    Next(Walk),
-    Unformed,
+// What is left of a store is closed: it is at the buffer's end, or at a tag byte 0.
+fn closes(rest: &[u8]) -> bool
+    ensures { result ≡ closes rest.now }
+{
+    rest.is_empty() || rest[0] == 0
 }
 
-// What stands at a place.
-pub fn next_field(store: &[u8], at: usize) -> NextField
-    ensures { FoundField result store.now at }
+// The first field of what is left of a store, and what lies behind it; none where the store closes or the field is cut.
+#[tactic(auto, using(crate::specs::FirstFieldLaws::first_closed, crate::specs::FirstFieldLaws::first_cut, crate::specs::FirstFieldLaws::first_whole))]
+fn first_field(rest: &[u8]) -> Option<(Tagged, &[u8])>
+    ensures { FirstField result rest.now }
 {
-    if store.len() <= at {
-        return NextField::Closed;
+    if closes(rest) || rest.len() < HEAD_SIZE {
+        return None;
     }
-    if store[at] == 0 {
-        return NextField::Closed;
+    let size = size_at(rest, 0);
+    if rest.len() - HEAD_SIZE < size {
+        return None;
     }
-    let left = store.len() - at;
-    if left < HEAD_SIZE {
-        return NextField::Cut;
-    }
-    let size = size_at(store, at);
-    if left - HEAD_SIZE < size {
-        return NextField::Cut;
-    }
-    NextField::Whole(at + HEAD_SIZE + size)
+    let end = HEAD_SIZE + size;
+    let field = Tagged {
+        tag: rest[0],
+        contents: &rest[HEAD_SIZE..end],
+    };
+    Some((field, &rest[end..]))
 }
 
 // A tag may stand behind another one.
 fn may_follow(tag: u8, before: u8) -> bool
     ensures { result ≡ may_follow tag before }
 {
-    if tag == NAME_TAG {
-        return before != NAME_TAG;
+    match tag {
+        NAME_TAG => before != NAME_TAG,
+        HIGHEST_TAG => before == NAME_TAG,
+        VERSION_TAG => NAME_TAG < before,
+        SETTING_TAG => before == VERSION_TAG || before == SETTING_TAG,
+        _ => false,
     }
-    if tag == HIGHEST_TAG {
-        return before == NAME_TAG;
+}
+
+// These bytes are a name.
+fn is_name(name: &[u8]) -> bool
+    ensures { result ≡ is_name name.now }
+{
+    name.len() <= LONGEST_NAME && name_bytes(name, 0, name.len())
+}
+
+impl<'a> Tagged<'a> {
+    // The control name of a setting; empty where the contents are shorter than its float.
+    fn setting_name(self) -> &'a [u8]
+        ensures { result.now ≡ setting_name_in (field_of self.entry) }
+    {
+        &self.contents[..self.contents.len().saturating_sub(NUMBER_SIZE)]
     }
-    if tag == VERSION_TAG {
-        return NAME_TAG < before;
+
+    // The contents are as the tag asks for.
+    fn contents_formed(self) -> bool
+        ensures { result ≡ contents_formed (field_of self.entry) }
+    {
+        let size = self.contents.len();
+        match self.tag {
+            NAME_TAG => 0 < size && is_name(self.contents),
+            SETTING_TAG => NUMBER_SIZE <= size && is_name(self.setting_name()),
+            _ => size == NUMBER_SIZE,
+        }
     }
-    if tag == SETTING_TAG {
-        if before == VERSION_TAG {
+
+    // A definition name, and this one.
+    fn is_named(self, name: &[u8]) -> bool
+        ensures { result ≡ is_named name.now (field_of self.entry) }
+    {
+        self.tag == NAME_TAG && same_name(self.contents, name)
+    }
+}
+
+// A definition name stands in what is left of a store.
+#[tactic(auto, using(crate::specs::FormedWalkLaws::named_here, crate::specs::FormedWalkLaws::named_later, crate::specs::FormedWalkLaws::named_end))]
+fn name_again(rest: &[u8], name: &[u8]) -> bool
+    ensures { result ≡ has_entry name.now (entries_at (fields_of rest.now)) }
+{
+    let mut left = rest;
+    while let Some((field, behind)) = first_field(left) {
+        if field.is_named(name) {
             return true;
         }
-        return before == SETTING_TAG;
+        left = behind;
     }
     false
 }
 
-// A name from one place to another.
-fn is_name(store: &[u8], from: usize, to: usize) -> bool
-    requires { (from ≤ to) × (to ≤ length store.now) }
-    ensures { result ≡ is_name (region from (to - from) store.now) }
+// A control name stands among the settings that come first in what is left of a store.
+// Kept: a loop beside that of `name_again` (d): this one ends at the first field that is no setting; one for both needs a closure with three answers.
+#[tactic(auto, using(crate::specs::FormedWalkLaws::set_none, crate::specs::FormedWalkLaws::set_here, crate::specs::FormedWalkLaws::set_later, crate::specs::FormedWalkLaws::set_end))]
+fn set_again(rest: &[u8], name: &[u8]) -> bool
+    ensures { result ≡ is_set name.now (settings_at (fields_of rest.now)) }
 {
-    if LONGEST_NAME < to - from {
-        return false;
-    }
-    name_bytes(store, from, to)
-}
-
-// The contents of the field from a place up to its end are as its tag asks for.
-fn contents_formed(store: &[u8], at: usize, end: usize) -> bool
-    requires { FieldInside store.now at end }
-    ensures { result ≡ contents_formed (field_between store.now at end) }
-{
-    let start = at + HEAD_SIZE;
-    let size = end - start;
-    if store[at] == NAME_TAG {
-        if size == 0 {
+    let mut left = rest;
+    while let Some((field, behind)) = first_field(left) {
+        if field.tag != SETTING_TAG {
             return false;
         }
-        return is_name(store, start, end);
-    }
-    if store[at] == SETTING_TAG {
-        if size < NUMBER_SIZE {
-            return false;
+        if same_name(field.setting_name(), name) {
+            return true;
         }
-        return is_name(store, start, end - NUMBER_SIZE);
+        left = behind;
     }
-    size == NUMBER_SIZE
-}
-
-// The control name of a setting's field; empty where the field is shorter than its float.
-pub fn setting_name(store: &[u8], at: usize, end: usize) -> &[u8]
-    requires { FieldInside store.now at end }
-    ensures { result.now ≡ setting_name_in (field_between store.now at end) }
-{
-    let start = at + HEAD_SIZE;
-    if end - start < NUMBER_SIZE {
-        return &store[..0];
-    }
-    part(store, start, end - NUMBER_SIZE)
-}
-
-// A field is a definition name, and this one.
-fn is_named(store: &[u8], at: usize, end: usize, name: &[u8]) -> bool
-    requires { FieldInside store.now at end }
-    ensures { result ≡ is_named name.now (field_between store.now at end) }
-{
-    if store[at] != NAME_TAG {
-        return false;
-    }
-    same_name(part(store, at + HEAD_SIZE, end), name)
-}
-
-// A definition name stands in the store from a place on.
-fn name_again(store: &[u8], from: usize, name: &[u8]) -> bool
-    ensures { result ≡ has_entry name.now (entries_at (fields_at store.now from)) }
-{
-    let mut at = from;
-    loop {
-        match next_field(store, at) {
-            NextField::Whole(end) => {
-                if is_named(store, at, end, name) {
-                    return true;
-                }
-                at = end;
-            }
-            NextField::Cut => {
-                return false;
-            }
-            NextField::Closed => {
-                return false;
-            }
-        }
-    }
-}
-
-// A control name stands among the settings directly behind a place.
-fn set_again(store: &[u8], from: usize, name: &[u8]) -> bool
-    ensures { result ≡ is_set name.now (settings_at (fields_at store.now from)) }
-{
-    let mut at = from;
-    loop {
-        match next_field(store, at) {
-            NextField::Whole(end) => {
-                if store[at] != SETTING_TAG {
-                    return false;
-                }
-                if same_name(setting_name(store, at, end), name) {
-                    return true;
-                }
-                at = end;
-            }
-            NextField::Cut => {
-                return false;
-            }
-            NextField::Closed => {
-                return false;
-            }
-        }
-    }
+    false
 }
 
 // Past a version of this number.
-fn past_version(walk: Walk, number: u32) -> Step
+#[tactic(auto, using(crate::specs::FormedWalkLaws::left_version_low, crate::specs::FormedWalkLaws::left_version_high, crate::specs::FormedWalkLaws::left_version_many, crate::specs::FormedWalkLaws::left_version))]
+fn past_version(walk: Walk, number: u32) -> Option<Walk>
     ensures { (b : List ℕ) (fs : List Field) → FieldTaken walk (field_with version_tag b) → word b 0 ≡ number → StepsPast walk (field_with version_tag b) fs result }
 {
-    if number <= walk.last {
-        return Step::Unformed;
+    if number <= walk.last || walk.highest < number || walk.room == 0 {
+        return None;
     }
-    if walk.highest < number {
-        return Step::Unformed;
-    }
-    if walk.room == 0 {
-        return Step::Unformed;
-    }
-    Step::Next(Walk {
+    Some(Walk {
         before: VERSION_TAG,
         last: number,
-        highest: walk.highest,
         room: walk.room - 1,
+        ..walk
     })
 }
 
@@ -213,77 +160,59 @@ fn under_name(before: u8, highest: u32) -> Walk
     ensures { result ≡ walk_under before highest }
 {
     Walk {
-        before: before,
+        before,
         last: 0,
-        highest: highest,
+        highest,
         room: MOST_VERSIONS,
     }
 }
 
-// Past the field from a place up to its end.
-fn past_field(walk: Walk, store: &[u8], at: usize, end: usize) -> Step
-    requires { FieldInside store.now at end }
-    ensures { StepsPast walk (field_between store.now at end) (fields_at store.now end) result }
+// Past a highest version of this number.
+#[tactic(auto, using(crate::specs::FormedWalkLaws::left_highest_zero, crate::specs::FormedWalkLaws::left_highest))]
+fn past_highest(number: u32) -> Option<Walk>
+    ensures { (w : Walk) (b : List ℕ) (fs : List Field) → FieldTaken w (field_with highest_tag b) → word b 0 ≡ number → StepsPast w (field_with highest_tag b) fs result }
 {
-    let tag = store[at];
-    if !may_follow(tag, walk.before) {
-        return Step::Unformed;
-    }
-    if !contents_formed(store, at, end) {
-        return Step::Unformed;
-    }
-    let start = at + HEAD_SIZE;
-    if tag == NAME_TAG {
-        if name_again(store, end, part(store, start, end)) {
-            return Step::Unformed;
-        }
-        return Step::Next(under_name(NAME_TAG, 0));
-    }
-    if tag == SETTING_TAG {
-        if set_again(store, end, setting_name(store, at, end)) {
-            return Step::Unformed;
-        }
-        return Step::Next(Walk {
-            before: SETTING_TAG,
-            last: walk.last,
-            highest: walk.highest,
-            room: walk.room,
-        });
-    }
-    let number = word_at(store, start);
-    if tag == VERSION_TAG {
-        return past_version(walk, number);
-    }
     if number == 0 {
-        return Step::Unformed;
+        return None;
     }
-    Step::Next(under_name(HIGHEST_TAG, number))
+    Some(under_name(HIGHEST_TAG, number))
+}
+
+// Past a field, behind which the rest of the store lies.
+#[tactic(auto, using(crate::specs::FormedWalkLaws::left_misplaced, crate::specs::FormedWalkLaws::left_unformed, crate::specs::FormedWalkLaws::past_name_again, crate::specs::FormedWalkLaws::past_name, crate::specs::FormedWalkLaws::past_setting_again, crate::specs::FormedWalkLaws::past_setting))]
+fn past_field(walk: Walk, field: Tagged, rest: &[u8]) -> Option<Walk>
+    ensures { StepsPast walk (field_of field.entry) (fields_of rest.now) result }
+{
+    if !may_follow(field.tag, walk.before) || !field.contents_formed() {
+        return None;
+    }
+    match field.tag {
+        NAME_TAG if name_again(rest, field.contents) => None,
+        NAME_TAG => Some(under_name(NAME_TAG, 0)),
+        SETTING_TAG if set_again(rest, field.setting_name()) => None,
+        SETTING_TAG => Some(Walk {
+            before: SETTING_TAG,
+            ..walk
+        }),
+        VERSION_TAG => past_version(walk, word_at(field.contents, 0)),
+        _ => past_highest(word_at(field.contents, 0)),
+    }
 }
 
 // The store is formed. It walks along the fields once; at a name it looks for the same name in the whole rest of the store, at a setting for the
 // same control in the rest of its version. So it takes time in proportion to at most the store's size times its name and setting fields together.
+#[tactic(auto, using(crate::specs::FormedWalkLaws::walk_begins, crate::specs::FormedWalkLaws::left_end))]
 pub fn store_formed(store: &[u8]) -> bool
     ensures { result ≡ store_formed store.now }
 {
     let mut walk = under_name(0, 0);
-    let mut at = 0;
-    loop {
-        match next_field(store, at) {
-            NextField::Whole(end) => match past_field(walk, store, at, end) {
-                Step::Next(next) => {
-                    walk = next;
-                    at = end;
-                }
-                Step::Unformed => {
-                    return false;
-                }
-            },
-            NextField::Cut => {
-                return false;
-            }
-            NextField::Closed => {
-                return walk.before != NAME_TAG;
-            }
-        }
+    let mut rest = store;
+    while let Some((field, behind)) = first_field(rest) {
+        let Some(next) = past_field(walk, field, behind) else {
+            return false;
+        };
+        walk = next;
+        rest = behind;
     }
+    closes(rest) && walk.before != NAME_TAG
 }

@@ -4,7 +4,6 @@
 mod drop;
 mod find;
 mod formed;
-mod gap;
 mod measuring;
 mod open;
 mod put;
@@ -16,24 +15,11 @@ pub use find::version_place;
 pub use formed::store_formed;
 pub use measuring::measure;
 pub use open::open_version;
-
-// Where the entry of a name stands; or where the contents end, which no entry of the name is among.
-#[derive(Clone, Copy)]
-pub enum EntryPlace {
-    At(usize),
-    Nothing(usize),
-}
-
-// Where the settings of a version stand: their fields fill the part from the first place up to the second. Or there is no such version.
-#[derive(Clone, Copy)]
-pub enum VersionPlace {
-    At(usize, usize),
-    Nothing,
-}
+pub use put::put_head;
 
 // What is known of a name before a save: the length of the store's contents with a new version that has no settings, how many versions stand
 // under the name, and the highest ever given, 0 where there was none.
-#[derive(Clone, Copy)]
+#[derive(Clone, Copy, Debug, PartialEq, Eq)]
 pub struct NameMeasure {
     pub length: usize,
     pub versions: usize,

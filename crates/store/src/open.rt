@@ -5,10 +5,8 @@ ghost use Rattle.store.specs.Edit.{number_field};
 ghost use Rattle.store.specs.Places.{Opened};
 ghost use Rattle.store.specs.Opening.{Openable, VersionRoom, VersionAdded, EntryAdded};
 
-use crate::EntryPlace;
 use crate::find::{find_entry, past_versions};
-use crate::gap::{open_gap, zero_from};
-use crate::put::{put_name, put_number};
+use crate::put::{put_name, put_number, zero_from};
 use crate::tags::{HIGHEST_TAG, VERSION_TAG};
 use crate::walk::{NUMBER_FIELD, contents_end};
 use fields::word_at;
@@ -25,7 +23,7 @@ fn add_version(store: &mut [u8], head: usize, size: usize) -> usize
     let number = word_at(store, head + HEAD_SIZE) + 1;
     let end = past_versions(store, head + NUMBER_FIELD);
     let contents = contents_end(store);
-    open_gap(store, end, contents, NUMBER_FIELD + size);
+    store.copy_within(end..contents, end + (NUMBER_FIELD + size));
     put_number(store, head, HIGHEST_TAG, number);
     put_number(store, end, VERSION_TAG, number);
     zero_from(store, contents + (NUMBER_FIELD + size));
@@ -47,12 +45,13 @@ fn add_entry(store: &mut [u8], name: &[u8], at: usize, size: usize) -> usize
 }
 
 // A version opened under a name, with so many bytes for its settings; the answer is where they go.
+#[tactic(auto, using(crate::specs::OpeningLaws::head_inside))]
 pub fn open_version(store: &mut [u8], name: &[u8], size: usize) -> usize
     requires { Openable name.now size store.old }
     ensures { Opened name.now size store.old result store.new }
 {
     match find_entry(store, name) {
-        EntryPlace::At(at) => add_version(store, at + (HEAD_SIZE + name.len()), size),
-        EntryPlace::Nothing(at) => add_entry(store, name, at, size),
+        Ok(at) => add_version(store, at + (HEAD_SIZE + name.len()), size),
+        Err(at) => add_entry(store, name, at, size),
     }
 }

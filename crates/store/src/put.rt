@@ -1,10 +1,10 @@
-// Fields written over a lent run of bytes.
+// Fields written over a lent run of bytes, and zeros.
 ghost use Rattle.std.specs.Prelude.{◌≡◌, ◌∷◌, ◌+◌, ◌≤◌, length};
 ghost use Rattle.words.specs.Parts.{over};
 ghost use Rattle.words.specs.Bytes.{bytes16};
 ghost use Rattle.tagged.specs.Fields.{head_size, write_field};
 ghost use Rattle.store.specs.Writing.{name_field};
-ghost use Rattle.store.specs.Edit.{number_field_of, number_field};
+ghost use Rattle.store.specs.Edit.{number_field_of, number_field, zeroed_from};
 
 use crate::tags::{NAME_TAG, NUMBER_SIZE};
 use osc::{put_bytes, put_int};
@@ -15,9 +15,8 @@ pub fn put_head(bytes: &mut [u8], at: usize, tag: u8, size: usize)
     requires { at + head_size ≤ length bytes.old }
     ensures { bytes.new ≡ over at (tag ∷ bytes16 size) bytes.old }
 {
-    bytes[at] = tag;
-    bytes[at + 1] = (size / 256 % 256) as u8;
-    bytes[at + 2] = (size % 256) as u8;
+    let [high, low] = ((size % 65536) as u16).to_be_bytes();
+    bytes[at..at + HEAD_SIZE].copy_from_slice(&[tag, high, low]);
 }
 
 // A field that holds a number.
@@ -36,4 +35,12 @@ pub fn put_name(bytes: &mut [u8], at: usize, name: &[u8])
 {
     put_head(bytes, at, NAME_TAG, name.len());
     put_bytes(bytes, at + HEAD_SIZE, name);
+}
+
+// Zeros from a place on.
+pub fn zero_from(bytes: &mut [u8], at: usize)
+    requires { at ≤ length bytes.old }
+    ensures { bytes.new ≡ zeroed_from at bytes.old }
+{
+    bytes[at..].fill(0);
 }

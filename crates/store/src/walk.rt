@@ -1,11 +1,10 @@
 // Walks over a formed store: to the end of its contents, over the versions of an entry.
-ghost use Rattle.std.specs.Prelude.{true, ◌≡◌, length, get_or};
+ghost use Rattle.std.specs.Prelude.{true, ◌≡◌, ◌≤◌, length, get_or};
 ghost use Rattle.store.specs.Store.{store_formed, version_tag, entries_of};
 ghost use Rattle.store.specs.Writing.{writing};
 ghost use Rattle.store.specs.Ahead.{VersionsAhead};
 ghost use Rattle.store.specs.Walk.{Counted, PastVersion, Numbered};
 
-use crate::VersionPlace;
 use crate::find::past_tags;
 use crate::tags::{NAME_TAG, NUMBER_SIZE, SETTING_TAG, VERSION_TAG};
 use fields::word_at;
@@ -17,12 +16,14 @@ pub const NUMBER_FIELD: usize = HEAD_SIZE + NUMBER_SIZE;
 // Where the contents of a formed store end.
 pub fn contents_end(store: &[u8]) -> usize
     requires { store_formed store.now ≡ true }
-    ensures { result ≡ length (writing (entries_of store.now)) }
+    ensures place { result ≡ length (writing (entries_of store.now)) }
+    ensures inside { result ≤ length store.now }
 {
     past_tags(store, 0, NAME_TAG)
 }
 
 // The place past a version and its settings.
+#[tactic(auto, using(crate::specs::VersionWalkLaws::version_opens, crate::specs::VersionWalkLaws::version_past))]
 fn next_version(store: &[u8], at: usize) -> usize
     requires { VersionsAhead store.now at × (get_or store.now at 0 ≡ version_tag) }
     ensures { PastVersion store.now at result }
@@ -37,10 +38,7 @@ pub fn count_versions(store: &[u8], at: usize) -> usize
 {
     let mut i = at;
     let mut count = 0;
-    while i < store.len() {
-        if store[i] != VERSION_TAG {
-            return count;
-        }
+    while i < store.len() && store[i] == VERSION_TAG {
         i = next_version(store, i);
         count += 1;
     }
@@ -48,20 +46,18 @@ pub fn count_versions(store: &[u8], at: usize) -> usize
 }
 
 // The version of a number among those from a place on: where it stands, and where it ends.
-pub fn version_from(store: &[u8], at: usize, number: u32) -> VersionPlace
+#[tactic(auto, using(crate::specs::VersionWalkLaws::version_length, crate::specs::VersionWalkLaws::search_starts))]
+pub fn version_from(store: &[u8], at: usize, number: u32) -> Option<(usize, usize)>
     requires { VersionsAhead store.now at }
     ensures { Numbered store.now at number result }
 {
-    let mut i = at;
-    while i < store.len() {
-        if store[i] != VERSION_TAG {
-            return VersionPlace::Nothing;
+    let mut from = at;
+    while from < store.len() && store[from] == VERSION_TAG {
+        let to = next_version(store, from);
+        if word_at(store, from + HEAD_SIZE) == number {
+            return Some((from, to));
         }
-        let next = next_version(store, i);
-        if word_at(store, i + HEAD_SIZE) == number {
-            return VersionPlace::At(i, next);
-        }
-        i = next;
+        from = to;
     }
-    VersionPlace::Nothing
+    None
 }

@@ -21,7 +21,8 @@ use Rattle.format.specs.RepeatLaws.{went_on, got_value, got_place}
 use Rattle.format.specs.Writer.{first_version, file_version, version_of, write_all, write_definition, write_header, write_file}
 use Rattle.words.specs.Parts.{over}
 use Rattle.osc.specs.Over.{over_over, over_length, over_first}
-use Rattle.files.specs.declared.file.Checked.TheVariants as check
+use Rattle.std.specs.Prelude.{Result, Ok, Err}
+use Rattle.faults.specs.declared.FileError.{FileError}
 use Rattle.files.specs.File.{first_place, verdict}
 use Rattle.widening.specs.Moved.{over_none}
 use Rattle.reader.specs.Places.{place_after}
@@ -168,22 +169,25 @@ module _ {s : List ℕ} {n i at to : ℕ} {before after : List ℕ} (w : Writing
       ∙ over_over 0 first_place (write_header Long (length ds)) all start refl (omega (arith, head_length ds))
 
 -- what the exported functions answer
-pub accepted : (s : List ℕ) {n : ℕ} → verdict (read_file s) ≡ check.Accepted n → Accepted s n
+pub accepted : (s : List ℕ) {n : ℕ} → verdict (read_file s) ≡ Ok n → Accepted s n
 accepted s {n} h = by (read_file s) refl h
   where
-    by : (r : Read (List Definition)) → read_file s ≡ r → verdict r ≡ check.Accepted n → Accepted s n
+    by : (r : Read (List Definition)) → read_file s ≡ r → verdict r ≡ Ok n → Accepted s n
     by (got ds end) e t = record { end = end; read = rw e refl; many = rw e (let same : length ds ≡ n = cc in same) }
     by (bad q at) e t = absurd (let z : ◌≡◌ {A = ℕ} 0 1 = cc in omega arith)
 
-pub refused : (s : List ℕ) {q : Fault} {place : ℕ} → verdict (read_file s) ≡ check.Refused q place → read_file s ≡ bad q place
+-- a refusal as a reading
+refusal_of : Result ℕ FileError → Read (List Definition)
+refusal_of (Ok n) = got [] n
+refusal_of (Err e) = bad e.0 e.1
+
+pub refused : (s : List ℕ) {q : Fault} {place : ℕ} → verdict (read_file s) ≡ Err (record { 0 = q; 1 = place }) → read_file s ≡ bad q place
+unfolding refusal_of
 refused s {q} {place} h = by (read_file s) h
   where
-    by : (r : Read (List Definition)) → verdict r ≡ check.Refused q place → r ≡ bad q place
+    by : (r : Read (List Definition)) → verdict r ≡ Err (record { 0 = q; 1 = place }) → r ≡ bad q place
     by (got ds end) t = absurd (let z : ◌≡◌ {A = ℕ} 0 1 = cc in omega arith)
-    by (bad f at) t =
-        let a : f ≡ q = cc in
-        let b : at ≡ place = cc in
-        cc
+    by (bad f at) t = ap refusal_of t
 
 -- a version that can be read is that of its width
 version_width : (v : ℕ) → is_version v ≡ true → version_of (width_of v) ≡ v

@@ -10,17 +10,17 @@ ghost use Rattle.synthdef.specs.Twin.{accepted_version, Widens};
 ghost use Rattle.reader.specs.Spans.{definition_span, name_start, name_end};
 
 use crate::twin::{twin_size, version_of, write_twin};
-use faults::fault_number;
-use files::{Checked, check_file, width_of};
-use reader::{Span, definition_span};
+use faults::FileError;
+use files::{check_file, width_of};
+use reader::definition_span;
 
 // 0 where the file is accepted, or the refusal's number.
 pub fn synthdef_refusal(file: &[u8]) -> u32
     ensures { result ≡ refusal_number (verdict (read_file file.now)) }
 {
     match check_file(file) {
-        Checked::Accepted(count) => 0,
-        Checked::Refused(refusal, place) => fault_number(refusal),
+        Ok(_) => 0,
+        Err(FileError(fault, _)) => u32::from(fault),
     }
 }
 
@@ -29,8 +29,8 @@ pub fn synthdef_place(file: &[u8]) -> u64
     ensures { result ≡ refusal_place (verdict (read_file file.now)) }
 {
     match check_file(file) {
-        Checked::Accepted(count) => 0,
-        Checked::Refused(refusal, place) => place as u64,
+        Ok(_) => 0,
+        Err(FileError(_, place)) => place as u64,
     }
 }
 
@@ -39,31 +39,30 @@ pub fn synthdef_count(file: &[u8]) -> u32
     ensures { result ≡ definition_count (verdict (read_file file.now)) }
 {
     match check_file(file) {
-        Checked::Accepted(count) => count,
-        Checked::Refused(refusal, place) => 0,
+        Ok(count) => count,
+        Err(_) => 0,
     }
 }
 
 // The place of the first byte of a definition's name; 0 where an accepted file has no such definition.
+#[tactic(auto, using(reader::specs::SpanLaws::span_inside))]
 pub fn synthdef_name_start(file: &[u8], index: u32) -> u64
     ensures { result ≡ name_start (definition_span file.now index) }
 {
     match definition_span(file, index) {
-        Span::Between(start, end) => (start + 1) as u64,
-        Span::Nowhere => 0,
+        Some((start, _)) => (start + 1) as u64,
+        None => 0,
     }
 }
 
 // The place past it.
+#[tactic(auto, using(reader::specs::SpanLaws::span_inside))]
 pub fn synthdef_name_end(file: &[u8], index: u32) -> u64
     ensures { result ≡ name_end file.now (definition_span file.now index) }
 {
     match definition_span(file, index) {
-        Span::Between(start, end) => {
-            let size = file[start] as usize;
-            (start + 1 + size) as u64
-        }
-        Span::Nowhere => 0,
+        Some((start, _)) => (start + 1 + usize::from(file[start])) as u64,
+        None => 0,
     }
 }
 
@@ -72,8 +71,8 @@ pub fn synthdef_version(file: &[u8]) -> u32
     ensures { result ≡ accepted_version file.now }
 {
     match check_file(file) {
-        Checked::Accepted(count) => version_of(width_of(file)),
-        Checked::Refused(refusal, place) => 0,
+        Ok(_) => version_of(width_of(file)),
+        Err(_) => 0,
     }
 }
 
@@ -82,7 +81,7 @@ pub fn synthdef_widen(file: &[u8], out: &mut [u8]) -> u64
     ensures { Widens file.now out.old out.new result }
 {
     match check_file(file) {
-        Checked::Accepted(count) => {
+        Ok(count) => {
             let size = twin_size(file, count);
             if out.len() < size {
                 return 0;
@@ -90,6 +89,6 @@ pub fn synthdef_widen(file: &[u8], out: &mut [u8]) -> u64
             write_twin(out, file, count);
             size as u64
         }
-        Checked::Refused(refusal, place) => 0,
+        Err(_) => 0,
     }
 }

@@ -29,12 +29,9 @@ pub(crate) fn twin_size(file: &[u8], count: u32) -> usize
     let width = width_of(file);
     let mut size = FIRST_PLACE;
     let mut at = FIRST_PLACE;
-    let mut i = 0;
-    while i < count {
-        let next = place_after(file, at);
+    for _ in 0..count {
         size += encoded_size(file, at, width);
-        at = next;
-        i += 1;
+        at = place_after(file, at);
     }
     size
 }
@@ -59,12 +56,9 @@ pub(crate) fn write_twin(out: &mut [u8], file: &[u8], count: u32)
     let width = width_of(file);
     let mut to = FIRST_PLACE;
     let mut at = FIRST_PLACE;
-    let mut i = 0;
-    while i < count {
+    for _ in 0..count {
         let next = place_after(file, at);
-        let past = widen(out, to, file, at, next, width);
-        to = past;
+        to = widen(out, to, file, at, next, width);
         at = next;
-        i += 1;
     }
 }

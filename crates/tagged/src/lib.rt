@@ -1,27 +1,18 @@
 // Tagged fields: a one-byte tag, a two-byte length, and so many bytes.
 #![tactic(auto)]
 
-ghost use Rattle.std.specs.Prelude.{◌+◌, ◌*◌, ◌≤◌, ◌≡◌, length, drop};
+ghost use Rattle.std.specs.Prelude.{◌+◌, ◌≤◌, ◌≡◌, length, drop};
 ghost use Rattle.tagged.specs.Fields.{head_size, size_in};
 
 // The bytes of a field before its contents.
 pub const HEAD_SIZE: usize = 3;
-
-// Two bytes as a length, the first one the highest.
-fn number16(a: u8, b: u8) -> usize
-    ensures { result ≡ 256 * a + b }
-{
-    let high = a as usize;
-    let low = b as usize;
-    256 * high + low
-}
 
 // The length of a field's contents, as its head at a place tells it.
 pub fn size_at(s: &[u8], at: usize) -> usize
     requires { at + head_size ≤ length s.now }
     ensures { result ≡ size_in (drop at s.now) }
 {
-    number16(s[at + 1], s[at + 2])
+    usize::from(u16::from_be_bytes([s[at + 1], s[at + 2]]))
 }
 
 // The place past a field.

@@ -1,5 +1,5 @@
 -- "Add actions: 0 head, 1 tail of the target group; 2 before, 3 after the target; 4 replaces the target, whose subtree is freed."
-use Rattle.std.specs.Prelude.{ℕ, zero, suc, ◌≤◌, ◌<◌, ◌≡◌, refl, List, [], ◌∷◌}
+use Rattle.std.specs.Prelude.{ℕ, zero, suc, ◌≤◌, ◌<◌, ◌≡◌, refl, List, [], ◌∷◌, Result, Ok, Err}
 use Rattle.std.proofs.Common.{ap, arith}
 use Rattle.refusals.specs.declared.Refusal.{Refusal}
 use Rattle.refusals.specs.declared.Refusal.TheVariants.{BadFlag}
@@ -9,8 +9,6 @@ use Rattle.tree.specs.declared.action.Position.{Position}
 use Rattle.tree.specs.declared.action.Position.TheVariants.{Head, Tail, Before, After}
 use Rattle.tree.specs.declared.action.Action.{Action}
 use Rattle.tree.specs.declared.action.Action.TheVariants.{Put, Replace}
-use Rattle.tree.specs.declared.action.Asked.{Asked}
-use Rattle.tree.specs.declared.action.Asked.TheVariants.{Add, Refused}
 
 -- the number of each action
 abbrev pub number_of : Action → ℕ
@@ -21,13 +19,13 @@ number_of (Put After) = 3
 number_of Replace = 4
 
 -- what a number asks for; 13: "add action not 0 to 4"
-unfoldable pub action_of : ℕ → Asked
-action_of zero = Add (Put Head)
-action_of (suc zero) = Add (Put Tail)
-action_of (suc (suc zero)) = Add (Put Before)
-action_of (suc (suc (suc zero))) = Add (Put After)
-action_of (suc (suc (suc (suc zero)))) = Add Replace
-action_of (suc (suc (suc (suc (suc n))))) = Refused BadFlag
+unfoldable pub action_of : ℕ → Result Action Refusal
+action_of zero = Ok (Put Head)
+action_of (suc zero) = Ok (Put Tail)
+action_of (suc (suc zero)) = Ok (Put Before)
+action_of (suc (suc (suc zero))) = Ok (Put After)
+action_of (suc (suc (suc (suc zero)))) = Ok Replace
+action_of (suc (suc (suc (suc (suc n))))) = Err BadFlag
 
 -- what stands in the place of the record r and of the records l that follow it, once the records xs are put in at a position there
 abbrev pub put_here : Position → List Node → Node → List Node → List Node
@@ -42,7 +40,7 @@ add_here (Put p) xs r l = put_here p xs r l
 add_here Replace xs r l = over_here xs r l
 
 -- a number that asks for an action is the action's
-pub asked_number : (n : ℕ) (a : Action) → action_of n ≡ Add a → n ≡ number_of a
+pub asked_number : (n : ℕ) (a : Action) → action_of n ≡ Ok a → n ≡ number_of a
 unfolding action_of
 asked_number zero a h = let same : Put Head ≡ a = cc in ap number_of same
 asked_number (suc zero) a h = let same : Put Tail ≡ a = cc in ap number_of same
@@ -52,7 +50,7 @@ asked_number (suc (suc (suc (suc zero)))) a h = let same : Replace ≡ a = cc in
 asked_number (suc (suc (suc (suc (suc n))))) a h = let z : ◌≡◌ {A = ℕ} 0 1 = cc in absurd (omega arith)
 
 -- one that is refused is more than 4, and its refusal is 13
-pub asked_refused : (n : ℕ) (why : Refusal) → action_of n ≡ Refused why → (4 < n) × (why ≡ BadFlag)
+pub asked_refused : (n : ℕ) (why : Refusal) → action_of n ≡ Err why → (4 < n) × (why ≡ BadFlag)
 unfolding action_of
 asked_refused zero why h = let z : ◌≡◌ {A = ℕ} 0 1 = cc in absurd (omega arith)
 asked_refused (suc zero) why h = let z : ◌≡◌ {A = ℕ} 0 1 = cc in absurd (omega arith)

@@ -20,23 +20,21 @@ pub enum Action {
     Replace,
 }
 
-// What a number asks for, or its refusal.
-#[derive(Clone, Copy)]
-pub enum Asked {
-    Add(Action),
-    Refused(Refusal),
-}
+// The add action with a number, or the refusal of a number that none has.
+impl TryFrom<u32> for Action {
+    type Error = Refusal;
 
-// The add action with this number.
-pub fn add_action(number: u32) -> Asked
-    ensures { result ≡ action_of number }
-{
-    match number {
-        0 => Asked::Add(Action::Put(Position::Head)),
-        1 => Asked::Add(Action::Put(Position::Tail)),
-        2 => Asked::Add(Action::Put(Position::Before)),
-        3 => Asked::Add(Action::Put(Position::After)),
-        4 => Asked::Add(Action::Replace),
-        5..=4294967295 => Asked::Refused(Refusal::BadFlag),
+    ghost try_from_gives = { λ number r. r ≡ action_of number };
+
+    #[tactic(auto, unfolding(crate::specs::Action::action_of))]
+    fn try_from(number: u32) -> Result<Action, Refusal> {
+        match number {
+            0 => Ok(Action::Put(Position::Head)),
+            1 => Ok(Action::Put(Position::Tail)),
+            2 => Ok(Action::Put(Position::Before)),
+            3 => Ok(Action::Put(Position::After)),
+            4 => Ok(Action::Replace),
+            5..=4294967295 => Err(Refusal::BadFlag),
+        }
     }
 }

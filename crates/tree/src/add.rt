@@ -35,13 +35,10 @@ pub fn place_by(nodes: &[u32], count: usize, position: Position, at: usize) -> P
             at: subtree_end(nodes, count, at),
             depth: depth + 1,
         },
-        Position::Before => Place {
-            at: at,
-            depth: depth,
-        },
+        Position::Before => Place { at, depth },
         Position::After => Place {
             at: subtree_end(nodes, count, at),
-            depth: depth,
+            depth,
         },
     }
 }
@@ -50,13 +47,7 @@ pub fn place_by(nodes: &[u32], count: usize, position: Position, at: usize) -> P
 fn at_depth(node: Node, depth: u32) -> Node
     ensures { result ≡ level depth node }
 {
-    Node {
-        number: node.number,
-        depth: depth,
-        run: node.run,
-        slot: node.slot,
-        row: node.row,
-    }
+    Node { depth, ..node }
 }
 
 // What a new record comes for, the records from `at` up to `end`, and the depth that it has there.
@@ -82,7 +73,7 @@ pub fn gap_by(nodes: &[u32], count: usize, action: Action, at: usize) -> Gap
             }
         }
         Action::Replace => Gap {
-            at: at,
+            at,
             end: subtree_end(nodes, count, at),
             depth: nodes[RECORD * at + DEPTH],
         },
@@ -108,7 +99,8 @@ pub fn fill_gap(nodes: &mut [u32], count: usize, gap: Gap, node: Node) -> usize
     let end = gap.end;
     let new = at_depth(node, gap.depth);
     if at < end {
-        return replace(nodes, count, at, end, new);
+        replace(nodes, count, at, end, new)
+    } else {
+        insert(nodes, count, at, new)
     }
-    insert(nodes, count, at, new)
 }

@@ -4,7 +4,7 @@ ghost use Rattle.nodes.specs.Table.{width, rows, fill};
 ghost use Rattle.nodes.specs.Edit.{edit_at, free_here, free_all_here, set_run_here};
 ghost use Rattle.tree.specs.Sizes.{Placed, Leaves};
 
-use crate::runs::{close_gap, node_at, open_gap, put_node};
+use crate::runs::{node_at, put_node};
 use crate::search::subtree_end;
 use layout::RECORD;
 use nodes::Node;
@@ -14,7 +14,7 @@ pub fn insert(nodes: &mut [u32], count: usize, at: usize, node: Node) -> usize
     requires { (at ≤ count) × (width * count + width ≤ length nodes.old) }
     ensures { Leaves nodes.old (take at (rows count nodes.old) ++ node ∷ drop at (rows count nodes.old)) nodes.new result }
 {
-    open_gap(nodes, RECORD * at, RECORD, RECORD * count);
+    nodes.copy_within(RECORD * at..RECORD * count, RECORD * (at + 1));
     put_node(nodes, at, node);
     count + 1
 }
@@ -24,7 +24,7 @@ pub fn remove(nodes: &mut [u32], count: usize, from: usize, to: usize) -> usize
     requires { (from ≤ to) × ((to ≤ count) × (width * count ≤ length nodes.old)) }
     ensures { Leaves nodes.old (take from (rows count nodes.old) ++ drop to (rows count nodes.old)) nodes.new result }
 {
-    close_gap(nodes, RECORD * from, RECORD * to, RECORD * count);
+    nodes.copy_within(RECORD * to..RECORD * count, RECORD * from);
     count - (to - from)
 }
 
@@ -52,15 +52,5 @@ pub fn set_run(nodes: &mut [u32], count: usize, at: usize, flag: u32)
     ensures { nodes.new ≡ fill nodes.old (edit_at at (set_run_here flag) (rows count nodes.old)) }
 {
     let node = node_at(nodes, at);
-    put_node(
-        nodes,
-        at,
-        Node {
-            number: node.number,
-            depth: node.depth,
-            run: flag,
-            slot: node.slot,
-            row: node.row,
-        },
-    );
+    put_node(nodes, at, Node { run: flag, ..node });
 }

@@ -37,10 +37,7 @@ fn sweep(nodes: &mut [u32], count: usize, from: usize, to: usize, depth: u32, le
     while read < count {
         let level = nodes[RECORD * read + DEPTH];
         if level <= depth {
-            return Places {
-                read: read,
-                write: write,
-            };
+            return Places { read, write };
         }
         if nodes[RECORD * read + SLOT] == GROUP {
             copy_record(nodes, read, write);
@@ -51,10 +48,7 @@ fn sweep(nodes: &mut [u32], count: usize, from: usize, to: usize, depth: u32, le
             read += 1;
         }
     }
-    Places {
-        read: read,
-        write: write,
-    }
+    Places { read, write }
 }
 
 // "`/g_deepFree` the synths at any depth, groups staying": of the node at this place.

@@ -11,7 +11,7 @@ mod runs;
 mod search;
 mod structure;
 
-pub use action::{Action, Asked, Position, add_action};
+pub use action::{Action, Position};
 pub use add::{Gap, Place, fill_gap, gap_by, place_by};
 pub use change::{cut, cut_below, set_run};
 pub use deep::deep_free;

@@ -9,7 +9,6 @@ ghost use Rattle.tree.specs.MoveRun.{Movable, moved_words, moved_to, place_witho
 ghost use Rattle.tree.specs.Ends.{MoveTo};
 
 use crate::add::Place;
-use crate::runs::{close_gap, copy_words, open_gap};
 use layout::{DEPTH, NODES_WORDS, RECORD};
 
 // Room made at a place for the words from `from` up to `to`: those between come over them.
@@ -17,10 +16,11 @@ fn make_room(words: &mut [u32], from: usize, to: usize, at: usize)
     requires { (from ≤ to) × ((to ≤ length words.old) × (at + (to - from) ≤ length words.old)) }
     ensures { Opened words.old from to at words.new }
 {
+    let end = at + (to - from);
     if at <= from {
-        open_gap(words, at, to - from, from);
+        words.copy_within(at..from, end);
     } else {
-        close_gap(words, from, to, at + (to - from));
+        words.copy_within(to..end, from);
     }
 }
 
@@ -29,9 +29,10 @@ fn move_through(words: &mut [u32], from: usize, to: usize, at: usize, run: &mut 
     requires { (from ≤ to) × ((to ≤ length words.old) × ((at + (to - from) ≤ length words.old) × (to - from ≤ length run.old))) }
     ensures { words.new ≡ put_in at (take (to - from) (drop from words.old)) (without from to words.old) }
 {
-    copy_words(run, 0, &words[from..to], to - from);
+    let count = to - from;
+    run[..count].copy_from_slice(&words[from..to]);
     make_room(words, from, to, at);
-    copy_words(words, at, run, to - from);
+    words[at..at + count].copy_from_slice(&run[..count]);
 }
 
 // The words of a short run, of up to 16 records.
@@ -56,11 +57,9 @@ fn set_depths(nodes: &mut [u32], from: usize, to: usize, old: u32, new: u32)
     requires { Levels nodes.old from to old new }
     ensures { nodes.new ≡ releveled old new nodes.old from to }
 {
-    let mut i = from;
-    while i < to {
+    for i in from..to {
         let at = RECORD * i + DEPTH;
         nodes[at] = nodes[at] - old + new;
-        i += 1;
     }
 }
 

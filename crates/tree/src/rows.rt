@@ -1,5 +1,5 @@
 // The rows of controls that a table's synths have, and the lowest that is free.
-ghost use Rattle.std.specs.Prelude.{◌≡◌, true, false, ℕ, ◌+◌, ◌*◌, ◌≤◌, ◌<◌, ◌++◌, length, take, drop, get_or};
+ghost use Rattle.std.specs.Prelude.{◌≡◌, true, false, ℕ, ◌+◌, ◌*◌, ◌≤◌, ◌<◌, ◌++◌, length, take, drop, get_or, unwrap_or};
 ghost use Rattle.words.specs.Choice.{either};
 ghost use Rattle.nodes.specs.Table.{width, node_from, rows};
 ghost use Rattle.nodes.specs.Sizes.{TableFits};
@@ -9,15 +9,16 @@ ghost use Rattle.tree.specs.FreeRow.{row_or};
 use layout::{GROUP, RECORD, ROW, ROWS, SLOT};
 use words::wide;
 
-// The row of the synth at a place, or 256 for a group.
-fn row_at(nodes: &[u32], at: usize) -> usize
+// The row of the synth at a place; a group has none.
+fn row_at(nodes: &[u32], at: usize) -> Option<usize>
     requires { width * at + width ≤ length nodes.now }
-    ensures { result ≡ row_or (node_from nodes.now (width * at)) }
+    ensures { unwrap_or result most_rows ≡ row_or (node_from nodes.now (width * at)) }
 {
     if nodes[RECORD * at + SLOT] == GROUP {
-        return ROWS;
+        None
+    } else {
+        Some(wide(nodes[RECORD * at + ROW]))
     }
-    wide(nodes[RECORD * at + ROW])
 }
 
 // A mark at each row that a synth of the records from `from` up to `to` has, beside the marks that are there.
@@ -25,13 +26,12 @@ fn mark_rows(marks: &mut [bool], nodes: &[u32], from: usize, to: usize)
     requires { (length marks.old ≡ most_rows) × ((from ≤ to) × TableFits nodes.now to) }
     ensures { (length marks.new ≡ most_rows) × ((k : ℕ) → k < most_rows → get_or marks.new k false ≡ either (get_or marks.old k false) (row_taken k (drop from (rows to nodes.now)))) }
 {
-    let mut i = from;
-    while i < to {
-        let row = row_at(nodes, i);
-        if row < ROWS {
-            marks[row] = true;
+    for i in from..to {
+        if let Some(row) = row_at(nodes, i) {
+            if row < ROWS {
+                marks[row] = true;
+            }
         }
-        i += 1;
     }
 }
 
@@ -54,17 +54,16 @@ fn first_free(marks: &[bool; ROWS], from: u32, to: u32) -> u32
     requires { (from ≤ to) × (to ≤ most_rows) }
     ensures { (from ≤ result) × ((result ≤ to) × (((k : ℕ) → k < result → from ≤ k → get_or marks.now k false ≡ true) × (result < to → get_or marks.now result false ≡ false))) }
 {
-    let mut row = from;
-    while row < to {
+    for row in from..to {
         if !marks[wide(row)] {
             return row;
         }
-        row += 1;
     }
-    row
+    to
 }
 
 // The lowest row that no synth has, of the records before `from` and those from `to` on, or 256.
+// Kept: of at most 255 synths beside the root none has the last row, so an Option would be a case that can't come.
 pub fn free_row_without(nodes: &[u32], count: usize, from: usize, to: usize) -> u32
     requires { (from ≤ to) × ((to ≤ count) × TableFits nodes.now count) }
     ensures { result ≡ free_row (take from (rows count nodes.now) ++ drop to (rows count nodes.now)) }

@@ -18,12 +18,10 @@ pub fn subtree_end(nodes: &[u32], count: usize, at: usize) -> usize
     ensures { result ≡ end_at count nodes.now at }
 {
     let depth = nodes[RECORD * at + DEPTH];
-    let mut i = at + 1;
-    while i < count {
+    for i in at + 1..count {
         if !is_deeper(depth, nodes[RECORD * i + DEPTH]) {
             return i;
         }
-        i += 1;
     }
-    i
+    count
 }

@@ -10,7 +10,7 @@ use Rattle.nodes.specs.Formed.{most_nodes}
 use Rattle.values.specs.declared.NodeArgument.{NodeArgument}
 use Rattle.model.specs.declared.TreeCommand.{TreeCommand}
 use Rattle.model.specs.declared.Command.TheVariants as command
-use Rattle.model.specs.declared.Answer.TheVariants.{Done}
+use Rattle.model.specs.Answers.{Done}
 use Rattle.model.specs.Layout.{nodes_words, count_in, record_in, node_words}
 use Rattle.model.specs.Engine.{decode}
 use Rattle.model.specs.Checks.{bad_target, full}

@@ -1,5 +1,6 @@
 -- What the place of a node that was found tells of it.
-use Rattle.std.specs.Prelude.{ℕ, suc, Bool, true, false, not, ◌≡◌, refl, List, [], ◌∷◌}
+use Rattle.std.specs.Prelude.{ℕ, suc, ◌<◌, Bool, true, false, not, ◌≡◌, refl, List, [], ◌∷◌, Option, Some, None, IfSome, unwrap_or}
+use Rattle.std.specs.Option.{is_some}
 use Rattle.std.proofs.Common.{sym, ◌∙◌, arith, eq-eqb, ne_eqb, eqb-true}
 use Rattle.std.proofs.Math.Path.{ap}
 use Rattle.std.proofs.Math.Dec.{eqb}
@@ -7,7 +8,9 @@ use Rattle.std.proofs.lemmas.Bool.{eqb-false}
 use Rattle.words.specs.Choice.{pick}
 use Rattle.words.specs.ChoiceLaws.{both_true}
 use Rattle.nodes.specs.declared.Node.{Node}
-use Rattle.nodes.specs.Place.{place, is_group}
+use Rattle.nodes.specs.Table.{rows}
+use Rattle.nodes.specs.Place.{place, lives, is_group}
+use Rattle.nodes.specs.PlaceLaws as nodes
 use Rattle.nodes.specs.Formed.{rooted}
 use Rattle.values.specs.declared.NodeArgument.{NodeArgument}
 use Rattle.model.specs.Layout.{count_in, nodes_in, record_in, node_words}
@@ -18,6 +21,11 @@ use Rattle.tree.specs.Sizes.{Placed}
 use Rattle.names.specs.Judged.{meant_in, NodeFound}
 use Rattle.names.specs.Here.{node_here}
 use Rattle.treecommands.specs.Ready.{Ready, words_long}
+
+-- a number lives where a place was found for it
+pub lives_found : (n count : ℕ) (us : List ℕ) (o : Option ℕ) → unwrap_or o count ≡ place n (rows count us) → IfSome o (λ at. at < count) → is_some o ≡ lives n (rows count us)
+lives_found n count us (Some at) here below = sym (nodes.found count us n (omega arith))
+lives_found n count us None here below = sym (nodes.not_found count us n (omega arith))
 
 -- the root stands first, and no other node does
 root_first : (n : ℕ) (t : List Node) → rooted t ≡ true → eqb n 0 ≡ eqb (place n t) 0

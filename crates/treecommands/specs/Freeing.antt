@@ -16,7 +16,7 @@ use Rattle.treerefinement.specs.Keep.{set_run-length, set_run-lives}
 use Rattle.values.specs.declared.NodeArgument.{NodeArgument}
 use Rattle.model.specs.declared.TreeCommand.TheVariants as tree
 use Rattle.model.specs.declared.Command.TheVariants as command
-use Rattle.model.specs.declared.Answer.TheVariants.{Done, Refused}
+use Rattle.model.specs.Answers.{Done, Refused}
 use Rattle.reindex.specs.declared.edit.Edit.TheVariants as edit
 use Rattle.model.specs.Layout.{nodes_place, nodes_words, count_in, latest_in, nodes_in, record_in, node_words}
 use Rattle.model.specs.Engine.{decode}
@@ -83,13 +83,14 @@ module _ (n : NodeArgument) (ws : List ℕ) where
   unfolding answer_in first_of
   free-unknown r u bytes bs = step_refused (command.Tree (tree.Free n)) bytes ws bs r (rw (u.fires bs) (u.answer bs))
 
-  module _ (k : Ready ws) (count : ℕ) (same : count ≡ count_in ws) (at : ℕ) (free-at : NodeFound n ws at) where
-    live : at < count
-    live = rw same free-at.live
-
+  module _ (k : Ready ws) (at : ℕ) (free-at : NodeFound n ws at) where
     pub free-root : at ≡ 0 → Steps (tree.Free n) ws (Refused WrongKind) ws
     unfolding answer_in first_of
     free-root z bytes bs = step_refused (command.Tree (tree.Free n)) bytes ws bs WrongKind (rw (free-at.passes bs, root_there n ws k at free-at bs, eq-eqb at 0 z))
+
+  module _ (k : Ready ws) (count : ℕ) (same : count ≡ count_in ws) (at : ℕ) (free-at : NodeFound n ws at) where
+    live : at < count
+    live = rw same free-at.live
 
     module _ (us : List ℕ) (many : ℕ) (does : Leaves (node_words ws) (edit_at at free_here (rows count (node_words ws))) us many) where
       free_few : length (cut (meant_in n ws) (nodes_in ws)) ≤ most_nodes

@@ -1,5 +1,5 @@
 -- /g_new: its checks, and the words after it.
-use Rattle.std.specs.Prelude.{ℕ, ◌≤◌, ◌<◌, Bool, false, ◌≡◌, length, ltb}
+use Rattle.std.specs.Prelude.{ℕ, ◌≤◌, ◌<◌, Bool, false, ◌≡◌, length, ltb, Result, Ok, Err}
 use Rattle.std.proofs.Math.Bool.{true}
 use Rattle.std.proofs.Math.Path.{ap}
 use Rattle.std.proofs.Common.{◌∙◌, arith}
@@ -11,7 +11,7 @@ use Rattle.refusals.specs.declared.Refusal.{Refusal}
 use Rattle.refusals.specs.declared.Refusal.TheVariants.{BadFlag, BadNumber, NumberLive, WrongKind, NodesFull}
 use Rattle.nodes.specs.declared.Node.{Node}
 use Rattle.nodes.specs.Table.{rows}
-use Rattle.nodes.specs.Place.{lives, place}
+use Rattle.nodes.specs.Place.{lives}
 use Rattle.nodes.specs.Edit.{edit_rows, edit_at, add_by}
 use Rattle.nodes.specs.PlaceLaws as nodes
 use Rattle.nodes.specs.Formed.{most_nodes}
@@ -20,7 +20,7 @@ use Rattle.treerefinement.specs.Keep.{grown_lives}
 use Rattle.values.specs.declared.NodeArgument.{NodeArgument}
 use Rattle.model.specs.declared.TreeCommand.TheVariants as tree
 use Rattle.model.specs.declared.Command.TheVariants as command
-use Rattle.model.specs.declared.Answer.TheVariants.{Done, Refused}
+use Rattle.model.specs.Answers.{Done, Refused}
 use Rattle.model.specs.Layout.{nodes_place, nodes_words, count_in, latest_in, nodes_in, node_words}
 use Rattle.model.specs.Engine.{decode}
 use Rattle.model.specs.Meaning.{first_negative}
@@ -40,8 +40,6 @@ use Rattle.tree.specs.declared.add.Gap.{Gap}
 use Rattle.tree.specs.Add.{Room}
 use Rattle.tree.specs.Gaps.{gap_by, in_gap, gap_leaves}
 use Rattle.reindex.specs.declared.edit.Edit.TheVariants as edit
-use Rattle.treecommands.specs.declared.group.TargetPlace.{TargetPlace}
-use Rattle.treecommands.specs.declared.group.TargetPlace.TheVariants as spot
 use Rattle.names.specs.Judged.{meant_in, NodeFound, NodeRefused}
 use Rattle.treecommands.specs.Ready.{Ready}
 use Rattle.treecommands.specs.Edits.{edit_by, add_does}
@@ -56,9 +54,9 @@ pub record GroupGround (number : ℕ) (action : Action) (target : NodeArgument) 
   pub spot : NodeFound target ws at
   pub room : Room (node_words ws) (count_in ws) action at
 
-abbrev pub GroupPlaced : ℕ → Action → NodeArgument → List ℕ → TargetPlace → Type 0
-GroupPlaced number action target ws (spot.At at) = GroupGround number action target ws at
-GroupPlaced number action target ws (spot.Refused r) = (bytes bs : List ℕ) → first_of (tree_checks (tree.NewGroup number (number_of action) target) bytes (decode ws bs)) Done ≡ Refused r
+abbrev pub GroupPlaced : ℕ → Action → NodeArgument → List ℕ → Result ℕ Refusal → Type 0
+GroupPlaced number action target ws (Ok at) = GroupGround number action target ws at
+GroupPlaced number action target ws (Err r) = (bytes bs : List ℕ) → first_of (tree_checks (tree.NewGroup number (number_of action) target) bytes (decode ws bs)) Done ≡ Refused r
 
 -- its checks, one after the other
 module _ (number : ℕ) (action : Action) (target : NodeArgument) (ws : List ℕ) where
@@ -72,28 +70,23 @@ module _ (number : ℕ) (action : Action) (target : NodeArgument) (ws : List ℕ
   unfolding first_of
   group_negative h bytes bs = rw (low, le-leb first_negative number h)
 
-  module _ (k : Ready ws) (count : ℕ) (same : count ≡ count_in ws) (positive : number < first_negative) (seen : ℕ) (fact : seen ≡ place number (nodes_in ws)) where
-    pub group_live : seen < count → Answers NumberLive
+  module _ (positive : number < first_negative) where
+    pub group_live : lives number (nodes_in ws) ≡ true → Answers NumberLive
     unfolding first_of decode
-    group_live h bytes bs =
-        let here : lives number (nodes_in ws) ≡ true = nodes.found (count_in ws) (node_words ws) number (omega arith) in
-        rw (low, lt-leb first_negative number positive, here)
+    group_live here bytes bs = rw (low, lt-leb first_negative number positive, here)
 
-    module _ (new : count ≤ seen) where
-      fresh : lives number (nodes_in ws) ≡ false
-      fresh = nodes.not_found (count_in ws) (node_words ws) number (omega arith)
-
+    module _ (fresh : lives number (nodes_in ws) ≡ false) where
       pub group_unknown : (r : Refusal) → NodeRefused target ws r → Answers r
       unfolding first_of decode
       group_unknown r n bytes bs = rw (low, lt-leb first_negative number positive, fresh, n.fires bs) (n.answer bs)
 
-      module _ (at : ℕ) (f : NodeFound target ws at) where
+      module _ (k : Ready ws) (at : ℕ) (f : NodeFound target ws at) where
         pub group_kind : bad_at action ws at ≡ true → Answers WrongKind
         unfolding first_of decode
         group_kind h bytes bs =
             rw (low, lt-leb first_negative number positive, fresh, f.passes bs, bad-target target ws k at f bs action ∙ h)
 
-        module _ (kind : bad_at action ws at ≡ false) where
+        module _ (kind : bad_at action ws at ≡ false) (count : ℕ) (same : count ≡ count_in ws) where
           pub group_full : full_at action count ≡ true → Answers NodesFull
           unfolding first_of decode
           group_full h bytes bs =

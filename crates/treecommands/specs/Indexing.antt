@@ -28,17 +28,23 @@ changed_follows edit count ws c =
 
 -- no node is new
 module _ (count : ℕ) (ws out : List ℕ) (left : ℕ) where
-  pub cut_index : (from to : ℕ) → Changed (Cut from to) count ws → Followed (new_place (Cut from to)) (entries_in ws) (count_in ws) out left
+  cut_index : (from to : ℕ) → Changed (Cut from to) count ws → Followed (new_place (Cut from to)) (entries_in ws) (count_in ws) out left
       → put index_place index_words out ws ≡ put_index (index_of (rows count (node_words ws))) ws
   cut_index from to c f =
       let e = c.edited in
       index_by count ws c.size e.ground.few_after out (cut_follows (entries_in ws) (count_in ws) (node_words ws) count e.old e.ground from to e.does out left f)
 
-  pub swap_index : (a b d : ℕ) → Changed (Swap a b d) count ws → Followed (new_place (Swap a b d)) (entries_in ws) (count_in ws) out left
+  swap_index : (a b d : ℕ) → Changed (Swap a b d) count ws → Followed (new_place (Swap a b d)) (entries_in ws) (count_in ws) out left
       → put index_place index_words out ws ≡ put_index (index_of (rows count (node_words ws))) ws
   swap_index a b d c f =
       let e = c.edited in
       index_by count ws c.size e.ground.few_after out (swap_follows (entries_in ws) (count_in ws) (node_words ws) count e.old e.ground a b d e.does out left f)
+
+  pub kept_index : (edit : Edit) → ((at to : ℕ) → edit ≡ Put at to → ⊥) → Changed edit count ws → Followed (new_place edit) (entries_in ws) (count_in ws) out left
+      → put index_place index_words out ws ≡ put_index (index_of (rows count (node_words ws))) ws
+  kept_index (Cut from to) n c f = cut_index from to c f
+  kept_index (Put at to) n c f = absurd (n at to refl)
+  kept_index (Swap a b d) n c f = swap_index a b d c f
 
   pub sifted_index : (ps : List ℕ) → Sifted ps count ws → Followed (place_in ps) (entries_in ws) (count_in ws) out left
       → put index_place index_words out ws ≡ put_index (index_of (rows count (node_words ws))) ws

@@ -1,8 +1,8 @@
 -- A move accepted: the words after it.
-use Prim.{Unit, tt}
 use Rattle.std.specs.Prelude.{ℕ, ◌≤◌, true, ◌≡◌, refl, List, length}
-use Rattle.std.proofs.Common.{sym, ap, ap₂, subst, subst₂, ◌∙◌, arith}
+use Rattle.std.proofs.Common.{sym, ap, subst, ◌∙◌, arith}
 use Rattle.words.specs.Parts.{put}
+use Rattle.refusals.specs.declared.Refusal.{Refusal}
 use Rattle.nodes.specs.declared.Node.{Node}
 use Rattle.nodes.specs.Table.{fill}
 use Rattle.nodes.specs.TableLaws.{rows-length}
@@ -19,15 +19,14 @@ use Rattle.values.specs.declared.NodeArgument.{NodeArgument}
 use Rattle.model.specs.declared.TreeCommand.{TreeCommand}
 use Rattle.model.specs.declared.TreeCommand.TheVariants as tree
 use Rattle.model.specs.declared.Command.TheVariants as command
-use Rattle.model.specs.declared.Answer.{Answer}
-use Rattle.model.specs.declared.Answer.TheVariants.{Done, Refused}
+use Rattle.model.specs.Answers.{Done, Refused}
 use Rattle.model.specs.Layout.{nodes_place, nodes_words, count_in, latest_in, nodes_in, node_words}
 use Rattle.model.specs.Engine.{Engine, decode}
 use Rattle.model.specs.Effects.{with_nodes, effect}
 use Rattle.model.specs.After.{put_tree, words_after}
 use Rattle.model.specs.Checks.{Check, first_of, beside_checks, into_checks}
 use Rattle.model.specs.Apply.{answer_in}
-use Rattle.state.specs.Does.{WordsStep, step_refused, step_done}
+use Rattle.state.specs.Does.{step_refused, step_done}
 use Rattle.preservation.specs.TreeSteps.{still_lives}
 use Rattle.tree.specs.declared.action.Position.{Position}
 use Rattle.tree.specs.declared.action.Position.TheVariants.{Head, Tail, Before, After}
@@ -36,17 +35,15 @@ use Rattle.tree.specs.Sizes.{Leaves}
 use Rattle.tree.specs.Action.{put_here}
 use Rattle.tree.specs.Add.{place_by}
 use Rattle.tree.specs.MoveRun.{moved_to}
-use Rattle.tree.specs.Ends.{Moving, move_place}
+use Rattle.tree.specs.Ends.{move_place}
 use Rattle.tree.specs.Moved.{move_first}
-use Rattle.treecommands.specs.declared.moves.Pair.{Pair}
-use Rattle.treecommands.specs.declared.moves.Pair.TheVariants as pair
 use Rattle.treecommands.specs.Ready.{Ready}
 use Rattle.names.specs.Judged.{meant_in}
 use Rattle.treecommands.specs.Edits.{move_edit, move_does}
 use Rattle.treecommands.specs.Settle.{renewed, changed_left, renewed_left}
 use Rattle.treecommands.specs.Staying.{Staying, stays_left}
 use Rattle.treecommands.specs.Steps.{Steps}
-use Rattle.treecommands.specs.Sighting.{Clear, PairFound}
+use Rattle.treecommands.specs.Sighting.{Answers, Clear}
 
 same_length : {after before : List Node} → Same after before → length after ≡ length before
 same_length {after} {before} s = sym (tally-length after) ∙ s.sum (λ r. true) (λ d r. refl) ∙ tally-length before
@@ -55,17 +52,56 @@ same_length {after} {before} s = sym (tally-length after) ∙ s.sum (λ r. true)
 abbrev moved_by : Position → ℕ → ℕ → List Node → List Node
 moved_by p m n t = edit_rows n (put_here p (run_of m t)) (cut m t)
 
--- by a move, which keeps every node
-module _ (checks : Engine → List Check) (moved to : NodeArgument) (ws : List ℕ) (k : Ready ws) (count : ℕ) (same : count ≡ count_in ws) (i j : ℕ) (c : Clear checks moved to ws i j) where
-  pub place_lives : lives (meant_in to ws) (cut (meant_in moved ws) (nodes_in ws)) ≡ true
-  place_lives =
-      still_lives (meant_in moved ws) (meant_in to ws) (nodes_in ws)
-      (found (count_in ws) (node_words ws) (meant_in to ws) (omega (arith, c.second.here, c.second.live))) c.apart
+-- the command that moves a node to a position by another, and its checks
+abbrev pub move_command : Position → NodeArgument → NodeArgument → TreeCommand
+move_command Head a b = tree.Head b a
+move_command Tail a b = tree.Tail b a
+move_command Before a b = tree.Before a b
+move_command After a b = tree.After a b
 
-  module _ (p : Position) (all : Same (moved_by p (meant_in moved ws) (meant_in to ws) (nodes_in ws)) (nodes_in ws)) (us : List ℕ)
-      (does : us ≡ fill (node_words ws) (moved_to count (node_words ws) i (place_by p count (node_words ws) j))) where
-    abbrev t : List Node
-    t = moved_by p (meant_in moved ws) (meant_in to ws) (nodes_in ws)
+abbrev pub move_checks : Position → NodeArgument → NodeArgument → Engine → List Check
+move_checks Head a b = into_checks b a
+move_checks Tail a b = into_checks b a
+move_checks Before a b = beside_checks a b
+move_checks After a b = beside_checks a b
+
+-- a move keeps every node
+moved_same : (p : Position) (m n : ℕ) (t : List Node) → lives n (cut m t) ≡ true → Same (moved_by p m n t) t
+moved_same Head m n t = move_head_same m n t
+moved_same Tail m n t = move_tail_same m n t
+moved_same Before m n t = move_before_same m n t
+moved_same After m n t = move_after_same m n t
+
+module _ (p : Position) (a b : NodeArgument) (ws : List ℕ) where
+  abbrev t : List Node
+  t = moved_by p (meant_in a ws) (meant_in b ws) (nodes_in ws)
+
+  asks : (q : Position) (bytes bs : List ℕ) → answer_in (command.Tree (move_command q a b)) bytes (decode ws bs) 0 ≡ first_of (move_checks q a b (decode ws bs)) Done
+  unfolding answer_in
+  asks Head bytes bs = refl
+  asks Tail bytes bs = refl
+  asks Before bytes bs = refl
+  asks After bytes bs = refl
+
+  leaves : (q : Position) (bytes bs : List ℕ)
+      → words_after (command.Tree (move_command q a b)) bytes ws bs ≡ put_tree (with_nodes (moved_by q (meant_in a ws) (meant_in b ws) (nodes_in ws)) (decode ws bs)) ws
+  unfolding decode words_after effect
+  leaves Head bytes bs = refl
+  leaves Tail bytes bs = refl
+  leaves Before bytes bs = refl
+  leaves After bytes bs = refl
+
+  pub move_refused : (r : Refusal) → Answers (move_checks p a b) ws r → Steps (move_command p a b) ws (Refused r) ws
+  move_refused r h bytes bs = step_refused (command.Tree (move_command p a b)) bytes ws bs r (asks p bytes bs ∙ h bs)
+
+  -- both nodes found, and the one moved to the place at the position by the other
+  module _ (k : Ready ws) (i j : ℕ) (c : Clear (move_checks p a b) a b ws i j) (count : ℕ) (same : count ≡ count_in ws)
+      (to : Place) (there : to ≡ place_by p count (node_words ws) j) (us : List ℕ) (moves : us ≡ fill (node_words ws) (moved_to count (node_words ws) i to)) where
+    all : Same t (nodes_in ws)
+    all =
+        moved_same p (meant_in a ws) (meant_in b ws) (nodes_in ws)
+        (still_lives (meant_in a ws) (meant_in b ws) (nodes_in ws)
+        (found (count_in ws) (node_words ws) (meant_in b ws) (omega (arith, c.second.here, c.second.live))) c.apart)
 
     size : length t ≡ count_in ws
     size = same_length all ∙ rows-length (count_in ws) (node_words ws)
@@ -74,104 +110,22 @@ module _ (checks : Engine → List Check) (moved to : NodeArgument) (ws : List �
     few = omega (arith, size, k.few)
 
     table : moved_to (count_in ws) (node_words ws) i (place_by p (count_in ws) (node_words ws) j) ≡ t
-    table = move_first (count_in ws) (node_words ws) (meant_in moved ws) (meant_in to ws) i j c.first.here c.second.here c.first.live c.second.live c.moving.outside p
+    table = move_first (count_in ws) (node_words ws) (meant_in a ws) (meant_in b ws) i j c.first.here c.second.here c.first.live c.second.live c.moving.outside p
 
-    left : Leaves (node_words ws) t us count
+    left : Leaves (node_words ws) t us (count_in ws)
     left = record {
-      words = (rw same at does) ∙ ap (λ (l : List Node). fill (node_words ws) l) table;
-      size = same ∙ sym size;
+      words = rw (there, same) at moves ∙ ap (λ (l : List Node). fill (node_words ws) l) table;
+      size = sym size;
     }
 
-    moved_ready : Staying (move_edit i (end_at count (node_words ws) i) (place_by p count (node_words ws) j).at) count (put nodes_place nodes_words us ws)
-    moved_ready =
-        let there : Leaves (node_words ws) t us (count_in ws) = rw same at left in
+    pub move_ready : (e : ℕ) → e ≡ end_at count (node_words ws) i → (edit : Edit) → edit ≡ move_edit i e to.at → Staying edit count (put nodes_place nodes_words us ws)
+    move_ready e end edit is =
         let changed = changed_left ws k t few (move_edit i (end_at (count_in ws) (node_words ws) i) (place_by p (count_in ws) (node_words ws) j).at)
         (subst (λ (l : List Node). edits.Does (move_edit i (end_at (count_in ws) (node_words ws) i) (place_by p (count_in ws) (node_words ws) j).at) (nodes_in ws) l) table
-        (move_does (count_in ws) (node_words ws) i (place_by p (count_in ws) (node_words ws) j) (move_place (node_words ws) (count_in ws) i j c.moving p))) us (count_in ws) there in
-        rw same (record { changed = changed; stays = stays_left ws k t few (λ e. same_lives (latest_in ws) all ∙ e) us (count_in ws) there })
+        (move_does (count_in ws) (node_words ws) i (place_by p (count_in ws) (node_words ws) j) (move_place (node_words ws) (count_in ws) i j c.moving p))) us (count_in ws) left in
+        rw (is, end, there, same) (record { changed = changed; stays = stays_left ws k t few (λ e. same_lives (latest_in ws) all ∙ e) us (count_in ws) left })
 
-    moved_left : (out : List ℕ) → out ≡ renewed count (put nodes_place nodes_words us ws) → (bs : List ℕ) → out ≡ put_tree (with_nodes t (decode ws bs)) ws
-    moved_left out o bs = o ∙ renewed_left ws k.size t few bs us count left
-
--- the words after a move, before what is derived is written
-abbrev moved_words : Position → List ℕ → ℕ → ℕ → List ℕ
-moved_words p ws a b = put nodes_place nodes_words (fill (node_words ws) (moved_to (count_in ws) (node_words ws) a (place_by p (count_in ws) (node_words ws) b))) ws
-
--- what a move asks of the places that its checks found, and what it answers and leaves
-abbrev pub Movable : Pair → Position → List ℕ → Type 0
-Movable (pair.At a b) p ws =
-    Moving (node_words ws) (count_in ws) a b
-    × Staying (move_edit a (end_at (count_in ws) (node_words ws) a) (place_by p (count_in ws) (node_words ws) b).at) (count_in ws) (moved_words p ws a b)
-Movable (pair.Refused r) p ws = Unit {0}
-
-abbrev pub Goes : Pair → Position → List ℕ → Answer → List ℕ → Type 0
-Goes (pair.At a b) p ws r out =
-    (r ≡ Done) × (out ≡ renewed (count_in ws) (moved_words p ws a b))
-Goes (pair.Refused why) p ws r out = (r ≡ Refused why) × (out ≡ ws)
-
--- a node moved to the place at a position, and what is derived written afresh
-module _ (a b : ℕ) (p : Position) (ws : List ℕ) (count : ℕ) (same : count ≡ count_in ws) (to : Place) (there : to ≡ place_by p count (node_words ws) b)
-    (us : List ℕ) (moves : us ≡ fill (node_words ws) (moved_to count (node_words ws) a to)) where
-  pub gone : (out : List ℕ) → out ≡ renewed count (put nodes_place nodes_words us ws) → Goes (pair.At a b) p ws Done out
-  gone out o =
-      (refl, o ∙ ap₂ (λ (n : ℕ) (l : List ℕ). renewed n (put nodes_place nodes_words l ws)) same (moves ∙ ap₂ (λ (n : ℕ) (x : Place). fill (node_words ws) (moved_to n (node_words ws) a x)) same (there ∙ ap (λ (n : ℕ). place_by p n (node_words ws) b) same)))
-
-  -- what that asks
-  pub gone_ready : Movable (pair.At a b) p ws → (e : ℕ) → e ≡ end_at count (node_words ws) a → (edit : Edit) → edit ≡ move_edit a e to.at → Staying edit count (put nodes_place nodes_words us ws)
-  gone_ready m e end edit is = rw (is, end, moves, there, same) m.1
-
--- one law for every move: a command that has these checks, and leaves the node at this position
-module _ (checks : Engine → List Check) (moved to : NodeArgument) (ws : List ℕ) where
-  module _ (k : Ready ws) (p : Position)
-      (all : lives (meant_in to ws) (cut (meant_in moved ws) (nodes_in ws)) ≡ true → Same (moved_by p (meant_in moved ws) (meant_in to ws) (nodes_in ws)) (nodes_in ws)) where
-    movable : (x : Pair) → PairFound checks moved to ws x → Movable x p ws
-    movable (pair.At i j) c = (c.moving, moved_ready checks moved to ws k (count_in ws) refl i j c p (all (place_lives checks moved to ws k (count_in ws) refl i j c)) _ refl)
-    movable (pair.Refused r) c = tt
-
-  module _ (k : Ready ws) (p : Position) (c : TreeCommand) (asks : (bytes bs : List ℕ) → answer_in (command.Tree c) bytes (decode ws bs) 0 ≡ first_of (checks (decode ws bs)) Done)
-      (leaves : (bytes bs : List ℕ) → words_after (command.Tree c) bytes ws bs ≡ put_tree (with_nodes (moved_by p (meant_in moved ws) (meant_in to ws) (nodes_in ws)) (decode ws bs)) ws)
-      (all : lives (meant_in to ws) (cut (meant_in moved ws) (nodes_in ws)) ≡ true → Same (moved_by p (meant_in moved ws) (meant_in to ws) (nodes_in ws)) (nodes_in ws)) where
-    goes : (x : Pair) → PairFound checks moved to ws x → (r : Answer) (out : List ℕ) → Goes x p ws r out → Steps c ws r out
-    goes (pair.At i j) f r out g bytes bs =
-        subst (λ (r : Answer). WordsStep (command.Tree c) bytes ws bs r out) (sym g.0)
-        (step_done (command.Tree c) bytes ws bs out (asks bytes bs ∙ f.passed bs)
-        (moved_left checks moved to ws k (count_in ws) refl i j f p (all (place_lives checks moved to ws k (count_in ws) refl i j f)) _ refl out g.1 bs ∙ sym (leaves bytes bs)))
-    goes (pair.Refused why) f r out g bytes bs =
-        subst₂ (λ (r : Answer) (l : List ℕ). WordsStep (command.Tree c) bytes ws bs r l) (sym g.0) (sym g.1)
-        (step_refused (command.Tree c) bytes ws bs why (asks bytes bs ∙ f bs))
-
--- each move
-module _ (a b : NodeArgument) (ws : List ℕ) (k : Ready ws) where
-  abbrev Does : Position → TreeCommand → (Engine → List Check) → Type 0
-  Does p c checks = (x : Pair) → PairFound checks a b ws x → (r : Answer) (out : List ℕ) → Goes x p ws r out → Steps c ws r out
-
-  abbrev Moves : Position → (Engine → List Check) → Type 0
-  Moves p checks = (x : Pair) → PairFound checks a b ws x → Movable x p ws
-
-  pub before_moves : Moves Before (beside_checks a b)
-  before_moves = movable (beside_checks a b) a b ws k Before (move_before_same (meant_in a ws) (meant_in b ws) (nodes_in ws))
-
-  pub after_moves : Moves After (beside_checks a b)
-  after_moves = movable (beside_checks a b) a b ws k After (move_after_same (meant_in a ws) (meant_in b ws) (nodes_in ws))
-
-  pub head_moves : Moves Head (into_checks b a)
-  head_moves = movable (into_checks b a) a b ws k Head (move_head_same (meant_in a ws) (meant_in b ws) (nodes_in ws))
-
-  pub tail_moves : Moves Tail (into_checks b a)
-  tail_moves = movable (into_checks b a) a b ws k Tail (move_tail_same (meant_in a ws) (meant_in b ws) (nodes_in ws))
-
-  pub before_goes : Does Before (tree.Before a b) (beside_checks a b)
-  unfolding answer_in decode words_after effect
-  before_goes = goes (beside_checks a b) a b ws k Before (tree.Before a b) (λ bytes bs. refl) (λ bytes bs. refl) (move_before_same (meant_in a ws) (meant_in b ws) (nodes_in ws))
-
-  pub after_goes : Does After (tree.After a b) (beside_checks a b)
-  unfolding answer_in decode words_after effect
-  after_goes = goes (beside_checks a b) a b ws k After (tree.After a b) (λ bytes bs. refl) (λ bytes bs. refl) (move_after_same (meant_in a ws) (meant_in b ws) (nodes_in ws))
-
-  pub head_goes : Does Head (tree.Head b a) (into_checks b a)
-  unfolding answer_in decode words_after effect
-  head_goes = goes (into_checks b a) a b ws k Head (tree.Head b a) (λ bytes bs. refl) (λ bytes bs. refl) (move_head_same (meant_in a ws) (meant_in b ws) (nodes_in ws))
-
-  pub tail_goes : Does Tail (tree.Tail b a) (into_checks b a)
-  unfolding answer_in decode words_after effect
-  tail_goes = goes (into_checks b a) a b ws k Tail (tree.Tail b a) (λ bytes bs. refl) (λ bytes bs. refl) (move_tail_same (meant_in a ws) (meant_in b ws) (nodes_in ws))
+    pub move_done : (out : List ℕ) → out ≡ renewed count (put nodes_place nodes_words us ws) → Steps (move_command p a b) ws Done out
+    move_done out o bytes bs =
+        step_done (command.Tree (move_command p a b)) bytes ws bs out (asks p bytes bs ∙ c.passed bs)
+        (o ∙ ap (λ (n : ℕ). renewed n (put nodes_place nodes_words us ws)) same ∙ renewed_left ws k.size t few bs us (count_in ws) left ∙ sym (leaves p bytes bs))

@@ -1,5 +1,5 @@
 -- The checks of moves: the places of both nodes, or the first refusal.
-use Rattle.std.specs.Prelude.{ℕ, Bool, false, not, ◌≡◌, List, ◌∷◌, eqb}
+use Rattle.std.specs.Prelude.{ℕ, Bool, false, not, ◌≡◌, List, ◌∷◌, eqb, Result, Ok, Err}
 use Rattle.std.proofs.Common.{◌∙◌, arith}
 use Rattle.words.specs.Choice.{pick}
 use Rattle.refusals.specs.declared.Refusal.{Refusal}
@@ -7,8 +7,8 @@ use Rattle.refusals.specs.declared.Refusal.TheVariants.{WrongKind, InsideItself}
 use Rattle.nodes.specs.Place.{is_group}
 use Rattle.nodes.specs.Edit.{is_below}
 use Rattle.values.specs.declared.NodeArgument.{NodeArgument}
-use Rattle.model.specs.declared.Answer.{Answer}
-use Rattle.model.specs.declared.Answer.TheVariants.{Done, Refused}
+use Rattle.model.specs.Answers.{Answer}
+use Rattle.model.specs.Answers.{Done, Refused}
 use Rattle.model.specs.Layout.{count_in, nodes_in, record_in, node_words}
 use Rattle.model.specs.Engine.{Engine, decode}
 use Rattle.model.specs.Checks.{Check, first_of, node_check, inside, beside_checks, into_checks}
@@ -16,23 +16,21 @@ use Rattle.tree.specs.Shallow.{moving}
 use Rattle.tree.specs.Ends.{in_run, Moving}
 use Rattle.tree.specs.Below.{is_below-at}
 use Rattle.tree.specs.Sizes.{TwoPlaces}
-use Rattle.treecommands.specs.declared.moves.Pair.{Pair}
-use Rattle.treecommands.specs.declared.moves.Pair.TheVariants as pair
 use Rattle.names.specs.Judged.{meant_in, NodeFound, NodeRefused}
 use Rattle.treecommands.specs.Ready.{Ready, words_long}
 use Rattle.treecommands.specs.Finding.{root_there, group-there}
 
 -- two arguments judged in their order: the places of both nodes, or the answer, whatever checks come behind
-abbrev pub PairJudged : NodeArgument → NodeArgument → List ℕ → Pair → Type 0
-PairJudged x y ws (pair.At i j) = NodeFound x ws i × NodeFound y ws j
-PairJudged x y ws (pair.Refused r) = (bs : List ℕ) (behind : List Check) → first_of (node_check x (decode ws bs) ∷ (node_check y (decode ws bs) ∷ behind)) Done ≡ Refused r
+abbrev pub PairJudged : NodeArgument → NodeArgument → List ℕ → Result (ℕ × ℕ) Refusal → Type 0
+PairJudged x y ws (Ok at) = NodeFound x ws at.0 × NodeFound y ws at.1
+PairJudged x y ws (Err r) = (bs : List ℕ) (behind : List Check) → first_of (node_check x (decode ws bs) ∷ (node_check y (decode ws bs) ∷ behind)) Done ≡ Refused r
 
 module _ (x y : NodeArgument) (ws : List ℕ) (r : Refusal) where
-  pub first_refused : NodeRefused x ws r → PairJudged x y ws (pair.Refused r)
+  pub first_refused : NodeRefused x ws r → PairJudged x y ws (Err r)
   unfolding first_of
   first_refused n bs behind = rw (n.fires bs) (n.answer bs)
 
-  pub second_refused : (i : ℕ) → NodeFound x ws i → NodeRefused y ws r → PairJudged x y ws (pair.Refused r)
+  pub second_refused : (i : ℕ) → NodeFound x ws i → NodeRefused y ws r → PairJudged x y ws (Err r)
   unfolding first_of
   second_refused i f n bs behind = rw (f.passes bs, n.fires bs) (n.answer bs)
 
@@ -48,9 +46,9 @@ pub record Clear (checks : Engine → List Check) (moved to : NodeArgument) (ws 
   pub apart : is_below (meant_in to ws) (meant_in moved ws) (nodes_in ws) ≡ false
   pub moving : Moving (node_words ws) (count_in ws) a b
 
-abbrev pub PairFound : (Engine → List Check) → NodeArgument → NodeArgument → List ℕ → Pair → Type 0
-PairFound checks moved to ws (pair.At a b) = Clear checks moved to ws a b
-PairFound checks moved to ws (pair.Refused r) = Answers checks ws r
+abbrev pub PairFound : (Engine → List Check) → NodeArgument → NodeArgument → List ℕ → Result (ℕ × ℕ) Refusal → Type 0
+PairFound checks moved to ws (Ok at) = Clear checks moved to ws at.0 at.1
+PairFound checks moved to ws (Err r) = Answers checks ws r
 
 -- the checks behind those of the arguments: both kinds, and the place inside the moved node
 abbrev pub kind_answer : Bool → Bool → Bool → Answer

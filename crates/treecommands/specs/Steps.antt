@@ -14,7 +14,7 @@ use Rattle.treerefinement.specs.Keep.{within_length}
 use Rattle.values.specs.declared.NodeArgument.{NodeArgument}
 use Rattle.model.specs.declared.TreeCommand.{TreeCommand}
 use Rattle.model.specs.declared.Command.TheVariants as command
-use Rattle.model.specs.declared.Answer.{Answer}
+use Rattle.model.specs.Answers.{Answer}
 use Rattle.reindex.specs.declared.edit.Edit.{Edit}
 use Rattle.reindex.specs.Follow.{Carries, PlaceOfNode}
 use Rattle.reindex.specs.Edits.{Does}

@@ -14,13 +14,8 @@ pub fn bad_target(action: Action, at: usize, words: &[u32]) -> bool
     ensures { result ≡ bad_at action words.now at }
 {
     match action {
-        Action::Put(position) => match position {
-            Position::Head => is_synth(words, at),
-            Position::Tail => is_synth(words, at),
-            Position::Before => at == 0,
-            Position::After => at == 0,
-        },
-        Action::Replace => at == 0,
+        Action::Put(Position::Head | Position::Tail) => is_synth(words, at),
+        Action::Put(Position::Before | Position::After) | Action::Replace => at == 0,
     }
 }
 
@@ -28,8 +23,5 @@ pub fn bad_target(action: Action, at: usize, words: &[u32]) -> bool
 pub fn is_full(action: Action, count: usize) -> bool
     ensures { result ≡ full_at action count }
 {
-    match action {
-        Action::Put(_position) => MOST_NODES <= count,
-        Action::Replace => false,
-    }
+    matches!(action, Action::Put(_)) && MOST_NODES <= count
 }

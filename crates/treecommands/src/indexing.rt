@@ -17,9 +17,10 @@ pub fn move_edit(a: usize, end: usize, place: usize) -> Edit
     ensures { result ≡ move_edit a end place }
 {
     if place <= a {
-        return Edit::Swap(place, a, end);
+        Edit::Swap(place, a, end)
+    } else {
+        Edit::Swap(a, end, place)
     }
-    Edit::Swap(a, end, place)
 }
 
 // The entry of the new node at a place put in.
@@ -43,10 +44,8 @@ pub fn renew_index(words: &mut [u32], edit: Edit, count: usize)
 {
     let before = wide(words[COUNT]);
     let left = follow_edit(&mut words[INDEX..INDEX_END], before, edit);
-    match edit {
-        Edit::Cut(_from, _to) => {}
-        Edit::Put(at, _to) => put_new(words, left, at),
-        Edit::Swap(_a, _b, _c) => {}
+    if let Edit::Put(at, _to) = edit {
+        put_new(words, left, at);
     }
 }
 

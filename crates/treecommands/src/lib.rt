@@ -13,6 +13,6 @@ mod place;
 pub use adding::{bad_target, is_full};
 pub use finish::settle;
 pub use free::{deep_free, free_all, free_node, run_node};
-pub use group::{TargetPlace, new_group};
+pub use group::new_group;
 pub use moves::{move_after, move_before, move_head, move_tail};
 pub use place::is_synth;

@@ -18,8 +18,8 @@ use Rattle.nodes.specs.Sizes.{end_at}
 use Rattle.osc.specs.Message.{int, message}
 use Rattle.values.specs.declared.NodeArgument.{NodeArgument}
 use Rattle.model.specs.declared.Query.TheVariants as query
-use Rattle.model.specs.declared.Answer.{Answer}
-use Rattle.model.specs.declared.Answer.TheVariants.{Refused}
+use Rattle.model.specs.Answers.{Answer}
+use Rattle.model.specs.Answers.{Refused}
 use Rattle.model.specs.Layout.{count_in, nodes_in, nodes_place, nodes_words, controls_in, record_in}
 use Rattle.model.specs.Engine.{Slot, decode}
 use Rattle.model.specs.View.{Row, view, view_rows, view_of}

@@ -14,13 +14,11 @@ pub fn tree_children(words: &[u32], at: usize, end: usize) -> [u8; MOST_NODES]
 {
     let mut children = [0u8; MOST_NODES];
     let mut below = [0u8; MOST_NODES];
-    let mut i = end - 1;
-    while at < i {
+    for i in (at + 1..end).rev() {
         let depth = wide(words[NODES + RECORD * i + DEPTH]);
         children[i] = below[depth];
         below[depth] = 0;
         below[depth - 1] += 1;
-        i -= 1;
     }
     children[at] = below[wide(words[NODES + RECORD * at + DEPTH])];
     children

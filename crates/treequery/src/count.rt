@@ -26,15 +26,14 @@ fn count_controls(
 {
     let definition = node_definition(words, arena, place);
     let synth = synth_at(words, arena, shapes, place);
-    let row = synth.row;
-    let first = synth.first;
-    let many = synth.many;
-    let mut next = count_piece(places, definition, Piece::Whole(many));
-    let mut j: u32 = 0;
-    while j < many {
-        next = count_piece(next, definition, label_at(definition, shapes, first, j));
-        next = count_piece(next, definition, value_at(words, row, j));
-        j += 1;
+    let mut next = count_piece(places, definition, Piece::Whole(synth.many));
+    for j in 0..synth.many {
+        next = count_piece(
+            next,
+            definition,
+            label_at(definition, shapes, synth.first, j),
+        );
+        next = count_piece(next, definition, value_at(words, synth.row, j));
     }
     next
 }
@@ -77,10 +76,8 @@ pub fn count_tree(
     ensures { Size (left_rows shown words.now arena.now end from) result }
 {
     let mut next = Places { tag: 0, byte: 0 };
-    let mut i = from;
-    while i < end {
+    for i in from..end {
         next = count_row(next, words, arena, shapes, shown, end, i);
-        i += 1;
     }
     next
 }

@@ -21,10 +21,9 @@ pub fn piece_tag(piece: Piece) -> u8
     ensures { (s : List ℕ) → result ≡ tag_of (piece_argument s piece) }
 {
     match piece {
-        Piece::Whole(_n) => 105,
-        Piece::Pattern(_p) => 102,
-        Piece::Part(_start, _end) => 115,
-        Piece::Mapped(_bus) => 115,
+        Piece::Whole(_) => 105,
+        Piece::Pattern(_) => 102,
+        Piece::Part(..) | Piece::Mapped(_) => 115,
     }
 }
 
@@ -34,8 +33,7 @@ pub fn piece_size(definition: &[u8], piece: Piece) -> usize
     ensures { PieceSize definition.now piece result }
 {
     match piece {
-        Piece::Whole(_n) => 4,
-        Piece::Pattern(_p) => 4,
+        Piece::Whole(_) | Piece::Pattern(_) => 4,
         Piece::Part(start, end) => padded_length(part(definition, start, end).len()),
         Piece::Mapped(bus) => padded_length(1 + decimal_length(bus)),
     }
@@ -58,8 +56,7 @@ pub fn put_piece(out: &mut [u8], at: usize, definition: &[u8], piece: Piece)
     ensures { out.new ≡ over at (piece_bytes definition.now piece) out.old }
 {
     match piece {
-        Piece::Whole(n) => put_int(out, at, n),
-        Piece::Pattern(pattern) => put_int(out, at, pattern),
+        Piece::Whole(word) | Piece::Pattern(word) => put_int(out, at, word),
         Piece::Part(start, end) => put_padded(out, at, part(definition, start, end)),
         Piece::Mapped(bus) => put_mapped(out, at, bus),
     }

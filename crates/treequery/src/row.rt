@@ -45,8 +45,7 @@ pub fn label_at(definition: &[u8], shapes: &[u32; SHAPES], first: usize, index: 
 fn shown_piece(control: Control) -> Piece
     ensures { Shown (seen control) result }
 {
-    let mapping = control.mapping;
-    match mapping {
+    match control.mapping {
         Mapping::Unmapped => Piece::Pattern(control.own_word()),
         Mapping::Bus(bus) => Piece::Mapped(bus),
     }

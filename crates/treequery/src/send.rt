@@ -1,6 +1,7 @@
 // The whole reply.
 ghost use Rattle.std.specs.Prelude.{◌+◌, not, ◌≡◌, eqb};
 ghost use Rattle.model.specs.declared.Query.TheVariants as query;
+ghost use Rattle.model.specs.Answers.{replied_or};
 ghost use Rattle.model.specs.Replies.{flag_number};
 ghost use Rattle.replies.specs.Sent.{Sends};
 ghost use Rattle.state.specs.Known.{Known};
@@ -14,8 +15,7 @@ use crate::places::Places;
 use crate::shapes::{SHAPES, tree_shapes};
 use crate::write::put_tree;
 use layout::{COUNT, NODES, NODES_END, RECORD};
-use model::Answer;
-use names::{NodePlace, node_is_group, node_place};
+use names::{node_is_group, node_place};
 use osc::{padded_length, put_bytes, put_padded, put_zeros};
 use refusals::Refusal;
 use replies::put_words;
@@ -33,10 +33,7 @@ fn is_shown(flag: u32) -> bool
 fn flag_number(shown: bool) -> u32
     ensures { result ≡ flag_number shown }
 {
-    if shown {
-        return 1;
-    }
-    0
+    u32::from(shown)
 }
 
 // What stands before and between the rows' tags and arguments: the address, the first tags, the zeros behind the tags, the first arguments.
@@ -59,9 +56,9 @@ fn send_tree(
     shown: bool,
     at: usize,
     end: usize,
-) -> Answer
+) -> Result<usize, Refusal>
     requires { Run words.now arena.now (at + 1) end }
-    ensures { Sends (tree_message shown words.now arena.now end at) out.old result out.new }
+    ensures { Sends (tree_message shown words.now arena.now end at) out.old (replied_or result) out.new }
 {
     let from = at + 1;
     let mut shapes = [0u32; SHAPES];
@@ -73,7 +70,7 @@ fn send_tree(
     let front = 20 + padded_length(many + 4);
     let whole = front + 12 + size.byte;
     if out.len() < whole {
-        return Answer::Refused(Refusal::NoRoom);
+        return Err(Refusal::NoRoom);
     }
     let children = tree_children(words, at, end);
     let number = words[NODES + RECORD * at];
@@ -85,7 +82,7 @@ fn send_tree(
     put_tree(
         out, places, words, arena, &shapes, &children, shown, from, end,
     );
-    Answer::Replied(whole)
+    Ok(whole)
 }
 
 // The tree below a group.
@@ -96,18 +93,13 @@ pub fn tree_query(
     out: &mut [u8],
     group: NodeArgument,
     flag: u32,
-) -> Answer
+) -> Result<usize, Refusal>
     requires { Known words.now arena.now }
-    ensures { Reply (query.Tree group flag) bytes.now words.now arena.now out.old result out.new }
+    ensures { Reply (query.Tree group flag) bytes.now words.now arena.now out.old (replied_or result) out.new }
 {
-    let at = match node_place(words, group) {
-        NodePlace::At(at) => at,
-        NodePlace::Refused(refusal) => {
-            return Answer::Refused(refusal);
-        }
-    };
+    let at = node_place(words, group)?;
     if !node_is_group(words, at) {
-        return Answer::Refused(Refusal::WrongKind);
+        return Err(Refusal::WrongKind);
     }
     let count = wide(words[COUNT]);
     let end = subtree_end(&words[NODES..NODES_END], count, at);

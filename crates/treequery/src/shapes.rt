@@ -33,8 +33,8 @@ pub fn synth_at(words: &[u32], arena: &[u8], shapes: &[u32; SHAPES], place: usiz
     let row = node_row(words, place);
     let first = SHAPE * node_slot(words, place);
     Synth {
-        row: row,
-        first: first,
+        row,
+        first,
         many: shapes[first] - 1,
     }
 }
@@ -47,10 +47,8 @@ fn look_up(shapes: &mut [u32; SHAPES], slot: usize, definition: &[u8])
     let places = labels(definition);
     let first = SHAPE * slot;
     shapes[first] = parameter_count(definition) + 1;
-    let mut j = 0;
-    while j < 32 {
+    for j in 0..places.len() {
         shapes[first + 1 + j] = places[j];
-        j += 1;
     }
 }
 
@@ -74,9 +72,7 @@ pub fn tree_shapes(shapes: &mut [u32; SHAPES], words: &[u32], arena: &[u8], from
     requires { (Run words.now arena.now from end) × (ShapesKnown words.now arena.now shapes.old) }
     ensures { Shapes words.now arena.now from end shapes.new }
 {
-    let mut i = from;
-    while i < end {
+    for i in from..end {
         look_up_row(shapes, words, arena, i);
-        i += 1;
     }
 }

@@ -30,20 +30,15 @@ fn put_controls(
 {
     let definition = node_definition(words, arena, place);
     let synth = synth_at(words, arena, shapes, place);
-    let row = synth.row;
-    let first = synth.first;
-    let many = synth.many;
-    let mut next = put_argument(out, places, definition, Piece::Whole(many));
-    let mut j: u32 = 0;
-    while j < many {
+    let mut next = put_argument(out, places, definition, Piece::Whole(synth.many));
+    for j in 0..synth.many {
         next = put_argument(
             out,
             next,
             definition,
-            label_at(definition, shapes, first, j),
+            label_at(definition, shapes, synth.first, j),
         );
-        next = put_argument(out, next, definition, value_at(words, row, j));
-        j += 1;
+        next = put_argument(out, next, definition, value_at(words, synth.row, j));
     }
     next
 }
@@ -92,11 +87,9 @@ pub fn put_tree(
     ensures { Wrote places (left_rows shown words.now arena.now end from) out.old result out.new }
 {
     let mut next = places;
-    let mut i = from;
-    while i < end {
-        let many = children[i] as u32;
+    for i in from..end {
+        let many = u32::from(children[i]);
         next = put_row(out, next, words, arena, shapes, many, shown, end, i);
-        i += 1;
     }
     next
 }

@@ -7,4 +7,4 @@ mod shape;
 mod unit;
 
 pub use outputs::REMEMBERED;
-pub use run::{Run, read_units};
+pub use run::read_units;

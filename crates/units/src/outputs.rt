@@ -17,37 +17,44 @@ pub const MARKS: usize = 16384;
 // Marks stand at least so many units apart, so that units are read in runs of as many.
 pub const NEAREST: usize = 2;
 
+// What all units of a definition are read with: the width of its fields, how many constants it has, where its first unit starts, and of how
+// many units one has a mark.
+#[derive(Clone, Copy)]
+pub struct Scope {
+    pub width: Width,
+    pub constants: u32,
+    pub start: usize,
+    pub stride: u32,
+}
+
 // How many outputs the unit so many units behind the one at a place has.
+#[tactic(auto, using(crate::specs::Marks::place_up), unfolding(crate::specs::Marks::unit_place))]
 fn outputs_behind(s: &[u8], start: usize, width: Width, unit: u32) -> u32
     requires { unit_end width s.now (unit_place width s.now start unit) ≤ length s.now }
     ensures { result ≡ unit_outputs width s.now (unit_place width s.now start unit) }
 {
     let mut at = start;
-    let mut i = 0;
-    while i < unit {
+    for _ in 0..unit {
         at = unit_end(s, at, width);
-        i += 1;
     }
     unit_outputs(s, at, width)
 }
 
 // How many outputs a unit has, by a walk from its mark.
-pub fn far_outputs(
-    s: &[u8],
-    start: usize,
-    width: Width,
-    unit: u32,
-    stride: u32,
-    marks: &[u32],
-) -> u32
-    requires { (unit_end width s.now (unit_place width s.now start unit) ≤ length s.now) × Marked width s.now start stride marks.now }
-    ensures { result ≡ unit_outputs width s.now (unit_place width s.now start unit) }
+#[tactic(auto, using(crate::specs::Marks::mark_place, crate::specs::Marks::mark_within), unfolding(crate::specs::Marks::unit_end, crate::specs::Marks::unit_counts))]
+pub fn far_outputs(s: &[u8], scope: Scope, unit: u32, marks: &[u32]) -> u32
+    requires { (unit_end scope.width s.now (unit_place scope.width s.now scope.start unit) ≤ length s.now) × Marked scope.width s.now scope.start scope.stride marks.now }
+    ensures { result ≡ unit_outputs scope.width s.now (unit_place scope.width s.now scope.start unit) }
 {
-    let index = wide(unit / stride);
-    if index < marks.len() {
-        return outputs_behind(s, start + wide(marks[index]), width, unit % stride);
+    match marks.get(wide(unit / scope.stride)) {
+        Some(mark) => outputs_behind(
+            s,
+            scope.start + wide(*mark),
+            scope.width,
+            unit % scope.stride,
+        ),
+        None => outputs_behind(s, scope.start, scope.width, unit),
     }
-    outputs_behind(s, start, width, unit)
 }
 
 // Marks the unit at a place, so many bytes behind the first one, if it is the next to be marked and there is room: how many are marked.
@@ -55,13 +62,7 @@ pub fn mark_unit(marks: &mut [u32], known: usize, stride: u32, unit: u32, place:
     requires { (known ≤ length marks.old) × (length marks.old ≤ most_marks) }
     ensures { Marking marks.old marks.new known stride unit place result }
 {
-    if known * wide(stride) != wide(unit) {
-        return known;
-    }
-    if marks.len() <= known {
-        return known;
-    }
-    if 0xFFFF_FFFF < place {
+    if known * wide(stride) != wide(unit) || marks.len() <= known || 0xFFFF_FFFF < place {
         return known;
     }
     marks[known] = place as u32;

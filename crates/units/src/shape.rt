@@ -17,15 +17,16 @@ pub fn field_size(width: Width) -> usize
 }
 
 // The place of the counts of the unit at a place.
+#[tactic(auto, unfolding(crate::specs::Marks::unit_counts, crate::specs::Marks::unit_end))]
 pub fn unit_counts(s: &[u8], at: usize) -> usize
     requires { unit_counts s.now at ≤ length s.now }
     ensures { result ≡ unit_counts s.now at }
 {
-    let size = s[at] as usize;
-    at + 2 + size
+    at + 2 + usize::from(s[at])
 }
 
 // How many inputs the unit at a place has.
+#[tactic(auto, unfolding(crate::specs::Marks::unit_inputs, crate::specs::Marks::unit_end))]
 pub fn unit_inputs(s: &[u8], at: usize, width: Width) -> u32
     requires { unit_end width s.now at ≤ length s.now }
     ensures { result ≡ unit_inputs width s.now at }
@@ -34,6 +35,7 @@ pub fn unit_inputs(s: &[u8], at: usize, width: Width) -> u32
 }
 
 // How many outputs the unit at a place has.
+#[tactic(auto, unfolding(crate::specs::Marks::unit_outputs, crate::specs::Marks::unit_end))]
 pub fn unit_outputs(s: &[u8], at: usize, width: Width) -> u32
     requires { unit_end width s.now at ≤ length s.now }
     ensures { result ≡ unit_outputs width s.now at }

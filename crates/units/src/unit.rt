@@ -7,190 +7,96 @@ ghost use Rattle.format.specs.Reader.{input_by};
 ghost use Rattle.units.specs.Answers.{unit_of};
 ghost use Rattle.units.specs.Units.{outs_from, skip_unit, Remembered};
 
-use crate::outputs::{REMEMBERED, far_outputs};
-use faults::Fault;
-use fields::{Cursor, Number, Step, Text};
+use crate::outputs::{REMEMBERED, Scope, far_outputs};
+use faults::{Fault, FileError};
+use fields::{Cursor, Reading, skip_many};
 use format::{HIGHEST, Width};
 use words::{MINUS_ONE, wide};
 
-// How many inputs and outputs a unit has, and the next cursor; or the refusal and its place.
-#[derive(Clone, Copy)]
-pub enum UnitRead {
-    Value(u32, u32, Cursor),
-    Bad(Fault, usize),
-}
-
 // An index below a bound.
-fn read_index(s: &[u8], cursor: Cursor, width: Width, bound: u32) -> Step
+fn read_index(s: &[u8], cursor: Cursor, width: Width, bound: u32) -> Result<Cursor, FileError>
     ensures { step_of result ≡ ending (index_below_by width bound s.now cursor.at) }
 {
-    match cursor.index_below(s, width, bound) {
-        Number::Value(_, next) => Step::Next(next),
-        Number::Bad(refusal, place) => Step::Bad(refusal, place),
-    }
-}
-
-// One rate.
-fn read_rate(s: &[u8], cursor: Cursor) -> Step
-    ensures { step_of result ≡ ending (rate s.now cursor.at) }
-{
-    match cursor.rate(s) {
-        Number::Value(_, next) => Step::Next(next),
-        Number::Bad(refusal, place) => Step::Bad(refusal, place),
-    }
+    let (_, next) = cursor.index_below(s, width, bound)?;
+    Ok(next)
 }
 
 // One input of the unit behind so many others, whose outputs `outs` holds as far as they are remembered.
+#[tactic(auto, using(crate::specs::Units::outs_length, crate::specs::Units::outs_at, crate::specs::Units::input_cut, crate::specs::Units::input_constant, crate::specs::Units::input_output, crate::specs::Units::input_bad, crate::specs::Marks::place_up), unfolding(crate::specs::Marks::unit_place))]
 fn read_input(
     s: &[u8],
     cursor: Cursor,
-    width: Width,
-    constants: u32,
-    start: usize,
+    scope: Scope,
     units: u32,
     outs: &[u32; REMEMBERED],
-    stride: u32,
     marks: &[u32],
-) -> Step
-    requires { Remembered width s.now start units outs.now stride marks.now }
-    ensures { step_of result ≡ ending (input_by width constants (outs_from width s.now start units) s.now cursor.at) }
+) -> Result<Cursor, FileError>
+    requires { Remembered scope.width s.now scope.start units outs.now scope.stride marks.now }
+    ensures { step_of result ≡ ending (input_by scope.width scope.constants (outs_from scope.width s.now scope.start units) s.now cursor.at) }
 {
     let at = cursor.at;
-    match cursor.integer(s, width) {
-        Number::Value(unit, next) => {
-            if unit == MINUS_ONE {
-                return read_index(s, next, width, constants);
-            }
-            if units <= unit {
-                return Step::Bad(Fault::BadIndex, at);
-            }
-            if wide(units) <= wide(unit) + REMEMBERED {
-                return read_index(s, next, width, outs[wide(unit) % REMEMBERED]);
-            }
-            read_index(
-                s,
-                next,
-                width,
-                far_outputs(s, start, width, unit, stride, marks),
-            )
-        }
-        Number::Bad(refusal, place) => Step::Bad(refusal, place),
+    let (unit, next) = cursor.integer(s, scope.width)?;
+    if unit == MINUS_ONE {
+        return read_index(s, next, scope.width, scope.constants);
     }
+    if units <= unit {
+        return Err(FileError(Fault::BadIndex, at));
+    }
+    if wide(units) <= wide(unit) + REMEMBERED {
+        return read_index(s, next, scope.width, outs[wide(unit) % REMEMBERED]);
+    }
+    read_index(s, next, scope.width, far_outputs(s, scope, unit, marks))
 }
 
 // So many inputs.
 fn read_inputs(
     s: &[u8],
     cursor: Cursor,
-    width: Width,
     count: u32,
-    constants: u32,
-    start: usize,
+    scope: Scope,
     units: u32,
     outs: &[u32; REMEMBERED],
-    stride: u32,
     marks: &[u32],
-) -> Step
-    requires { Remembered width s.now start units outs.now stride marks.now }
-    ensures { step_of result ≡ ending (repeat (input_by width constants (outs_from width s.now start units) s.now) count cursor.at) }
+) -> Result<Cursor, FileError>
+    requires { Remembered scope.width s.now scope.start units outs.now scope.stride marks.now }
+    ensures { step_of result ≡ ending (repeat (input_by scope.width scope.constants (outs_from scope.width s.now scope.start units) s.now) count cursor.at) }
 {
-    let mut at = cursor.at;
-    let mut i = 0;
-    while i < count {
-        match read_input(
-            s,
-            Cursor { at: at },
-            width,
-            constants,
-            start,
-            units,
-            outs,
-            stride,
-            marks,
-        ) {
-            Step::Next(next) => {
-                at = next.at;
-            }
-            Step::Bad(refusal, place) => {
-                return Step::Bad(refusal, place);
-            }
-        }
-        i += 1;
-    }
-    Step::Next(Cursor { at: at })
+    skip_many(
+        cursor,
+        count,
+        |here| read_input(s, here, scope, units, outs, marks),
+    )
 }
 
 // So many rates.
-fn read_rates(s: &[u8], cursor: Cursor, count: u32) -> Step
+fn read_rates(s: &[u8], cursor: Cursor, count: u32) -> Result<Cursor, FileError>
     ensures { step_of result ≡ ending (repeat (rate s.now) count cursor.at) }
 {
-    let mut at = cursor.at;
-    let mut i = 0;
-    while i < count {
-        match read_rate(s, Cursor { at: at }) {
-            Step::Next(next) => {
-                at = next.at;
-            }
-            Step::Bad(refusal, place) => {
-                return Step::Bad(refusal, place);
-            }
-        }
-        i += 1;
-    }
-    Step::Next(Cursor { at: at })
+    skip_many(cursor, count, |here| {
+        let (_, next) = here.rate(s)?;
+        Ok(next)
+    })
 }
 
-// A unit behind so many others: how many inputs and outputs it has, and the next cursor.
+// A unit behind so many others: how many inputs and outputs it has.
+#[tactic(auto, unfolding(crate::specs::Units::skip_unit))]
 pub fn read_unit(
     s: &[u8],
     cursor: Cursor,
-    width: Width,
-    constants: u32,
-    start: usize,
+    scope: Scope,
     units: u32,
     outs: &[u32; REMEMBERED],
-    stride: u32,
     marks: &[u32],
-) -> UnitRead
-    requires { Remembered width s.now start units outs.now stride marks.now }
-    ensures { unit_of result ≡ skip_unit width constants (outs_from width s.now start units) s.now cursor.at }
+) -> Reading<(u32, u32)>
+    requires { Remembered scope.width s.now scope.start units outs.now scope.stride marks.now }
+    ensures { unit_of result ≡ skip_unit scope.width scope.constants (outs_from scope.width s.now scope.start units) s.now cursor.at }
 {
-    let p1 = match cursor.name(s) {
-        Text::Value(_, next) => next,
-        Text::Bad(refusal, place) => {
-            return UnitRead::Bad(refusal, place);
-        }
-    };
-    let p2 = match p1.rate(s) {
-        Number::Value(_, next) => next,
-        Number::Bad(refusal, place) => {
-            return UnitRead::Bad(refusal, place);
-        }
-    };
-    match p2.count_to(s, width, HIGHEST) {
-        Number::Value(inputs, p3) => match p3.count_to(s, width, HIGHEST) {
-            Number::Value(outputs, p4) => {
-                let p5 = match p4.int16(s) {
-                    Number::Value(_, next) => next,
-                    Number::Bad(refusal, place) => {
-                        return UnitRead::Bad(refusal, place);
-                    }
-                };
-                let p6 = match read_inputs(
-                    s, p5, width, inputs, constants, start, units, outs, stride, marks,
-                ) {
-                    Step::Next(next) => next,
-                    Step::Bad(refusal, place) => {
-                        return UnitRead::Bad(refusal, place);
-                    }
-                };
-                match read_rates(s, p6, outputs) {
-                    Step::Next(end) => UnitRead::Value(inputs, outputs, end),
-                    Step::Bad(refusal, place) => UnitRead::Bad(refusal, place),
-                }
-            }
-            Number::Bad(refusal, place) => UnitRead::Bad(refusal, place),
-        },
-        Number::Bad(refusal, place) => UnitRead::Bad(refusal, place),
-    }
+    let (_, p1) = cursor.name(s)?;
+    let (_, p2) = p1.rate(s)?;
+    let (inputs, p3) = p2.count_to(s, scope.width, HIGHEST)?;
+    let (outputs, p4) = p3.count_to(s, scope.width, HIGHEST)?;
+    let (_, p5) = p4.int16(s)?;
+    let p6 = read_inputs(s, p5, inputs, scope, units, outs, marks)?;
+    let end = read_rates(s, p6, outputs)?;
+    Ok(((inputs, outputs), end))
 }

@@ -1,6 +1,6 @@
 -- Laws of values: an integer is the equal float, and the cases that the code makes.
 use Prim.Native.Nat.{ℕ, zero, suc, ◌+◌, ◌-◌, ◌*◌, ◌/◌, ◌%◌, ◌^◌, ◌<◌, ◌≤◌, compare}
-use Rattle.std.specs.Prelude.{Bool, true, false, not, cond, ◌≡◌, refl, T, ltb, pos, negsuc, Float}
+use Rattle.std.specs.Prelude.{Bool, true, false, not, cond, ◌≡◌, refl, T, ltb, pos, negsuc, Float, Some, None}
 use Rattle.std.proofs.Common.{arith, add-one, ltb-true, ltb-false, le-leb, le→leb}
 use Rattle.std.proofs.lemmas.Bool.{lt-leb}
 use Rattle.std.specs.Float.{nan, inf, fin, Format, binary32}
@@ -16,7 +16,6 @@ use Rattle.values.specs.Values.{equal_float, in_bounds, pattern, pattern_of}
 use Rattle.values.specs.declared.Value.{Value}
 use Rattle.values.specs.declared.Value.TheVariants.{Integer}
 use Rattle.values.specs.declared.Value.TheVariants as value
-use Rattle.values.specs.declared.ValuePattern.TheVariants.{Pattern, OutOfBounds}
 
 -- "the equal float": it has the integer's sign and is its magnitude in size
 pub equal_positive : (n : ℕ) → n ≤ 16777216 → HasValue (of_int binary32 (pos n)) false n 1
@@ -78,40 +77,40 @@ negated n = rw (add-one n) (neg_round binary32 false (suc n) 1)
 
 -- ---- the code's three cases
 
-pub float_pattern : (p : ℕ) → pattern_of (value.Float p) ≡ Pattern p
+pub float_pattern : (p : ℕ) → pattern_of (value.Float p) ≡ Some p
 unfolding pattern_of in_bounds pattern
 float_pattern p = refl
 
-pub small_integer : (p : ℕ) → p ≤ 16777216 → pattern_of (Integer p) ≡ Pattern (equal_float (pos p))
+pub small_integer : (p : ℕ) → p ≤ 16777216 → pattern_of (Integer p) ≡ Some (equal_float (pos p))
 unfolding pattern_of in_bounds pattern
 small_integer p h = rw (signed_low p (omega arith), le-leb p 16777216 h)
 
-pub small_negative : (p k : ℕ) → 4278190080 ≤ p → 4294967295 - p ≡ k → pattern_of (Integer p) ≡ Pattern (equal_float (negsuc k))
+pub small_negative : (p k : ℕ) → 4278190080 ≤ p → 4294967295 - p ≡ k → pattern_of (Integer p) ≡ Some (equal_float (negsuc k))
 unfolding pattern_of in_bounds pattern
 small_negative p k h e = rw (signed_high p k (omega arith) e, le-leb k 16777215 (omega arith))
 
-pub large_integer : (p : ℕ) → 16777216 < p → p < 4278190080 → pattern_of (Integer p) ≡ OutOfBounds
+pub large_integer : (p : ℕ) → 16777216 < p → p < 4278190080 → pattern_of (Integer p) ≡ None
 unfolding pattern_of in_bounds
 large_integer p h l = go (ltb p 2147483648) refl
   where
-    go : (b : Bool) → ltb p 2147483648 ≡ b → pattern_of (Integer p) ≡ OutOfBounds
+    go : (b : Bool) → ltb p 2147483648 ≡ b → pattern_of (Integer p) ≡ None
     go true e = rw (signed_low p (ltb-true p 2147483648 e), lt-leb p 16777216 h)
     go false e = rw (signed_high p (4294967295 - p) (ltb-false p 2147483648 e) refl, lt-leb (4294967295 - p) 16777215 (omega arith))
 
 -- ---- what the answer tells
 
-picked : (b : Bool) (x : ℕ) (p : ℕ) → pick b (Pattern x) OutOfBounds ≡ Pattern p → (b ≡ true) × (x ≡ p)
+picked : (b : Bool) (x : ℕ) (p : ℕ) → pick b (Some x) None ≡ Some p → (b ≡ true) × (x ≡ p)
 picked true x p h = (refl, (cc))
 picked false x p h = ((cc), (cc))
 
-pub pattern_fact : (v : Value) (p : ℕ) → pattern_of v ≡ Pattern p → (in_bounds v ≡ true) × (pattern v ≡ p)
+pub pattern_fact : (v : Value) (p : ℕ) → pattern_of v ≡ Some p → (in_bounds v ≡ true) × (pattern v ≡ p)
 unfolding pattern_of
 pattern_fact v p h = picked (in_bounds v) (pattern v) p h
 
-refused : (b : Bool) (x : ℕ) → pick b (Pattern x) OutOfBounds ≡ OutOfBounds → b ≡ false
+refused : (b : Bool) (x : ℕ) → pick b (Some x) None ≡ None → b ≡ false
 refused true x h = (cc)
 refused false x h = refl
 
-pub bounds_fact : (v : Value) → pattern_of v ≡ OutOfBounds → in_bounds v ≡ false
+pub bounds_fact : (v : Value) → pattern_of v ≡ None → in_bounds v ≡ false
 unfolding pattern_of
 bounds_fact v h = refused (in_bounds v) (pattern v) h

@@ -1,5 +1,5 @@
 -- A value in a command: paper 01, "Controls and buses".
-use Rattle.std.specs.Prelude.{ℕ, Bool, true, ℤ, pos, neg_ℤ}
+use Rattle.std.specs.Prelude.{ℕ, Bool, true, ℤ, pos, neg_ℤ, Option, Some, None}
 use Rattle.std.specs.Int.Signed.{le_z}
 use Rattle.std.specs.Float.{binary32}
 use Rattle.std.specs.Float.Ieee.{of_int, to_bits}
@@ -7,8 +7,6 @@ use Rattle.words.specs.Choice.{pick, both}
 use Rattle.values.specs.Targets.{signed}
 use Rattle.values.specs.declared.Value.{Value}
 use Rattle.values.specs.declared.Value.TheVariants.{Float, Integer}
-use Rattle.values.specs.declared.ValuePattern.{ValuePattern}
-use Rattle.values.specs.declared.ValuePattern.TheVariants.{Pattern, OutOfBounds}
 
 -- "An integer value from -16,777,216 to 16,777,216"
 abbrev pub bounded : ℤ → Bool
@@ -27,5 +25,5 @@ pattern (Float p) = p
 pattern (Integer p) = equal_float (signed p)
 
 -- out of bounds is refusal 23
-unfoldable pub pattern_of : Value → ValuePattern
-pattern_of v = pick (in_bounds v) (Pattern (pattern v)) OutOfBounds
+unfoldable pub pattern_of : Value → Option ℕ
+pattern_of v = pick (in_bounds v) (Some (pattern v)) None

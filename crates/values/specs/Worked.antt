@@ -1,5 +1,5 @@
 -- Paper 01's example of a control, and values, run through the definitions.
-use Rattle.std.specs.Prelude.{ℕ, ◌≡◌, refl, List, [], ◌∷◌, map}
+use Rattle.std.specs.Prelude.{ℕ, ◌≡◌, refl, List, [], ◌∷◌, map, Some, None}
 use Rattle.std.specs.Float.Ieee.{of_int, to_bits}
 use Rattle.values.specs.Controls.{ControlValue, set_to, map_to, shown_by}
 use Rattle.values.specs.Targets.{target_of}
@@ -7,7 +7,6 @@ use Rattle.values.specs.Values.{in_bounds, pattern, pattern_of}
 use Rattle.values.specs.declared.Mapping.TheVariants.{Unmapped, Bus}
 use Rattle.values.specs.declared.Target.TheVariants.{Latest, Number, Reserved}
 use Rattle.values.specs.declared.Value.TheVariants.{Float, Integer}
-use Rattle.values.specs.declared.ValuePattern.TheVariants.{Pattern, OutOfBounds}
 
 -- bus 7 at 2.0
 abbrev pub buses : List ℕ
@@ -34,17 +33,17 @@ targets = refl
 
 -- 0, 1, -1, 440
 pub integers : map pattern_of (Integer 0 ∷ Integer 1 ∷ Integer 0xFFFF_FFFF ∷ Integer 440 ∷ [])
-    ≡ Pattern 0 ∷ Pattern 0x3F80_0000 ∷ Pattern 0xBF80_0000 ∷ Pattern 0x43DC_0000 ∷ []
+    ≡ Some 0 ∷ Some 0x3F80_0000 ∷ Some 0xBF80_0000 ∷ Some 0x43DC_0000 ∷ []
 unfolding of_int to_bits in_bounds pattern pattern_of
 integers = refl
 
 -- the bounds and past them: 16777216, -16777216, 16777217, -16777217
 pub bounds : map pattern_of (Integer 16777216 ∷ Integer 0xFF00_0000 ∷ Integer 16777217 ∷ Integer 0xFEFF_FFFF ∷ [])
-    ≡ Pattern 0x4B80_0000 ∷ Pattern 0xCB80_0000 ∷ OutOfBounds ∷ OutOfBounds ∷ []
+    ≡ Some 0x4B80_0000 ∷ Some 0xCB80_0000 ∷ None ∷ None ∷ []
 unfolding of_int to_bits in_bounds pattern pattern_of
 bounds = refl
 
 -- a float stays, a NaN too
-pub floats : map pattern_of (Float 0x8000_0000 ∷ Float 0x7FC0_0001 ∷ Float 0xFFFF_FFFF ∷ []) ≡ Pattern 0x8000_0000 ∷ Pattern 0x7FC0_0001 ∷ Pattern 0xFFFF_FFFF ∷ []
+pub floats : map pattern_of (Float 0x8000_0000 ∷ Float 0x7FC0_0001 ∷ Float 0xFFFF_FFFF ∷ []) ≡ Some 0x8000_0000 ∷ Some 0x7FC0_0001 ∷ Some 0xFFFF_FFFF ∷ []
 unfolding in_bounds pattern pattern_of
 floats = refl

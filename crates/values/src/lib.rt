@@ -9,7 +9,8 @@ ghost use Rattle.values.specs.Values.{pattern_of};
 use words::{MINUS_ONE, wide};
 
 // "an enum Unmapped or Bus(number), matched when read and when shown"
-#[derive(Clone, Copy)]
+// Kept: paper 01 names the enum, and `Some(bus)` would not say that the control is mapped.
+#[derive(Clone, Copy, Debug, PartialEq, Eq)]
 pub enum Mapping {
     Unmapped,
     Bus(u32),
@@ -25,34 +26,29 @@ pub struct Control {
 }
 
 // A value in a command: a float by its pattern, or an integer by its pattern.
-#[derive(Clone, Copy)]
+// Kept: two kinds of value, and neither is a refusal: no Result.
+#[derive(Clone, Copy, Debug, PartialEq, Eq)]
 pub enum Value {
     Float(u32),
     Integer(u32),
 }
 
-// The pattern of the float that a value becomes; or it is out of bounds, refusal 23.
-#[derive(Clone, Copy)]
-pub enum ValuePattern {
-    Pattern(u32),
-    OutOfBounds,
-}
-
 // A control by its index, or by the name in the bytes beside the command.
-#[derive(Clone, Copy)]
+// Kept: `None` would not say that a name stands in the bytes beside the command.
+#[derive(Clone, Copy, Debug, PartialEq, Eq)]
 pub enum Key {
     Index(u32),
     Name,
 }
 
 // A node as a command names it: by the pattern of its signed number.
-#[derive(Clone, Copy)]
+#[derive(Clone, Copy, Debug, PartialEq, Eq)]
 pub struct NodeArgument {
     pub number: u32,
 }
 
 // What a node argument names.
-#[derive(Clone, Copy)]
+#[derive(Clone, Copy, Debug, PartialEq, Eq)]
 pub enum Target {
     Latest,
     Number(u32),
@@ -63,10 +59,10 @@ pub enum Target {
 fn mapping_of(word: u32) -> Mapping
     ensures { result ≡ mapping_of word }
 {
-    if word == 0 {
-        return Mapping::Unmapped;
+    match word.checked_sub(1) {
+        Some(bus) => Mapping::Bus(bus),
+        None => Mapping::Unmapped,
     }
-    Mapping::Bus(word - 1)
 }
 
 // The word of a mapping.
@@ -75,12 +71,7 @@ fn word_of(mapping: Mapping) -> u32
 {
     match mapping {
         Mapping::Unmapped => 0,
-        Mapping::Bus(bus) => {
-            if bus < 4294967295 {
-                return bus + 1;
-            }
-            4294967295
-        }
+        Mapping::Bus(bus) => bus.saturating_add(1),
     }
 }
 
@@ -88,11 +79,7 @@ fn word_of(mapping: Mapping) -> u32
 pub fn bus_at(buses: &[u32], bus: u32) -> u32
     ensures { result ≡ bus_at buses.now bus }
 {
-    let at = wide(bus);
-    if at < buses.len() {
-        return buses[at];
-    }
-    0
+    buses.get(wide(bus)).copied().unwrap_or(0)
 }
 
 impl Control {
@@ -136,19 +123,18 @@ impl Control {
     }
 
     // The mapping's word.
+    #[tactic(auto, unfolding(crate::specs::Controls::seen))]
     pub fn mapping_word(self) -> u32
         ensures { result ≡ mapping_word (seen self).mapping }
     {
-        let mapping = self.mapping;
-        word_of(mapping)
+        word_of(self.mapping)
     }
 
     // The control set to a float: a new one, unmapped.
     pub fn set(self, pattern: u32) -> Control
         ensures { Holds result (set_to pattern (seen self)) }
     {
-        let mapping = Mapping::Unmapped;
-        Control::new(pattern, mapping)
+        Control::new(pattern, Mapping::Unmapped)
     }
 
     // The control mapped to a bus, or unmapped: its own float stays.
@@ -159,11 +145,11 @@ impl Control {
     }
 
     // What reading the control gives.
+    #[tactic(auto, unfolding(crate::specs::Controls::seen))]
     pub fn read(self, buses: &[u32]) -> u32
         ensures { result ≡ shown_by buses.now (seen self) }
     {
-        let mapping = self.mapping;
-        match mapping {
+        match self.mapping {
             Mapping::Unmapped => self.own_word(),
             Mapping::Bus(bus) => bus_at(buses, bus),
         }
@@ -174,7 +160,7 @@ impl Control {
 pub fn by_number(number: u32) -> NodeArgument
     ensures { result ≡ argument number }
 {
-    NodeArgument { number: number }
+    NodeArgument { number }
 }
 
 // What a node argument names, by its number.
@@ -190,28 +176,29 @@ pub fn target_of(number: u32) -> Target
     Target::Reserved
 }
 
-// An integer's pattern as a float's: by sign and magnitude.
-fn integer_pattern(integer: u32) -> ValuePattern
+// An integer's pattern as a float's: by sign and magnitude; none where it is out of bounds.
+fn integer_pattern(integer: u32) -> Option<u32>
     ensures { result ≡ pattern_of (Value.Integer integer) }
 {
     if integer <= 16777216 {
         let number = integer as f32;
-        return ValuePattern::Pattern(f32::to_bits(number));
+        return Some(f32::to_bits(number));
     }
     if integer < 4278190080 {
-        return ValuePattern::OutOfBounds;
+        return None;
     }
     let magnitude = 4294967295 - integer + 1;
     let number = -(magnitude as f32);
-    ValuePattern::Pattern(f32::to_bits(number))
+    Some(f32::to_bits(number))
 }
 
-// The pattern of the float that a value becomes.
-pub fn value_pattern(value: Value) -> ValuePattern
+// The pattern of the float that a value becomes; none where it is out of bounds, refusal 23.
+#[tactic(auto, using(crate::specs::ValueLaws::float_pattern))]
+pub fn value_pattern(value: Value) -> Option<u32>
     ensures { result ≡ pattern_of value }
 {
     match value {
-        Value::Float(pattern) => ValuePattern::Pattern(pattern),
+        Value::Float(pattern) => Some(pattern),
         Value::Integer(integer) => integer_pattern(integer),
     }
 }

@@ -1,7 +1,8 @@
 -- What `why` tells, of any words and any arena: refusal 1 where they are no well-formed state, and otherwise the reason in the plain tree that the
 -- state holds.
-use Rattle.std.specs.Prelude.{ℕ, List}
+use Rattle.std.specs.Prelude.{ℕ, List, Result, Ok, Err}
 use Rattle.words.specs.Choice.{pick}
+use Rattle.refusals.specs.declared.Refusal.{Refusal}
 use Rattle.refusals.specs.declared.Refusal.TheVariants.{BadState}
 use Rattle.nodes.specs.Forest.{Forest, map_forest}
 use Rattle.treerefinement.specs.Build.{build}
@@ -9,8 +10,6 @@ use Rattle.model.specs.Engine.{Engine, decode}
 use Rattle.model.specs.View.{PlainNode, view_of}
 use Rattle.model.specs.Formed.{formed}
 use Rattle.model.specs.Demands.{latest_synth}
-use Rattle.why.specs.declared.WhyAnswer.{WhyAnswer}
-use Rattle.why.specs.declared.WhyAnswer.TheVariants.{Refused, Because}
 use Rattle.why.specs.declared.Reason.{Reason}
 use Rattle.why.specs.Reasons.{reason_for}
 
@@ -22,5 +21,5 @@ abbrev pub held_why : ℕ → Engine → Reason
 held_why number e = reason_for number (latest_synth e.latest) (held_tree e)
 
 -- "1 comes first."
-abbrev pub why_told : ℕ → List ℕ → List ℕ → WhyAnswer
-why_told number ws arena = pick (formed ws arena) (Because (held_why number (decode ws arena))) (Refused BadState)
+abbrev pub why_told : ℕ → List ℕ → List ℕ → Result Reason Refusal
+why_told number ws arena = pick (formed ws arena) (Ok (held_why number (decode ws arena))) (Err BadState)

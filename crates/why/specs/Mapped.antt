@@ -1,6 +1,6 @@
 -- A reason looks at a node's number, its kind and its run flag alone: it is the same in the tree of the table and in that tree as the plain tree
 -- knows it.
-use Rattle.std.specs.Prelude.{ℕ, ◌+◌, Bool, ◌≡◌, eqb}
+use Rattle.std.specs.Prelude.{ℕ, ◌+◌, Bool, ◌≡◌, eqb, Ok, Err}
 use Rattle.std.proofs.Math.Bool.{true, false}
 use Rattle.std.proofs.Math.Path.{refl, ap, ap₂}
 use Rattle.std.proofs.Common.{sym, ◌∙◌}
@@ -23,7 +23,6 @@ use Rattle.model.specs.Formed.{formed}
 use Rattle.model.specs.Plain.{if_some, minus_one, number_in, is_group_node, is_on_node}
 use Rattle.why.specs.declared.Reason.{Reason}
 use Rattle.why.specs.declared.Reason.TheVariants.{NoNode}
-use Rattle.why.specs.declared.WhyAnswer.TheVariants.{Refused, Because}
 use Rattle.refusals.specs.declared.Refusal.TheVariants.{BadState}
 use Rattle.why.specs.Reasons.{node_of, ancestors, first_off, place_from1, first_true, reason, plain_reason}
 use Rattle.why.specs.Held.{held_tree, held_why, why_told}
@@ -114,8 +113,8 @@ held-reason number ws bs =
     go false q = own number
 
 -- what is told, by the check
-pub told_bad : (number : ℕ) (ws bs : List ℕ) → formed ws bs ≡ false → Refused BadState ≡ why_told number ws bs
+pub told_bad : (number : ℕ) (ws bs : List ℕ) → formed ws bs ≡ false → Err BadState ≡ why_told number ws bs
 told_bad number ws bs h = rw h
 
-pub told_because : (number : ℕ) (ws bs : List ℕ) (r : Reason) → formed ws bs ≡ true → r ≡ table_reason number (latest_in ws) (nodes_in ws) → Because r ≡ why_told number ws bs
-told_because number ws bs r h e = rw h (ap Because (e ∙ held-reason number ws bs))
+pub told_because : (number : ℕ) (ws bs : List ℕ) (r : Reason) → formed ws bs ≡ true → r ≡ table_reason number (latest_in ws) (nodes_in ws) → Ok r ≡ why_told number ws bs
+told_because number ws bs r h e = rw h (ap Ok (e ∙ held-reason number ws bs))

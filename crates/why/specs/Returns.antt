@@ -25,14 +25,14 @@ row_word ws at k h small =
     ap (λ (j : ℕ). get_or ws j 0) same
     ∙ sym (get_or-take nodes_words (drop nodes_place ws) (width * at + k) 0 (omega arith) ∙ get_or-drop nodes_place ws (width * at + k) 0)
 
-module _ (ws : List ℕ) (few : count_in ws ≤ 256) (at : ℕ) (count : ℕ) (counted : count ≡ count_in ws) where
+module _ (ws : List ℕ) (few : count_in ws ≤ 256) (at : ℕ) where
   abbrev us : List ℕ
   us = region nodes_place nodes_words ws
 
-  pub return_none : count ≤ at → NoNode ≡ row_reason (region nodes_place nodes_words ws) (count_in ws) at
+  pub return_none : count_in ws ≤ at → NoNode ≡ row_reason (region nodes_place nodes_words ws) (count_in ws) at
   return_none h = sym (rw (le-leb (count_in ws) at (omega arith)))
 
-  module _ (h : at < count) where
+  module _ (h : at < count_in ws) where
     live : leb (count_in ws) at ≡ false
     live = lt-leb (count_in ws) at (omega arith)
 

@@ -2,8 +2,8 @@
 ghost use Rattle.std.specs.Prelude.{◌≡◌};
 ghost use Rattle.why.specs.Numbers.{reason_number, detail_of, told_number};
 
-use crate::{Reason, WhyAnswer};
-use refusals::refusal_number;
+use crate::Reason;
+use refusals::Refusal;
 
 // A reason's number, 1 to 5.
 fn reason_number(reason: Reason) -> u32
@@ -13,8 +13,8 @@ fn reason_number(reason: Reason) -> u32
         Reason::NoNode => 1,
         Reason::Group => 2,
         Reason::Off => 3,
-        Reason::AncestorOff(number) => 4,
-        Reason::Running(place) => 5,
+        Reason::AncestorOff(_) => 4,
+        Reason::Running(_) => 5,
     }
 }
 
@@ -23,22 +23,18 @@ fn detail_of(reason: Reason) -> u32
     ensures { result ≡ detail_of reason }
 {
     match reason {
-        Reason::NoNode => 0,
-        Reason::Group => 0,
-        Reason::Off => 0,
+        Reason::NoNode | Reason::Group | Reason::Off => 0,
         Reason::AncestorOff(number) => number,
         Reason::Running(place) => place,
     }
 }
 
 // The refusal's number; or the reason's from bit 8 on, and what goes with it from bit 16 on.
-pub fn told_number(told: WhyAnswer) -> u64
+pub fn told_number(told: Result<Reason, Refusal>) -> u64
     ensures { result ≡ told_number told }
 {
     match told {
-        WhyAnswer::Refused(refusal) => refusal_number(refusal) as u64,
-        WhyAnswer::Because(reason) => {
-            256 * (reason_number(reason) as u64) + 65536 * (detail_of(reason) as u64)
-        }
+        Err(refusal) => u64::from(u32::from(refusal)),
+        Ok(reason) => 256 * u64::from(reason_number(reason)) + 65536 * u64::from(detail_of(reason)),
     }
 }

@@ -29,15 +29,15 @@ fn see_row(nodes: &[u32], i: usize, so: SeenSoFar) -> SeenSoFar
     if run != 1 {
         return SeenSoFar {
             limit: depth,
-            many: so.many,
             named: number,
+            ..so
         };
     }
     if slot == GROUP {
         return SeenSoFar {
             limit: depth + 1,
-            many: so.many,
             named: number,
+            ..so
         };
     }
     SeenSoFar {
@@ -57,10 +57,8 @@ pub fn sight_to(nodes: &[u32], to: usize) -> SeenSoFar
         many: 0,
         named: 0,
     };
-    let mut i = 0;
-    while i < to {
+    for i in 0..to {
         seen = see_row(nodes, i, seen);
-        i += 1;
     }
     seen
 }

@@ -7,8 +7,9 @@ ghost use Rattle.format.specs.Reader.{definition_by};
 ghost use Rattle.widening.specs.Encoded.{Encodable, Encoded};
 
 use crate::fronts::widen_front;
-use crate::places::{Places, keep, widen_integer};
-use crate::unit::widen_units;
+use crate::pieces::widen_all;
+use crate::places::Places;
+use crate::unit::Unit;
 use fields::value_at;
 use format::Width;
 use osc::put_bytes;
@@ -24,9 +25,9 @@ fn widen_short(out: &mut [u8], place: usize, s: &[u8], at: usize, end: usize) ->
     };
     let p1 = widen_front(out, s, start);
     let count = value_at(s, p1.from, Width::Short);
-    let p2 = widen_integer(out, s, p1);
-    let p3 = widen_units(out, s, p2, count);
-    let p4 = keep(out, s, p3, end - p3.from);
+    let p2 = p1.integer(out, s);
+    let p3 = widen_all::<Unit>(out, s, p2, count);
+    let p4 = p3.keep(out, s, end - p3.from);
     p4.to
 }
 

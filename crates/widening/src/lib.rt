@@ -3,6 +3,7 @@
 
 mod definition;
 mod fronts;
+mod pieces;
 mod places;
 mod unit;
 

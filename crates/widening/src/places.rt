@@ -9,34 +9,35 @@ use format::Width;
 use osc::{put_bytes, put_int};
 
 // A place in the version 1 bytes, and one in what is written.
-#[derive(Clone, Copy)]
+#[derive(Clone, Copy, Debug, PartialEq, Eq)]
 pub struct Places {
     pub from: usize,
     pub to: usize,
 }
 
-// So many bytes as they are.
-pub(crate) fn keep(out: &mut [u8], s: &[u8], at: Places, count: usize) -> Places
-    requires { Room s.now out.old at (region at.from count s.now) (at.from + count) }
-    ensures { Moved (region at.from count s.now) (at.from + count) at out.old out.new result }
-{
-    let from = at.from;
-    let end = from + count;
-    put_bytes(out, at.to, &s[from..end]);
-    Places {
-        from: end,
-        to: at.to + count,
+impl Places {
+    // So many bytes as they are.
+    pub(crate) fn keep(self, out: &mut [u8], s: &[u8], count: usize) -> Places
+        requires { Room s.now out.old self (region self.from count s.now) (self.from + count) }
+        ensures { Moved (region self.from count s.now) (self.from + count) self out.old out.new result }
+    {
+        let end = self.from + count;
+        put_bytes(out, self.to, &s[self.from..end]);
+        Places {
+            from: end,
+            to: self.to + count,
+        }
     }
-}
 
-// A count or an index.
-pub(crate) fn widen_integer(out: &mut [u8], s: &[u8], at: Places) -> Places
-    requires { Room s.now out.old at (integer_wide s.now at.from) (at.from + 2) }
-    ensures { Moved (integer_wide s.now at.from) (at.from + 2) at out.old out.new result }
-{
-    put_int(out, at.to, value_at(s, at.from, Width::Short));
-    Places {
-        from: at.from + 2,
-        to: at.to + 4,
+    // A count or an index.
+    pub(crate) fn integer(self, out: &mut [u8], s: &[u8]) -> Places
+        requires { Room s.now out.old self (integer_wide s.now self.from) (self.from + 2) }
+        ensures { Moved (integer_wide s.now self.from) (self.from + 2) self out.old out.new result }
+    {
+        put_int(out, self.to, value_at(s, self.from, Width::Short));
+        Places {
+            from: self.from + 2,
+            to: self.to + 4,
+        }
     }
 }

@@ -1,35 +1,25 @@
 // Units.
-ghost use Rattle.widening.specs.Walk.{wide_all, past_all};
 ghost use Rattle.widening.specs.Moved.{Room, Moved};
-ghost use Rattle.widening.specs.Pieces.{input_wide, input_past, body_wide, body_past, unit_wide, unit_past};
+ghost use Rattle.widening.specs.Pieces.{input_wide, input_past, input_onward, body_wide, body_past, unit_wide, unit_past, unit_onward};
 
-use crate::places::{Places, keep, widen_integer};
+use crate::pieces::{Piece, widen_all};
+use crate::places::Places;
 use fields::value_at;
 use format::Width;
-use words::wide;
 
 // An input: its two indices.
-fn widen_input(out: &mut [u8], s: &[u8], at: Places) -> Places
-    requires { Room s.now out.old at (input_wide s.now at.from) (input_past at.from) }
-    ensures { Moved (input_wide s.now at.from) (input_past at.from) at out.old out.new result }
-{
-    let next = widen_integer(out, s, at);
-    widen_integer(out, s, next)
-}
+struct Input;
 
-// So many inputs.
-fn widen_inputs(out: &mut [u8], s: &[u8], at: Places, count: u32) -> Places
-    requires { Room s.now out.old at (wide_all (input_wide s.now) input_past count at.from) (past_all input_past count at.from) }
-    ensures { Moved (wide_all (input_wide s.now) input_past count at.from) (past_all input_past count at.from) at out.old out.new result }
-{
-    let mut here = at;
-    let mut i = 0;
-    while i < count {
-        let next = widen_input(out, s, here);
-        here = next;
-        i += 1;
+impl Piece for Input {
+    ghost wide = { input_wide };
+
+    ghost past = { λ s at. input_past at };
+
+    ghost onward = { λ s at. input_onward at };
+
+    fn widen(out: &mut [u8], s: &[u8], at: Places) -> Places {
+        at.integer(out, s).integer(out, s)
     }
-    here
 }
 
 // The rest of a unit of so many inputs and outputs: its special index, its inputs, its output rates.
@@ -37,37 +27,28 @@ fn widen_body(out: &mut [u8], s: &[u8], at: Places, inputs: u32, outputs: u32) -
     requires { Room s.now out.old at (body_wide s.now inputs outputs at.from) (body_past inputs outputs at.from) }
     ensures { Moved (body_wide s.now inputs outputs at.from) (body_past inputs outputs at.from) at out.old out.new result }
 {
-    let p1 = keep(out, s, at, 2);
-    let p2 = widen_inputs(out, s, p1, inputs);
-    keep(out, s, p2, wide(outputs))
+    let p1 = at.keep(out, s, 2);
+    let p2 = widen_all::<Input>(out, s, p1, inputs);
+    p2.keep(out, s, outputs as usize)
 }
 
 // A unit: its class and rate, I, O, and the rest.
-fn widen_unit(out: &mut [u8], s: &[u8], at: Places) -> Places
-    requires { Room s.now out.old at (unit_wide s.now at.from) (unit_past s.now at.from) }
-    ensures { Moved (unit_wide s.now at.from) (unit_past s.now at.from) at out.old out.new result }
-{
-    let from = at.from;
-    let size = s[from] as usize;
-    let p1 = keep(out, s, at, 2 + size);
-    let inputs = value_at(s, p1.from, Width::Short);
-    let p2 = widen_integer(out, s, p1);
-    let outputs = value_at(s, p2.from, Width::Short);
-    let p3 = widen_integer(out, s, p2);
-    widen_body(out, s, p3, inputs, outputs)
-}
+pub(crate) struct Unit;
 
-// So many units.
-pub(crate) fn widen_units(out: &mut [u8], s: &[u8], at: Places, count: u32) -> Places
-    requires { Room s.now out.old at (wide_all (unit_wide s.now) (unit_past s.now) count at.from) (past_all (unit_past s.now) count at.from) }
-    ensures { Moved (wide_all (unit_wide s.now) (unit_past s.now) count at.from) (past_all (unit_past s.now) count at.from) at out.old out.new result }
-{
-    let mut here = at;
-    let mut i = 0;
-    while i < count {
-        let next = widen_unit(out, s, here);
-        here = next;
-        i += 1;
+impl Piece for Unit {
+    ghost wide = { unit_wide };
+
+    ghost past = { unit_past };
+
+    ghost onward = { λ s at. unit_onward s at };
+
+    fn widen(out: &mut [u8], s: &[u8], at: Places) -> Places {
+        let size = s[at.from] as usize;
+        let p1 = at.keep(out, s, 2 + size);
+        let inputs = value_at(s, p1.from, Width::Short);
+        let p2 = p1.integer(out, s);
+        let outputs = value_at(s, p2.from, Width::Short);
+        let p3 = p2.integer(out, s);
+        widen_body(out, s, p3, inputs, outputs)
     }
-    here
 }

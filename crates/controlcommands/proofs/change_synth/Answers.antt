@@ -1,10 +1,10 @@
 -- `controlcommands::change_synth` meets its contract: refusal 21 or 28, or the synth changed.
-use mathlib.Core.Path.{◌≡◌, refl, sym, ap, ◌∙◌}
+use mathlib.Core.Path.{refl, ap, ◌∙◌}
 use native.Mathlib.Omega.{arith}
-use Rattle.controls.specs.declared.definition.Asked.TheVariants.{There, Missing, PastWidth}
 use Rattle.controls.specs.Cover.{cover_within, cover_inside}
 use Rattle.controls.specs.Ready.{ready_known, synth_ready, synth_readable}
-use Rattle.controlcommands.specs.Steps.{answer_to}
+use Rattle.model.specs.Answers.{done_or}
+use Rattle.std.proofs.lemmas.Result.{err_from_is_err_and}
 use Rattle.controlcommands.specs.Alone.{asked_alone, changed_alone}
 use Rattle.controlcommands.proofs.change_synth.Goals as goal
 
@@ -40,30 +40,20 @@ change_node-requires c =
       cover_inside a.key a.bytes.now c.node_definition-definition.result.now c.key_cover-cover.result c.key_cover-cover.ensures,
     )
 
-pub returns-in-There : goal.returns-in-There
-returns-in-There c =
+pub returns-in_err-asked_by : goal.returns-in_err-asked_by
+returns-in_err-asked_by c =
+    let a = c.args in
+    let q = c.requires in
+    let p = err_from_is_err_and c.from_residual.result c.from_residual.ensures.1 in
+    rw (p.1, p.2)
+    (record {
+      answers = ap (done_or {A = Unit {0}}) (c.in_err-asked_by.ensures ∙ asked_alone a.words.now a.arena.now q.0 a.at q.1 q.2 a.key a.bytes.now a.count c.node_definition-definition.result.now c.node_definition-definition.ensures c.key_cover-cover.result c.key_cover-cover.ensures);
+      words = refl;
+    })
+
+pub returns : goal.returns
+returns c =
     let a = c.args in
     let p = c.requires in
-    let told : c.asked_by.result ≡ There = c.in-There.is in
     changed_alone a.words.now a.arena.now p.0 a.at p.1 p.2 a.key a.bytes.now a.count c.node_definition-definition.result.now c.node_definition-definition.ensures c.key_cover-cover.result c.key_cover-cover.ensures
-    a.change c.change_node.new.words (sym told ∙ c.asked_by.ensures) c.change_node.ensures
-
-pub returns-in-Missing : goal.returns-in-Missing
-returns-in-Missing c =
-    let a = c.args in
-    let p = c.requires in
-    let told : c.asked_by.result ≡ Missing = c.in-Missing.is in
-    record {
-      answers = ap answer_to (sym told ∙ c.asked_by.ensures ∙ asked_alone a.words.now a.arena.now p.0 a.at p.1 p.2 a.key a.bytes.now a.count c.node_definition-definition.result.now c.node_definition-definition.ensures c.key_cover-cover.result c.key_cover-cover.ensures);
-      words = refl;
-    }
-
-pub returns-in-PastWidth : goal.returns-in-PastWidth
-returns-in-PastWidth c =
-    let a = c.args in
-    let p = c.requires in
-    let told : c.asked_by.result ≡ PastWidth = c.in-PastWidth.is in
-    record {
-      answers = ap answer_to (sym told ∙ c.asked_by.ensures ∙ asked_alone a.words.now a.arena.now p.0 a.at p.1 p.2 a.key a.bytes.now a.count c.node_definition-definition.result.now c.node_definition-definition.ensures c.key_cover-cover.result c.key_cover-cover.ensures);
-      words = refl;
-    }
+    a.change c.change_node.new.words c.in_ok-asked_by.ensures c.change_node.ensures

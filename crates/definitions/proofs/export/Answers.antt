@@ -10,7 +10,7 @@ use native.Mathlib.Omega.{arith}
 use borrow.Author.Tests.{eq-eqb, ne_eqb}
 use lib.ListN.{length, get_or}
 use Rattle.definitions.proofs.export.Goals as goal
-use Rattle.definitions.proofs.export.Goals.{then-flag-eq1, else-flag-eq1}
+use Rattle.definitions.proofs.export.Goals.{then-table-k-eq1, else-table-k-eq1}
 
 pub resident_count-requires : goal.resident_count-requires
 resident_count-requires c = c.requires.0.sized.table_size
@@ -42,7 +42,7 @@ copy_in-requires c =
     let table = a.table.now in
     let arena = a.arena.now in
     let less = c.loop-k-test.true in
-    let in-slot = eq-eqb (get_or table (32 + c.loop-k.k) 0) 1 c.if-flag-eq1.true in
+    let in-slot = eq-eqb (get_or table (32 + c.loop-k.k) 0) 1 c.if-table-k-eq1.true in
     let part : length c.bytes_on-bytes.result.now ≡ get_or table c.loop-k.k 0 =
     ap length c.bytes_on-bytes.ensures ∙ whole-size table arena c.loop-k.k c.requires.0.sized less (c.requires.0.resident c.loop-k.k less in-slot) in
     let room = exporting_room table arena c.write_head.new.out c.loop-k.k c.loop-k.at c.loop-k.out (λ i. (c.type_inv.arena i).fits) c.requires.0 c.loop-k.invariant less in-slot in
@@ -54,7 +54,7 @@ overflow_add-at c =
     let table = a.table.now in
     let arena = a.arena.now in
     let less = c.loop-k-test.true in
-    let in-slot = eq-eqb (get_or table (32 + c.loop-k.k) 0) 1 c.if-flag-eq1.true in
+    let in-slot = eq-eqb (get_or table (32 + c.loop-k.k) 0) 1 c.if-table-k-eq1.true in
     let part : length c.bytes_on-bytes.result.now ≡ get_or table c.loop-k.k 0 =
     ap length c.bytes_on-bytes.ensures ∙ whole-size table arena c.loop-k.k c.requires.0.sized less (c.requires.0.resident c.loop-k.k less in-slot) in
     let within = exporting_within table arena c.write_head.new.out c.loop-k.k c.loop-k.at c.loop-k.out (λ i. (c.type_inv.arena i).fits) c.requires.0 c.loop-k.invariant less in-slot in
@@ -69,13 +69,13 @@ loop-k-preserved c =
     let less = c.loop-k-test.true in
     let start = c.write_head.new.out in
     let b : (i : ℕ) → get_or arena i 0 < 256 = λ i. (c.type_inv.arena i).fits in
-    elim c.if-flag-eq1.branch [
-      | then-flag-eq1 case ↦ let in-slot = eq-eqb (get_or table (32 + c.loop-k.k) 0) 1 case.if-flag-eq1.true in
+    elim c.if-table-k-eq1.branch [
+      | then-table-k-eq1 case ↦ let in-slot = eq-eqb (get_or table (32 + c.loop-k.k) 0) 1 case.if-table-k-eq1.true in
           let size : length case.bytes_on-bytes.result.now ≡ get_or table c.loop-k.k 0 = ap length case.bytes_on-bytes.ensures ∙ whole-size table arena c.loop-k.k c.requires.0.sized less (c.requires.0.resident c.loop-k.k less in-slot) in
-          let at : c.if-flag-eq1.at ≡ c.loop-k.at + get_or table c.loop-k.k 0 = case.at-is ∙ ap (λ (n : ℕ). c.loop-k.at + n) size in
+          let at : c.if-table-k-eq1.at ≡ c.loop-k.at + get_or table c.loop-k.k 0 = case.at-is ∙ ap (λ (n : ℕ). c.loop-k.at + n) size in
           rw (at, case.out-is ∙ case.copy_in.ensures)
           (exporting_next table arena start c.loop-k.k c.loop-k.at c.loop-k.out b c.requires.0 c.loop-k.invariant less in-slot case.bytes_on-bytes.result.now case.bytes_on-bytes.ensures)
-      | else-flag-eq1 case ↦ let out = ne_eqb (get_or table (32 + c.loop-k.k) 0) 1 case.if-flag-eq1.false in rw (case.out-is, case.at-is) (exporting_skip table arena start c.loop-k.k c.loop-k.at c.loop-k.out b c.requires.0 c.loop-k.invariant less out)
+      | else-table-k-eq1 case ↦ let out = ne_eqb (get_or table (32 + c.loop-k.k) 0) 1 case.if-table-k-eq1.false in rw (case.out-is, case.at-is) (exporting_skip table arena start c.loop-k.k c.loop-k.at c.loop-k.out b c.requires.0 c.loop-k.invariant less out)
     ]
 
 pub returns : goal.returns

@@ -14,10 +14,7 @@ use Rattle.definitions.proofs.held_slots.Goals as goal
 use Rattle.definitions.proofs.held_slots.Goals.{then-slot-lt-SLOTS, else-slot-lt-SLOTS}
 
 pub loop-i-init : goal.loop-i-init
-loop-i-init c = (omega arith, (refl, λ k h. rw (get_or-replicate 32 k false false h)))
-
-pub wide-slot-requires : goal.wide-slot-requires
-wide-slot-requires c = tt
+loop-i-init c = (refl, λ k h. rw (get_or-replicate 32 k false false h))
 
 pub loop-i-preserved : goal.loop-i-preserved
 loop-i-preserved c =
@@ -32,20 +29,14 @@ loop-i-preserved c =
     λ k. held_turn a.count a.nodes.now k i (omega arith) ∙ ap (λ (s : ℕ). either (eqb s k) (rest k)) (sym same) in
     elim c.if-slot-lt-SLOTS.branch [
       | then-slot-lt-SLOTS case ↦ (
-        omega arith,
-        (
-          ap length case.held-is ∙ length-set held slot true ∙ l.1.0,
-          λ k h.
-              ap (λ (t : List Bool). either (get_or t k false) (rest k)) case.held-is ∙ held-set held slot k (rest k) (omega arith) ∙ ap (λ (b : Bool). either (get_or held k false) b) (sym (turn k)) ∙ l.1.1 k h,
-        ),
+        ap length case.held-is ∙ length-set held slot true ∙ l.0,
+        λ k h.
+            ap (λ (t : List Bool). either (get_or t k false) (rest k)) case.held-is ∙ held-set held slot k (rest k) (omega arith) ∙ ap (λ (b : Bool). either (get_or held k false) b) (sym (turn k)) ∙ l.1 k h,
       )
       | else-slot-lt-SLOTS case ↦ (
-        omega arith,
-        (
-          ap length case.held-is ∙ l.1.0,
-          λ k h.
-              ap (λ (t : List Bool). either (get_or t k false) (rest k)) case.held-is ∙ ap (λ (b : Bool). either (get_or held k false) b) (sym (turn k ∙ held_skip slot k (rest k) case.if-slot-lt-SLOTS.false h)) ∙ l.1.1 k h,
-        ),
+        ap length case.held-is ∙ l.0,
+        λ k h.
+            ap (λ (t : List Bool). either (get_or t k false) (rest k)) case.held-is ∙ ap (λ (b : Bool). either (get_or held k false) b) (sym (turn k ∙ held_skip slot k (rest k) case.if-slot-lt-SLOTS.false h)) ∙ l.1 k h,
       )
     ]
 
@@ -54,8 +45,8 @@ returns c =
     let l = c.loop-i.invariant in
     let a = c.args in
     record {
-      size = l.1.0;
-      each = λ k h. or_false (get_or c.loop-i.held k false) ∙ rw (held_end a.count a.nodes.now k c.loop-i.i (omega arith)) at (l.1.1 k h);
+      size = l.0;
+      each = λ k h. or_false (get_or c.loop-i.held k false) ∙ rw (held_end a.count a.nodes.now k c.loop-i.i (omega arith)) at (l.1 k h);
     }
   where
     or_false : (b : Bool) → b ≡ either b false

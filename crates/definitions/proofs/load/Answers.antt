@@ -2,9 +2,6 @@ use Rattle.definitions.specs.Retired.{retired_formed}
 use Rattle.definitions.specs.Loading.{load_whole}
 use Rattle.definitions.proofs.load.Goals as goal
 
-pub retire_named-requires : goal.retire_named-requires
-retire_named-requires c = c.requires
-
 pub place_all-requires : goal.place_all-requires
 place_all-requires c = (rw c.retire_named.ensures (retired_formed c.args.table.now c.args.arena.now _ c.requires.0), c.requires.1)
 

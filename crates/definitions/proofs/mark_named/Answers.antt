@@ -1,15 +1,9 @@
 use Rattle.definitions.specs.Names.{marking_set, marking_skip}
 use Prim.Native.Nat.{◌<◌}
-use mathlib.Core.Path.{refl, sym, ◌∙◌}
+use mathlib.Core.Path.{sym, ◌∙◌}
 use native.Mathlib.Omega.{arith}
 use Rattle.definitions.proofs.mark_named.Goals as goal
 use Rattle.definitions.proofs.mark_named.Goals.{then-slot_named, else-slot_named}
-
-pub loop-k-init : goal.loop-k-init
-loop-k-init c = record { most = omega arith; size = c.requires.1; before = λ j h. absurd (omega arith); behind = λ j h. refl }
-
-pub slot_named-requires : goal.slot_named-requires
-slot_named-requires c = (c.requires.0, omega arith)
 
 pub loop-k-preserved : goal.loop-k-preserved
 loop-k-preserved c =
@@ -25,8 +19,3 @@ loop-k-preserved c =
       | then-slot_named b ↦ rw b.named-is (marking_set table arena name a.marks k now inv less (sym c.slot_named.ensures ∙ b.if-slot_named.true))
       | else-slot_named b ↦ rw b.named-is (marking_skip table arena name a.marks k now inv less (sym c.slot_named.ensures ∙ b.if-slot_named.false))
     ]
-
-pub returns : goal.returns
-returns c =
-    let inv = c.loop-k.invariant in
-    record { size = inv.size; each = λ k h. inv.before k (omega arith) }

@@ -1,7 +1,6 @@
-use Prim.Native.Nat.{◌<◌}
-use mathlib.Core.Path.{◌≡◌, sym, ◌∙◌}
-use native.Mathlib.Omega.{arith}
-use lib.ListN.{length}
+use Rattle.std.proofs.Common.{◌≡◌, ◌<◌, Some, None, length, sym, ◌∙◌, arith}
+use Rattle.std.proofs.lemmas.Result.{err_from_is_err_and}
+use Rattle.refusals.specs.declared.Refusal.TheVariants.{NoRoom}
 use Rattle.messages.specs.Rows.{address_of}
 use Rattle.messagewrite.specs.Codes.{given, fitting_none, fitting_some}
 use Rattle.messagewrite.specs.Whole.{whole_size, writes_none, writes_unfit, writes_short, writes_whole}
@@ -10,49 +9,37 @@ use Rattle.messagewrite.proofs.write.Goals as goal
 pub returns-then-address_length-eq0 : goal.returns-then-address_length-eq0
 returns-then-address_length-eq0 c =
     let a = c.args in
-    rw c.without_address.ensures
+    rw (c.into.ensures, c.without_address.ensures)
     (writes_none (given a.numbers a.bytes.now) a.out.now (let n = c.well_formed.0.1.1 in record { op = n.0.1; a = n.1.0.1; b = n.1.1.0.1; c = n.1.1.1.0.1; d = n.1.1.1.1.0.1; e = n.1.1.1.1.1.0.1 }) (λ i. (c.type_inv.bytes i).fits)
     (sym c.address_length.ensures ∙ c.if-address_length-eq0.true))
 
 pub returns-then-any_unfit : goal.returns-then-any_unfit
 returns-then-any_unfit c =
-    let lent = c.type_inv.bytes in
     let a = c.args in
-    let g = given a.numbers a.bytes.now in
+    let h : 0 < length (address_of a.numbers.op) = omega (arith, c.address_length.ensures) in
+    rw c.into-then-any_unfit.ensures
+    (writes_unfit (given a.numbers a.bytes.now) a.out.now (let n = c.well_formed.0.1.1 in record { op = n.0.1; a = n.1.0.1; b = n.1.1.0.1; c = n.1.1.1.0.1; d = n.1.1.1.1.0.1; e = n.1.1.1.1.1.0.1 }) (λ i. (c.type_inv.bytes i).fits)
+    h (sym c.any_unfit.ensures ∙ c.if-any_unfit.true))
+
+pub returns-in_err-size : goal.returns-in_err-size
+returns-in_err-size c =
+    let a = c.args in
     let op = a.numbers.op in
     let h : 0 < length (address_of op) = omega (arith, c.address_length.ensures) in
-    writes_unfit g a.out.now (let n = c.well_formed.0.1.1 in record { op = n.0.1; a = n.1.0.1; b = n.1.1.0.1; c = n.1.1.1.0.1; d = n.1.1.1.1.0.1; e = n.1.1.1.1.1.0.1 }) (λ i. (lent i).fits) h (sym c.any_unfit.ensures ∙ c.if-any_unfit.true)
-
-pub returns-then-size-eq0 : goal.returns-then-size-eq0
-returns-then-size-eq0 c =
-    let lent = c.type_inv.bytes in
-    let a = c.args in
-    let g = given a.numbers a.bytes.now in
-    let op = a.numbers.op in
-    let h : 0 < length (address_of op) = omega (arith, c.address_length.ensures) in
-    let whole = whole_size op (length a.bytes.now) in
-    writes_short g a.out.now (let n = c.well_formed.0.1.1 in record { op = n.0.1; a = n.1.0.1; b = n.1.1.0.1; c = n.1.1.1.0.1; d = n.1.1.1.1.0.1; e = n.1.1.1.1.1.0.1 }) (λ i. (lent i).fits) h (sym c.any_unfit.ensures ∙ c.if-any_unfit.false)
-    (fitting_none whole (length a.out.now) (sym c.message_size-size.ensures ∙ c.if-size-eq0.true) (omega arith))
-
-pub put_message-requires : goal.put_message-requires
-put_message-requires c =
-    let a = c.args in
-    let whole = whole_size a.numbers.op (length a.bytes.now) in
-    record {
-      some = omega (arith, c.address_length.ensures);
-      is = c.slot_count-count.ensures;
-      fit = sym c.any_unfit.ensures ∙ c.if-any_unfit.false;
-      room = (fitting_some whole (length a.out.now) (λ z. c.if-size-eq0.false (c.message_size-size.ensures ∙ z))).1;
-    }
+    let p = err_from_is_err_and c.from_residual.result c.from_residual.ensures.1 in
+    let none : c.message_size.result ≡ None = grind arith in
+    let why : c.in_err-size.field-0.0 ≡ NoRoom = grind arith in
+    rw (p.1, p.2, why)
+    (writes_short (given a.numbers a.bytes.now) a.out.now (let n = c.well_formed.0.1.1 in record { op = n.0.1; a = n.1.0.1; b = n.1.1.0.1; c = n.1.1.1.0.1; d = n.1.1.1.1.0.1; e = n.1.1.1.1.1.0.1 }) (λ i. (c.type_inv.bytes i).fits)
+    h (sym c.any_unfit.ensures ∙ c.if-any_unfit.false)
+    (fitting_none (whole_size op (length a.bytes.now)) (length a.out.now) (sym c.message_size.ensures ∙ none)))
 
 pub returns : goal.returns
 returns c =
-    let lent = c.type_inv.bytes in
     let a = c.args in
-    let g = given a.numbers a.bytes.now in
     let op = a.numbers.op in
     let h : 0 < length (address_of op) = omega (arith, c.address_length.ensures) in
-    let whole = whole_size op (length a.bytes.now) in
-    let some = fitting_some whole (length a.out.now) (λ z. c.if-size-eq0.false (c.message_size-size.ensures ∙ z)) in
-    let is : c.message_size-size.result ≡ whole = c.message_size-size.ensures ∙ some.0 in
-    writes_whole g a.out.now (let n = c.well_formed.0.1.1 in record { op = n.0.1; a = n.1.0.1; b = n.1.1.0.1; c = n.1.1.1.0.1; d = n.1.1.1.1.0.1; e = n.1.1.1.1.1.0.1 }) (λ i. (lent i).fits) h (sym c.any_unfit.ensures ∙ c.if-any_unfit.false) c.message_size-size.result c.put_message.new.out is (omega arith) c.put_message.ensures
+    let found : c.message_size.result ≡ Some c.in_ok-size.size = grind arith in
+    let some = fitting_some (whole_size op (length a.bytes.now)) (length a.out.now) c.in_ok-size.size (sym c.message_size.ensures ∙ found) in
+    writes_whole (given a.numbers a.bytes.now) a.out.now (let n = c.well_formed.0.1.1 in record { op = n.0.1; a = n.1.0.1; b = n.1.1.0.1; c = n.1.1.1.0.1; d = n.1.1.1.1.0.1; e = n.1.1.1.1.1.0.1 }) (λ i. (c.type_inv.bytes i).fits)
+    h (sym c.any_unfit.ensures ∙ c.if-any_unfit.false) c.in_ok-size.size c.put_message.new.out (sym some.0) (omega arith) c.put_message.ensures

@@ -1,5 +1,4 @@
 -- `order::records_hold` meets its contract. The invariant: what is left to check is what there was to check.
-use Prim.Native.Nat.{◌-◌, ◌≤◌}
 use mathlib.Core.Path.{◌≡◌}
 use lib.ListN.{drop}
 use Rattle.nodes.specs.Table.{rows}
@@ -7,7 +6,4 @@ use Rattle.nodes.specs.Formed.{all_formed}
 use Rattle.order.proofs.records_hold.Given as goal
 
 abbrev pub invariant-loop-i : goal.invariant-loop-i
-invariant-loop-i l = (l.i ≤ l.count) × (all_formed l.next (drop l.i (rows l.count l.nodes)) ≡ all_formed l.next (rows l.count l.nodes))
-
-abbrev pub decreases-loop-i : goal.decreases-loop-i
-decreases-loop-i l = l.count - l.i
+invariant-loop-i l = (all_formed l.next (drop l.i (rows l.count l.nodes)) ≡ all_formed l.next (rows l.count l.nodes))

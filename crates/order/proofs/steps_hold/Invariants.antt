@@ -1,5 +1,5 @@
 -- `order::steps_hold` meets its contract. The invariant: what is left to check, with how deep the next record may be, is what there was to check.
-use Prim.Native.Nat.{◌-◌, ◌≤◌}
+use Prim.Native.Nat.{◌≤◌}
 use mathlib.Core.Path.{◌≡◌}
 use lib.ListN.{drop}
 use Rattle.nodes.specs.Table.{rows}
@@ -7,7 +7,4 @@ use Rattle.nodes.specs.Formed.{steps}
 use Rattle.order.proofs.steps_hold.Given as goal
 
 abbrev pub invariant-loop-i : goal.invariant-loop-i
-invariant-loop-i l = (1 ≤ l.i) × (l.i ≤ l.count) × (l.most ≤ l.i) × (steps l.most (drop l.i (rows l.count l.nodes)) ≡ steps 1 (drop 1 (rows l.count l.nodes)))
-
-abbrev pub decreases-loop-i : goal.decreases-loop-i
-decreases-loop-i l = l.count - l.i
+invariant-loop-i l = (l.most ≤ l.i) × (steps l.most (drop l.i (rows l.count l.nodes)) ≡ steps 1 (drop 1 (rows l.count l.nodes)))

@@ -1,5 +1,4 @@
 -- `order::synth_lives` meets its contract. The invariant: what is left to search is what there was to search.
-use Prim.Native.Nat.{◌-◌, ◌≤◌}
 use mathlib.Core.Path.{◌≡◌}
 use lib.ListN.{drop}
 use Rattle.nodes.specs.Table.{rows}
@@ -7,7 +6,4 @@ use Rattle.nodes.specs.Formed.{synth_lives}
 use Rattle.order.proofs.synth_lives.Given as goal
 
 abbrev pub invariant-loop-i : goal.invariant-loop-i
-invariant-loop-i l = (l.i ≤ l.count) × (synth_lives l.number (drop l.i (rows l.count l.nodes)) ≡ synth_lives l.number (rows l.count l.nodes))
-
-abbrev pub decreases-loop-i : goal.decreases-loop-i
-decreases-loop-i l = l.count - l.i
+invariant-loop-i l = (synth_lives l.number (drop l.i (rows l.count l.nodes)) ≡ synth_lives l.number (rows l.count l.nodes))

@@ -1,8 +1,4 @@
-use Prim.Native.Nat.{◌+◌, ◌≤◌}
-use mathlib.Core.Path.{◌≡◌, refl, sym, ◌∙◌}
-use mathlib.Core.List.{[], ◌∷◌}
-use native.Mathlib.Omega.{arith}
-use lib.ListN.{length}
+use Rattle.std.proofs.Common.{◌+◌, [], ◌∷◌, refl, arith}
 use Rattle.words.specs.Bytes.{bytes32}
 use Rattle.osc.specs.Message.{padded}
 use Rattle.osc.specs.Lengths.{padded_size}
@@ -10,18 +6,8 @@ use Rattle.replies.specs.Words.{word_bytes, three_pieces}
 use Rattle.replies.specs.Sent.{set_address, named_tags, word_message, named_message, named_size, sends_none, sends_all}
 use Rattle.replies.proofs.send_named.Goals as goal
 
-pub returns-then-room-lt24 : goal.returns-then-room-lt24
-returns-then-room-lt24 c =
-    let a = c.args in
-    sends_none (named_message a.number a.name.now a.value) a.out.now (omega (arith, named_size a.number a.name.now a.value))
-
-pub returns-then-room-size : goal.returns-then-room-size
-returns-then-room-size c =
-    let a = c.args in
-    sends_none (named_message a.number a.name.now a.value) a.out.now (omega (arith, named_size a.number a.name.now a.value))
-
-pub returns-then-room-size-2 : goal.returns-then-room-size-2
-returns-then-room-size-2 c =
+pub returns-then-out-end : goal.returns-then-out-end
+returns-then-out-end c =
     let a = c.args in
     sends_none (named_message a.number a.name.now a.value) a.out.now (omega (arith, named_size a.number a.name.now a.value))
 
@@ -32,13 +18,9 @@ pub returns : goal.returns
 unfolding word_bytes
 returns c =
     let a = c.args in
-    let size = length a.name.now in
     let end = 20 + c.padded_length-end.result in
-    let text : c.padded_length-end.result ≡ length (padded a.name.now) = c.padded_length-end.ensures ∙ sym (padded_size a.name.now) in
-    let far : end + length (bytes32 a.value) ≤ length a.out.now = omega (arith, c.padded_length-end.ensures) in
-    sends_all (named_message a.number a.name.now a.value) a.out.now (end + 4) c.put_int.new.out
-    (omega (arith, named_size a.number a.name.now a.value, c.padded_length-end.ensures))
-    (omega (arith, named_size a.number a.name.now a.value, c.padded_length-end.ensures))
+    let size = named_size a.number a.name.now a.value in
+    sends_all (named_message a.number a.name.now a.value) a.out.now (end + 4) c.put_int.new.out (omega (arith, size)) (omega (arith, size))
     (three_pieces (word_message set_address named_tags (a.number ∷ [])) (padded a.name.now) (bytes32 a.value) a.out.now c.put_message.new.out c.put_padded.new.out c.put_int.new.out
-    20 end refl (omega arith) far
+    20 end refl (omega (arith, padded_size a.name.now)) (omega arith)
     c.put_message.ensures c.put_padded.ensures c.put_int.ensures)

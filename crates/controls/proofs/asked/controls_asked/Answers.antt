@@ -1,32 +1,16 @@
 use Prim.Native.Nat.{ℕ}
-use mathlib.Core.Bool.{true, false}
+use mathlib.Core.Bool.{false}
 use mathlib.Core.Path.{◌≡◌, sym, ap, ◌∙◌}
 use mathlib.Core.List.{List}
 use native.Mathlib.Omega.{arith}
-use borrow.Author.Tests.{le-leb, lt-leb}
 use Rattle.nodes.specs.Place.{is_group}
-use Rattle.model.specs.Meaning.{is_negative, negative_key, cover_of}
+use Rattle.model.specs.Meaning.{cover_of}
 use Rattle.controls.specs.Encoded.{front_only}
 use Rattle.controls.specs.Cover.{asked_in}
 use Rattle.model.specs.Layout.{record_in}
 use Rattle.controls.specs.Ready.{synth_ready, synth_readable}
 use Rattle.controls.specs.Asked.{synth-asked}
 use Rattle.controls.proofs.asked.controls_asked.Goals as goal
-
-pub returns-then-count-ge2147483648 : goal.returns-then-count-ge2147483648
-returns-then-count-ge2147483648 c =
-    let a = c.args in
-    let key : negative_key a.key ≡ false = sym c.negative_key.ensures ∙ c.if-negative_key.false in
-    let count : is_negative a.count ≡ true = le-leb 2147483648 a.count c.if-count-ge2147483648.true in
-    rw (key, count)
-
-pub returns-then-node_is_group : goal.returns-then-node_is_group
-returns-then-node_is_group c =
-    let a = c.args in
-    let key : negative_key a.key ≡ false = sym c.negative_key.ensures ∙ c.if-negative_key.false in
-    let count : is_negative a.count ≡ false = lt-leb 2147483648 a.count (omega arith) in
-    let group : is_group (record_in a.words.now a.place) ≡ true = sym c.node_is_group.ensures ∙ c.if-node_is_group.true in
-    rw (key, count, group)
 
 pub node_definition-requires : goal.node_definition-requires
 node_definition-requires c =

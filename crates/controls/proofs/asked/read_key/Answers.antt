@@ -2,7 +2,6 @@ use Prim.Native.Nat.{ℕ, ◌<◌}
 use mathlib.Core.Path.{sym, ap, ◌∙◌}
 use mathlib.Core.List.{List}
 use native.Mathlib.Omega.{arith}
-use borrow.Author.Tests.{not-true, not-false}
 use Rattle.values.specs.Controls.{shown_by}
 use Rattle.model.specs.Layout.{controls_in, buses_in}
 use Rattle.model.specs.Meaning.{cover_of}
@@ -18,40 +17,40 @@ node_definition-requires c =
     let p = c.requires in
     (p.0.size, omega (arith, p.0.few, p.1), (synth_ready a.words.now a.arena.now p.0 a.place p.1 p.2).slot)
 
-pub key_cover-cover-requires : goal.key_cover-cover-requires
-key_cover-cover-requires c =
+pub key_cover-requires : goal.key_cover-requires
+key_cover-requires c =
     let a = c.args in
     let p = c.requires in
     synth_readable a.words.now a.arena.now p.0 a.place p.1 p.2 c.node_definition.ensures
-
-pub returns-then-not-cover : goal.returns-then-not-cover
-returns-then-not-cover c =
-    let a = c.args in
-    let p = c.requires in
-    let said = c.key_cover-cover.ensures ∙ ap (λ (s : List ℕ). cover_of a.key a.name.now (front_only s)) c.node_definition.ensures in
-    sym (read_none a.words.now a.arena.now p.0 a.place p.1 p.2 a.key a.name.now c.key_cover-cover.result said (not-true c.key_cover-cover.result.found c.if-not-cover.true))
-
-pub returns-then-cover-eq0 : goal.returns-then-cover-eq0
-returns-then-cover-eq0 c =
-    let a = c.args in
-    let p = c.requires in
-    let said = c.key_cover-cover.ensures ∙ ap (λ (s : List ℕ). cover_of a.key a.name.now (front_only s)) c.node_definition.ensures in
-    sym (read_past a.words.now a.arena.now p.0 a.place p.1 p.2 a.key a.name.now c.key_cover-cover.result said (not-false c.key_cover-cover.result.found c.if-not-cover.false) c.if-cover-eq0.true)
 
 pub read_control-requires : goal.read_control-requires
 read_control-requires c =
     let a = c.args in
     let p = c.requires in
     let row = (synth_ready a.words.now a.arena.now p.0 a.place p.1 p.2).row in
-    let covered : 0 < c.key_cover-cover.result.width = omega (arith, c.if-cover-eq0.false) in
-    let inside = cover_inside a.key a.name.now c.node_definition.result.now c.key_cover-cover.result c.key_cover-cover.ensures (not-false c.key_cover-cover.result.found c.if-not-cover.false) covered in
-    (p.0.size, rw c.node_row.ensures row, omega (arith, inside, covered))
+    let covered : 0 < c.in-Some.cover.width = omega (arith, c.if-cover-ne0.true) in
+    let inside = rw c.in-Some.is at (cover_inside a.key a.name.now c.node_definition.result.now c.key_cover.result c.key_cover.ensures) in
+    (p.0.size, rw c.node_row.ensures row, omega (arith, inside covered))
 
-pub returns : goal.returns
-returns c =
+pub returns-in-Some : goal.returns-in-Some
+returns-in-Some c =
     let a = c.args in
     let p = c.requires in
-    let said = c.key_cover-cover.ensures ∙ ap (λ (s : List ℕ). cover_of a.key a.name.now (front_only s)) c.node_definition.ensures in
+    let said = c.key_cover.ensures ∙ ap (λ (s : List ℕ). cover_of a.key a.name.now (front_only s)) c.node_definition.ensures in
     c.read_control.ensures
-    ∙ ap (λ (row : ℕ). shown_by (buses_in a.words.now) (control_in (controls_in a.words.now) row c.key_cover-cover.result.index)) c.node_row.ensures
-    ∙ sym (read_there a.words.now a.arena.now p.0 a.place p.1 p.2 a.key a.name.now c.key_cover-cover.result said (not-false c.key_cover-cover.result.found c.if-not-cover.false) (omega (arith, c.if-cover-eq0.false)))
+    ∙ ap (λ (row : ℕ). shown_by (buses_in a.words.now) (control_in (controls_in a.words.now) row c.in-Some.cover.index)) c.node_row.ensures
+    ∙ sym (read_there a.words.now a.arena.now p.0 a.place p.1 p.2 a.key a.name.now c.key_cover.result said c.in-Some.cover c.in-Some.is (omega (arith, c.if-cover-ne0.true)))
+
+pub returns-in_default : goal.returns-in_default
+returns-in_default c =
+    let a = c.args in
+    let p = c.requires in
+    let said = c.key_cover.ensures ∙ ap (λ (s : List ℕ). cover_of a.key a.name.now (front_only s)) c.node_definition.ensures in
+    sym (read_past a.words.now a.arena.now p.0 a.place p.1 p.2 a.key a.name.now c.key_cover.result said c.in-Some.cover c.in-Some.is (omega (arith, c.if-cover-ne0.false)))
+
+pub returns-in_default-2 : goal.returns-in_default-2
+returns-in_default-2 c =
+    let a = c.args in
+    let p = c.requires in
+    let said = c.key_cover.ensures ∙ ap (λ (s : List ℕ). cover_of a.key a.name.now (front_only s)) c.node_definition.ensures in
+    sym (read_none a.words.now a.arena.now p.0 a.place p.1 p.2 a.key a.name.now c.key_cover.result said c.in_default.is)

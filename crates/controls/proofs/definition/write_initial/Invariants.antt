@@ -1,4 +1,4 @@
-use Prim.Native.Nat.{◌*◌, ◌-◌, ◌≤◌}
+use Prim.Native.Nat.{◌*◌}
 use mathlib.Core.Path.{◌≡◌}
 use lib.ListN.{length}
 use lib.Seq.{paste}
@@ -7,7 +7,4 @@ use Rattle.controls.specs.Initial.{floats_from}
 use Rattle.controls.proofs.definition.write_initial.Given as goal
 
 abbrev pub invariant-loop-i : goal.invariant-loop-i
-invariant-loop-i l = (l.i ≤ l.count) × (l.controls ≡ paste l.initial.controls l.at (initial_words (floats_from l.s l.count l.start)) (2 * l.i)) × (length l.controls ≡ length l.initial.controls)
-
-abbrev pub decreases-loop-i : goal.decreases-loop-i
-decreases-loop-i l = l.count - l.i
+invariant-loop-i l = (l.controls ≡ paste l.initial.controls l.at (initial_words (floats_from l.s l.count l.start)) (2 * l.i)) × (length l.controls ≡ length l.initial.controls)

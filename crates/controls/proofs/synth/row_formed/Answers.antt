@@ -30,7 +30,7 @@ wide-end-requires c = tt
 pub loop-i-init : goal.loop-i-init
 loop-i-init c =
     let a = c.args in
-    (omega arith, ap (λ (n : ℕ). mappings_formed n (drop (64 * a.row) a.controls.now)) (sub-zero c.wide-end.result))
+    ap (λ (n : ℕ). mappings_formed n (drop (64 * a.row) a.controls.now)) (sub-zero c.wide-end.result)
 
 pub still_formed-formed-requires : goal.still_formed-formed-requires
 still_formed-formed-requires c = tt
@@ -48,8 +48,8 @@ loop-i-preserved c =
     let goes = ap (λ (t : Bool). both t rest) now
     ∙ one_more c.loop-i.formed test rest
     ∙ ap (λ (t : Bool). both c.loop-i.formed t) (sym (mappings_turn us c.wide-end.result c.loop-i.i (omega arith)))
-    ∙ c.loop-i.invariant.1 in
-    (omega arith, goes)
+    ∙ c.loop-i.invariant in
+    goes
 
 pub returns : goal.returns
 returns c =
@@ -57,5 +57,5 @@ returns c =
     let us = drop (64 * a.row) a.controls.now in
     no_more c.loop-i.formed
     ∙ ap (λ (t : Bool). both c.loop-i.formed t) (sym (mappings_none (drop (2 * c.loop-i.i) us) (c.wide-end.result - c.loop-i.i) (omega arith)))
-    ∙ c.loop-i.invariant.1
+    ∙ c.loop-i.invariant
     ∙ ap (λ (n : ℕ). mappings_formed n us) c.wide-end.ensures

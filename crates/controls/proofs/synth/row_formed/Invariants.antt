@@ -1,12 +1,9 @@
 use Rattle.words.specs.Choice.{both}
 use Rattle.model.specs.Formed.{mappings_formed}
-use Prim.Native.Nat.{◌*◌, ◌-◌, ◌≤◌}
+use Prim.Native.Nat.{◌*◌, ◌-◌}
 use mathlib.Core.Path.{◌≡◌}
 use lib.ListN.{drop}
 use Rattle.controls.proofs.synth.row_formed.Given as goal
 
 abbrev pub invariant-loop-i : goal.invariant-loop-i
-invariant-loop-i l = (l.i ≤ l.end) × (both l.formed (mappings_formed (l.end - l.i) (drop (2 * l.i) (drop (64 * l.row) l.controls))) ≡ mappings_formed l.end (drop (64 * l.row) l.controls))
-
-abbrev pub decreases-loop-i : goal.decreases-loop-i
-decreases-loop-i l = l.end - l.i
+invariant-loop-i l = both l.formed (mappings_formed (l.end - l.i) (drop (2 * l.i) (drop (64 * l.row) l.controls))) ≡ mappings_formed l.end (drop (64 * l.row) l.controls)

@@ -1,9 +1,9 @@
-use mathlib.Core.Bool.{false}
 use Prim.Native.Nat.{ℕ, ◌-◌, ◌<◌}
 use mathlib.Core.Path.{◌≡◌, refl, sym, ap, ◌∙◌}
 use mathlib.Core.List.{List}
 use native.Mathlib.Omega.{arith}
-use lib.ListN.{drop}
+use lib.ListN.{drop, get_or}
+use Rattle.std.specs.Prelude.{None}
 use Rattle.model.specs.Layout.{count_in, nodes_in, controls_in, put_controls, record_in}
 use Rattle.model.specs.Engine.{decode}
 use Rattle.controls.specs.Change.{change_of}
@@ -13,14 +13,14 @@ use Rattle.controls.specs.Synth.{same_controls}
 use Rattle.controls.specs.All.{synth_lent, cover-change, no_change, turned, all_none}
 use Rattle.slots.specs.Slots.{slot_bytes}
 use Rattle.controls.specs.Noted.{noted_none, noted_more}
-use Rattle.controls.specs.Cover.{cover_on, cover_inside, no_cover}
+use Rattle.controls.specs.Cover.{cover_on, cover_inside, covered-same}
 use Rattle.controls.proofs.table.change_all.Goals as goal
 use Rattle.controls.proofs.table.change_all.Goals.{then-not-node_is_group, else-not-node_is_group}
 
 pub loop-i-init : goal.loop-i-init
 loop-i-init c =
     let a = c.args in
-    (c.requires.0.size, sym (same_controls a.words.now), refl, noted_none _ _ no_cover refl)
+    (c.requires.0.size, sym (same_controls a.words.now), refl, noted_none _)
 
 pub node_is_group-requires : goal.node_is_group-requires
 node_is_group-requires c =
@@ -54,9 +54,9 @@ slot_cover-cover-requires c =
       c.loop-i.invariant.0,
       rw here w.slot,
       rw here w.readable,
-      λ other.
-          c.loop-i.invariant.3.same (record { found = false; index = 0; width = 0 }) slot (rw here w.slot) other
-          ∙ ap (λ (d : List ℕ). cover_of a.key a.name.now (front_only d)) (ap (slot_bytes a.words.now a.arena.now) here ∙ sym w.kept ∙ ap (slot_bytes c.loop-i.words a.arena.now) (sym here)),
+      covered-same (get_or c.loop-i.covers slot None) (cover_on a.key a.name.now a.words.now a.arena.now slot) (cover_on a.key a.name.now c.loop-i.words a.arena.now slot)
+          (ap (λ (d : List ℕ). cover_of a.key a.name.now (front_only d)) (ap (slot_bytes a.words.now a.arena.now) here ∙ sym w.kept ∙ ap (slot_bytes c.loop-i.words a.arena.now) (sym here)))
+          (c.loop-i.invariant.3.same None slot (rw here w.slot)),
     )
 
 pub offset_bounds-covers-slot-then-not-node_is_group : goal.offset_bounds-covers-slot-then-not-node_is_group
@@ -96,7 +96,7 @@ loop-i-preserved c =
           turned f a.key a.name.now a.count a.words.now a.arena.now a.to c.loop-i.i c.loop-i.words b.change_node.new.words
           c.requires.0 (omega arith) c.requires.1 c.loop-i.invariant.0 c.loop-i.invariant.1 b.change_node.auto.words fact in
           let noted = cover ∙ ap (λ (d : List ℕ). cover_of a.key a.name.now (front_only d)) (e.kept ∙ ap (slot_bytes a.words.now a.arena.now) (sym here)) in
-          let more = noted_more _ _ c.loop-i.covers c.loop-i.invariant.3 slot b.slot_cover-cover.result (rw here e.slot) noted in
+          let more = noted_more _ c.loop-i.covers c.loop-i.invariant.3 slot b.slot_cover-cover.result (rw here e.slot) noted in
           (rw b.words-is t.size, rw b.words-is t.rest, rw b.words-is (t.left ∙ c.loop-i.invariant.2), rw b.covers-is more)
       | else-not-node_is_group b ↦ let whole = sym c.node_is_group.ensures ∙ b.if-not-node_is_group.false in
           let t =

@@ -14,6 +14,3 @@ invariant-loop-i l =
     × (change_all (change_of l.change) l.key l.name l.count (decode l.initial.words l.arena).slots (take (l.to - l.i) (drop l.i (nodes_in l.initial.words))) (controls_in l.words)
     ≡ change_all (change_of l.change) l.key l.name l.count (decode l.initial.words l.arena).slots (take (l.to - l.from) (drop l.from (nodes_in l.initial.words))) (controls_in l.initial.words))
     × CoversNoted l.key l.name l.initial.words l.arena l.covers
-
-abbrev pub decreases-loop-i : goal.decreases-loop-i
-decreases-loop-i l = l.to - l.i

@@ -6,12 +6,13 @@ use mathlib.Core.Bool.{true, false}
 use mathlib.Core.Path.{◌≡◌, refl, sym, ◌∙◌}
 use native.Mathlib.Omega.{arith}
 use lib.ListN.{drop}
+use Rattle.std.specs.Prelude.{None}
 use Rattle.model.specs.Layout.{controls_place, controls_words, controls_in, record_in}
 use Rattle.model.specs.Formed.{mappings_formed}
 use Rattle.controls.specs.Formed.{node_formed, formed_turn, formed_end, synth_here}
 use Rattle.words.specs.PartsLaws.{region-length}
 use Rattle.controls.specs.Noted.{noted_none, noted_more}
-use Rattle.controls.specs.Cover.{unknown, controls_on}
+use Rattle.controls.specs.Cover.{controls_on}
 use Rattle.controls.proofs.table.controls_formed.Goals as goal
 use Rattle.controls.proofs.table.controls_formed.Goals.{then-not-node_is_group+else-not-row_formed, else-not-node_is_group}
 
@@ -19,7 +20,7 @@ pub wide-count-requires : goal.wide-count-requires
 wide-count-requires c = tt
 
 pub loop-i-init : goal.loop-i-init
-loop-i-init c = (refl, noted_none _ _ unknown refl)
+loop-i-init c = (refl, noted_none _)
 
 pub node_is_group-requires : goal.node_is_group-requires
 node_is_group-requires c = (c.requires.size, omega (arith, c.requires.few))
@@ -52,7 +53,7 @@ slot_controls-many-requires c =
     let slot = c.node_slot-slot.result in
     let here : slot ≡ (record_in ws c.loop-i.i).slot = c.node_slot-slot.ensures in
     let low : slot < 32 = rw here (h.bounds.slot single) in
-    (c.requires.size, low, rw here (h.bounds.readable single), λ other. c.loop-i.invariant.1.same 0 slot low other)
+    (c.requires.size, low, rw here (h.bounds.readable single), c.loop-i.invariant.1.same None slot low)
 
 pub offset_bounds-known-slot-then-not-node_is_group : goal.offset_bounds-known-slot-then-not-node_is_group
 offset_bounds-known-slot-then-not-node_is_group c =
@@ -118,7 +119,7 @@ loop-i-preserved c =
           ∙ sym (ap₂ (λ (n row : ℕ). mappings_formed n (drop (64 * row) (controls_in ws))) (b.slot_controls-many.ensures ∙ ap (controls_on ws arena) here) b.node_row.ensures)
           ∙ sym b.row_formed.ensures
           ∙ b.if-not-row_formed.false in
-          let noted = noted_more _ _ c.loop-i.known c.loop-i.invariant.1 b.node_slot-slot.result b.slot_controls-many.result (rw here (h.bounds.slot single)) b.slot_controls-many.ensures in
+          let noted = noted_more _ c.loop-i.known c.loop-i.invariant.1 b.node_slot-slot.result b.slot_controls-many.result (rw here (h.bounds.slot single)) b.slot_controls-many.ensures in
           (sym (rw more at turn) ∙ c.loop-i.invariant.0, rw b.known-is noted)
       | else-not-node_is_group b ↦ let whole = sym c.node_is_group.ensures ∙ b.if-not-node_is_group.false in
           (sym (rw whole at turn) ∙ c.loop-i.invariant.0, rw b.known-is c.loop-i.invariant.1)

@@ -1,4 +1,3 @@
-use Prim.Native.Nat.{◌-◌}
 use mathlib.Core.Path.{◌≡◌}
 use lib.ListN.{drop}
 use Rattle.model.specs.Layout.{nodes_in, controls_in}
@@ -11,6 +10,3 @@ abbrev pub invariant-loop-i : goal.invariant-loop-i
 invariant-loop-i l =
     (controls_formed (decode l.words l.arena).slots (controls_in l.words) (drop l.i (nodes_in l.words)) ≡ controls_formed (decode l.words l.arena).slots (controls_in l.words) (nodes_in l.words))
     × Counted l.words l.arena l.known
-
-abbrev pub decreases-loop-i : goal.decreases-loop-i
-decreases-loop-i l = l.count - l.i

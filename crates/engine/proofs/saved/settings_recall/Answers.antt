@@ -4,4 +4,4 @@ use Rattle.engine.proofs.saved.settings_recall.Goals as goal
 
 pub returns : goal.returns
 returns c =
-    recalled _ _ _ c.by_number.result c.by_number.ensures _ _ _ c.recall.result _ _ c.refusal_in.ensures c.recall.ensures
+    recalled _ _ _ c.by_number.result c.by_number.ensures _ _ _ _ _ _ c.told.ensures c.recall.ensures

@@ -1,10 +1,6 @@
 -- `lists::judged::judge` meets its contract.
 use Rattle.lists.specs.Judging.{Judging}
-use Prim.Native.Nat.{◌-◌}
 use Rattle.lists.proofs.judged.judge.Given as goal
 
 abbrev pub invariant-loop-i : goal.invariant-loop-i
 invariant-loop-i l = Judging l.items l.room l.i l.fit
-
-abbrev pub decreases-loop-i : goal.decreases-loop-i
-decreases-loop-i l = l.count - l.i

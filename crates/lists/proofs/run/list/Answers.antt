@@ -40,4 +40,4 @@ returns-else-not-well_formed-2 c =
     let a = c.args in
     let lent = c.type_inv.bytes in
     let kept = c.slice_known-2-1.given in
-    lists_fit a.items.now a.bytes.now a.words.now a.arena.now (λ i. (lent i).fits) (λ i. (kept i).fits) (sym c.judge.ensures ∙ c.in-Fit.is) (sym c.well_formed-in-Fit.ensures ∙ c.if-not-well_formed-2.false) c.run.result _ _ c.run.ensures
+    lists_fit a.items.now a.bytes.now a.words.now a.arena.now (λ i. (lent i).fits) (λ i. (kept i).fits) (sym c.judge.ensures ∙ c.in-Fit.is) (sym c.well_formed-in-Fit.ensures ∙ c.if-not-well_formed-2.false) _ _ _ c.run.ensures

@@ -22,7 +22,7 @@ returns-then-same_address c =
     let a = c.args in
     c.fits.ensures ∙ sym (rw (sym c.same_address.ensures ∙ c.if-same_address.true) at (meets_parts a.address.now a.tags.now a.op (omega arith) (omega arith)))
 
-pub returns : goal.returns
-returns c =
+pub returns-else-same_address : goal.returns-else-same_address
+returns-else-same_address c =
     let a = c.args in
-    sym (rw (sym c.same_address.ensures ∙ c.if-same_address.false) at (meets_parts a.address.now a.tags.now a.op (omega arith) (omega arith)))
+    c.if-same_address.false ∙ sym (rw (sym c.same_address.ensures ∙ c.if-same_address.false) at (meets_parts a.address.now a.tags.now a.op (omega arith) (omega arith)))

@@ -1,4 +1,4 @@
-use Prim.Native.Nat.{◌+◌, ◌-◌, ◌≤◌}
+use Prim.Native.Nat.{◌+◌, ◌≤◌}
 use mathlib.Core.Bool.{false}
 use mathlib.Core.Path.{◌≡◌}
 use lib.ListN.{length, take, drop}
@@ -13,12 +13,8 @@ use Rattle.messagewrite.proofs.put.put_arguments.Given as goal
 
 abbrev pub invariant-loop-k : goal.invariant-loop-k
 invariant-loop-k l =
-    (l.k ≤ l.count)
-    × (l.out ≡ over l.start (arguments (take l.k (give_all (slots_of l.numbers.op) (given l.numbers l.bytes)))) l.initial.out)
+    (l.out ≡ over l.start (arguments (take l.k (give_all (slots_of l.numbers.op) (given l.numbers l.bytes)))) l.initial.out)
     × (length l.out ≡ length l.initial.out)
     × (l.at ≡ l.start + length (arguments (take l.k (give_all (slots_of l.numbers.op) (given l.numbers l.bytes)))))
     × (l.at + sizes (drop l.k (slots_of l.numbers.op)) (length l.bytes) ≤ length l.initial.out)
     × (any_unfit l.bytes (drop l.k (slots_of l.numbers.op)) ≡ false)
-
-abbrev pub decreases-loop-k : goal.decreases-loop-k
-decreases-loop-k l = l.count - l.k

@@ -1,18 +1,14 @@
-use mathlib.Core.Path.{sym, ◌∙◌}
-use native.Mathlib.Omega.{arith}
+use Rattle.std.proofs.Common.{arith}
 use Rattle.messages.specs.Rows.{slots_of}
-use Rattle.messagewrite.specs.Slots.{code_none, code_more}
 use Rattle.messages.specs.TableRows.{few_slots}
+use Rattle.messagewrite.specs.Slots.{slot_none, slot_more}
 use Rattle.messagewrite.proofs.row.slot_count.Goals as goal
 
-pub slot_code-requires : goal.slot_code-requires
-slot_code-requires c = tt
-
-pub returns-then-slot_code-eq0 : goal.returns-then-slot_code-eq0
-returns-then-slot_code-eq0 c = omega (arith, code_none (slots_of c.args.op) c.loop-k.k (sym c.slot_code.ensures ∙ c.if-slot_code-eq0.true))
+pub returns-then-is_none : goal.returns-then-is_none
+returns-then-is_none c = omega (arith, slot_none (slots_of c.args.op) c.loop-k.k c.is_none.result (rw c.slot_at.ensures at c.is_none.ensures) c.if-is_none.true)
 
 pub loop-k-preserved : goal.loop-k-preserved
-loop-k-preserved c = omega (arith, code_more (slots_of c.args.op) c.loop-k.k (λ z. c.if-slot_code-eq0.false (c.slot_code.ensures ∙ z)))
+loop-k-preserved c = omega (arith, slot_more (slots_of c.args.op) c.loop-k.k c.is_none.result (rw c.slot_at.ensures at c.is_none.ensures) c.if-is_none.false)
 
 pub returns : goal.returns
 returns c = omega (arith, few_slots c.args.op)

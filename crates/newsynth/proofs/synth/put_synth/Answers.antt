@@ -9,7 +9,6 @@ use Rattle.readable.specs.Readable.{Readable}
 use Rattle.model.specs.Layout.{controls_place, controls_words, count_in, node_words}
 use Rattle.tree.specs.Gaps.{gap_fits}
 use Rattle.model.specs.Effects.{initial_words}
-use Rattle.slots.specs.Slots.{slot_bytes}
 use Rattle.controls.specs.Encoded.{front_in}
 use Rattle.newsynth.specs.Synth.{next_some, standing, synth_ready, mid_size, row_fits, definition_readable, synth_done}
 use Rattle.newsynth.proofs.synth.put_synth.Goals as goal
@@ -23,7 +22,7 @@ bounds-words-2 c = omega (arith, c.requires.ground.known.size, c.requires.ground
 pub slot_bytes-definition-requires : goal.slot_bytes-definition-requires
 slot_bytes-definition-requires c =
     let g = c.requires.ground in
-    (g.known.size, rw c.wide.ensures g.clear.there)
+    (g.known.size, g.clear.there)
 
 pub slice_bounds-row_for-end : goal.slice_bounds-row_for-end
 slice_bounds-row_for-end c = omega (arith, c.requires.ground.known.size, c.requires.ground.clear.there)
@@ -70,7 +69,7 @@ pub initial_row-requires : goal.initial_row-requires
 initial_row-requires c =
     let a = c.args in
     let p = c.requires in
-    let bytes = c.slot_bytes-definition.ensures ∙ ap (slot_bytes a.words.now a.arena.now) c.wide.ensures in (
+    let bytes = c.slot_bytes-definition.ensures in (
       row_fits a.number a.action p.target a.at a.slot p.bytes a.words.now a.arena.now p.ground c.wide-count.result c.wide-count.ensures c.row_for-row.result c.row_for-row.ensures (get_or a.words.now 2 0) refl c.number_for-given.result c.number_for-given.ensures c.gap_by-gap.result c.gap_by-gap.ensures c.fill_gap-many.new.nodes c.fill_gap-many.result c.fill_gap-many.ensures c.next_after-after.result c.next_after-after.ensures c.settle.new.words c.settle.ensures,
       subst Readable (sym bytes) (definition_readable a.number a.action p.target a.at a.slot p.bytes a.words.now a.arena.now p.ground (get_or a.words.now (4 + a.slot) 0) refl),
     )
@@ -79,7 +78,7 @@ pub returns : goal.returns
 returns c =
     λ target bytes g.
     let a = c.args in
-    let own = c.slot_bytes-definition.ensures ∙ ap (slot_bytes a.words.now a.arena.now) c.wide.ensures in
+    let own = c.slot_bytes-definition.ensures in
     synth_done a.number a.action target a.at a.slot bytes a.words.now a.arena.now g c.wide-count.result c.wide-count.ensures c.row_for-row.result c.row_for-row.ensures (get_or a.words.now 2 0) refl c.number_for-given.result c.number_for-given.ensures c.gap_by-gap.result c.gap_by-gap.ensures c.fill_gap-many.new.nodes c.fill_gap-many.result c.fill_gap-many.ensures c.next_after-after.result c.next_after-after.ensures c.settle.new.words c.settle.ensures
     (get_or a.words.now (4 + a.slot) 0) refl
     (put controls_place controls_words c.initial_row.new.controls c.settle.new.words)

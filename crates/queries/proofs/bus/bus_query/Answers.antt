@@ -1,7 +1,4 @@
-use Prim.Native.Nat.{ℕ}
-use mathlib.Core.Path.{sym, ap, ◌∙◌}
-use mathlib.Core.List.{[], ◌∷◌}
-use Rattle.refusals.specs.declared.Refusal.TheVariants.{NoBus}
+use Rattle.std.proofs.Common.{ℕ, sym, ap, ◌∙◌, [], ◌∷◌}
 use Rattle.model.specs.declared.Query.TheVariants as query
 use Rattle.model.specs.Engine.{decode}
 use Rattle.model.specs.Replies.{bus_address}
@@ -13,14 +10,14 @@ use Rattle.queries.proofs.bus.bus_query.Goals as goal
 pub returns-then-not-is_bus : goal.returns-then-not-is_bus
 returns-then-not-is_bus c =
     let a = c.args in
-    reply-refused (query.Bus a.bus) a.bytes.now a.words.now a.arena.now a.out.now NoBus
+    reply-refused (query.Bus a.bus) a.bytes.now a.words.now a.arena.now a.out.now _
     (bus_fires a.bus a.bytes.now (decode a.words.now a.arena.now) (sym c.is_bus.ensures ∙ c.if-not-is_bus.true))
 
 pub returns : goal.returns
 returns c =
     let a = c.args in
     let ws = a.words.now in
-    reply-sent (query.Bus a.bus) a.bytes.now ws a.arena.now a.out.now (word_message bus_address bus_tags (a.bus ∷ (c.bus_at-value.result ∷ []))) c.send_words.result c.send_words.new.out
+    reply-sent (query.Bus a.bus) a.bytes.now ws a.arena.now a.out.now (word_message bus_address bus_tags (a.bus ∷ (c.bus_at-value.result ∷ []))) _ _
     (bus_passes a.bus a.bytes.now (decode ws a.arena.now) (sym c.is_bus.ensures ∙ c.if-not-is_bus.false))
     (ap (λ (v : ℕ). word_message bus_address bus_tags (a.bus ∷ (v ∷ []))) c.bus_at-value.ensures ∙ bus-reply a.bus a.bytes.now ws a.arena.now)
     c.send_words.ensures

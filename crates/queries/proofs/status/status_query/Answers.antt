@@ -1,9 +1,4 @@
-use Prim.Native.Nat.{ℕ, ◌-◌, ◌%◌}
-use mathlib.Core.Path.{◌≡◌, ap, ◌∙◌}
-use mathlib.Core.List.{List, [], ◌∷◌}
-use native.Mathlib.Omega.{arith}
-use lib.ListN.{length, drop, length-drop}
-use lib.Seq.{length-take-le}
+use Rattle.std.proofs.Common.{ℕ, ◌≡◌, ◌-◌, ◌%◌, List, [], ◌∷◌, length, ap, ◌∙◌, arith}
 use Rattle.nodes.specs.Place.{group_slot}
 use Rattle.model.specs.declared.Query.TheVariants as query
 use Rattle.model.specs.Layout.{count_in}
@@ -19,9 +14,6 @@ use Rattle.queries.proofs.status.status_query.Goals as goal
 pub overflow_sub-synths : goal.overflow_sub-synths
 overflow_sub-synths c = omega (arith, c.totals-told.ensures.1, tally_most c.args.words.now group_slot)
 
-pub resident_count-names-requires : goal.resident_count-names-requires
-resident_count-names-requires c = length-take-le 64 (drop 4 c.args.words.now) (simp length-drop (omega (arith, c.requires.size)))
-
 pub returns : goal.returns
 returns c =
     let a = c.args in
@@ -32,8 +24,7 @@ returns c =
     let are : groups ≡ group_count (view_from ws bs 0) = c.totals-told.ensures.1 ∙ groups_all ws bs in
     let synths = count_in ws - groups in
     reply-sent query.Status a.bytes.now ws bs a.out.now
-    (word_message status_address status_tags (units % 4294967296 ∷ (synths ∷ (groups ∷ (c.resident_count-names.result ∷ [])))))
-    c.send_words.result c.send_words.new.out
+    (word_message status_address status_tags (units % 4294967296 ∷ (synths ∷ (groups ∷ (c.resident_count-names.result ∷ []))))) _ _
     (status_passes a.bytes.now (decode ws bs))
     (status-reply units synths groups c.resident_count-names.result a.bytes.now ws bs c.totals-told.ensures.0 (omega (arith, are, kinds_all ws bs)) are
     (c.resident_count-names.ensures bs ∙ ap (λ (l : List Slot). length (residents l)) (slots_lent ws bs)))

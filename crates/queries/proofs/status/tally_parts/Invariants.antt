@@ -1,9 +1,5 @@
-use Prim.Native.Nat.{◌-◌, ◌≤◌}
 use Rattle.queries.specs.Tally.{PartsTallied}
 use Rattle.queries.proofs.status.tally_parts.Given as goal
 
 abbrev pub invariant-loop-i : goal.invariant-loop-i
-invariant-loop-i l = (l.i ≤ l.part) × PartsTallied l.words l.part l.i l.a l.b l.c l.d
-
-abbrev pub decreases-loop-i : goal.decreases-loop-i
-decreases-loop-i l = l.part - l.i
+invariant-loop-i l = PartsTallied l.words l.part l.i l.a l.b l.c l.d

@@ -27,9 +27,6 @@ overflow_add-many-in-loop-k-2 c =
     let a = c.args in
     omega (arith, tallies_few a.words.now a.a.now a.b.now a.c.now a.d.now (slotted a.words.now a.arena.now c.requires.0) c.requires.1 c.loop-k.k (omega arith))
 
-pub slot_bytes-requires : goal.slot_bytes-requires
-slot_bytes-requires c = (c.requires.0.size, omega arith)
-
 pub units-requires : goal.units-requires
 units-requires c =
     let ws = c.args.words.now in
@@ -74,9 +71,6 @@ loop-k-preserved c =
 pub returns : goal.returns
 returns c =
     summed_all c.args.words.now c.args.arena.now c.requires.0 c.loop-k.k c.loop-k.left c.loop-k.units c.loop-k.invariant (omega arith)
-
-pub loop-k-init : goal.loop-k-init
-loop-k-init c = c.requires.2
 
 pub overflow_mul-units : goal.overflow_mul-units
 overflow_mul-units c = omega (arith, overflow_add-units c)

@@ -1,7 +1,4 @@
-use Prim.Native.Nat.{ℕ, ◌-◌, ◌≤◌}
-use mathlib.Core.Path.{◌≡◌, refl}
-use mathlib.Core.List.{List}
-use native.Mathlib.Omega.{arith}
+use Rattle.std.proofs.Common.{◌≡◌, ℕ, ◌+◌, ◌-◌, ◌*◌, ◌%◌, ◌≤◌, List, arith}
 use Rattle.readable.specs.Entries.{entry_end, Left, Step, entries_step, entries_last}
 use Rattle.readable.proofs.entries.skip_entries.Goals as goal
 
@@ -19,40 +16,39 @@ module _ {s : List ℕ} {count first left at : ℕ} (l : Left s count first left
   four : {a b d : ℕ} → a ≡ entry_end s at → b ≡ entry_end s a → d ≡ entry_end s b → Step s count first (left - 4) d
   four p q r = entries_step (left - 4) (omega arith) ((three p q).more r)
 
-pub loop-left-init : goal.loop-left-init
-loop-left-init c = record { known = c.requires; same = refl }
-
 pub past_entry-at-requires : goal.past_entry-at-requires
 past_entry-at-requires c =
-    (one c.loop-left.invariant c.loop-left-test.true).within
+    (one c.loop.invariant (omega arith)).within
 
-pub past_entry-at-requires-in-loop-left : goal.past_entry-at-requires-in-loop-left
-past_entry-at-requires-in-loop-left c =
-    (two c.loop-left.invariant c.loop-left-test.true c.past_entry-at.ensures).within
+pub past_entry-at-requires-in-loop : goal.past_entry-at-requires-in-loop
+past_entry-at-requires-in-loop c =
+    (two c.loop.invariant (omega arith) c.past_entry-at.ensures).within
 
-pub past_entry-at-requires-in-loop-left-2 : goal.past_entry-at-requires-in-loop-left-2
-past_entry-at-requires-in-loop-left-2 c =
-    (three c.loop-left.invariant c.loop-left-test.true c.past_entry-at.ensures c.past_entry-at-in-loop-left.ensures).within
+pub past_entry-at-requires-in-loop-2 : goal.past_entry-at-requires-in-loop-2
+past_entry-at-requires-in-loop-2 c =
+    (three c.loop.invariant (omega arith) c.past_entry-at.ensures c.past_entry-at-in-loop.ensures).within
 
-pub past_entry-at-requires-in-loop-left-3 : goal.past_entry-at-requires-in-loop-left-3
-past_entry-at-requires-in-loop-left-3 c =
-    (four c.loop-left.invariant c.loop-left-test.true c.past_entry-at.ensures c.past_entry-at-in-loop-left.ensures c.past_entry-at-in-loop-left-2.ensures).within
+pub past_entry-at-requires-in-loop-3 : goal.past_entry-at-requires-in-loop-3
+past_entry-at-requires-in-loop-3 c =
+    (four c.loop.invariant (omega arith) c.past_entry-at.ensures c.past_entry-at-in-loop.ensures c.past_entry-at-in-loop-2.ensures).within
 
-pub loop-left-preserved : goal.loop-left-preserved
-loop-left-preserved c =
-    (four c.loop-left.invariant c.loop-left-test.true c.past_entry-at.ensures c.past_entry-at-in-loop-left.ensures c.past_entry-at-in-loop-left-2.ensures).more c.past_entry-at-in-loop-left-3.ensures
+pub loop-preserved : goal.loop-preserved
+loop-preserved c =
+    let e : c.args.count - 4 * (c.loop.counter + 1) ≡ c.args.count - 4 * c.loop.counter - 4 = omega arith in
+    rw e ((four c.loop.invariant (omega arith) c.past_entry-at.ensures c.past_entry-at-in-loop.ensures c.past_entry-at-in-loop-2.ensures).more c.past_entry-at-in-loop-3.ensures)
 
-pub past_entry-at-requires-in-loop-left-2-2 : goal.past_entry-at-requires-in-loop-left-2-2
-past_entry-at-requires-in-loop-left-2-2 c =
-    (entries_step (c.loop-left-2.left - 1) (omega arith) c.loop-left-2.invariant).within
+pub loop-2-init : goal.loop-2-init
+loop-2-init c =
+    let e : c.args.count % 4 - 0 ≡ c.args.count - 4 * c.loop.counter = omega arith in
+    rw e c.loop.invariant
 
-pub loop-left-2-preserved : goal.loop-left-2-preserved
-loop-left-2-preserved c =
-    (entries_step (c.loop-left-2.left - 1) (omega arith) c.loop-left-2.invariant).more c.past_entry-at-in-loop-left-2-2.ensures
+pub past_entry-at-requires-in-loop-2-2 : goal.past_entry-at-requires-in-loop-2-2
+past_entry-at-requires-in-loop-2-2 c =
+    (entries_step (c.args.count % 4 - (c.loop-2.counter + 1)) (omega arith) c.loop-2.invariant).within
+
+pub loop-2-preserved : goal.loop-2-preserved
+loop-2-preserved c =
+    (entries_step (c.args.count % 4 - (c.loop-2.counter + 1)) (omega arith) c.loop-2.invariant).more c.past_entry-at-in-loop-2-2.ensures
 
 pub returns : goal.returns
-returns c =
-    entries_last (omega arith) c.loop-left-2.invariant
-
-pub loop-left-2-init : goal.loop-left-2-init
-loop-left-2-init c = c.loop-left.invariant
+returns c = entries_last (omega arith) c.loop-2.invariant

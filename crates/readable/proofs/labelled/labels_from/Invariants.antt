@@ -1,9 +1,10 @@
-use Prim.Native.Nat.{◌-◌}
-use Rattle.readable.specs.Labels.{each, Labelling}
+use Rattle.std.proofs.Common.{◌≡◌, ℕ, ◌-◌, Bool}
+use Rattle.format.specs.Reader.{most_parameters}
+use Rattle.readable.specs.Entries.{Entries}
+use Rattle.readable.specs.Labels.{Labelling}
 use Rattle.readable.proofs.labelled.labels_from.Given as goal
 
-abbrev pub invariant-loop-i : goal.invariant-loop-i
-invariant-loop-i l = Labelling each l.s l.first l.count l.i l.at l.table
-
-abbrev pub decreases-loop-i : goal.decreases-loop-i
-decreases-loop-i l = l.count - l.i
+abbrev pub invariant-loop : goal.invariant-loop
+invariant-loop g l =
+    Entries l.s most_parameters (l.count - l.counter) l.at
+    × ((may : ℕ → Bool) → ((at : ℕ) (b : Bool) → goal.F-post g l.takes at b → b ≡ may at) → Labelling may l.s l.first l.count l.counter l.at l.table)

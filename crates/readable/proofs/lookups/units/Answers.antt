@@ -1,8 +1,7 @@
 use Rattle.front.specs.declared.Counts.{Counts}
 use Rattle.format.specs.Fields.{word}
-use Rattle.readable.specs.Lookup.{at_number}
 use Rattle.readable.specs.Readable.{whole_readable, parts, front_entries, units_at}
-use mathlib.Core.Path.{sym, ap, ◌∙◌}
+use Rattle.std.proofs.Common.{sym, ap, ◌∙◌, ℕ, Some}
 use Rattle.readable.proofs.lookups.units.Goals as goal
 
 pub counts-places-requires : goal.counts-places-requires
@@ -30,4 +29,4 @@ returns c =
     let u = w.readable in
     let k = c.counts-places.ensures u.front u.past u.reads in
     let here = rw (ap (λ (p : Counts). p.first) k, ap (λ (p : Counts). p.names) k) at c.skip_entries.ensures in
-    ap at_number (c.word_at.ensures ∙ ap (word c.args.s.now) (here ∙ sym (parts c.args.s.now u.reads).past)) ∙ w.same
+    ap (λ (k : ℕ). Some k) (c.word_at.ensures ∙ ap (word c.args.s.now) (here ∙ sym (parts c.args.s.now u.reads).past)) ∙ w.same

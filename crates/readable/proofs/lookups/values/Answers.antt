@@ -1,10 +1,9 @@
+use Rattle.std.proofs.Common.{ap, Some}
 use Rattle.front.specs.declared.Counts.{Counts}
-use Rattle.readable.specs.declared.found.ValuesFound.TheVariants.{At}
-use mathlib.Core.Path.{ap}
 use Rattle.readable.proofs.lookups.values.Goals as goal
 
 pub returns : goal.returns
 returns c =
     let k = c.requires in
     let e = c.counts-places.ensures k.front k.past k.reads in
-    rw k.reads (ap (λ (p : Counts). At p.values p.parameters) e)
+    rw k.reads (ap (λ (p : Counts). Some (p.values, p.parameters)) e)

@@ -1,22 +1,19 @@
-use mathlib.Core.Path.{ap}
-use native.Mathlib.Omega.{arith}
-use Rattle.front.specs.declared.Counts.{Counts}
-use Rattle.readable.specs.Readable.{front_entries}
-use Rattle.readable.specs.OwnLabels.{own_front}
+use Rattle.std.proofs.Common.{rules, arith}
+use Rattle.readable.specs.Readable.{told_counts, told_known, front_entries}
+use Rattle.readable.specs.OwnLabels.{looks_up, own_front}
 use Rattle.readable.proofs.own.own_labels.Goals as goal
 
-pub own_labels_from-requires : goal.own_labels_from-requires
-own_labels_from-requires c =
-    let k = c.requires in
-    let e = c.counts-places.ensures k.front k.past k.reads in
-    let first = ap (λ (p : Counts). p.first) e in
-    let many = ap (λ (p : Counts). p.names) e in
-    (omega arith, k.short, rw (first, many) (front_entries c.args.s.now k))
+pub labels_from-requires-clause-known : goal.labels_from-requires-clause-known
+labels_from-requires-clause-known c = told_known c.requires c.counts-places.ensures
+
+pub labels_from-requires-clause-asked : goal.labels_from-requires-clause-asked
+labels_from-requires-clause-asked c =
+    let k = told_known c.requires c.counts-places.ensures in
+    λ at h. search (rules, k.1, k.2, h)
 
 pub returns : goal.returns
 returns c =
     let k = c.requires in
-    let e = c.counts-places.ensures k.front k.past k.reads in
-    let first = ap (λ (p : Counts). p.first) e in
-    let many = ap (λ (p : Counts). p.names) e in
-    own_front c.args.s.now c.own_labels_from.result k.reads (omega arith) (front_entries c.args.s.now k) (rw (first, many) at c.own_labels_from.ensures)
+    let p = c.counts-places.result in
+    let told = c.labels_from.ensures (looks_up c.args.s.now p.names p.first) (λ at b p. search rules) in
+    own_front c.args.s.now c.labels_from.result k.reads (omega arith) (front_entries c.args.s.now k) (rw (told_counts k c.counts-places.ensures) at told)

@@ -1,13 +1,8 @@
 -- `reindex::follow::close_entries` meets its contract. The invariant: the entries gone over are followed.
-use Prim.Native.Nat.{◌-◌, ◌≤◌}
-use mathlib.Core.Path.{◌≡◌}
-use lib.ListN.{length}
+use Prim.Native.Nat.{◌≤◌}
 use Rattle.reindex.specs.FollowWords.{Followed}
 use Rattle.reindex.specs.Edits.{closed}
 use Rattle.reindex.proofs.follow.close_entries.Given as goal
 
 abbrev pub invariant-loop-i : goal.invariant-loop-i
-invariant-loop-i l = (l.i ≤ l.count) × (l.left ≤ l.i) × Followed (closed l.from l.to l.by) l.initial.index l.i l.index l.left × (length l.index ≡ length l.initial.index)
-
-abbrev pub decreases-loop-i : goal.decreases-loop-i
-decreases-loop-i l = l.count - l.i
+invariant-loop-i l = (l.left ≤ l.i) × Followed (closed l.from l.to l.by) l.initial.index l.i l.index l.left

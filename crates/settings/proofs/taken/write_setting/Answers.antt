@@ -19,57 +19,28 @@ returns-then-place-eq0 c =
 
 pub put_head-requires : goal.put_head-requires
 put_head-requires c =
-    let d = c.args.definition.now in
+    let told = c.name_at-name.ensures ∙ ap (string_at c.args.definition.now) c.wide.ensures in
     let there = c.if-place-eq0.false in
-    let name = c.name_at-name.result.now in
-    let told : name ≡ string_at d c.args.place = c.name_at-name.ensures ∙ ap (string_at d) c.wide.ensures in
-    let size = setting_size_is d c.args.place c.args.float c.args.at c.args.out.now there c.requires.1 name told in
-    let room = c.requires.1 in
-    omega arith
+    let a = c.args in
+    let size = setting_size_is a.definition.now a.place a.float a.at a.out.now there c.requires.1 _ told in
+    omega (arith, c.requires.1)
 
 pub put_bytes-requires : goal.put_bytes-requires
 put_bytes-requires c =
-    let d = c.args.definition.now in
+    let told = c.name_at-name.ensures ∙ ap (string_at c.args.definition.now) c.wide.ensures in
     let there = c.if-place-eq0.false in
-    let name = c.name_at-name.result.now in
-    let told : name ≡ string_at d c.args.place = c.name_at-name.ensures ∙ ap (string_at d) c.wide.ensures in
-    name_room d c.args.place c.args.float c.args.at c.args.out.now there c.requires.1 name told c.put_head.ensures
-
-pub overflow_add-end-2 : goal.overflow_add-end-2
-overflow_add-end-2 c =
-    let d = c.args.definition.now in
-    let there = c.if-place-eq0.false in
-    let name = c.name_at-name.result.now in
-    let told : name ≡ string_at d c.args.place = c.name_at-name.ensures ∙ ap (string_at d) c.wide.ensures in
-    let size = setting_size_is d c.args.place c.args.float c.args.at c.args.out.now there c.requires.1 name told in
-    let room = c.requires.1 in
-    omega arith
+    name_room _ _ _ _ _ there c.requires.1 _ told c.put_head.ensures
 
 pub put_int-requires : goal.put_int-requires
 put_int-requires c =
-    let d = c.args.definition.now in
+    let told = c.name_at-name.ensures ∙ ap (string_at c.args.definition.now) c.wide.ensures in
     let there = c.if-place-eq0.false in
-    let name = c.name_at-name.result.now in
-    let told : name ≡ string_at d c.args.place = c.name_at-name.ensures ∙ ap (string_at d) c.wide.ensures in
-    float_room d c.args.place c.args.float c.args.at c.args.out.now there c.requires.1 name told c.put_head.ensures c.put_bytes.ensures
-
-pub overflow_add-result : goal.overflow_add-result
-overflow_add-result c =
-    let d = c.args.definition.now in
-    let there = c.if-place-eq0.false in
-    let name = c.name_at-name.result.now in
-    let told : name ≡ string_at d c.args.place = c.name_at-name.ensures ∙ ap (string_at d) c.wide.ensures in
-    let size = setting_size_is d c.args.place c.args.float c.args.at c.args.out.now there c.requires.1 name told in
-    let room = c.requires.1 in
-    omega arith
+    float_room _ _ _ _ _ there c.requires.1 _ told c.put_head.ensures c.put_bytes.ensures
 
 pub returns : goal.returns
 returns c =
-    let d = c.args.definition.now in
+    let told = c.name_at-name.ensures ∙ ap (string_at c.args.definition.now) c.wide.ensures in
     let there = c.if-place-eq0.false in
-    let name = c.name_at-name.result.now in
-    let told : name ≡ string_at d c.args.place = c.name_at-name.ensures ∙ ap (string_at d) c.wide.ensures in
-    let size = setting_size_is d c.args.place c.args.float c.args.at c.args.out.now there c.requires.1 name told in (
-      omega arith,
-      setting_written d c.args.place c.args.float c.args.at c.args.out.now there c.requires.1 name told c.put_head.ensures c.put_bytes.ensures c.put_int.ensures,
-    )
+    let a = c.args in
+    let size = setting_size_is a.definition.now a.place a.float a.at a.out.now there c.requires.1 _ told in
+    (omega arith, setting_written _ _ _ _ _ there c.requires.1 _ told c.put_head.ensures c.put_bytes.ensures c.put_int.ensures)

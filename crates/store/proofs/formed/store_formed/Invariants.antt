@@ -1,13 +1,12 @@
--- `store::formed::store_formed` meets its contract. The invariant: what is left from here on is formed if and only if the store is.
-use Prim.Native.Nat.{◌-◌}
+-- `store::formed::store_formed` meets its contract. The invariant: what is left is formed if and only if the store is.
 use mathlib.Core.Path.{◌≡◌}
 use lib.ListN.{length}
-use Rattle.store.specs.Store.{store_formed}
-use Rattle.store.specs.FormedWalk.{fields_at, left_formed}
+use Rattle.store.specs.Store.{fields_of, store_formed}
+use Rattle.store.specs.FormedWalk.{left_formed}
 use Rattle.store.proofs.formed.store_formed.Given as goal
 
-abbrev pub invariant-loop-end : goal.invariant-loop-end
-invariant-loop-end l = left_formed l.walk (fields_at l.store l.at) ≡ store_formed l.store
+abbrev pub invariant-loop-field : goal.invariant-loop-field
+invariant-loop-field l = left_formed l.walk (fields_of l.rest) ≡ store_formed l.store
 
-abbrev pub decreases-loop-end : goal.decreases-loop-end
-decreases-loop-end l = length l.store - l.at
+abbrev pub decreases-loop-field : goal.decreases-loop-field
+decreases-loop-field l = length l.rest

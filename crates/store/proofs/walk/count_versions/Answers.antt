@@ -7,14 +7,14 @@ use Rattle.store.proofs.walk.count_versions.Goals as goal
 pub loop-i-init : goal.loop-i-init
 loop-i-init c = (c.requires.ahead.inside, omega arith, λ p. record { left = p; sum = omega arith })
 
-pub returns-then-store-i-ne-VERSION_TAG : goal.returns-then-store-i-ne-VERSION_TAG
-returns-then-store-i-ne-VERSION_TAG c =
+pub returns-else-store-i-eq-VERSION_TAG : goal.returns-else-store-i-eq-VERSION_TAG
+returns-else-store-i-eq-VERSION_TAG c =
     let a = c.args in
-    λ p. count_ends a.store.now a.at p c.loop-i.i c.loop-i.count (c.loop-i.invariant.2 p) c.if-store-i-ne-VERSION_TAG.true
+    λ p. count_ends a.store.now a.at p c.loop-i.i c.loop-i.count (c.loop-i.invariant.2 p) c.if-store-i-eq-VERSION_TAG.false
 
 pub next_version-i-requires : goal.next_version-i-requires
 next_version-i-requires c =
-    ((c.loop-i.invariant.2 c.requires).left, c.if-store-i-ne-VERSION_TAG.false)
+    ((c.loop-i.invariant.2 c.requires).left, c.if-store-i-eq-VERSION_TAG.true)
 
 pub loop-i-smaller : goal.loop-i-smaller
 loop-i-smaller c =
@@ -30,8 +30,8 @@ loop-i-preserved c =
       λ p. count_turn s c.args.at p c.loop-i.i c.loop-i.count c.next_version-i.result (c.loop-i.invariant.2 p) (c.next_version-i.ensures (c.loop-i.invariant.2 p).left),
     )
 
-pub returns : goal.returns
-returns c =
+pub returns-after-loop-i : goal.returns-after-loop-i
+returns-after-loop-i c =
     let a = c.args in
     let s = a.store.now in
     let shut : get_or s c.loop-i.i 0 ≡ 0 = get_or-eq_default s 0 {n = c.loop-i.i} (omega arith) in

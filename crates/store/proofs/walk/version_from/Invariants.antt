@@ -5,8 +5,8 @@ use Rattle.store.specs.Ahead.{VersionsAhead}
 use Rattle.store.specs.VersionWalkLaws.{SearchStands}
 use Rattle.store.proofs.walk.version_from.Given as goal
 
-abbrev pub invariant-loop-i : goal.invariant-loop-i
-invariant-loop-i l = (l.i ≤ length l.store) × ((p : VersionsAhead l.store l.at) → SearchStands l.store l.at l.number p l.i)
+abbrev pub invariant-loop-from : goal.invariant-loop-from
+invariant-loop-from l = (l.from ≤ length l.store) × ((p : VersionsAhead l.store l.at) → SearchStands l.store l.at l.number p l.from)
 
-abbrev pub decreases-loop-i : goal.decreases-loop-i
-decreases-loop-i l = length l.store - l.i
+abbrev pub decreases-loop-from : goal.decreases-loop-from
+decreases-loop-from l = length l.store - l.from

@@ -13,33 +13,33 @@ use Rattle.synthdef.proofs.twin.write_twin.Goals as goal
 pub write_head-requires : goal.write_head-requires
 write_head-requires c = omega (arith, head_length_in c.args.file.now, c.requires.1)
 
-pub loop-i-init : goal.loop-i-init
-loop-i-init c = writing_first c.args.file.now c.write_head.new.out c.requires.0
+pub loop-init : goal.loop-init
+loop-init c = writing_first c.args.file.now c.write_head.new.out c.requires.0
 
-pub widen-past-requires : goal.widen-past-requires
-widen-past-requires c =
-    let x = reading_next c.loop-i.invariant.reading c.loop-i-test.true in
-    let end = c.place_after-next.ensures ∙ after-here c.args.file.now c.loop-i.at x.here.read in
+pub widen-to-requires : goal.widen-to-requires
+widen-to-requires c =
+    let x = reading_next c.loop.invariant.reading c.loop-test.true in
+    let end = c.place_after-next.ensures ∙ after-here c.args.file.now c.loop.at x.here.read in
     let head : length c.write_head.new.out ≡ length c.args.out.now = ap length c.write_head.ensures ∙ over_length 0 (write_header Long c.args.count) c.args.out.now (omega (arith, head_length_in c.args.file.now, c.requires.1)) in
     let room : length (twin c.args.file.now) ≤ length c.write_head.new.out = omega (arith, c.requires.1) in
-    rw (c.width_of-width.ensures, end) (record { readable = record { definition = x.here.definition; read = x.here.read }; room = writing-room c.loop-i.invariant room c.loop-i-test.true })
+    rw (c.width_of-width.ensures, end) (record { readable = record { definition = x.here.definition; read = x.here.read }; room = writing-room c.loop.invariant room c.loop-test.true })
 
-pub loop-i-preserved : goal.loop-i-preserved
-loop-i-preserved c =
-    let x = reading_next c.loop-i.invariant.reading c.loop-i-test.true in
-    let end = c.place_after-next.ensures ∙ after-here c.args.file.now c.loop-i.at x.here.read in
+pub loop-preserved : goal.loop-preserved
+loop-preserved c =
+    let x = reading_next c.loop.invariant.reading c.loop-test.true in
+    let end = c.place_after-next.ensures ∙ after-here c.args.file.now c.loop.at x.here.read in
     let head : length c.write_head.new.out ≡ length c.args.out.now = ap length c.write_head.ensures ∙ over_length 0 (write_header Long c.args.count) c.args.out.now (omega (arith, head_length_in c.args.file.now, c.requires.1)) in
     let room : length (twin c.args.file.now) ≤ length c.write_head.new.out = omega (arith, c.requires.1) in
-    let w = c.widen-past.ensures x.here.definition (rw (c.width_of-width.ensures, end) x.here.read) in
-    rw end (writing_next c.loop-i.invariant room c.loop-i-test.true (w.bytes ∙ sym (over_put c.loop-i.to (write_definition x.here.definition) c.loop-i.out)) w.end)
+    let w = c.widen-to.ensures x.here.definition (rw (c.width_of-width.ensures, end) x.here.read) in
+    rw end (writing_next c.loop.invariant room c.loop-test.true (w.bytes ∙ sym (over_put c.loop.to (write_definition x.here.definition) c.loop.out)) w.end)
 
 pub shape_of-out : goal.shape_of-out
 shape_of-out c =
     let head : length c.write_head.new.out ≡ length c.args.out.now = ap length c.write_head.ensures ∙ over_length 0 (write_header Long c.args.count) c.args.out.now (omega (arith, head_length_in c.args.file.now, c.requires.1)) in
-    c.loop-i.invariant.same ∙ head
+    c.loop.invariant.same ∙ head
 
 pub returns : goal.returns
 returns c =
     let head : length c.write_head.new.out ≡ length c.args.out.now = ap length c.write_head.ensures ∙ over_length 0 (write_header Long c.args.count) c.args.out.now (omega (arith, head_length_in c.args.file.now, c.requires.1)) in
     let room : length (twin c.args.file.now) ≤ length c.write_head.new.out = omega (arith, c.requires.1) in
-    writing-last c.loop-i.invariant room c.args.out.now c.loop-i-test.false c.requires.0 c.requires.1 c.write_head.ensures
+    writing-last c.loop.invariant room c.args.out.now c.loop-test.false c.requires.0 c.requires.1 c.write_head.ensures

@@ -11,6 +11,6 @@ pub returns : goal.returns
 returns c =
     let a = c.args in
     let m = width * a.count - width * a.to in record {
-      words = c.close_gap.ensures ∙ remove_words a.nodes.now a.count a.from a.to m (omega arith) (omega arith) (omega arith) (omega arith);
+      words = c.copy_within.ensures.after ∙ remove_words a.nodes.now a.count a.from a.to m (omega arith) (omega arith) (omega arith) (omega arith);
       size = simp (length-append, length-take, length-drop, rows-length) (omega arith);
     }

@@ -9,10 +9,6 @@ use Rattle.tree.specs.MoveRun.{moved_run, place_without, move_run_words}
 use Rattle.tree.specs.Ends.{place_without-fits, run_least}
 use Rattle.tree.proofs.moves.move_to.Goals as goal
 
-pub place_without-to-requires : goal.place_without-to-requires
-place_without-to-requires c =
-    (omega (arith, c.requires.1), λ h. omega (arith, c.requires.1, c.requires.0.outside h))
-
 pub move_run-requires : goal.move_run-requires
 move_run-requires c =
     let a = c.args in

@@ -1,12 +1,9 @@
 -- `tree::rows::first_free` meets its contract. The invariant: every row from the first up to this one is marked.
-use Prim.Native.Nat.{ℕ, ◌-◌, ◌≤◌, ◌<◌}
+use Prim.Native.Nat.{ℕ, ◌≤◌, ◌<◌}
 use mathlib.Core.Bool.{true, false}
 use mathlib.Core.Path.{◌≡◌}
 use lib.ListN.{get_or}
 use Rattle.tree.proofs.rows.first_free.Given as goal
 
 abbrev pub invariant-loop-row : goal.invariant-loop-row
-invariant-loop-row l = (l.from ≤ l.row) × (l.row ≤ l.to) × ((k : ℕ) → k < l.row → l.from ≤ k → get_or l.marks k false ≡ true)
-
-abbrev pub decreases-loop-row : goal.decreases-loop-row
-decreases-loop-row l = l.to - l.row
+invariant-loop-row l = (k : ℕ) → k < l.row → l.from ≤ k → get_or l.marks k false ≡ true

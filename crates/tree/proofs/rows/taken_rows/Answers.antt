@@ -1,6 +1,6 @@
 -- `tree::rows::taken_rows` meets its contract: the marks of both runs.
 use mathlib.Core.Bool.{Bool}
-use mathlib.Core.Path.{refl, ap, ◌∙◌}
+use mathlib.Core.Path.{ap, ◌∙◌}
 use native.Mathlib.Omega.{arith}
 use lib.ListN.{drop}
 use Rattle.words.specs.Choice.{either}
@@ -8,14 +8,6 @@ use Rattle.nodes.specs.Table.{rows}
 use Rattle.nodes.specs.Formed.{row_taken}
 use Rattle.tree.specs.FreeRow.{taken_beside}
 use Rattle.tree.proofs.rows.taken_rows.Goals as goal
-
-pub mark_rows-requires : goal.mark_rows-requires
-mark_rows-requires c =
-    let p = c.requires in
-    (refl, (omega arith, record { room = omega (arith, p.1.1.room, p.0, p.1.0); few = omega (arith, p.1.1.few, p.0, p.1.0) }))
-
-pub mark_rows-requires-2 : goal.mark_rows-requires-2
-mark_rows-requires-2 c = let p = c.requires in (c.mark_rows.ensures.0, p.1)
 
 pub returns : goal.returns
 returns c k h =

@@ -2,22 +2,9 @@
 use Prim.Native.Nat.{◌*◌}
 use native.Mathlib.Omega.{arith}
 use native.Mathlib.Numerals.{add-one, add-two, add-three, add-four}
-use lib.ListN.{length-set}
 use lib.Seq.{sets-eq}
 use Rattle.nodes.specs.Table.{width, words_of}
 use Rattle.tree.proofs.runs.put_node.Goals as goal
-
-pub bounds-nodes-from-2 : goal.bounds-nodes-from-2
-bounds-nodes-from-2 c = simp length-set (omega arith)
-
-pub bounds-nodes-from-3 : goal.bounds-nodes-from-3
-bounds-nodes-from-3 c = simp length-set (omega arith)
-
-pub bounds-nodes-from-4 : goal.bounds-nodes-from-4
-bounds-nodes-from-4 c = simp length-set (omega arith)
-
-pub bounds-nodes-from-5 : goal.bounds-nodes-from-5
-bounds-nodes-from-5 c = simp length-set (omega arith)
 
 pub returns : goal.returns
 returns c =

@@ -1,14 +1,11 @@
 use Prim.Native.Nat.{suc, ◌+◌, ◌*◌}
-use mathlib.Core.Path.{◌≡◌, refl, sym, ◌∙◌}
+use mathlib.Core.Path.{◌≡◌, sym, ◌∙◌}
 use native.Mathlib.Omega.{arith}
 use lib.ListN.{drop, get_or}
 use Rattle.nodes.specs.Table.{width, rows, depth_field}
 use Rattle.nodes.specs.Place.{deeper}
 use Rattle.nodes.specs.PlaceLaws.{deeper_turn, deeper_end}
 use Rattle.tree.proofs.search.subtree_end.Goals as goal
-
-pub loop-i-init : goal.loop-i-init
-loop-i-init c = (omega arith, refl)
 
 pub returns-then-not-is_deeper : goal.returns-then-not-is_deeper
 returns-then-not-is_deeper c =
@@ -25,7 +22,8 @@ loop-i-preserved c =
     let d = get_or a.nodes.now (width * a.at + depth_field) 0 in
     let i = c.loop-i.i in
     let on : deeper d (drop i (rows a.count a.nodes.now)) ≡ suc (deeper d (drop (i + 1) (rows a.count a.nodes.now))) =
-    rw (sym c.is_deeper.ensures ∙ c.if-not-is_deeper.false) at (deeper_turn a.count a.nodes.now d i (omega arith)) in (omega arith, omega arith)
+    rw (sym c.is_deeper.ensures ∙ c.if-not-is_deeper.false) at (deeper_turn a.count a.nodes.now d i (omega arith)) in
+    omega arith
 
 pub returns : goal.returns
 returns c =

@@ -1,5 +1,5 @@
--- `tree::search::subtree_end` meets its contract. The invariant is that of `find`, with depths.
-use Prim.Native.Nat.{◌+◌, ◌-◌, ◌≤◌}
+-- `tree::search::subtree_end` meets its contract. The invariant: the run goes on from i.
+use Prim.Native.Nat.{◌+◌}
 use mathlib.Core.Path.{◌≡◌}
 use lib.ListN.{drop}
 use Rattle.nodes.specs.Table.{rows}
@@ -7,7 +7,4 @@ use Rattle.nodes.specs.Place.{deeper}
 use Rattle.tree.proofs.search.subtree_end.Given as goal
 
 abbrev pub invariant-loop-i : goal.invariant-loop-i
-invariant-loop-i l = (l.i ≤ l.count) × (l.i + deeper l.depth (drop l.i (rows l.count l.nodes)) ≡ l.at + 1 + deeper l.depth (drop (l.at + 1) (rows l.count l.nodes)))
-
-abbrev pub decreases-loop-i : goal.decreases-loop-i
-decreases-loop-i l = l.count - l.i
+invariant-loop-i l = l.i + deeper l.depth (drop l.i (rows l.count l.nodes)) ≡ l.at + 1 + deeper l.depth (drop (l.at + 1) (rows l.count l.nodes))

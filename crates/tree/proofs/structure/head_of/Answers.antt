@@ -1,5 +1,5 @@
 use Prim.Native.Nat.{ℕ, ◌+◌, ◌*◌}
-use mathlib.Core.Path.{refl, sym, ap, ◌∙◌}
+use mathlib.Core.Path.{sym, ap, ◌∙◌}
 use mathlib.Core.List.{List}
 use native.Mathlib.Omega.{arith}
 use lib.ListN.{get_or}
@@ -8,9 +8,6 @@ use Rattle.nodes.specs.Structure.{no_node, first_or}
 use Rattle.tree.specs.Around.{child_numbers_stop, child_numbers_child, child_numbers_skip, child_numbers_end}
 use Rattle.tree.proofs.structure.head_of.Goals as goal
 
-pub loop-i-init : goal.loop-i-init
-loop-i-init c = (omega arith, refl)
-
 pub returns-then-other-depth : goal.returns-then-other-depth
 unfolding first_or
 returns-then-other-depth c =
@@ -18,7 +15,7 @@ returns-then-other-depth c =
     let us = a.nodes.now in
     let d = get_or us (width * a.at + depth_field) 0 in
     ap (λ (k : List ℕ). first_or no_node k) (sym (child_numbers_stop a.count us d c.loop-i.i (omega arith) c.if-other-depth.true))
-    ∙ c.loop-i.invariant.1
+    ∙ c.loop-i.invariant
 
 pub returns-then-other-depth-eq1 : goal.returns-then-other-depth-eq1
 unfolding first_or
@@ -27,14 +24,14 @@ returns-then-other-depth-eq1 c =
     let us = a.nodes.now in
     let d = get_or us (width * a.at + depth_field) 0 in
     ap (λ (k : List ℕ). first_or no_node k) (sym (child_numbers_child a.count us d c.loop-i.i (omega arith) (omega arith) c.if-other-depth-eq1.true))
-    ∙ c.loop-i.invariant.1
+    ∙ c.loop-i.invariant
 
 pub loop-i-preserved : goal.loop-i-preserved
 loop-i-preserved c =
     let a = c.args in
     let us = a.nodes.now in
     let d = get_or us (width * a.at + depth_field) 0 in
-    (omega arith, ap (λ (k : List ℕ). first_or no_node k) (sym (child_numbers_skip a.count us d c.loop-i.i (omega arith) (omega arith) c.if-other-depth-eq1.false)) ∙ c.loop-i.invariant.1)
+    ap (λ (k : List ℕ). first_or no_node k) (sym (child_numbers_skip a.count us d c.loop-i.i (omega arith) (omega arith) c.if-other-depth-eq1.false)) ∙ c.loop-i.invariant
 
 pub returns : goal.returns
 unfolding first_or
@@ -43,4 +40,4 @@ returns c =
     let us = a.nodes.now in
     let d = get_or us (width * a.at + depth_field) 0 in
     ap (λ (k : List ℕ). first_or no_node k) (sym (child_numbers_end a.count us d c.loop-i.i (omega arith)))
-    ∙ c.loop-i.invariant.1
+    ∙ c.loop-i.invariant

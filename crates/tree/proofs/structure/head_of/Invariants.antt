@@ -1,5 +1,5 @@
 -- `tree::structure::head_of` meets its contract. The invariant: no record from the node's place up to i is a child.
-use Prim.Native.Nat.{◌+◌, ◌-◌, ◌≤◌}
+use Prim.Native.Nat.{◌+◌}
 use mathlib.Core.Path.{◌≡◌}
 use lib.ListN.{drop}
 use Rattle.nodes.specs.Table.{rows}
@@ -8,7 +8,4 @@ use Rattle.tree.specs.Around.{child_numbers}
 use Rattle.tree.proofs.structure.head_of.Given as goal
 
 abbrev pub invariant-loop-i : goal.invariant-loop-i
-invariant-loop-i l = (l.i ≤ l.count) × (first_or no_node (child_numbers l.depth (drop l.i (rows l.count l.nodes))) ≡ first_or no_node (child_numbers l.depth (drop (l.at + 1) (rows l.count l.nodes))))
-
-abbrev pub decreases-loop-i : goal.decreases-loop-i
-decreases-loop-i l = l.count - l.i
+invariant-loop-i l = first_or no_node (child_numbers l.depth (drop l.i (rows l.count l.nodes))) ≡ first_or no_node (child_numbers l.depth (drop (l.at + 1) (rows l.count l.nodes)))

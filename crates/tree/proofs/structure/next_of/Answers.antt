@@ -9,6 +9,7 @@ use Rattle.nodes.specs.Structure.{first_beside}
 use Rattle.tree.specs.Around.{beside_turn, beside_end}
 use Rattle.nodes.specs.Sizes.{depth_at}
 use Rattle.tree.proofs.structure.next_of.Goals as goal
+use Rattle.tree.proofs.structure.next_of.Goals.{else-end-count-via-then-end-count+else-nodes-end, else-end-count-via-else-end-count}
 
 pub returns-then-nodes-end : goal.returns-then-nodes-end
 returns-then-nodes-end c =
@@ -16,14 +17,14 @@ returns-then-nodes-end c =
     let us = a.nodes.now in
     sym (ap (λ (k : ℕ). first_beside (depth_at us a.at) (drop k (rows a.count us))) (sym c.subtree_end-end.ensures) ∙ rw (eq-eqb (depth_at us c.subtree_end-end.result) (depth_at us a.at) c.if-nodes-end.true) at (beside_turn a.count us (depth_at us a.at) c.subtree_end-end.result (omega arith)))
 
-pub returns-else-nodes-end : goal.returns-else-nodes-end
-returns-else-nodes-end c =
-    let a = c.args in
-    let us = a.nodes.now in
-    sym (ap (λ (k : ℕ). first_beside (depth_at us a.at) (drop k (rows a.count us))) (sym c.subtree_end-end.ensures) ∙ rw (ne_eqb (depth_at us c.subtree_end-end.result) (depth_at us a.at) c.if-nodes-end.false) at (beside_turn a.count us (depth_at us a.at) c.subtree_end-end.result (omega arith)))
-
 pub returns-else-end-count : goal.returns-else-end-count
 returns-else-end-count c =
     let a = c.args in
     let us = a.nodes.now in
-    sym (ap (λ (k : ℕ). first_beside (depth_at us a.at) (drop k (rows a.count us))) (sym c.subtree_end-end.ensures) ∙ beside_end a.count us (depth_at us a.at) c.subtree_end-end.result (omega arith))
+    let d = depth_at us a.at in
+    let end = c.subtree_end-end.result in
+    let from = ap (λ (k : ℕ). first_beside d (drop k (rows a.count us))) (sym c.subtree_end-end.ensures) in
+    elim c.else-end-count.branch [
+      | else-end-count-via-then-end-count+else-nodes-end w ↦ sym (from ∙ rw (ne_eqb (depth_at us end) d w.if-nodes-end.false) at (beside_turn a.count us d end (omega arith)))
+      | else-end-count-via-else-end-count w ↦ sym (from ∙ beside_end a.count us d end (omega arith))
+    ]

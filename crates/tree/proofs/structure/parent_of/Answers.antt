@@ -1,5 +1,5 @@
 use Prim.Native.Nat.{ℕ, ◌+◌, ◌*◌, ◌-◌}
-use mathlib.Core.Path.{◌≡◌, refl, sym, ap, ◌∙◌}
+use mathlib.Core.Path.{◌≡◌, sym, ap, ◌∙◌}
 use native.Mathlib.Omega.{arith}
 use borrow.Author.Tests.{lt-ltb, le-ltb}
 use lib.ListN.{get_or}
@@ -8,9 +8,6 @@ use Rattle.nodes.specs.Structure.{no_node}
 use Rattle.tree.specs.Around.{along, above, along_start, along_back}
 use Rattle.tree.proofs.structure.parent_of.Goals as goal
 
-pub loop-i-init : goal.loop-i-init
-loop-i-init c = (omega arith, refl)
-
 pub returns-then-nodes-i : goal.returns-then-nodes-i
 returns-then-nodes-i c =
     let a = c.args in
@@ -18,7 +15,7 @@ returns-then-nodes-i c =
     let d = get_or us (width * a.at + depth_field) 0 in
     let step : along (above d) no_node (rows c.loop-i.i us) ≡ get_or us (width * (c.loop-i.i - 1)) 0 =
     rw (lt-ltb (get_or us (width * (c.loop-i.i - 1) + depth_field) 0) d c.if-nodes-i.true) at (along_back (above d) no_node c.loop-i.i us (omega arith)) in
-    sym step ∙ c.loop-i.invariant.1
+    sym step ∙ c.loop-i.invariant
 
 pub loop-i-preserved : goal.loop-i-preserved
 loop-i-preserved c =
@@ -26,7 +23,7 @@ loop-i-preserved c =
     let us = a.nodes.now in
     let d = get_or us (width * a.at + depth_field) 0 in
     let step : along (above d) no_node (rows c.loop-i.i us) ≡ along (above d) no_node (rows (c.loop-i.i - 1) us) =
-    rw (le-ltb (get_or us (width * (c.loop-i.i - 1) + depth_field) 0) d c.if-nodes-i.false) at (along_back (above d) no_node c.loop-i.i us (omega arith)) in (omega arith, sym step ∙ c.loop-i.invariant.1)
+    rw (le-ltb (get_or us (width * (c.loop-i.i - 1) + depth_field) 0) d c.if-nodes-i.false) at (along_back (above d) no_node c.loop-i.i us (omega arith)) in sym step ∙ c.loop-i.invariant
 
 pub returns : goal.returns
 returns c =
@@ -34,4 +31,4 @@ returns c =
     let us = a.nodes.now in
     let d = get_or us (width * a.at + depth_field) 0 in
     let none : c.loop-i.i ≡ 0 = omega arith in
-    sym (along_start (above d) no_node us) ∙ ap (λ (k : ℕ). along (above d) no_node (rows k us)) (sym none) ∙ c.loop-i.invariant.1
+    sym (along_start (above d) no_node us) ∙ ap (λ (k : ℕ). along (above d) no_node (rows k us)) (sym none) ∙ c.loop-i.invariant

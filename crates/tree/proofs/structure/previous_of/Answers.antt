@@ -1,5 +1,5 @@
 use Prim.Native.Nat.{ℕ, ◌+◌, ◌*◌, ◌-◌}
-use mathlib.Core.Path.{◌≡◌, refl, sym, ap, ◌∙◌}
+use mathlib.Core.Path.{◌≡◌, sym, ap, ◌∙◌}
 use native.Mathlib.Omega.{arith}
 use borrow.Author.Tests.{lt-ltb, le-ltb, eq-eqb, ne_eqb}
 use lib.ListN.{get_or}
@@ -8,9 +8,6 @@ use Rattle.nodes.specs.Structure.{no_node}
 use Rattle.tree.specs.Around.{along, beside, along_start, along_back}
 use Rattle.tree.proofs.structure.previous_of.Goals as goal
 
-pub loop-i-init : goal.loop-i-init
-loop-i-init c = (omega arith, refl)
-
 pub returns-then-other-depth : goal.returns-then-other-depth
 returns-then-other-depth c =
     let a = c.args in
@@ -18,7 +15,7 @@ returns-then-other-depth c =
     let d = get_or us (width * a.at + depth_field) 0 in
     let step : along (beside d) no_node (rows c.loop-i.i us) ≡ no_node =
     rw (lt-ltb (get_or us (width * (c.loop-i.i - 1) + depth_field) 0) d c.if-other-depth.true) at (along_back (beside d) no_node c.loop-i.i us (omega arith)) in
-    sym step ∙ c.loop-i.invariant.1
+    sym step ∙ c.loop-i.invariant
 
 pub returns-then-other-depth-2 : goal.returns-then-other-depth-2
 returns-then-other-depth-2 c =
@@ -28,7 +25,7 @@ returns-then-other-depth-2 c =
     let other = get_or us (width * (c.loop-i.i - 1) + depth_field) 0 in
     let step : along (beside d) no_node (rows c.loop-i.i us) ≡ get_or us (width * (c.loop-i.i - 1)) 0 =
     rw (le-ltb other d (omega arith), eq-eqb other d c.if-other-depth-2.true) at (along_back (beside d) no_node c.loop-i.i us (omega arith)) in
-    sym step ∙ c.loop-i.invariant.1
+    sym step ∙ c.loop-i.invariant
 
 pub loop-i-preserved : goal.loop-i-preserved
 loop-i-preserved c =
@@ -37,7 +34,7 @@ loop-i-preserved c =
     let d = get_or us (width * a.at + depth_field) 0 in
     let other = get_or us (width * (c.loop-i.i - 1) + depth_field) 0 in
     let step : along (beside d) no_node (rows c.loop-i.i us) ≡ along (beside d) no_node (rows (c.loop-i.i - 1) us) =
-    rw (le-ltb other d (omega arith), ne_eqb other d c.if-other-depth-2.false) at (along_back (beside d) no_node c.loop-i.i us (omega arith)) in (omega arith, sym step ∙ c.loop-i.invariant.1)
+    rw (le-ltb other d (omega arith), ne_eqb other d c.if-other-depth-2.false) at (along_back (beside d) no_node c.loop-i.i us (omega arith)) in sym step ∙ c.loop-i.invariant
 
 pub returns : goal.returns
 returns c =
@@ -45,4 +42,4 @@ returns c =
     let us = a.nodes.now in
     let d = get_or us (width * a.at + depth_field) 0 in
     let none : c.loop-i.i ≡ 0 = omega arith in
-    sym (along_start (beside d) no_node us) ∙ ap (λ (k : ℕ). along (beside d) no_node (rows k us)) (sym none) ∙ c.loop-i.invariant.1
+    sym (along_start (beside d) no_node us) ∙ ap (λ (k : ℕ). along (beside d) no_node (rows k us)) (sym none) ∙ c.loop-i.invariant

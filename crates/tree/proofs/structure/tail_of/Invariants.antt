@@ -1,14 +1,11 @@
 -- `tree::structure::tail_of` meets its contract. The invariant: the last child so far, and those from i on, give the last of all.
-use Prim.Native.Nat.{◌+◌, ◌-◌, ◌≤◌}
+use Prim.Native.Nat.{◌+◌}
 use mathlib.Core.Path.{◌≡◌}
-use lib.ListN.{drop}
+use Rattle.std.proofs.Common.{drop, unwrap_or}
 use Rattle.nodes.specs.Table.{rows}
 use Rattle.nodes.specs.Structure.{no_node, last_or}
 use Rattle.tree.specs.Around.{child_numbers}
 use Rattle.tree.proofs.structure.tail_of.Given as goal
 
 abbrev pub invariant-loop-i : goal.invariant-loop-i
-invariant-loop-i l = (l.i ≤ l.count) × (last_or l.last (child_numbers l.depth (drop l.i (rows l.count l.nodes))) ≡ last_or no_node (child_numbers l.depth (drop (l.at + 1) (rows l.count l.nodes))))
-
-abbrev pub decreases-loop-i : goal.decreases-loop-i
-decreases-loop-i l = l.count - l.i
+invariant-loop-i l = last_or (unwrap_or l.last no_node) (child_numbers l.depth (drop l.i (rows l.count l.nodes))) ≡ last_or no_node (child_numbers l.depth (drop (l.at + 1) (rows l.count l.nodes)))

@@ -1,21 +1,18 @@
 -- `treecommands::group::new_group` meets its contract: by the action that the number asks for, or refused.
-use mathlib.Core.Path.{◌≡◌}
-use Rattle.tree.specs.declared.action.Asked.TheVariants.{Add, Refused}
-use Rattle.tree.specs.Action.{action_of, asked_number, asked_refused}
+use mathlib.Core.Path.{sym}
+use Rattle.std.proofs.lemmas.Result.{err_from_is_err_and}
+use Rattle.tree.specs.Action.{asked_number, asked_refused}
 use Rattle.treecommands.specs.Grouping.{group_unasked}
 use Rattle.treecommands.proofs.group.new_group.Goals as goal
 
-pub returns-in-Add : goal.returns-in-Add
-returns-in-Add c =
+pub returns-in_err-by : goal.returns-in_err-by
+returns-in_err-by c =
     let a = c.args in
-    let by = c.in-Add.by in
-    let fact : action_of a.action ≡ Add by = cc in
-    rw (asked_number a.action by fact) c.add_group.ensures
+    let p = err_from_is_err_and c.from_residual.result c.from_residual.ensures.1 in
+    let refused = asked_refused a.action _ (sym c.in_err-by.ensures) in
+    rw (p.1, p.2, refused.1) (group_unasked a.number a.action a.target a.words.now refused.0)
 
-pub returns-in-Refused : goal.returns-in-Refused
-returns-in-Refused c =
+pub returns : goal.returns
+returns c =
     let a = c.args in
-    let why = c.in-Refused.why in
-    let fact : action_of a.action ≡ Refused why = cc in
-    let refused = asked_refused a.action why fact in
-    rw refused.1 (group_unasked a.number a.action a.target a.words.now refused.0)
+    rw (asked_number a.action _ (sym c.in_ok-by.ensures)) c.add_group.ensures

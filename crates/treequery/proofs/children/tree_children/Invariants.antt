@@ -1,4 +1,4 @@
-use Prim.Native.Nat.{ℕ, ◌+◌, ◌≤◌, ◌<◌}
+use Prim.Native.Nat.{ℕ, ◌≤◌, ◌<◌}
 use mathlib.Core.Path.{◌≡◌}
 use mathlib.Core.List.{List}
 use lib.ListN.{length}
@@ -7,7 +7,4 @@ use Rattle.treequery.proofs.children.tree_children.Given as goal
 
 -- the records behind i were gone over
 abbrev pub invariant-loop-i : goal.invariant-loop-i
-invariant-loop-i l = (l.at ≤ l.i) × (l.i < l.end) × (length l.children ≡ 256) × ((bs : List ℕ) → Families l.words bs (l.i + 1) l.end l.children) × PerDepth l.words l.end (l.i + 1) l.below
-
-abbrev pub decreases-loop-i : goal.decreases-loop-i
-decreases-loop-i l = l.i
+invariant-loop-i l = (l.at < l.i) × (l.i ≤ l.end) × (length l.children ≡ 256) × ((bs : List ℕ) → Families l.words bs l.i l.end l.children) × PerDepth l.words l.end l.i l.below

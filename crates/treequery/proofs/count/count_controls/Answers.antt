@@ -27,66 +27,57 @@ pub loop-j-init : goal.loop-j-init
 loop-j-init c =
     let k : Controls c.args.words.now c.args.arena.now c.args.shapes.now c.args.place c.node_definition-definition.result.now c.synth_at-synth.result.row c.synth_at-synth.result.first c.synth_at-synth.result.many = record { of = c.requires.0; bytes = c.node_definition-definition.ensures; row_is = c.synth_at-synth.ensures.row; first_is = c.synth_at-synth.ensures.first; many_is = c.synth_at-synth.ensures.many } in
     let first = counting_less (int c.synth_at-synth.result.many ∷ []) (controls_left c.args.words.now c.args.arena.now c.args.place 0) (counting_all c.requires.1) (controls_all k) c.count_piece-next.ensures in
-    (omega arith, k, counting_all first.counts)
+    (k, counting_all first.counts)
 
 pub label_at-requires : goal.label_at-requires
 label_at-requires c =
-    let k = c.loop-j.invariant.1 in
+    let k = c.loop-j.invariant.0 in
     let j = c.loop-j.j in
     label_there k j (omega arith)
 
 pub count_piece-next-requires-in-loop-j : goal.count_piece-next-requires-in-loop-j
 count_piece-next-requires-in-loop-j c =
-    let k = c.loop-j.invariant.1 in
+    let k = c.loop-j.invariant.0 in
     let j = c.loop-j.j in
     let less : j < c.synth_at-synth.result.many = omega arith in
     let ws = c.args.words.now in
     let d = c.node_definition-definition.result.now in
     let row = c.synth_at-synth.result.row in
     let rest = controls_left ws c.args.arena.now c.args.place (j + 1) in
-    record { short = controls_short k; counts = counting_some (piece_argument d c.label_at.result ∷ []) (value_of ws row j ∷ rest) c.loop-j.invariant.2 (control_turn k j less c.label_at.result c.label_at.ensures.0) }
+    record { short = controls_short k; counts = counting_some (piece_argument d c.label_at.result ∷ []) (value_of ws row j ∷ rest) c.loop-j.invariant.1 (control_turn k j less c.label_at.result c.label_at.ensures.0) }
 
 pub value_at-requires : goal.value_at-requires
 value_at-requires c =
-    let k = c.loop-j.invariant.1 in
+    let k = c.loop-j.invariant.0 in
     let j = c.loop-j.j in
     (k.of.at.state.size, control_row k j (omega arith), control_few k j (omega arith))
 
 pub count_piece-next-requires-in-loop-j-2 : goal.count_piece-next-requires-in-loop-j-2
 count_piece-next-requires-in-loop-j-2 c =
-    let k = c.loop-j.invariant.1 in
+    let k = c.loop-j.invariant.0 in
     let j = c.loop-j.j in
-    let less : j < c.synth_at-synth.result.many = omega (arith, c.loop-j-test.true) in
+    let less : j < c.synth_at-synth.result.many = omega arith in
     let ws = c.args.words.now in
     let d = c.node_definition-definition.result.now in
     let row = c.synth_at-synth.result.row in
     let rest = controls_left ws c.args.arena.now c.args.place (j + 1) in
-    record { short = controls_short k; counts = counting_some (piece_argument d c.value_at.result ∷ []) rest (counting_less (piece_argument d c.label_at.result ∷ []) (value_of ws row j ∷ rest) c.loop-j.invariant.2 (control_turn k j less c.label_at.result c.label_at.ensures.0) c.count_piece-next-in-loop-j.ensures) (ap (λ (x : Argument). x ∷ rest) (sym (c.value_at.ensures.is d))) }
-
-pub overflow_add-j : goal.overflow_add-j
-overflow_add-j c =
-    let k = c.loop-j.invariant.1 in
-    let j = c.loop-j.j in
-    omega (arith, control_few k j (omega (arith, c.loop-j-test.true)))
-
-pub loop-j-smaller : goal.loop-j-smaller
-loop-j-smaller c = omega (arith, c.loop-j-test.true)
+    record { short = controls_short k; counts = counting_some (piece_argument d c.value_at.result ∷ []) rest (counting_less (piece_argument d c.label_at.result ∷ []) (value_of ws row j ∷ rest) c.loop-j.invariant.1 (control_turn k j less c.label_at.result c.label_at.ensures.0) c.count_piece-next-in-loop-j.ensures) (ap (λ (x : Argument). x ∷ rest) (sym (c.value_at.ensures.is d))) }
 
 pub loop-j-preserved : goal.loop-j-preserved
 loop-j-preserved c =
-    let k = c.loop-j.invariant.1 in
+    let k = c.loop-j.invariant.0 in
     let j = c.loop-j.j in
-    let less : j < c.synth_at-synth.result.many = omega (arith, c.loop-j-test.true) in
+    let less : j < c.synth_at-synth.result.many = omega arith in
     let ws = c.args.words.now in
     let d = c.node_definition-definition.result.now in
     let row = c.synth_at-synth.result.row in
     let rest = controls_left ws c.args.arena.now c.args.place (j + 1) in
-    (omega arith, k, counting_less (piece_argument d c.value_at.result ∷ []) rest (counting_less (piece_argument d c.label_at.result ∷ []) (value_of ws row j ∷ rest) c.loop-j.invariant.2 (control_turn k j less c.label_at.result c.label_at.ensures.0) c.count_piece-next-in-loop-j.ensures) (ap (λ (x : Argument). x ∷ rest) (sym (c.value_at.ensures.is d))) c.count_piece-next-in-loop-j-2.ensures)
+    (k, counting_less (piece_argument d c.value_at.result ∷ []) rest (counting_less (piece_argument d c.label_at.result ∷ []) (value_of ws row j ∷ rest) c.loop-j.invariant.1 (control_turn k j less c.label_at.result c.label_at.ensures.0) c.count_piece-next-in-loop-j.ensures) (ap (λ (x : Argument). x ∷ rest) (sym (c.value_at.ensures.is d))) c.count_piece-next-in-loop-j-2.ensures)
 
 pub returns : goal.returns
 returns c =
-    let k = c.loop-j.invariant.1 in
+    let k = c.loop-j.invariant.0 in
     let all = (controls_left c.args.words.now c.args.arena.now c.args.place 0) in
     let first = counting_less (int c.synth_at-synth.result.many ∷ []) all (counting_all c.requires.1) (controls_all k) c.count_piece-next.ensures in
-    let done = counting_none c.loop-j.invariant.2 (controls_end k c.loop-j.j (omega arith)) in
+    let done = counting_none c.loop-j.invariant.1 (controls_end k c.loop-j.j (omega arith)) in
     counting_none (counting_less all [] first (sym (append-nil all)) done) refl

@@ -8,7 +8,7 @@ use Rattle.treequery.proofs.count.count_tree.Goals as goal
 pub loop-i-init : goal.loop-i-init
 loop-i-init c =
     let all = left_rows c.args.shown c.args.words.now c.args.arena.now c.args.end c.args.from in
-    (omega arith, c.requires.run.order, counting_all (counts_first all (rows_few c.args.shown c.args.words.now c.args.arena.now c.args.from c.args.end c.requires.run)))
+    (counting_all (counts_first all (rows_few c.args.shown c.args.words.now c.args.arena.now c.args.from c.args.end c.requires.run)))
 
 pub count_row-next-requires : goal.count_row-next-requires
 count_row-next-requires c =
@@ -18,8 +18,8 @@ count_row-next-requires c =
     let end = c.args.end in
     let i = c.loop-i.i in
     let inv = c.loop-i.invariant in
-    let less : i < end = omega (arith, c.loop-i-test.true) in
-    (row_of shown ws bs c.args.shapes.now c.args.from end i c.requires inv.0 less, counting_some (row_arguments shown ws bs end i) (left_rows shown ws bs end (i + 1)) inv.2 (rows_turn shown ws bs end i less))
+    let less : i < end = omega arith in
+    (row_of shown ws bs c.args.shapes.now c.args.from end i c.requires (omega arith) less, counting_some (row_arguments shown ws bs end i) (left_rows shown ws bs end (i + 1)) inv (rows_turn shown ws bs end i less))
 
 pub loop-i-preserved : goal.loop-i-preserved
 loop-i-preserved c =
@@ -29,8 +29,8 @@ loop-i-preserved c =
     let end = c.args.end in
     let i = c.loop-i.i in
     let inv = c.loop-i.invariant in
-    let less : i < end = omega (arith, c.loop-i-test.true) in
-    (omega arith, omega arith, counting_less (row_arguments shown ws bs end i) (left_rows shown ws bs end (i + 1)) inv.2 (rows_turn shown ws bs end i less) c.count_row-next.ensures)
+    let less : i < end = omega arith in
+    (counting_less (row_arguments shown ws bs end i) (left_rows shown ws bs end (i + 1)) inv (rows_turn shown ws bs end i less) c.count_row-next.ensures)
 
 pub returns : goal.returns
 returns c =
@@ -41,4 +41,4 @@ returns c =
     let i = c.loop-i.i in
     let inv = c.loop-i.invariant in
     counted_all (left_rows shown ws bs end c.args.from) c.loop-i.next (rows_few shown ws bs c.args.from end c.requires.run)
-    (counting_none inv.2 (rows_none shown ws bs end i (omega (arith, c.loop-i-test.false))))
+    (counting_none inv (rows_none shown ws bs end i (omega arith)))

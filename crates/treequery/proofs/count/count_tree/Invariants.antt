@@ -1,4 +1,3 @@
-use Prim.Native.Nat.{◌-◌, ◌≤◌}
 use Rattle.treequery.specs.Places.{nowhere}
 use Rattle.treequery.specs.Counting.{Counting}
 use Rattle.treequery.specs.Rows.{left_rows}
@@ -6,9 +5,4 @@ use Rattle.treequery.proofs.count.count_tree.Given as goal
 
 abbrev pub invariant-loop-i : goal.invariant-loop-i
 invariant-loop-i l =
-    (l.from ≤ l.i)
-    × (l.i ≤ l.end)
-    × Counting nowhere (left_rows l.shown l.words l.arena l.end l.from) l.next (left_rows l.shown l.words l.arena l.end l.i)
-
-abbrev pub decreases-loop-i : goal.decreases-loop-i
-decreases-loop-i l = l.end - l.i
+    Counting nowhere (left_rows l.shown l.words l.arena l.end l.from) l.next (left_rows l.shown l.words l.arena l.end l.i)

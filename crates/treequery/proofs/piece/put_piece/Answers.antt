@@ -1,4 +1,6 @@
 use Prim.Native.Nat.{ℕ}
+use Rattle.std.proofs.Common.{◌≡◌, inl, inr}
+use Rattle.words.specs.Bytes.{bytes32}
 use mathlib.Core.Path.{sym, ap, ◌∙◌}
 use mathlib.Core.List.{List}
 use native.Mathlib.Omega.{arith}
@@ -8,12 +10,6 @@ use Rattle.osc.specs.Message.{padded}
 use Rattle.words.specs.Parts.{over}
 use Rattle.treequery.specs.Pieces.{piece_bytes, is_small}
 use Rattle.treequery.proofs.piece.put_piece.Goals as goal
-
-pub put_int-requires : goal.put_int-requires
-put_int-requires c = omega (arith, ap (length {A = ℕ}) (ap (piece_bytes c.args.definition.now) c.in-Whole.is))
-
-pub put_int-requires-in-Pattern : goal.put_int-requires-in-Pattern
-put_int-requires-in-Pattern c = omega (arith, ap (length {A = ℕ}) (ap (piece_bytes c.args.definition.now) c.in-Pattern.is))
 
 pub put_padded-requires : goal.put_padded-requires
 put_padded-requires c = omega (arith, ap (length {A = ℕ}) (ap (piece_bytes c.args.definition.now) c.in-Part.is), ap (λ (l : List ℕ). length (padded l)) c.part.ensures)
@@ -25,16 +21,6 @@ put_mapped-requires c =
       room = omega (arith, ap (length {A = ℕ}) (ap (piece_bytes c.args.definition.now) c.in-Mapped.is));
     }
 
-pub returns-in-Whole : goal.returns-in-Whole
-returns-in-Whole c =
-    let a = c.args in
-    c.put_int.ensures ∙ ap (λ (l : List ℕ). over a.at l a.out.now) (sym (ap (piece_bytes c.args.definition.now) c.in-Whole.is))
-
-pub returns-in-Pattern : goal.returns-in-Pattern
-returns-in-Pattern c =
-    let a = c.args in
-    c.put_int-in-Pattern.ensures ∙ ap (λ (l : List ℕ). over a.at l a.out.now) (sym (ap (piece_bytes c.args.definition.now) c.in-Pattern.is))
-
 pub returns-in-Part : goal.returns-in-Part
 returns-in-Part c =
     let a = c.args in
@@ -44,3 +30,15 @@ pub returns-in-Mapped : goal.returns-in-Mapped
 returns-in-Mapped c =
     let a = c.args in
     c.put_mapped.ensures ∙ ap (λ (l : List ℕ). over a.at l a.out.now) (sym (ap (piece_bytes c.args.definition.now) c.in-Mapped.is))
+
+pub put_int-requires : goal.put_int-requires
+put_int-requires c =
+    let bytes = piece_bytes c.args.definition.now in
+    let whole : bytes c.args.piece ≡ bytes32 c.in-Whole.word = elim c.in-Whole.is [ inl h ↦ ap bytes h | inr h ↦ ap bytes h ] in
+    omega (arith, ap (length {A = ℕ}) whole)
+
+pub returns-in-Whole : goal.returns-in-Whole
+returns-in-Whole c =
+    let bytes = piece_bytes c.args.definition.now in
+    let whole : bytes c.args.piece ≡ bytes32 c.in-Whole.word = elim c.in-Whole.is [ inl h ↦ ap bytes h | inr h ↦ ap bytes h ] in
+    rw whole c.put_int.ensures

@@ -9,7 +9,7 @@ use Rattle.refusals.specs.declared.Refusal.TheVariants.{NoRoom}
 use Rattle.osc.specs.Message.{tags, arguments}
 use Rattle.words.specs.Parts.{over}
 use Rattle.osc.specs.Lengths.{tags_size}
-use Rattle.model.specs.declared.Answer.TheVariants.{Refused, Replied}
+use Rattle.model.specs.Answers.{Refused, Replied}
 use Rattle.model.specs.Layout.{nodes_place, record_in}
 use Rattle.model.specs.Replies.{flag_number}
 use Rattle.replies.specs.Sent.{Sends, sends_none, sends_all}

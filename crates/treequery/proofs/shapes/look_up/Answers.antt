@@ -21,7 +21,7 @@ bounds-shapes-first c = omega (arith, c.requires.0)
 pub loop-j-init : goal.loop-j-init
 loop-j-init c =
     let table = set c.args.shapes.now (33 * c.args.slot) (c.parameter_count.result + 1) in
-    (omega arith, filling_none c.args.slot table c.labels-places.result (length-set c.args.shapes.now (33 * c.args.slot) (c.parameter_count.result + 1) ∙ c.requires.1))
+    (filling_none c.args.slot table c.labels-places.result (length-set c.args.shapes.now (33 * c.args.slot) (c.parameter_count.result + 1) ∙ c.requires.1))
 
 pub bounds-shapes-first-in-loop-j : goal.bounds-shapes-first-in-loop-j
 bounds-shapes-first-in-loop-j c = omega (arith, c.requires.0)
@@ -29,11 +29,11 @@ bounds-shapes-first-in-loop-j c = omega (arith, c.requires.0)
 pub loop-j-preserved : goal.loop-j-preserved
 loop-j-preserved c =
     let table = set c.args.shapes.now (33 * c.args.slot) (c.parameter_count.result + 1) in
-    (omega arith, filling_turn c.args.slot table c.loop-j.shapes c.labels-places.result c.loop-j.j c.requires.0 (omega arith) c.loop-j.invariant.1)
+    (filling_turn c.args.slot table c.loop-j.shapes c.labels-places.result c.loop-j.j c.requires.0 (omega arith) c.loop-j.invariant)
 
 pub returns : goal.returns
 returns c =
     let last : c.loop-j.j ≡ 32 = omega arith in
     let table = set c.args.shapes.now (33 * c.args.slot) (c.parameter_count.result + 1) in
     filling_done c.args.definition.now c.args.slot c.args.shapes.now c.loop-j.shapes c.labels-places.result c.parameter_count.result c.requires.0 c.requires.1 c.parameter_count.ensures c.labels-places.ensures
-    (rw last at c.loop-j.invariant.1)
+    (rw last at c.loop-j.invariant)

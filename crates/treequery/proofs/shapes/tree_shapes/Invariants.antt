@@ -1,4 +1,4 @@
-use Prim.Native.Nat.{ℕ, ◌*◌, ◌-◌, ◌≤◌, ◌<◌}
+use Prim.Native.Nat.{ℕ, ◌*◌, ◌≤◌, ◌<◌}
 use mathlib.Core.Bool.{false}
 use mathlib.Core.Path.{◌≡◌}
 use lib.ListN.{get_or}
@@ -9,10 +9,5 @@ use Rattle.treequery.proofs.shapes.tree_shapes.Given as goal
 
 abbrev pub invariant-loop-i : goal.invariant-loop-i
 invariant-loop-i l =
-    (l.from ≤ l.i)
-    × (l.i ≤ l.end)
-    × ShapesKnown l.words l.arena l.shapes
+    ShapesKnown l.words l.arena l.shapes
     × ((j : ℕ) → l.from ≤ j → j < l.i → is_group (record_in l.words j) ≡ false → 0 < get_or l.shapes (33 * (record_in l.words j).slot) 0)
-
-abbrev pub decreases-loop-i : goal.decreases-loop-i
-decreases-loop-i l = l.end - l.i

@@ -7,13 +7,7 @@ use Rattle.treequery.proofs.write.put_tree.Goals as goal
 
 pub loop-i-init : goal.loop-i-init
 loop-i-init c =
-    (omega arith, c.requires.0.run.order, left_all c.requires.3)
-
-pub bounds-children-i : goal.bounds-children-i
-bounds-children-i c = omega (arith, c.requires.1)
-
-pub overflow_cast-many : goal.overflow_cast-many
-overflow_cast-many c = omega (arith, c.type_inv.children c.loop-i.i)
+    (left_all c.requires.3)
 
 pub put_row-next-requires : goal.put_row-next-requires
 put_row-next-requires c =
@@ -23,10 +17,10 @@ put_row-next-requires c =
     let end = c.args.end in
     let i = c.loop-i.i in
     let inv = c.loop-i.invariant in
-    let less : i < end = omega (arith, c.loop-i-test.true) in (
-      row_of shown ws bs c.args.shapes.now c.args.from end i c.requires.0 inv.0 less,
-      c.requires.2 i inv.0 less,
-      left_some (row_arguments shown ws bs end i) (left_rows shown ws bs end (i + 1)) inv.2 (rows_turn shown ws bs end i less),
+    let less : i < end = omega arith in (
+      row_of shown ws bs c.args.shapes.now c.args.from end i c.requires.0 (omega arith) less,
+      omega (arith, c.requires.2 i (omega arith) less),
+      left_some (row_arguments shown ws bs end i) (left_rows shown ws bs end (i + 1)) inv (rows_turn shown ws bs end i less),
     )
 
 pub loop-i-preserved : goal.loop-i-preserved
@@ -37,8 +31,8 @@ loop-i-preserved c =
     let end = c.args.end in
     let i = c.loop-i.i in
     let inv = c.loop-i.invariant in
-    let less : i < end = omega (arith, c.loop-i-test.true) in
-    (omega arith, omega arith, left_less (row_arguments shown ws bs end i) (left_rows shown ws bs end (i + 1)) inv.2 (rows_turn shown ws bs end i less) c.put_row-next.ensures)
+    let less : i < end = omega arith in
+    (left_less (row_arguments shown ws bs end i) (left_rows shown ws bs end (i + 1)) inv (rows_turn shown ws bs end i less) c.put_row-next.ensures)
 
 pub returns : goal.returns
 returns c =
@@ -48,4 +42,4 @@ returns c =
     let end = c.args.end in
     let i = c.loop-i.i in
     let inv = c.loop-i.invariant in
-    left_none inv.2 (rows_none shown ws bs end i (omega (arith, c.loop-i-test.false)))
+    left_none inv (rows_none shown ws bs end i (omega arith))

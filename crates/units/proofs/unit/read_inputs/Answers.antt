@@ -1,31 +1,12 @@
-use mathlib.Core.Path.{sym, ◌∙◌}
-use native.Mathlib.Omega.{arith}
-use Rattle.format.specs.Endings.{repeat_next, repeat_bad}
-use Rattle.format.specs.RepeatLaws.{ending_none}
-use native.Mathlib.Nat.{sub-zero}
+use Rattle.std.proofs.Common.{◌∙◌, rules}
+use Rattle.format.specs.Read.{ending}
 use Rattle.format.specs.Reader.{input_by}
+use Rattle.fields.specs.ManyLaws.{each_ending}
 use Rattle.units.specs.Units.{outs_from}
 use Rattle.units.proofs.unit.read_inputs.Goals as goal
-
-pub loop-i-init : goal.loop-i-init
-loop-i-init c = (omega arith, rw sub-zero)
-
-pub read_input-requires : goal.read_input-requires
-read_input-requires c = c.requires
-
-pub returns-in-Bad : goal.returns-in-Bad
-returns-in-Bad c =
-    let a = c.args in
-    let found = sym (rw c.in-Bad.is at c.read_input.ensures) in
-    sym (repeat_bad (input_by a.width a.constants (outs_from a.width a.s.now a.start a.units) a.s.now) a.count c.loop-i.i c.loop-i.at (omega arith) found) ∙ c.loop-i.invariant.1
-
-pub loop-i-preserved : goal.loop-i-preserved
-loop-i-preserved c =
-    let a = c.args in
-    let found = sym (rw c.in-Next.is at c.read_input.ensures) in
-    (omega arith, sym (repeat_next (input_by a.width a.constants (outs_from a.width a.s.now a.start a.units) a.s.now) a.count c.loop-i.i c.loop-i.at (omega arith) found) ∙ c.loop-i.invariant.1)
 
 pub returns : goal.returns
 returns c =
     let a = c.args in
-    sym (ending_none (input_by a.width a.constants (outs_from a.width a.s.now a.start a.units) a.s.now) a.count c.loop-i.i c.loop-i.at (omega arith)) ∙ c.loop-i.invariant.1
+    let read = input_by a.scope.width a.scope.constants (outs_from a.scope.width a.s.now a.scope.start a.units) a.s.now in
+    c.skip_many.ensures (λ p. ending (read p)) (λ here r k. search rules) ∙ each_ending read a.count a.cursor.at

@@ -39,9 +39,9 @@ value_at-count-requires c =
     let forward : units_past s p1 ≤ end = rw c.widen_front-p1.ensures.from whole.forward in
     omega (arith, past_up (unit_past s) (unit_onward s) n (p1 + 2), forward, whole.inside)
 
-pub widen_integer-p2-requires : goal.widen_integer-p2-requires
+pub integer-p2-requires : goal.integer-p2-requires
 unfolding definition_wide
-widen_integer-p2-requires c =
+integer-p2-requires c =
     let s = c.args.s.now in
     let at = c.args.at in
     let end = c.args.end in
@@ -54,9 +54,9 @@ widen_integer-p2-requires c =
     let forward : units_past s p1 ≤ end = rw c.widen_front-p1.ensures.from whole.forward in
     room_first (integer_wide s p1) (wide_all (unit_wide s) (unit_past s) n (p1 + 2) ++ region (units_past s p1) (end - units_past s p1) s) r1 (omega (arith, past_up (unit_past s) (unit_onward s) n (p1 + 2), forward))
 
-pub widen_units-p3-requires : goal.widen_units-p3-requires
+pub widen_all-p3-requires : goal.widen_all-p3-requires
 unfolding definition_wide
-widen_units-p3-requires c =
+widen_all-p3-requires c =
     let s = c.args.s.now in
     let at = c.args.at in
     let end = c.args.end in
@@ -67,9 +67,9 @@ widen_units-p3-requires c =
     let n = value_by Short s p1 in
     let r1 = room_rest (λ q. rest_wide s end q) r0 c.widen_front-p1.ensures in
     let forward : units_past s p1 ≤ end = rw c.widen_front-p1.ensures.from whole.forward in
-    let p2 = c.widen_integer-p2.result.from in
-    let r2 = room_rest (λ q. wide_all (unit_wide s) (unit_past s) n q ++ region (past_all (unit_past s) n q) (end - past_all (unit_past s) n q) s) r1 c.widen_integer-p2.ensures in
-    let behind : past_all (unit_past s) n p2 ≡ units_past s p1 = ap (λ (q : ℕ). past_all (unit_past s) n q) c.widen_integer-p2.ensures.from in
+    let p2 = c.integer-p2.result.from in
+    let r2 = room_rest (λ q. wide_all (unit_wide s) (unit_past s) n q ++ region (past_all (unit_past s) n q) (end - past_all (unit_past s) n q) s) r1 c.integer-p2.ensures in
+    let behind : past_all (unit_past s) n p2 ≡ units_past s p1 = ap (λ (q : ℕ). past_all (unit_past s) n q) c.integer-p2.ensures.from in
     rw c.value_at-count.ensures (room_first (wide_all (unit_wide s) (unit_past s) n p2) (region (past_all (unit_past s) n p2) (end - past_all (unit_past s) n p2) s) r2 (omega (arith, behind, forward)))
 
 pub overflow_sub-end : goal.overflow_sub-end
@@ -85,10 +85,10 @@ overflow_sub-end c =
     let n = value_by Short s p1 in
     let r1 = room_rest (λ q. rest_wide s end q) r0 c.widen_front-p1.ensures in
     let forward : units_past s p1 ≤ end = rw c.widen_front-p1.ensures.from whole.forward in
-    let p2 = c.widen_integer-p2.result.from in
-    let r2 = room_rest (λ q. wide_all (unit_wide s) (unit_past s) n q ++ region (past_all (unit_past s) n q) (end - past_all (unit_past s) n q) s) r1 c.widen_integer-p2.ensures in
-    let behind : past_all (unit_past s) n p2 ≡ units_past s p1 = ap (λ (q : ℕ). past_all (unit_past s) n q) c.widen_integer-p2.ensures.from in
-    let m3 : Moved (wide_all (unit_wide s) (unit_past s) n p2) (past_all (unit_past s) n p2) c.widen_integer-p2.result c.widen_integer-p2.new.out c.widen_units-p3.new.out c.widen_units-p3.result = rw c.value_at-count.ensures at c.widen_units-p3.ensures in
+    let p2 = c.integer-p2.result.from in
+    let r2 = room_rest (λ q. wide_all (unit_wide s) (unit_past s) n q ++ region (past_all (unit_past s) n q) (end - past_all (unit_past s) n q) s) r1 c.integer-p2.ensures in
+    let behind : past_all (unit_past s) n p2 ≡ units_past s p1 = ap (λ (q : ℕ). past_all (unit_past s) n q) c.integer-p2.ensures.from in
+    let m3 : Moved (wide_all (unit_wide s) (unit_past s) n p2) (past_all (unit_past s) n p2) c.integer-p2.result c.integer-p2.new.out c.widen_all-p3.new.out c.widen_all-p3.result = rw c.value_at-count.ensures at c.widen_all-p3.ensures in
     omega (arith, m3.from, behind, forward)
 
 pub keep-p4-requires : goal.keep-p4-requires
@@ -104,10 +104,10 @@ keep-p4-requires c =
     let n = value_by Short s p1 in
     let r1 = room_rest (λ q. rest_wide s end q) r0 c.widen_front-p1.ensures in
     let forward : units_past s p1 ≤ end = rw c.widen_front-p1.ensures.from whole.forward in
-    let p2 = c.widen_integer-p2.result.from in
-    let r2 = room_rest (λ q. wide_all (unit_wide s) (unit_past s) n q ++ region (past_all (unit_past s) n q) (end - past_all (unit_past s) n q) s) r1 c.widen_integer-p2.ensures in
-    let behind : past_all (unit_past s) n p2 ≡ units_past s p1 = ap (λ (q : ℕ). past_all (unit_past s) n q) c.widen_integer-p2.ensures.from in
-    let m3 : Moved (wide_all (unit_wide s) (unit_past s) n p2) (past_all (unit_past s) n p2) c.widen_integer-p2.result c.widen_integer-p2.new.out c.widen_units-p3.new.out c.widen_units-p3.result = rw c.value_at-count.ensures at c.widen_units-p3.ensures in
+    let p2 = c.integer-p2.result.from in
+    let r2 = room_rest (λ q. wide_all (unit_wide s) (unit_past s) n q ++ region (past_all (unit_past s) n q) (end - past_all (unit_past s) n q) s) r1 c.integer-p2.ensures in
+    let behind : past_all (unit_past s) n p2 ≡ units_past s p1 = ap (λ (q : ℕ). past_all (unit_past s) n q) c.integer-p2.ensures.from in
+    let m3 : Moved (wide_all (unit_wide s) (unit_past s) n p2) (past_all (unit_past s) n p2) c.integer-p2.result c.integer-p2.new.out c.widen_all-p3.new.out c.widen_all-p3.result = rw c.value_at-count.ensures at c.widen_all-p3.ensures in
     let r3 = room_rest (λ q. region q (end - q) s) r2 m3 in
     record { inside = omega (arith, m3.from, behind, forward, r3.inside); fits = r3.fits }
 
@@ -124,11 +124,11 @@ returns c =
     let n = value_by Short s p1 in
     let r1 = room_rest (λ q. rest_wide s end q) r0 c.widen_front-p1.ensures in
     let forward : units_past s p1 ≤ end = rw c.widen_front-p1.ensures.from whole.forward in
-    let p2 = c.widen_integer-p2.result.from in
-    let r2 = room_rest (λ q. wide_all (unit_wide s) (unit_past s) n q ++ region (past_all (unit_past s) n q) (end - past_all (unit_past s) n q) s) r1 c.widen_integer-p2.ensures in
-    let behind : past_all (unit_past s) n p2 ≡ units_past s p1 = ap (λ (q : ℕ). past_all (unit_past s) n q) c.widen_integer-p2.ensures.from in
-    let m3 : Moved (wide_all (unit_wide s) (unit_past s) n p2) (past_all (unit_past s) n p2) c.widen_integer-p2.result c.widen_integer-p2.new.out c.widen_units-p3.new.out c.widen_units-p3.result = rw c.value_at-count.ensures at c.widen_units-p3.ensures in
+    let p2 = c.integer-p2.result.from in
+    let r2 = room_rest (λ q. wide_all (unit_wide s) (unit_past s) n q ++ region (past_all (unit_past s) n q) (end - past_all (unit_past s) n q) s) r1 c.integer-p2.ensures in
+    let behind : past_all (unit_past s) n p2 ≡ units_past s p1 = ap (λ (q : ℕ). past_all (unit_past s) n q) c.integer-p2.ensures.from in
+    let m3 : Moved (wide_all (unit_wide s) (unit_past s) n p2) (past_all (unit_past s) n p2) c.integer-p2.result c.integer-p2.new.out c.widen_all-p3.new.out c.widen_all-p3.result = rw c.value_at-count.ensures at c.widen_all-p3.ensures in
     let all = moved_then (λ q. rest_wide s end q) (λ q. units_past s q + (end - units_past s q)) c.widen_front-p1.ensures
-    (moved_then (λ q. wide_all (unit_wide s) (unit_past s) n q ++ region (past_all (unit_past s) n q) (end - past_all (unit_past s) n q) s) (λ q. past_all (unit_past s) n q + (end - past_all (unit_past s) n q)) c.widen_integer-p2.ensures
+    (moved_then (λ q. wide_all (unit_wide s) (unit_past s) n q ++ region (past_all (unit_past s) n q) (end - past_all (unit_past s) n q) s) (λ q. past_all (unit_past s) n q + (end - past_all (unit_past s) n q)) c.integer-p2.ensures
     (moved_then (λ q. region q (end - q) s) (λ q. q + (end - q)) m3 c.keep-p4.ensures r2.fits) r1.fits) r0.fits in
     encoded c.requires (definition_wide s end at) whole.bytes all.bytes all.to

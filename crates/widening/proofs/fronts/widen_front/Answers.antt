@@ -51,9 +51,9 @@ value_at-count-requires c =
     let r3 = room-last (λ p. names_wide s p) (λ p. names_past s p) r2 c.widen_floats-p3.ensures in
     omega (arith, past_up (name_past s) (name_onward s) n (p3 + 2), r3.inside)
 
-pub widen_integer-p4-requires : goal.widen_integer-p4-requires
+pub integer-p4-requires : goal.integer-p4-requires
 unfolding front_wide front_past
-widen_integer-p4-requires c =
+integer-p4-requires c =
     let s = c.args.s.now in
     let at = c.args.at.from in
     let p1 = c.keep_text-p1.result.from in
@@ -65,9 +65,9 @@ widen_integer-p4-requires c =
     let r3 = room-last (λ p. names_wide s p) (λ p. names_past s p) r2 c.widen_floats-p3.ensures in
     room_first (integer_wide s p3) (wide_all (name_wide s) (name_past s) n (p3 + 2)) r3 (omega (arith, past_up (name_past s) (name_onward s) n (p3 + 2)))
 
-pub widen_names-requires : goal.widen_names-requires
+pub widen_all-requires : goal.widen_all-requires
 unfolding front_wide front_past
-widen_names-requires c =
+widen_all-requires c =
     let s = c.args.s.now in
     let at = c.args.at.from in
     let p1 = c.keep_text-p1.result.from in
@@ -77,7 +77,7 @@ widen_names-requires c =
     let p3 = c.widen_floats-p3.result.from in
     let n = value_by Short s p3 in
     let r3 = room-last (λ p. names_wide s p) (λ p. names_past s p) r2 c.widen_floats-p3.ensures in
-    rw c.value_at-count.ensures (room-last (λ p. wide_all (name_wide s) (name_past s) n p) (λ p. past_all (name_past s) n p) r3 c.widen_integer-p4.ensures)
+    rw c.value_at-count.ensures (room-last (λ p. wide_all (name_wide s) (name_past s) n p) (λ p. past_all (name_past s) n p) r3 c.integer-p4.ensures)
 
 pub returns : goal.returns
 unfolding front_wide front_past
@@ -91,11 +91,11 @@ returns c =
     let p3 = c.widen_floats-p3.result.from in
     let n = value_by Short s p3 in
     let r3 = room-last (λ p. names_wide s p) (λ p. names_past s p) r2 c.widen_floats-p3.ensures in
-    let last = rw c.value_at-count.ensures at c.widen_names.ensures in
+    let last = rw c.value_at-count.ensures at c.widen_all.ensures in
     moved_then (λ p. floats_wide s p ++ (floats_wide s (floats_past s p) ++ names_wide s (floats_past s (floats_past s p)))) (λ p. names_past s (floats_past s (floats_past s p))) c.keep_text-p1.ensures
     (moved_then (λ p. floats_wide s p ++ names_wide s (floats_past s p)) (λ p. names_past s (floats_past s p)) c.widen_floats-p2.ensures
     (moved_then (λ p. names_wide s p) (λ p. names_past s p) c.widen_floats-p3.ensures
-    (moved_then (λ p. wide_all (name_wide s) (name_past s) n p) (λ p. past_all (name_past s) n p) c.widen_integer-p4.ensures last r3.fits)
+    (moved_then (λ p. wide_all (name_wide s) (name_past s) n p) (λ p. past_all (name_past s) n p) c.integer-p4.ensures last r3.fits)
     r2.fits)
     r1.fits)
     c.requires.fits

@@ -16,9 +16,9 @@ keep-p1-requires c =
     let n = a.inputs in
     room_first (region at 2 s) (wide_all (input_wide s) input_past n (at + 2) ++ region (past_all input_past n (at + 2)) a.outputs s) c.requires (omega (arith, past_up input_past input_onward n (at + 2)))
 
-pub widen_inputs-p2-requires : goal.widen_inputs-p2-requires
+pub widen_all-p2-requires : goal.widen_all-p2-requires
 unfolding body_wide body_past
-widen_inputs-p2-requires c =
+widen_all-p2-requires c =
     let a = c.args in
     let s = a.s.now in
     let n = a.inputs in
@@ -34,7 +34,7 @@ keep-requires c =
     let s = a.s.now in
     let n = a.inputs in
     let rest = room-last (λ p. wide_all (input_wide s) input_past n p ++ region (past_all input_past n p) a.outputs s) (λ p. past_all input_past n p + a.outputs) c.requires c.keep-p1.ensures in
-    rw c.wide.ensures (room-last (λ p. region p a.outputs s) (λ p. p + a.outputs) rest c.widen_inputs-p2.ensures)
+    room-last (λ p. region p a.outputs s) (λ p. p + a.outputs) rest c.widen_all-p2.ensures
 
 pub returns : goal.returns
 unfolding body_wide body_past
@@ -43,6 +43,6 @@ returns c =
     let s = a.s.now in
     let n = a.inputs in
     let rest = room-last (λ p. wide_all (input_wide s) input_past n p ++ region (past_all input_past n p) a.outputs s) (λ p. past_all input_past n p + a.outputs) c.requires c.keep-p1.ensures in
-    let last = rw c.wide.ensures at c.keep.ensures in
+    let last = c.keep.ensures in
     moved_then (λ p. wide_all (input_wide s) input_past n p ++ region (past_all input_past n p) a.outputs s) (λ p. past_all input_past n p + a.outputs) c.keep-p1.ensures
-    (moved_then (λ p. region p a.outputs s) (λ p. p + a.outputs) c.widen_inputs-p2.ensures last rest.fits) c.requires.fits
+    (moved_then (λ p. region p a.outputs s) (λ p. p + a.outputs) c.widen_all-p2.ensures last rest.fits) c.requires.fits
