@@ -28,6 +28,7 @@ pub struct Numbers {
 }
 
 // A value by its kind, 0 a float's pattern and 1 an integer; none by another kind.
+// Kept: the kinds are numbers of the C interface; here they become a `Value` or none.
 fn value_of(kind: u32, value: u32) -> Option<Value>
     ensures { result ≡ value_of kind value }
 {
@@ -154,6 +155,7 @@ fn placed(number: u32, place: usize) -> u64
 }
 
 // An answer as one number.
+// Kept: one number for C, whose layout the definition gives; `From` would not name it.
 pub fn call_number(answer: Answer) -> u64
     ensures { result ≡ call_number answer }
 {

@@ -1,6 +1,7 @@
 // The ops: the number of each command in a call from another language. Numbers that are given never change. `specs/Ops.antt` has the same names.
 
 // No command's.
+// Kept: ops are numbers and no enum: C calls by them, and the table of messages stands at them.
 pub const NONE: u32 = 0;
 
 // Definitions.

@@ -26,19 +26,26 @@ use tree::subtree_end;
 use values::{Key, Mapping, NodeArgument, Value, value_pattern};
 use words::{MINUS_ONE, wide};
 
+// What a command of controls asks for: a key, how many controls from it on, and what becomes of each.
+#[derive(Clone, Copy)]
+struct Wanted {
+    key: Key,
+    count: u32,
+    change: Change,
+}
+
 // Refusal 21, refusal 28, or the controls of the synths below the group at a place changed.
 fn change_group(
     words: &mut [u32],
     arena: &[u8],
     at: usize,
-    key: Key,
+    wanted: Wanted,
     bytes: &[u8],
-    count: u32,
-    change: Change,
 ) -> Result<(), Refusal>
     requires { Known words.old arena.now × (at < count_in words.old) }
-    ensures { Changed change key count bytes.now at words.old arena.now (done_or result) words.new }
+    ensures { Changed wanted.change wanted.key wanted.count bytes.now at words.old arena.now (done_or result) words.new }
 {
+    let Wanted { key, count, change } = wanted;
     controls_asked(words, arena, at, key, bytes, count)?;
     let many = wide(words[COUNT]);
     let end = subtree_end(&words[NODES..NODES_END], many, at);
@@ -51,14 +58,13 @@ fn change_synth(
     words: &mut [u32],
     arena: &[u8],
     at: usize,
-    key: Key,
+    wanted: Wanted,
     bytes: &[u8],
-    count: u32,
-    change: Change,
 ) -> Result<(), Refusal>
     requires { Known words.old arena.now × (at < count_in words.old) × (is_group (record_in words.old at) ≡ false) }
-    ensures { Changed change key count bytes.now at words.old arena.now (done_or result) words.new }
+    ensures { Changed wanted.change wanted.key wanted.count bytes.now at words.old arena.now (done_or result) words.new }
 {
+    let Wanted { key, count, change } = wanted;
     let definition = node_definition(words, arena, at);
     let cover = key_cover(definition, key, bytes);
     asked_by(definition, cover, count)?;
@@ -71,22 +77,21 @@ fn change_run(
     words: &mut [u32],
     arena: &[u8],
     at: usize,
-    key: Key,
+    wanted: Wanted,
     bytes: &[u8],
-    count: u32,
-    change: Change,
 ) -> Result<(), Refusal>
     requires { Known words.old arena.now × (at < count_in words.old) }
-    ensures { Changed change key count bytes.now at words.old arena.now (done_or result) words.new }
+    ensures { Changed wanted.change wanted.key wanted.count bytes.now at words.old arena.now (done_or result) words.new }
 {
     if node_is_group(words, at) {
-        change_group(words, arena, at, key, bytes, count, change)
+        change_group(words, arena, at, wanted, bytes)
     } else {
-        change_synth(words, arena, at, key, bytes, count, change)
+        change_synth(words, arena, at, wanted, bytes)
     }
 }
 
 // /n_fill; /n_set is the same with a count of one
+// Kept: no `Wanted` is handed in, since the value becomes a change only behind the node's refusals, and `Steps` speaks of the command's own fields.
 fn fill_controls(
     node: NodeArgument,
     key: Key,
@@ -101,7 +106,12 @@ fn fill_controls(
 {
     let at = node_place(words, node)?;
     let pattern = value_pattern(value).ok_or(Refusal::BadValue)?;
-    change_run(words, arena, at, key, bytes, count, Change::Set(pattern))
+    let wanted = Wanted {
+        key,
+        count,
+        change: Change::Set(pattern),
+    };
+    change_run(words, arena, at, wanted, bytes)
 }
 
 // A control can be mapped to this: -1 or a bus.
@@ -138,8 +148,12 @@ fn map_control(
     if !can_map(bus) {
         return Err(Refusal::NoBus);
     }
-    let change = Change::Map(mapping_to(bus));
-    change_run(words, arena, at, key, bytes, 1, change)
+    let wanted = Wanted {
+        key,
+        count: 1,
+        change: Change::Map(mapping_to(bus)),
+    };
+    change_run(words, arena, at, wanted, bytes)
 }
 
 // A command of controls.

@@ -51,7 +51,7 @@ fn still_formed(formed: bool, word: u32) -> bool
 
 // The mapping words of a row's first controls, so many: each at most 4,096. It goes to the end whatever it meets, so that several are looked at at
 // once.
-// Kept: no `.all(..)`, which stops at the first that fails: a branch-free inner loop (docs/SPEED.md).
+// No `.all(..)`, which stops at the first that fails: a branch-free inner loop.
 pub(crate) fn row_formed(controls: &[u32], row: u32, many: u32) -> bool
     requires { row_words * row + 2 * many ≤ length controls.now }
     ensures { result ≡ mappings_formed many (drop (row_words * row) controls.now) }

@@ -38,6 +38,7 @@ pub fn engine_fresh(words: &mut [u32], arena: &mut [u8]) -> u32
 }
 
 // One call: the command of `op` with its numbers, on what is lent.
+// Kept: six numbers of the C interface.
 pub fn engine_apply(
     op: u32,
     a: u32,

@@ -3,6 +3,7 @@ ghost use Rattle.std.specs.Prelude.{◌≡◌};
 ghost use Rattle.index.specs.Lookup.{found_place, compared, step};
 
 // What a lookup knows: the number can stand only at the entries from one on and below another; or it was found, at a place.
+// Kept: two ways to know; neither is a refusal, and the step of paper 02 goes from the one to the other.
 #[derive(Clone, Copy)]
 pub enum Known {
     Between(usize, usize),

@@ -15,7 +15,6 @@ pub const ITEM_WORDS: usize = 12;
 pub const MOST_COMMANDS: usize = 512;
 
 // A list as a whole: none, one that is refused with 34, or one whose commands are tried.
-// Kept: three cases; an Option of a Result would be read twice.
 #[derive(Clone, Copy, Debug, PartialEq, Eq)]
 pub enum Verdict {
     NoList,
@@ -24,7 +23,7 @@ pub enum Verdict {
 }
 
 // One item: none, a command that no list holds (one that replies, a recall), or one that is tried.
-// Kept: three kinds.
+// Kept: `Unlisted` does not end the check of the list, so that it is no `Err`.
 #[derive(Clone, Copy, Debug, PartialEq, Eq)]
 pub enum Kind {
     NoItem,

@@ -8,6 +8,7 @@ use calls::NO_COMMAND;
 use model::{Answer, Denied};
 
 // The number of the refusal that an answer gives, 0 where it gives none.
+// Kept: 0 for none is the number that C is told; the definition has the name.
 pub fn refusal_in(answer: Answer) -> u32
     ensures { result ≡ refusal_in answer }
 {
@@ -19,6 +20,7 @@ pub fn refusal_in(answer: Answer) -> u32
 }
 
 // Its place, 0 where it has none.
+// Kept: 0 for none is the place that C is told.
 fn place_in(answer: Answer) -> usize
     ensures { result ≡ place_in answer }
 {
@@ -29,6 +31,7 @@ fn place_in(answer: Answer) -> usize
 }
 
 // The refusal's number, how many were accepted before it, and its place.
+// Kept: one number for C, whose layout the definition gives.
 pub fn list_number(outcome: Outcome) -> u64
     ensures { result ≡ list_number outcome }
 {

@@ -64,6 +64,7 @@ pub(crate) fn candidate(address: &[u8]) -> u32
 }
 
 // The address is that of an op: four bytes at a time, the last four from the end.
+// Early returns: as one chain of `&&` six goals stayed open over the joins.
 pub(crate) fn same_address(address: &[u8], op: u32) -> bool
     requires { Known op }
     ensures { result ≡ same_name address.now (address_of op) }

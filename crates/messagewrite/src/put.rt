@@ -1,4 +1,5 @@
 // The parts of a message, written one behind the other into a buffer that has room for them.
+// Kept: what is written goes from a place of the lent run on; each part as a slice of its own would be cut and joined at every call.
 ghost use Rattle.std.specs.Prelude.{ℕ, List, ◌∷◌, ◌≡◌};
 ghost use Rattle.osc.specs.Message.{padded, tags, arguments, message};
 ghost use Rattle.words.specs.Parts.{over};

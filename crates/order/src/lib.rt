@@ -23,26 +23,122 @@ pub struct Order {
     pub length: usize,
 }
 
-// Marks of the nodes that a walk from the root visits: a node is visited where its parent was and it is on.
-// `limit` is how deep a record may be with its parent visited.
-fn visit(nodes: &[u32], count: usize) -> [bool; MOST_NODES]
-    requires { TableFits nodes.now count }
-    ensures { result ≡ marks (rows count nodes.now) }
-{
-    let mut visited = [false; MOST_NODES];
-    let mut limit: u32 = 0;
-    for i in 0..count {
-        let at = RECORD * i;
-        let depth = nodes[at + DEPTH];
-        if depth <= limit {
-            limit = depth;
-            if nodes[at + RUN] == 1 {
-                limit = depth + 1;
-                visited[i] = true;
+// The table of nodes: the words lent, and how many records it has. They hold so many, and it has at most 256.
+#[derive(Clone, Copy)]
+struct Table<'a> {
+    nodes: &'a [u32],
+    count: usize,
+    ghost fits: { TableFits nodes.now count },
+}
+
+impl<'a> Table<'a> {
+    ghost use Rattle.order.specs.Tables.{rows_of};
+
+    // Marks of the nodes that a walk from the root visits: a node is visited where its parent was and it is on.
+    // `limit` is how deep a record may be with its parent visited.
+    fn visit(self) -> [bool; MOST_NODES]
+        ensures { result ≡ marks (rows_of self.entry) }
+    {
+        let mut visited = [false; MOST_NODES];
+        let mut limit: u32 = 0;
+        for i in 0..self.count {
+            let at = RECORD * i;
+            let depth = self.nodes[at + DEPTH];
+            if depth <= limit {
+                limit = depth;
+                if self.nodes[at + RUN] == 1 {
+                    limit = depth + 1;
+                    visited[i] = true;
+                }
             }
         }
+        visited
     }
-    visited
+
+    // Each synth has a row of its own among the 256.
+    #[tactic(auto, using(crate::specs::Marks::along_marks))]
+    fn rows_apart(self) -> bool
+        ensures { result ≡ rows_hold (rows_of self.entry) }
+    {
+        let mut seen = [false; ROWS];
+        for i in 0..self.count {
+            let at = RECORD * i;
+            if self.nodes[at + SLOT] != GROUP {
+                let row = words::wide(self.nodes[at + ROW]);
+                if ROWS <= row || seen[row] {
+                    return false;
+                }
+                seen[row] = true;
+            }
+        }
+        true
+    }
+
+    // Every record past the first is below the root, and none deeper than the one before it lets it be.
+    #[tactic(auto, using(crate::specs::Checks::steps_turn, crate::specs::Checks::steps_end))]
+    fn steps_hold(self) -> bool
+        requires { 1 ≤ self.count }
+        ensures { result ≡ steps 1 (drop 1 (rows_of self.entry)) }
+    {
+        let mut most: u32 = 1;
+        for i in 1..self.count {
+            let at = RECORD * i;
+            let depth = self.nodes[at + DEPTH];
+            if depth == 0 || most < depth {
+                return false;
+            }
+            most = if self.nodes[at + SLOT] == GROUP {
+                depth + 1
+            } else {
+                depth
+            };
+        }
+        true
+    }
+
+    // A synth has the number.
+    #[tactic(auto, using(crate::specs::Checks::latest_turn, crate::specs::Checks::latest_end))]
+    fn synth_lives(self, number: u32) -> bool
+        ensures { result ≡ synth_lives number (rows_of self.entry) }
+    {
+        for i in 0..self.count {
+            let at = RECORD * i;
+            if self.nodes[at + SLOT] != GROUP && self.nodes[at] == number {
+                return true;
+            }
+        }
+        false
+    }
+
+    // Every record's fields are in bounds.
+    #[tactic(auto, using(crate::specs::Checks::fields_turn, crate::specs::Checks::fields_end))]
+    fn records_hold(self, next: u32) -> bool
+        ensures { result ≡ all_formed next (rows_of self.entry) }
+    {
+        for i in 0..self.count {
+            let at = RECORD * i;
+            let slot = self.nodes[at + SLOT];
+            let row = self.nodes[at + ROW];
+            if !number_holds(self.nodes[at], slot, next)
+                || !fields_hold(self.nodes[at + RUN], slot, row)
+            {
+                return false;
+            }
+        }
+        true
+    }
+
+    // The first record is the root, with all others below it.
+    #[tactic(auto, using(crate::specs::Checks::rooted_turn))]
+    fn root_holds(self) -> bool
+        requires { 1 ≤ self.count }
+        ensures { result ≡ rooted (rows_of self.entry) }
+    {
+        self.nodes[NUMBER] == 0
+            && self.nodes[DEPTH] == 0
+            && self.nodes[SLOT] == GROUP
+            && self.steps_hold()
+    }
 }
 
 // The running order worked out afresh: the synths that are visited, in depth-first order.
@@ -50,7 +146,7 @@ pub fn running_order(nodes: &[u32], count: usize) -> Order
     requires { TableFits nodes.now count }
     ensures { Kept (rows count nodes.now) result }
 {
-    let visited = visit(nodes, count);
+    let visited = Table { nodes, count }.visit();
     let mut numbers: [u32; MOST_ORDER] = [0; MOST_ORDER];
     let mut length = 0;
     for i in 0..count {
@@ -63,26 +159,6 @@ pub fn running_order(nodes: &[u32], count: usize) -> Order
         }
     }
     Order { numbers, length }
-}
-
-// Each synth has a row of its own among the 256.
-#[tactic(auto, using(crate::specs::Marks::along_marks))]
-fn rows_apart(nodes: &[u32], count: usize) -> bool
-    requires { TableFits nodes.now count }
-    ensures { result ≡ rows_hold (rows count nodes.now) }
-{
-    let mut seen = [false; ROWS];
-    for i in 0..count {
-        let at = RECORD * i;
-        if nodes[at + SLOT] != GROUP {
-            let row = words::wide(nodes[at + ROW]);
-            if ROWS <= row || seen[row] {
-                return false;
-            }
-            seen[row] = true;
-        }
-    }
-    true
 }
 
 // The order region written whole.
@@ -113,43 +189,6 @@ pub fn same_order(kept: &[u32], many: usize, nodes: &[u32], count: usize) -> boo
     many == fresh.length && same_numbers(kept, &fresh.numbers, many)
 }
 
-// Every record past the first is below the root, and none deeper than the one before it lets it be.
-#[tactic(auto, using(crate::specs::Checks::steps_turn, crate::specs::Checks::steps_end))]
-fn steps_hold(nodes: &[u32], count: usize) -> bool
-    requires { TableFits nodes.now count × (1 ≤ count) }
-    ensures { result ≡ steps 1 (drop 1 (rows count nodes.now)) }
-{
-    let mut most: u32 = 1;
-    for i in 1..count {
-        let at = RECORD * i;
-        let depth = nodes[at + DEPTH];
-        if depth == 0 || most < depth {
-            return false;
-        }
-        most = if nodes[at + SLOT] == GROUP {
-            depth + 1
-        } else {
-            depth
-        };
-    }
-    true
-}
-
-// A synth has the number.
-#[tactic(auto, using(crate::specs::Checks::latest_turn, crate::specs::Checks::latest_end))]
-fn synth_lives(nodes: &[u32], count: usize, number: u32) -> bool
-    requires { TableFits nodes.now count }
-    ensures { result ≡ synth_lives number (rows count nodes.now) }
-{
-    for i in 0..count {
-        let at = RECORD * i;
-        if nodes[at + SLOT] != GROUP && nodes[at] == number {
-            return true;
-        }
-    }
-    false
-}
-
 // A number is not negative, or was given to a synth.
 fn number_holds(number: u32, slot: u32, next: u32) -> bool
     ensures { result ≡ number_holds next number slot }
@@ -164,32 +203,6 @@ fn fields_hold(run: u32, slot: u32, row: u32) -> bool
     run <= 1 && (slot == GROUP || (slot < GROUP && words::wide(row) < ROWS))
 }
 
-// Every record's fields are in bounds.
-#[tactic(auto, using(crate::specs::Checks::fields_turn, crate::specs::Checks::fields_end))]
-fn records_hold(nodes: &[u32], count: usize, next: u32) -> bool
-    requires { TableFits nodes.now count }
-    ensures { result ≡ all_formed next (rows count nodes.now) }
-{
-    for i in 0..count {
-        let at = RECORD * i;
-        let slot = nodes[at + SLOT];
-        let row = nodes[at + ROW];
-        if !number_holds(nodes[at], slot, next) || !fields_hold(nodes[at + RUN], slot, row) {
-            return false;
-        }
-    }
-    true
-}
-
-// The first record is the root, with all others below it.
-#[tactic(auto, using(crate::specs::Checks::rooted_turn))]
-fn root_holds(nodes: &[u32], count: usize) -> bool
-    requires { TableFits nodes.now count × (1 ≤ count) }
-    ensures { result ≡ rooted (rows count nodes.now) }
-{
-    nodes[NUMBER] == 0 && nodes[DEPTH] == 0 && nodes[SLOT] == GROUP && steps_hold(nodes, count)
-}
-
 // The state check's part on nodes: the table of `count` records, the next number to give and the latest synth.
 // That numbers differ is not tested here: the rule of the index says it too.
 #[tactic(auto, using(crate::specs::Checks::by_rule))]
@@ -200,10 +213,11 @@ pub fn nodes_hold(nodes: &[u32], count: usize, next: u32, latest: u32) -> bool
     if count < 1 || MOST_NODES < count {
         return false;
     }
-    root_holds(nodes, count)
-        && records_hold(nodes, count, next)
-        && rows_apart(nodes, count)
+    let table = Table { nodes, count };
+    table.root_holds()
+        && table.records_hold(next)
+        && table.rows_apart()
         && 2147483647 <= next
         && next <= 4294967288
-        && (latest == 0 || synth_lives(nodes, count, latest))
+        && (latest == 0 || table.synth_lives(latest))
 }

@@ -16,6 +16,7 @@ pub fn put_byte(out: &mut [u8], at: usize, byte: u8)
 }
 
 // A number as four bytes, the highest first.
+// Kept: a name for the library's two calls, whose contract is in the words of `over`.
 pub fn put_int(out: &mut [u8], at: usize, n: u32)
     requires { at + 4 ≤ length out.old }
     ensures { out.new ≡ over at (bytes32 n) out.old }
@@ -24,6 +25,7 @@ pub fn put_int(out: &mut [u8], at: usize, n: u32)
 }
 
 // Bytes as they stand.
+// Kept: a name for the library's call, whose contract is in the words of `over`.
 pub fn put_bytes(out: &mut [u8], at: usize, bytes: &[u8])
     requires { at + length bytes.now ≤ length out.old }
     ensures { out.new ≡ over at bytes.now out.old }
@@ -48,6 +50,7 @@ pub fn padded_length(bytes: usize) -> usize
 }
 
 // The byte at a place, 0 past the end.
+// Kept: 0 past the end is the padding itself.
 fn byte_or_zero(bytes: &[u8], i: usize) -> u8
     ensures { result ≡ get_or bytes.now i 0 }
 {
@@ -70,6 +73,7 @@ pub fn put_padded(out: &mut [u8], at: usize, bytes: &[u8])
 {
     let size = bytes.len();
     let mut i = 0;
+    // Four bytes at a time, since the compiler would make calls of loops over single bytes.
     while 3 < size - i {
         put_four(
             out,

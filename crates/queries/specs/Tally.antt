@@ -22,6 +22,7 @@ use Rattle.model.specs.Replies.{units_of, unit_count, group_count}
 use Rattle.state.specs.Known.{Known}
 use Rattle.controls.specs.Encoded.{number_or}
 use Rattle.slots.specs.Slots.{slot_bytes}
+use Rattle.queries.specs.declared.status.PartCounts.{PartCounts}
 use Rattle.queries.specs.Held.{At, bounds, held_readable}
 use Rattle.queries.specs.Status.{view_from, kind_at, kind_is, units_group, units_synth, units_turn, units_end}
 
@@ -34,9 +35,13 @@ slot_tally k (r ∷ l) = pick (eqb r.slot k) 1 0 + slot_tally k l
 abbrev pub slot_words : ℕ
 slot_words = 33
 
--- of four parts together
-abbrev pub Tallies : List ℕ → List ℕ → List ℕ → List ℕ → List ℕ → Type 0
-Tallies ws a b c d = (k : ℕ) → k < slot_words → get_or a k 0 + get_or b k 0 + get_or c k 0 + get_or d k 0 ≡ slot_tally k (nodes_in ws)
+-- a slot's count over four parts
+abbrev pub counted_at : PartCounts → ℕ → ℕ
+counted_at t k = get_or t.first k 0 + get_or t.second k 0 + get_or t.third k 0 + get_or t.fourth k 0
+
+-- the four parts are the table
+abbrev pub Tallies : List ℕ → PartCounts → Type 0
+Tallies ws t = (k : ℕ) → k < slot_words → counted_at t k ≡ slot_tally k (nodes_in ws)
 
 -- a table whose slots' words are slots, or say that it is a group
 pub record Slotted (ws : List ℕ) : Type 0 where
@@ -124,34 +129,38 @@ tallied_next ws from i s h counts t slot is =
     (low, tallied_few ws from i s counts t slot low)
 
 -- of each of four parts side by side i were counted
-pub record PartsTallied (ws : List ℕ) (part i : ℕ) (a b c d : List ℕ) : Type 0 where
-  pub first : Tallied ws 0 i a
-  pub second : Tallied ws part i b
-  pub third : Tallied ws (2 * part) i c
-  pub fourth : Tallied ws (3 * part) i d
+pub record PartsTallied (ws : List ℕ) (part i : ℕ) (t : PartCounts) : Type 0 where
+  pub first : Tallied ws 0 i t.first
+  pub second : Tallied ws part i t.second
+  pub third : Tallied ws (2 * part) i t.third
+  pub fourth : Tallied ws (3 * part) i t.fourth
 
-pub parts_none : (ws : List ℕ) (part : ℕ) → PartsTallied ws part 0 (replicate slot_words 0) (replicate slot_words 0) (replicate slot_words 0) (replicate slot_words 0)
+-- nothing counted yet
+abbrev pub no_counts : PartCounts
+no_counts = record { first = replicate slot_words 0; second = replicate slot_words 0; third = replicate slot_words 0; fourth = replicate slot_words 0 }
+
+pub parts_none : (ws : List ℕ) (part : ℕ) → PartsTallied ws part 0 no_counts
 parts_none ws part =
     record { first = tallied_none ws 0; second = tallied_none ws part; third = tallied_none ws (2 * part); fourth = tallied_none ws (3 * part) }
 
 -- four parts side by side, of which the last goes on to the end
-pub tallied_all : (ws : List ℕ) (part i : ℕ) (a b c d : List ℕ)
-    → Tallied ws 0 part a → Tallied ws part part b → Tallied ws (2 * part) part c → Tallied ws (3 * part) i d → count_in ws ≤ 3 * part + i → Tallies ws a b c d
-tallied_all ws part i a b c d ta tb tc td past k h =
+pub tallied_all : (ws : List ℕ) (part i : ℕ) (t : PartCounts) (d : List ℕ)
+    → PartsTallied ws part part t → Tallied ws (3 * part) i d → count_in ws ≤ 3 * part + i → Tallies ws (record t { fourth = d })
+tallied_all ws part i t d parts last past k h =
     omega (
       arith,
-      ta.same k h,
-      tb.same k h,
-      tc.same k h,
-      td.same k h,
+      parts.first.same k h,
+      parts.second.same k h,
+      parts.third.same k h,
+      last.same k h,
       tally_place ws k (0 + part) part (omega arith),
       tally_place ws k (part + part) (2 * part) (omega arith),
       tally_place ws k (2 * part + part) (3 * part) (omega arith),
       tally_end ws k (3 * part + i) past,
     )
 
-pub tallies_few : (ws a b c d : List ℕ) → Slotted ws → Tallies ws a b c d → (k : ℕ) → k < slot_words → get_or a k 0 + get_or b k 0 + get_or c k 0 + get_or d k 0 ≤ most_nodes
-tallies_few ws a b c d s t k h = omega (arith, t k h, tally_most ws k, s.few)
+pub tallies_few : (ws : List ℕ) (t : PartCounts) → Slotted ws → Tallies ws t → (k : ℕ) → k < slot_words → counted_at t k ≤ most_nodes
+tallies_few ws t s all k h = omega (arith, all k h, tally_most ws k, s.few)
 
 -- a slot that a synth holds has one whole definition
 pub held_slot : (ws bs : List ℕ) (k : ℕ) → Known ws bs → k < slot_count → (n i : ℕ) → count_in ws ≤ i + n → 0 < slot_tally k (drop i (nodes_in ws)) → ReadableWhole (slot_bytes ws bs k)

@@ -1,5 +1,7 @@
 -- Parameter names by their shape: where each stands and ends, from its bytes alone.
 use Rattle.std.specs.Prelude.{ℕ, zero, suc, ◌+◌, ◌-◌, ◌≤◌, ◌<◌, Bool, true, false, ◌≡◌, List, [], ◌∷◌, length, get_or, ltb}
+use Rattle.std.specs.Coded.{le_prop}
+use Rattle.std.proofs.Props.{props}
 use Rattle.std.proofs.Common.{sym, ap, ap₂, ◌∙◌, subst, arith, ltb-true}
 use Rattle.std.proofs.Math.Option.{none, some, none-ne-some, some-injective}
 use Rattle.words.specs.Choice.{pick, both}
@@ -39,6 +41,19 @@ entries_end s (suc n) at = entries_end s n (entry_end s at)
 unfoldable pub Entries : List ℕ → ℕ → ℕ → ℕ → Type 0
 Entries s bound zero at = at ≤ length s
 Entries s bound (suc n) at = (word s (index_place s at) < bound) × (entry_end s at ≤ length s) × Entries s bound n (entry_end s at)
+
+three_props : {A B C : Type 0} → IsProp A → IsProp B → IsProp C → IsProp (A × B × C)
+three_props a b c = hlevel (a, b, c)
+
+-- a fact of numbers alone
+pub entries_prop : (s : List ℕ) (bound n at : ℕ) → IsProp (Entries s bound n at)
+unfolding Entries
+entries_prop s bound zero at = le_prop
+entries_prop s bound (suc n) at =
+    let below : IsProp (word s (index_place s at) < bound) = hlevel props in
+    let within : IsProp (entry_end s at ≤ length s) = le_prop in
+    let more : IsProp (Entries s bound n (entry_end s at)) = entries_prop s bound n (entry_end s at) in
+    three_props below within more
 
 -- what is known of one entry that is not the last of so many, and of those behind it
 pub record Turn (s : List ℕ) (bound n i at : ℕ) : Type 0 where

@@ -17,6 +17,7 @@ use Rattle.format.specs.Read.{got, on_read}
 use Rattle.format.specs.Reader.{most_parameters, read_front}
 use Rattle.front.specs.Front.{names_at}
 use Rattle.readable.specs.Lookup.{name_of_in}
+use Rattle.readable.specs.LookupOf.{first_name_at}
 use Rattle.readable.specs.Entries.{index_place, entry_end, entries_from, Entries, Turn, entries_turn}
 use Rattle.readable.specs.Readable.{parts}
 
@@ -177,7 +178,7 @@ pub labels_front : (s : List ℕ) {f : Front} {end : ℕ} (table : List ℕ) →
 labels_front s {f} {end} table e later known l = record {
   size = l.size;
   placed = λ i h. rw e (l.placed i h);
-  named = λ i h. rw (e, l.placed i h) (ap (first_name i) (parts s e).names ∙ from_named s (length f.names) (names_at Long 0 f) i later);
+  named = λ i h. first_name_at s e i ∙ rw (l.placed i h) (ap (first_name i) (parts s e).names ∙ from_named s (length f.names) (names_at Long 0 f) i later);
   within = λ i h p.
       let q : 0 < label_from each s (length f.names) (names_at Long 0 f) i = rw (l.placed i h) at p in
       rw (l.placed i h) (from_within each s most_parameters (length f.names) (names_at Long 0 f) i known q);

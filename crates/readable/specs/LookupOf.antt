@@ -1,10 +1,10 @@
--- What each lookup answers where the bytes are a definition: the same as its record says.
+-- What each lookup answers of a definition: the same as its record says.
 use Rattle.std.specs.Prelude.{ℕ, zero, suc, ◌≡◌, List, [], ◌∷◌, ◌++◌, length, Some}
 use Rattle.std.proofs.Common.{sym}
 use Rattle.format.specs.declared.Width.TheVariants.{Long}
 use Rattle.format.specs.Read.{got, repeat}
 use Rattle.format.specs.Fields.{count, short_count_to, highest16}
-use Rattle.format.specs.Definition.{UnitSpec, Definition}
+use Rattle.format.specs.Definition.{Front, UnitSpec, Definition}
 use Rattle.format.specs.Names.{covered_by, first_name, name_for}
 use Rattle.format.specs.Reader.{read_front, unit_by, units_by, definition_by, read_definition, variant}
 use Rattle.front.specs.Front.{values_at}
@@ -32,24 +32,30 @@ definition_on s at e k =
     went_on (repeat (variant (length f.values) s) v p4) _ r4 (λ variants p5 e5 r5.
     k p1 p2 (rw (sym (got_value r5)) e1) (rw (sym (got_value r5), units_length (length f.constants) s many [] p2 e3) e2))))))
 
+-- where its front can be read
+module _ (s : List ℕ) {f : Front} {end : ℕ} (e : read_front s 0 ≡ got f end) where
+  pub parameters_of : parameters_in s ≡ Some (length f.values)
+  parameters_of = rw e
+
+  pub values_of : values_in s ≡ Some (values_at Long 0 f, length f.values)
+  values_of = rw e
+
+  pub cover-of : (n : List ℕ) → cover_in n s ≡ covered_by n (length f.values) f.names
+  cover-of n = rw e
+
+  pub first_name_at : (i : ℕ) → name_of_in i s ≡ first_name i f.names
+  first_name_at i = rw e
+
+  pub name_for_of : (i : ℕ) → name_for_in i s ≡ name_for i f.names
+  name_for_of i = rw e
+
+-- where it is a whole definition
 module _ (s : List ℕ) {d : Definition} {end : ℕ} (e : read_definition s 0 ≡ got d end) where
   pub name-of : name_in s ≡ d.front.name
   name-of = definition_on s 0 e (λ p q f u. rw f)
 
-  pub parameters_of : parameters_in s ≡ Some (length d.front.values)
-  parameters_of = definition_on s 0 e (λ p q f u. rw f)
-
   pub units-of : units_in s ≡ Some (length d.units)
   units-of = definition_on s 0 e (λ p q f u. rw (f, u))
 
-  pub values_of : values_in s ≡ Some (values_at Long 0 d.front, length d.front.values)
-  values_of = definition_on s 0 e (λ p q f u. rw f)
-
-  pub cover-of : (n : List ℕ) → cover_in n s ≡ covered_by n (length d.front.values) d.front.names
-  cover-of n = definition_on s 0 e (λ p q f u. rw f)
-
   pub first_name_of : (i : ℕ) → name_of_in i s ≡ first_name i d.front.names
-  first_name_of i = definition_on s 0 e (λ p q f u. rw f)
-
-  pub name_for_of : (i : ℕ) → name_for_in i s ≡ name_for i d.front.names
-  name_for_of i = definition_on s 0 e (λ p q f u. rw f)
+  first_name_of i = definition_on s 0 e (λ p q f u. first_name_at s f i)

@@ -4,7 +4,7 @@ ghost use Rattle.readable.specs.Lookup.{cover_at, name_in, parameters_in, units_
 ghost use Rattle.readable.specs.Readable.{Readable, ReadableWhole};
 
 use crate::cover::Cover;
-use crate::entries::{find_entry, next_index, skip_entries};
+use crate::entries::Names;
 use crate::places::counts;
 use fields::{name_at, word_at};
 
@@ -39,8 +39,9 @@ pub fn name_cover(s: &[u8], name: &[u8]) -> Option<Cover>
     ensures { cover_at result ≡ cover_in name.now s.now }
 {
     let places = counts(s);
-    let index = find_entry(s, places.first, places.names, name)?;
-    let next = next_index(s, places.first, places.names, index, places.parameters);
+    let names = Names { s, places };
+    let index = names.find(name)?;
+    let next = names.next_index(index, places.parameters);
     Some(Cover {
         index,
         width: next - index,
@@ -53,5 +54,6 @@ pub fn units(s: &[u8]) -> u32
     ensures { Some result ≡ units_in s.now }
 {
     let places = counts(s);
-    word_at(s, skip_entries(s, places.first, places.names))
+    let names = Names { s, places };
+    word_at(s, names.end())
 }

@@ -34,6 +34,7 @@ pub fn ended_at(s: &[u8], at: usize) -> bool
 }
 
 // The place past the definition at a place; the file's end where none can be read.
+// Kept: the file's end where none can be read is where a reader stands then (paper 01).
 #[tactic(auto, using(crate::specs::PlaceLaws::after_got, crate::specs::PlaceLaws::after_bad))]
 pub fn place_after(s: &[u8], at: usize) -> usize
     ensures { result ≡ place_after s.now at }
@@ -45,6 +46,7 @@ pub fn place_after(s: &[u8], at: usize) -> usize
 }
 
 // The place past so many definitions; the file's end where there are fewer.
+// Kept: the file's end, as `place_after`.
 #[tactic(auto, using(crate::specs::PlaceLaws::past_turn, crate::specs::PlaceLaws::past_end, crate::specs::PlaceLaws::past_last))]
 pub fn place_past(s: &[u8], at: usize, count: u32) -> usize
     ensures { result ≡ place_past s.now count at }

@@ -50,14 +50,21 @@ module _ (to : ℕ → ℕ) (w ws : List ℕ) (i left : ℕ) (h : i < length w) 
       ∙ get_or-drop left w (i - left) 0
       ∙ ap (λ (k : ℕ). get_or w k 0) back
 
-  module _ (v : ℕ) (is : v ≡ to (get_or w i 0)) where
+  -- and so a place that has a node
+  pub read_low : (count : ℕ) → Entries w count → i < count → get_or ws i 0 < gone
+  read_low count e k = omega (arith, follow_read, e.few, e.below i k)
+
+  module _ (v : ℕ) (is : v ≡ to (get_or ws i 0)) where
+    moved : v ≡ to (get_or w i 0)
+    moved = is ∙ ap (λ (p : ℕ). to p) follow_read
+
     turn : followed to (take (i + 1) w) ≡ followed to (take i w) ++ pick (ltb v gone) (v ∷ []) []
     unfolding followed
     turn =
         ap (λ (k : ℕ). followed to (take k w)) (add-one i)
         ∙ ap (λ (l : List ℕ). followed to l) (take-suc w i 0 h)
         ∙ followed-append to (take i w) (get_or w i 0 ∷ [])
-        ∙ ap (λ (x : ℕ). followed to (take i w) ++ pick (ltb x gone) (x ∷ []) []) (sym is)
+        ∙ ap (λ (x : ℕ). followed to (take i w) ++ pick (ltb x gone) (x ∷ []) []) (sym moved)
 
     -- it goes
     pub follow_gone : gone ≤ v → Followed to w (i + 1) ws left

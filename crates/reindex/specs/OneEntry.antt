@@ -2,7 +2,7 @@
 use Rattle.std.specs.Prelude.{ℕ, ◌+◌, ◌≤◌, ◌<◌, Bool, true, false, ◌≡◌, refl, List, length, get_or, set, ltb}
 use Rattle.std.proofs.Common.{sym, ap, ◌∙◌, arith, ltb-true, ltb-false}
 use Rattle.reindex.specs.Follow.{gone}
-use Rattle.reindex.specs.FollowWords.{Entries, Followed, follow_read, follow_gone, follow_kept}
+use Rattle.reindex.specs.FollowWords.{Entries, Followed, follow_read, read_low, follow_gone, follow_kept}
 use Rattle.reindex.specs.Edits.{closed, closed_gone, closed_low}
 
 -- the sum of the spots, among the first i, at which the entry is the place: of one, or of none
@@ -46,8 +46,10 @@ module _ (w : List ℕ) (count spot at : ℕ) (s : Spotted w count spot at) wher
 
   pub spot_goes : (ws : List ℕ) → Followed to w spot ws spot → Followed to w (spot + 1) ws spot
   spot_goes ws f =
-      let away : gone ≡ to (get_or w spot 0) = sym (ap (λ (p : ℕ). to p) s.here ∙ closed_gone at (at + 1) 0 at (omega arith) (omega arith)) in
-      follow_gone to w ws spot spot (omega (arith, s.inside, s.entries.many)) (omega arith) f gone away (omega arith)
+      let long : spot < length w = omega (arith, s.inside, s.entries.many) in
+      let read = follow_read to w ws spot spot long (omega arith) f in
+      let away : gone ≡ to (get_or ws spot 0) = sym (ap (λ (p : ℕ). to p) (read ∙ s.here) ∙ closed_gone at (at + 1) 0 at (omega arith) (omega arith)) in
+      follow_gone to w ws spot spot long (omega arith) f gone away (omega arith)
 
   -- another stays
   module _ (ws : List ℕ) (j left : ℕ) (h : j < count) (o : spot ≡ j → ⊥) (near : left ≤ j) (f : Followed to w j ws left) where
@@ -57,14 +59,13 @@ module _ (w : List ℕ) (count spot at : ℕ) (s : Spotted w count spot at) wher
     read : get_or ws j 0 ≡ get_or w j 0
     read = follow_read to w ws j left long near f
 
-    low : get_or w j 0 < gone
-    low = omega (arith, s.entries.few, s.entries.below j h)
+    low : get_or ws j 0 < gone
+    low = read_low to w ws j left long near f count s.entries h
 
     pub other_read : (get_or ws j 0 < gone) × (get_or ws j 0 ≡ at → ⊥)
-    other_read = (omega (arith, read, low), λ e. o (s.only j h (sym read ∙ e)))
+    other_read = (low, λ e. o (s.only j h (sym read ∙ e)))
 
     pub other_stays : (v : ℕ) → v ≡ to (get_or ws j 0) → Followed to w (j + 1) (set ws left v) (left + 1)
     other_stays v is =
-        let is-to : v ≡ to (get_or w j 0) = is ∙ ap (λ (p : ℕ). to p) read in
-        let stays = closed_low at (at + 1) 0 (get_or w j 0) (omega (arith, low)) (λ a b. o (s.only j h (omega arith))) in
-        follow_kept to w ws j left long near f v is-to (omega arith)
+        let stays = closed_low at (at + 1) 0 (get_or ws j 0) (omega (arith, low)) (λ a b. o (s.only j h (omega (arith, read)))) in
+        follow_kept to w ws j left long near f v is (omega arith)

@@ -1,6 +1,7 @@
 // Edits of the table of nodes, by places.
 
 // What an edit does with the nodes.
+// Kept: data and no step: the index follows the places, which a closure would hide from the definitions.
 #[derive(Clone, Copy)]
 pub enum Edit {
     // Those from one place up to another are taken out.

@@ -5,7 +5,7 @@ ghost use Rattle.nodes.specs.Sizes.{TableFits};
 ghost use Rattle.reindex.specs.FollowWords.{Followed};
 ghost use Rattle.reindex.specs.Kept.{stays, place_in, PlacesTold};
 
-use crate::follow::GONE;
+use crate::run::GONE;
 use layout::{GROUP, MOST_NODES, RECORD, SLOT};
 use words::wide;
 
@@ -45,7 +45,6 @@ fn place_in(places: &[u32], place: usize) -> u32
 }
 
 // The entries at these places, in their order, without those of nodes that are gone; and how many are left.
-// Kept: one pass with a closure would ask for a closure that any word can be given, and `closed_place` takes places alone.
 pub fn follow_places(index: &mut [u32], count: usize, places: &[u32]) -> usize
     requires { count ≤ length index.old }
     ensures { Followed (place_in places.now) index.old count index.new result }

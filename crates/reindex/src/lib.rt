@@ -5,6 +5,7 @@ mod edit;
 mod follow;
 mod kept;
 mod one;
+mod run;
 mod spot;
 
 pub use edit::Edit;

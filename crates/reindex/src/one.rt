@@ -1,11 +1,12 @@
 // The entries where one node comes and none goes, or one goes. Each pass is a plain loop, with nothing to leave out.
+// Kept: the table is a run of the lent words with its count beside it (C interface): an edit changes the count and never the run.
 ghost use Rattle.std.specs.Prelude.{◌≡◌, ℕ, ◌+◌, ◌<◌, get_or};
 ghost use Rattle.reindex.specs.Follow.{gone};
 ghost use Rattle.reindex.specs.FollowWords.{Followed, Entries};
 ghost use Rattle.reindex.specs.Edits.{closed};
 ghost use Rattle.reindex.specs.OneEntry.{Spotted};
 
-use crate::follow::closed_place;
+use crate::run::Run;
 use words::wide;
 
 // The entries at their places where a node came; all are left.
@@ -13,13 +14,13 @@ pub fn open_entries(index: &mut [u32], count: usize, at: u32)
     requires { (count < gone) × Entries index.old count }
     ensures { Followed (closed at at 1) index.old count index.new count }
 {
+    let here = Run { from: at, to: at };
     for i in 0..count {
-        index[i] = closed_place(index[i], at, at, 1);
+        index[i] = here.closed_place(index[i], 1);
     }
 }
 
 // The spot of the entry that is this place, if there is one: the sum of all such spots, by a loop with no way out.
-// Kept: 0 where there is none, so that the loop is free of branches; `follow_cut` looks at the entry there.
 pub fn entry_spot(index: &[u32], count: usize, place: u32) -> usize
     requires { Entries index.now count }
     ensures { (j : ℕ) → j < count → get_or index.now j 0 ≡ place → result ≡ j }

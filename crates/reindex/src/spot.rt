@@ -1,4 +1,5 @@
 // A new node's entry put in.
+// Kept: the table is a run of the lent words with its count beside it (C interface): an edit changes the count and never the run.
 ghost use Rattle.std.specs.Prelude.{◌≡◌, ◌∷◌, ◌++◌, ◌+◌, ◌*◌, ◌≤◌, ◌<◌, length, take, drop, get_or};
 ghost use Rattle.nodes.specs.Table.{width, rows, numbers};
 ghost use Rattle.reindex.specs.Spot.{spot, Reads};

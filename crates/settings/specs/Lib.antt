@@ -2,6 +2,7 @@ pub mod Settings
 pub mod NameStored
 pub mod OwnFields
 pub mod OwnFieldsLaws
+pub mod Synths
 pub mod Saving
 pub mod SavingLaws
 pub mod SavesLaws

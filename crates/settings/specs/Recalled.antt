@@ -4,13 +4,13 @@ use Prim.{tt}
 use Rattle.std.specs.Prelude.{ℕ, ◌+◌, ◌-◌, ◌<◌, ◌≤◌, Bool, true, false, ◌≡◌, length, drop}
 use Rattle.std.proofs.Math.Path.{refl, sym, ap, subst}
 use Rattle.std.proofs.Common.{ap₂, ◌∙◌, arith}
-use mathlib.Core.List.{List, []}
+use mathlib.Core.List.{List, [], ◌∷◌}
 use Rattle.std.proofs.Math.Option.{Option, none, some}
 use Rattle.words.specs.Choice.{pick}
 use Rattle.words.specs.Parts.{region}
 use Rattle.words.specs.Bytes.{AreBytes}
 use Rattle.refusals.specs.declared.Refusal.{Refusal}
-use Rattle.refusals.specs.declared.Refusal.TheVariants.{BadState, WrongKind, StoreUnformed, NoVersion}
+use Rattle.refusals.specs.declared.Refusal.TheVariants.{NoVersion}
 use Rattle.format.specs.Fields.{word}
 use Rattle.nodes.specs.Place.{is_group}
 use Rattle.values.specs.declared.Key.TheVariants.{Name}
@@ -27,7 +27,6 @@ use Rattle.model.specs.Apply.{is_accepted}
 use Rattle.model.specs.Chain.{State, Call, Applied, Chain, left_by}
 use Rattle.model.specs.Script.{Line}
 use Rattle.state.specs.Does.{controls_do}
-use Rattle.names.specs.Judged.{NodeFound, NodeRefused}
 use Rattle.names.specs.Here.{node_here}
 use Rattle.definitions.specs.Exporting.{bytes_take, bytes_drop}
 use Rattle.model.specs.Layout.{record_in}
@@ -35,11 +34,12 @@ use Rattle.controlcommands.specs.Steps.{Steps}
 use Rattle.lists.specs.OneByOne.{takes, after, sent, lent_state}
 use Rattle.lists.specs.Running.{stays}
 use Rattle.tagged.specs.Fields.{head_size, size_in}
-use Rattle.store.specs.Store.{Setting, Version, number_size, store_formed, entries_of}
+use Rattle.store.specs.Store.{Setting, Version, number_size, entries_of}
 use Rattle.store.specs.Writing.{version_in}
 use Rattle.store.specs.Places.{SettingsStand, VersionStands}
-use Rattle.settings.specs.Settings.{is_none, recall_answer}
+use Rattle.settings.specs.Settings.{is_none, version_check, recall_answer}
 use Rattle.settings.specs.Recalling.{settings_by, stored, setting_line, setting_lines, all_sent, recall_calls, Recalls}
+use Rattle.settings.specs.Synths.{SynthFound, SynthRefused}
 use Rattle.settings.specs.Standing.{NextSetting, next_stands, none_stands}
 
 -- one setting set
@@ -188,53 +188,38 @@ module _ (name : List ℕ) (number : ℕ) (a : NodeArgument) (store ws bs : List
   unfolding left_by Chain
   refused r h = record { answers = sym h; words = rw h; arena = rw h; chain = rw h tt; lent_arena = kept }
 
-  pub recall_bad_state : formed ws bs ≡ false → Recalls name number a store ws bs (Refused BadState) ws
+  pub recall_unfit : (r : Refusal) → SynthRefused a ws bs store r → Recalls name number a store ws bs (Refused r) ws
   unfolding recall_answer
-  recall_bad_state h = refused BadState (rw h)
+  recall_unfit r n = refused r (n.answer (version_check name number store ∷ []))
 
-  module _ (h : formed ws bs ≡ true) where
-    pub recall-unformed : store_formed store ≡ false → Recalls name number a store ws bs (Refused StoreUnformed) ws
+  module _ (at : ℕ) (k : SynthFound a ws bs store at) where
+    kind : is_group (node a (decode ws bs)) ≡ is_group (record_in ws at)
+    kind = ap is_group (node_here a ws at k.found bs)
+
+    answered : recall_answer name number a store ws bs ≡ pick (is_none (version_in name number (entries_of store))) (Refused NoVersion) Done
     unfolding recall_answer first_of
-    recall-unformed f = refused StoreUnformed (rw (h, f))
+    answered = rw (k.whole, k.stands, k.found.passes bs, kind, k.single)
 
-    module _ (f : store_formed store ≡ true) where
-      pub recall_no_node : (r : Refusal) → NodeRefused a ws r → Recalls name number a store ws bs (Refused r) ws
-      unfolding recall_answer first_of
-      recall_no_node r n = refused r (rw (h, f, n.fires bs) (n.answer bs))
+    -- where there is no such version there are no calls
+    calls-by : (o : Option Version) → version_in name number (entries_of store) ≡ o
+        → pick (is_accepted (pick (is_none o) (Refused NoVersion) Done)) (all_sent (lines_for name number a store) (lent_state ws bs)) []
+        ≡ all_sent (lines_for name number a store) (lent_state ws bs)
+    unfolding setting_lines all_sent
+    calls-by none e = rw e
+    calls-by (some v) e = refl
 
-      module _ (at : ℕ) (found : NodeFound a ws at) where
-        kind : is_group (node a (decode ws bs)) ≡ is_group (record_in ws at)
-        kind = ap is_group (node_here a ws at found bs)
+    calls_are : recall_calls name number a store (lent_state ws bs) ≡ all_sent (lines_for name number a store) (lent_state ws bs)
+    calls_are =
+        ap (λ (x : Answer). pick (is_accepted x) (all_sent (lines_for name number a store) (lent_state ws bs)) []) answered
+        ∙ calls-by (version_in name number (entries_of store)) refl
 
-        pub recall_group : is_group (record_in ws at) ≡ true → Recalls name number a store ws bs (Refused WrongKind) ws
-        unfolding recall_answer first_of
-        recall_group g = refused WrongKind (rw (h, f, found.passes bs, kind, g))
-
-        answered : is_group (record_in ws at) ≡ false
-            → recall_answer name number a store ws bs ≡ pick (is_none (version_in name number (entries_of store))) (Refused NoVersion) Done
-        unfolding recall_answer first_of
-        answered g = rw (h, f, found.passes bs, kind, g)
-
-        -- where there is no such version there are no calls
-        calls-by : (o : Option Version) → version_in name number (entries_of store) ≡ o
-            → pick (is_accepted (pick (is_none o) (Refused NoVersion) Done)) (all_sent (lines_for name number a store) (lent_state ws bs)) []
-            ≡ all_sent (lines_for name number a store) (lent_state ws bs)
-        unfolding setting_lines all_sent
-        calls-by none e = rw e
-        calls-by (some v) e = refl
-
-        calls_are : is_group (record_in ws at) ≡ false → recall_calls name number a store (lent_state ws bs) ≡ all_sent (lines_for name number a store) (lent_state ws bs)
-        calls_are g =
-            ap (λ (x : Answer). pick (is_accepted x) (all_sent (lines_for name number a store) (lent_state ws bs)) []) (answered g)
-            ∙ calls-by (version_in name number (entries_of store)) refl
-
-        pub recall-set : is_group (record_in ws at) ≡ false → (r : Answer) (ws' : List ℕ) → VersionSet name number a store ws bs r ws' → Recalls name number a store ws bs r ws'
-        recall-set g r ws' v =
-            let left = v.left ∙ ap (λ (cs : List Call). left_by cs (lent_state ws bs)) (sym (calls_are g)) in
-            record {
-              answers = v.answers ∙ sym (answered g);
-              words = ap (λ (s : State). s.words) left;
-              arena = ap (λ (s : State). s.arena) left;
-              chain = subst (λ (cs : List Call). Chain cs (lent_state ws bs)) (sym (calls_are g)) v.chain;
-              lent_arena = kept;
-            }
+    pub recall-set : (r : Answer) (ws' : List ℕ) → VersionSet name number a store ws bs r ws' → Recalls name number a store ws bs r ws'
+    recall-set r ws' v =
+        let left = v.left ∙ ap (λ (cs : List Call). left_by cs (lent_state ws bs)) (sym calls_are) in
+        record {
+          answers = v.answers ∙ sym answered;
+          words = ap (λ (s : State). s.words) left;
+          arena = ap (λ (s : State). s.arena) left;
+          chain = subst (λ (cs : List Call). Chain cs (lent_state ws bs)) (sym calls_are) v.chain;
+          lent_arena = kept;
+        }

@@ -1,12 +1,11 @@
 -- Laws of `Saves`: a law for each refusal of a save, and one for its end.
-use Rattle.std.specs.Prelude.{ℕ, ◌+◌, ◌-◌, ◌*◌, ◌<◌, true, false, ◌≡◌, List, take, drop, Err}
+use Rattle.std.specs.Prelude.{ℕ, ◌+◌, ◌-◌, ◌*◌, ◌<◌, false, ◌≡◌, List, take, drop, Err}
 use Rattle.std.proofs.Common.{sym, ◌∙◌, arith, drop-drop}
 use Rattle.std.proofs.Math.Path.{ap}
 use Rattle.words.specs.Bytes.{AreBytes}
 use Rattle.words.specs.Parts.{region}
 use Rattle.words.specs.Bytes.{AreBytes}
 use Rattle.refusals.specs.declared.Refusal.{Refusal}
-use Rattle.refusals.specs.declared.Refusal.TheVariants.{BadState, WrongKind, StoreUnformed}
 use Rattle.format.specs.Definition.{Front}
 use Rattle.nodes.specs.Place.{is_group}
 use Rattle.nodes.specs.Formed.{most_rows}
@@ -14,59 +13,44 @@ use Rattle.values.specs.declared.NodeArgument.{NodeArgument}
 use Rattle.model.specs.Answers.{Refused}
 use Rattle.model.specs.Layout.{row_words, controls_place, controls_words, buses_place, count_in, controls_in, record_in}
 use Rattle.model.specs.Engine.{decode}
-use Rattle.model.specs.Formed.{formed}
+use Rattle.model.specs.Meaning.{node}
 use Rattle.model.specs.Checks.{first_of}
 use Rattle.slots.specs.Slots.{slot_bytes, drop-take}
 use Rattle.state.specs.Known.{Known}
 use Rattle.controls.specs.Encoded.{front_in}
 use Rattle.controls.specs.Ready.{ready_known, Synth, synth_ready}
-use Rattle.names.specs.Judged.{NodeFound, NodeRefused}
 use Rattle.names.specs.Here.{node_here}
 use Rattle.readable.specs.Lookup.{name_in}
 use Rattle.readable.specs.Readable.{Readable, whole_readable}
-use Rattle.store.specs.Store.{store_formed}
 use Rattle.settings.specs.Settings.{Saved, name_of, settings_of, save_judged, Lent, Saves}
 use Rattle.settings.specs.OwnFields.{taken, taken_in}
-use Rattle.settings.specs.Saving.{room_judged, SavesTaken}
+use Rattle.settings.specs.Synths.{SynthFound, SynthRefused}
+use Rattle.settings.specs.Saving.{room_checks, room_judged, SavesTaken}
 
 -- a refusal leaves the store
 module _ (a : NodeArgument) (ws bs store : List ℕ) (bytes : AreBytes store) (lent : Lent ws bs) where
   saves_refused : (r : Refusal) → save_judged a ws bs store ≡ Refused r → Saves a ws bs store (Err r) store
   saves_refused r e = record { answers = rw e; kept = rw e; lent_store = bytes; lent = lent }
 
-  pub saves_bad_state : formed ws bs ≡ false → Saves a ws bs store (Err BadState) store
+  pub saves_unfit : (r : Refusal) → SynthRefused a ws bs store r → Saves a ws bs store (Err r) store
   unfolding save_judged
-  saves_bad_state e = saves_refused BadState (rw e)
+  saves_unfit r n = saves_refused r (n.answer (room_checks (name_of (node a (decode ws bs)) (decode ws bs)) (settings_of (node a (decode ws bs)) (decode ws bs)) store))
 
-  module _ (whole : formed ws bs ≡ true) where
-    pub saves_unformed : store_formed store ≡ false → Saves a ws bs store (Err StoreUnformed) store
+  module _ (at : ℕ) (k : SynthFound a ws bs store at) where
+    -- of a synth the name and the settings decide
+    pub saves_synth : {r : Saved} {store' : List ℕ}
+        → SavesTaken (name_of (record_in ws at) (decode ws bs)) (settings_of (record_in ws at) (decode ws bs)) store r store' → Saves a ws bs store r store'
     unfolding save_judged first_of
-    saves_unformed e = saves_refused StoreUnformed (rw (whole, e))
-
-    module _ (stands : store_formed store ≡ true) where
-      pub saves_unknown : (r : Refusal) → NodeRefused a ws r → Saves a ws bs store (Err r) store
-      unfolding save_judged first_of
-      saves_unknown r n = saves_refused r (rw (whole, stands, n.fires bs) (n.answer bs))
-
-      module _ (at : ℕ) (n : NodeFound a ws at) where
-        pub saves_group : is_group (record_in ws at) ≡ true → Saves a ws bs store (Err WrongKind) store
-        unfolding save_judged first_of
-        saves_group g = saves_refused WrongKind (rw (whole, stands, n.passes bs, node_here a ws at n bs, g))
-
-        -- of a synth the name and the settings decide
-        pub saves_synth : is_group (record_in ws at) ≡ false → {r : Saved} {store' : List ℕ}
-            → SavesTaken (name_of (record_in ws at) (decode ws bs)) (settings_of (record_in ws at) (decode ws bs)) store r store' → Saves a ws bs store r store'
-        unfolding save_judged first_of
-        saves_synth single {r} {store'} t =
-            let r₀ = record_in ws at in
-            let judged : save_judged a ws bs store ≡ room_judged (name_of r₀ (decode ws bs)) (settings_of r₀ (decode ws bs)) store =
-            rw (whole, stands, n.passes bs, node_here a ws at n bs, single) in
-            record {
-              answers = rw (judged, node_here a ws at n bs) t.answers;
-              kept = rw (judged, node_here a ws at n bs) t.kept;
-              lent_store = bytes;
-              lent = lent;
-            }
+    saves_synth {r} {store'} t =
+        let r₀ = record_in ws at in
+        let judged : save_judged a ws bs store ≡ room_judged (name_of r₀ (decode ws bs)) (settings_of r₀ (decode ws bs)) store =
+        rw (k.whole, k.stands, k.found.passes bs, node_here a ws at k.found bs, k.single) in
+        record {
+          answers = rw (judged, node_here a ws at k.found bs) t.answers;
+          kept = rw (judged, node_here a ws at k.found bs) t.kept;
+          lent_store = bytes;
+          lent = lent;
+        }
 
 -- what is taken from a synth, by its definition's bytes and its row
 front_is : (s : List ℕ) (k : Readable s) → front_in s ≡ k.front

@@ -5,7 +5,11 @@ mod dropping;
 mod number;
 mod recalling;
 mod saving;
+mod synth;
 mod taken;
+
+// The bytes of a float.
+const FLOAT_SIZE: usize = 4;
 
 pub use dropping::drop;
 pub use number::saved_number;

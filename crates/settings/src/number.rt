@@ -5,6 +5,7 @@ ghost use Rattle.settings.specs.Numbers.{saved_number};
 use refusals::Refusal;
 
 // The refusal's number, or the version from bit 8 on.
+// Kept: one number for C, whose layout the definition gives.
 pub fn saved_number(saved: Result<u32, Refusal>) -> u64
     ensures { result ≡ saved_number saved }
 {

@@ -7,18 +7,15 @@ ghost use Rattle.store.specs.Store.{number_size, store_formed};
 ghost use Rattle.settings.specs.Recalling.{Recalls};
 ghost use Rattle.settings.specs.Recalled.{SettingSet, setting_at, VersionSet};
 
+use crate::FLOAT_SIZE;
+use crate::synth::synth_place;
 use controlcommands::control_step;
 use fields::word_at;
 use model::ControlCommand;
-use names::{node_is_group, node_place};
 use refusals::Refusal;
-use statecheck::well_formed;
-use store::{store_formed, version_place};
+use store::version_place;
 use tagged::{HEAD_SIZE, size_at};
 use values::{Key, NodeArgument, Value};
-
-// The bytes of a float.
-const FLOAT_SIZE: usize = 4;
 
 // One setting, whose field of so many bytes stands at a place of the store: `/n_set` by its name. A synth that lacks the name refuses it, and the
 // recall goes on.
@@ -70,15 +67,6 @@ pub fn recall(
 ) -> Result<(), Refusal>
     ensures { Recalls name.now number node store.now words.old arena.now (done_or result) words.new }
 {
-    if !well_formed(words, arena) {
-        return Err(Refusal::BadState);
-    }
-    if !store_formed(store) {
-        return Err(Refusal::StoreUnformed);
-    }
-    let at = node_place(words, node)?;
-    if node_is_group(words, at) {
-        return Err(Refusal::WrongKind);
-    }
+    synth_place(node, words, arena, store)?;
     recall_version(name, number, node, store, words, arena)
 }

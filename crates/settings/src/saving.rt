@@ -8,14 +8,13 @@ ghost use Rattle.settings.specs.OwnFields.{taken_in};
 ghost use Rattle.settings.specs.Settings.{Saves};
 ghost use Rattle.settings.specs.Saving.{SavesTaken};
 
+use crate::synth::synth_place;
 use crate::taken::{settings_size, write_settings};
 use controls::{node_definition, node_row};
 use layout::{CONTROLS, CONTROLS_END, ROW_WORDS};
-use names::{node_is_group, node_place};
 use readable::own_labels;
 use refusals::Refusal;
-use statecheck::well_formed;
-use store::{measure, open_version, store_formed};
+use store::{measure, open_version};
 use values::NodeArgument;
 use words::wide;
 
@@ -59,16 +58,7 @@ pub fn save(
 ) -> Result<u32, Refusal>
     ensures { Saves node words.now arena.now store.old result store.new }
 {
-    if !well_formed(words, arena) {
-        return Err(Refusal::BadState);
-    }
-    if !store_formed(store) {
-        return Err(Refusal::StoreUnformed);
-    }
-    let at = node_place(words, node)?;
-    if node_is_group(words, at) {
-        return Err(Refusal::WrongKind);
-    }
+    let at = synth_place(node, words, arena, store)?;
     let definition = node_definition(words, arena, at);
     let row = CONTROLS + ROW_WORDS * wide(node_row(words, at));
     save_taken(definition, &words[row..CONTROLS_END], store)

@@ -7,6 +7,7 @@ ghost use Rattle.readable.specs.Readable.{Readable};
 ghost use Rattle.model.specs.Layout.{row_words};
 ghost use Rattle.settings.specs.OwnFields.{setting_bytes, control_bytes, taken_in};
 
+use crate::FLOAT_SIZE;
 use fields::name_at;
 use osc::{put_bytes, put_int};
 use store::put_head;
@@ -16,10 +17,8 @@ use words::wide;
 // A control's name and its float.
 const SETTING_TAG: u8 = 3;
 
-// The bytes of a float.
-const NUMBER_SIZE: usize = 4;
-
 // How many bytes the setting of a control takes whose name stands at a place, none where that is 0.
+// Kept: 0 is the place that `own_labels` gives where a control has no name.
 fn setting_size(definition: &[u8], place: u32) -> usize
     requires { length definition.now ≤ size_limit }
     ensures { (float : ℕ) → result ≡ length (control_bytes definition.now place float) }
@@ -28,7 +27,7 @@ fn setting_size(definition: &[u8], place: u32) -> usize
         return 0;
     }
     let name = name_at(definition, wide(place));
-    HEAD_SIZE + name.len() + NUMBER_SIZE
+    HEAD_SIZE + name.len() + FLOAT_SIZE
 }
 
 // The setting of a control written from a place on, and the place past it.
@@ -41,11 +40,11 @@ fn write_setting(out: &mut [u8], at: usize, definition: &[u8], place: u32, float
     }
     let name = name_at(definition, wide(place));
     let size = name.len();
-    put_head(out, at, SETTING_TAG, size + NUMBER_SIZE);
+    put_head(out, at, SETTING_TAG, size + FLOAT_SIZE);
     put_bytes(out, at + HEAD_SIZE, name);
     let end = at + HEAD_SIZE + size;
     put_int(out, end, float);
-    end + NUMBER_SIZE
+    end + FLOAT_SIZE
 }
 
 // How many bytes the settings take that a save takes by a definition, whatever the floats are.

@@ -12,6 +12,7 @@ use layout::{LENGTHS, RESIDENT_END, SLOT_ROOM, SLOTS};
 use words::wide;
 
 // Where a slot's bytes start in the arena; the arena's end where that is past it.
+// Kept: the arena's end where a slot is past it, as the definition says, so that a part of it is always a part.
 pub fn start_of(arena: &[u8], slot: usize) -> usize
     ensures { result ≡ min (start_of slot) (length arena.now) }
 {

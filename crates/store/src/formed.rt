@@ -121,7 +121,6 @@ fn name_again(rest: &[u8], name: &[u8]) -> bool
 }
 
 // A control name stands among the settings that come first in what is left of a store.
-// Kept: a loop beside that of `name_again` (d): this one ends at the first field that is no setting; one for both needs a closure with three answers.
 #[tactic(auto, using(crate::specs::FormedWalkLaws::set_none, crate::specs::FormedWalkLaws::set_here, crate::specs::FormedWalkLaws::set_later, crate::specs::FormedWalkLaws::set_end))]
 fn set_again(rest: &[u8], name: &[u8]) -> bool
     ensures { result ≡ is_set name.now (settings_at (fields_of rest.now)) }

@@ -1,5 +1,5 @@
 // The tags of a store's fields, and its sizes.
-// Kept: the tags are numbers (d): fields are written by them and `past_tags` orders them; an enum converts each way, and no `match` gets shorter.
+// Kept: the tags are bytes of the store's form, and the law of their order (`past_tags`) compares them.
 
 // A definition name, which starts an entry.
 pub const NAME_TAG: u8 = 1;

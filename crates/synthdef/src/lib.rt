@@ -1,4 +1,5 @@
 // What Rust and C call of SynthDef files; `synthdef_c` exports each under its name.
+// Kept: numbers, 0 among them, since C calls these seven; inside they are Results and Options.
 #![tactic(auto)]
 
 mod twin;

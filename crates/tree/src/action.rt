@@ -5,6 +5,7 @@ ghost use Rattle.tree.specs.Action.{action_of};
 use refusals::Refusal;
 
 // Where a node goes by another: to the head or the tail of a group, or before or after a node.
+// Kept: data, which place is meant, and no step.
 #[derive(Clone, Copy)]
 pub enum Position {
     Head,

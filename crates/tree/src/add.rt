@@ -1,4 +1,5 @@
 // Adding a node by an add action.
+// Kept: the table is a run of the lent words with its count beside it (C interface): an edit changes the count and never the run.
 ghost use Rattle.std.specs.Prelude.{◌≡◌, ◌∷◌, ◌++◌, ◌*◌, ◌≤◌, ◌<◌, length, take, drop};
 ghost use Rattle.nodes.specs.Table.{width, rows};
 ghost use Rattle.nodes.specs.Edit.{level};

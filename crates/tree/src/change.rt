@@ -1,4 +1,5 @@
 // Changing the table: a record put in, a run taken out, a run flag set.
+// Kept: the table is a run of the lent words with its count beside it (C interface): an edit changes the count and never the run.
 ghost use Rattle.std.specs.Prelude.{◌≡◌, ◌∷◌, ◌++◌, ◌+◌, ◌*◌, ◌≤◌, length, take, drop};
 ghost use Rattle.nodes.specs.Table.{width, rows, fill};
 ghost use Rattle.nodes.specs.Edit.{edit_at, free_here, free_all_here, set_run_here};

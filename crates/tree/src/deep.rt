@@ -1,4 +1,5 @@
 // Deep free, in place: the synths below a group go, at any depth, and the groups stay.
+// Kept: the table is a run of the lent words with its count beside it (C interface): an edit changes the count and never the run.
 ghost use Rattle.std.specs.Prelude.{◌≡◌, ◌+◌, ◌*◌, ◌≤◌, length};
 ghost use Rattle.words.specs.Parts.{over};
 ghost use Rattle.nodes.specs.Table.{width, node_from, words_of, rows};
@@ -34,6 +35,7 @@ fn sweep(nodes: &mut [u32], count: usize, from: usize, to: usize, depth: u32, le
 {
     let mut read = from;
     let mut write = to;
+    // Kept: it goes on by one record or by a subtree.
     while read < count {
         let level = nodes[RECORD * read + DEPTH];
         if level <= depth {

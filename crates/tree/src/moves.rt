@@ -1,4 +1,5 @@
 // A run of records moved to another place, with its new depths.
+// Kept: the table is a run of the lent words with its count beside it (C interface): an edit changes the count and never the run.
 ghost use Rattle.std.specs.Prelude.{◌≡◌, ◌+◌, ◌-◌, ◌*◌, ◌≤◌, ◌<◌, length, take, drop};
 ghost use Rattle.nodes.specs.Table.{width, fill};
 ghost use Rattle.nodes.specs.Sizes.{end_at};

@@ -63,7 +63,7 @@ fn first_free(marks: &[bool; ROWS], from: u32, to: u32) -> u32
 }
 
 // The lowest row that no synth has, of the records before `from` and those from `to` on, or 256.
-// Kept: of at most 255 synths beside the root none has the last row, so an Option would be a case that can't come.
+// Kept: the definition `free_row` answers 256 where every row is taken.
 pub fn free_row_without(nodes: &[u32], count: usize, from: usize, to: usize) -> u32
     requires { (from ≤ to) × ((to ≤ count) × TableFits nodes.now count) }
     ensures { result ≡ free_row (take from (rows count nodes.now) ++ drop to (rows count nodes.now)) }

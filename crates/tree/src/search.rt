@@ -13,6 +13,7 @@ fn is_deeper(depth: u32, other: u32) -> bool
 }
 
 // The end of the run of the node at this place: the first place behind it whose record is no deeper, or the count.
+// Kept: the count is an end as any other: the run of the last node ends there.
 pub fn subtree_end(nodes: &[u32], count: usize, at: usize) -> usize
     requires { Placed nodes.now count at }
     ensures { result ≡ end_at count nodes.now at }

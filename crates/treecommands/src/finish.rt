@@ -1,4 +1,5 @@
 // What is derived from the tree, written afresh after its nodes changed.
+// Kept: the table is a run of the lent words with its count beside it (C interface): an edit changes the count and never the run.
 ghost use Rattle.std.specs.Prelude.{◌≡◌, ◌≤◌, length};
 ghost use Rattle.nodes.specs.Table.{rows};
 ghost use Rattle.model.specs.Layout.{next_in, latest_in, put_header, node_words};
@@ -61,7 +62,6 @@ fn latest_without(latest: u32, gone: u32) -> u32
     if latest == gone { 0 } else { latest }
 }
 
-// Kept: (d) these five share no more than a line of each step; one function with a closure for the index would ask for each closure's own clause.
 // What `settle` writes, where the next number stays, and the latest synth too while it lives.
 pub fn renew(words: &mut [u32], edit: Edit, count: usize)
     requires { Changed edit count words.old }

@@ -1,4 +1,5 @@
 // The index after an edit of the table: where the edit takes the nodes, and the index region in place.
+// Kept: the table is a run of the lent words with its count beside it (C interface): an edit changes the count and never the run.
 ghost use Rattle.std.specs.Prelude.{◌≡◌, ◌++◌, ◌+◌, ◌≤◌, length, take, drop};
 ghost use Rattle.words.specs.Parts.{put};
 ghost use Rattle.nodes.specs.Table.{rows, numbers};

@@ -1,4 +1,5 @@
 // The running order, worked out afresh and written into its region.
+// Kept: the table is a run of the lent words with its count beside it (C interface): an edit changes the count and never the run.
 ghost use Rattle.std.specs.Prelude.{◌≡◌, ◌≤◌, length};
 ghost use Rattle.nodes.specs.Table.{rows};
 ghost use Rattle.nodes.specs.Order.{order};

@@ -76,6 +76,7 @@ fn word_of(mapping: Mapping) -> u32
 }
 
 // A bus's pattern, 0 past the last bus.
+// Kept: 0 past the last bus is the paper's: a bus that is not there reads 0.
 pub fn bus_at(buses: &[u32], bus: u32) -> u32
     ensures { result ≡ bus_at buses.now bus }
 {
@@ -157,6 +158,7 @@ impl Control {
 }
 
 // The argument that names a node by its number.
+// Kept: `NodeArgument::from(n)` would hide that a number, and no birth, names the node (paper 02, 9/14).
 pub fn by_number(number: u32) -> NodeArgument
     ensures { result ≡ argument number }
 {

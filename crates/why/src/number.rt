@@ -6,6 +6,7 @@ use crate::Reason;
 use refusals::Refusal;
 
 // A reason's number, 1 to 5.
+// Kept: numbers for C; the definitions have the names.
 fn reason_number(reason: Reason) -> u32
     ensures { result ≡ reason_number reason }
 {
@@ -19,6 +20,7 @@ fn reason_number(reason: Reason) -> u32
 }
 
 // The number that goes with it: the ancestor's, or the place; 0 where there is none.
+// Kept: 0 for none is what C is told.
 fn detail_of(reason: Reason) -> u32
     ensures { result ≡ detail_of reason }
 {
@@ -30,6 +32,7 @@ fn detail_of(reason: Reason) -> u32
 }
 
 // The refusal's number; or the reason's from bit 8 on, and what goes with it from bit 16 on.
+// Kept: one number for C, whose layout the definition gives.
 pub fn told_number(told: Result<Reason, Refusal>) -> u64
     ensures { result ≡ told_number told }
 {

@@ -1,4 +1,5 @@
 // Version 1 bytes written as version 2, piece by piece: a count or an index takes two bytes more, and all else stays as it is.
+// Kept: what is written goes from a place of the lent run on; each part as a slice of its own would be cut and joined at every call.
 ghost use Rattle.std.specs.Prelude.{◌+◌};
 ghost use Rattle.words.specs.Parts.{region};
 ghost use Rattle.widening.specs.Pieces.{integer_wide};

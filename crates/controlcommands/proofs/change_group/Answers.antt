@@ -20,5 +20,5 @@ change_all-requires c =
 pub returns : goal.returns
 returns c =
     let a = c.args in
-    run-changed a.change a.key a.count a.bytes.now a.at a.words.now a.arena.now c.wide-many.result c.subtree_end-end.result c.change_all.new.words
+    run-changed a.wanted.change a.wanted.key a.wanted.count a.bytes.now a.at a.words.now a.arena.now c.wide-many.result c.subtree_end-end.result c.change_all.new.words
     c.in_ok-controls_asked.ensures c.wide-many.ensures c.subtree_end-end.ensures c.change_all.ensures

@@ -26,7 +26,7 @@ asked_by-requires c =
     let a = c.args in
     let p = c.requires in (
       synth_readable a.words.now a.arena.now (ready_known a.words.now a.arena.now p.0) a.at p.1 p.2 c.node_definition-definition.ensures,
-      cover_within a.key a.bytes.now c.node_definition-definition.result.now c.key_cover-cover.result c.key_cover-cover.ensures,
+      cover_within a.wanted.key a.bytes.now c.node_definition-definition.result.now c.key_cover-cover.result c.key_cover-cover.ensures,
     )
 
 pub change_node-requires : goal.change_node-requires
@@ -37,7 +37,7 @@ change_node-requires c =
       ready.size,
       omega (arith, ready.few, p.1),
       (synth_ready a.words.now a.arena.now ready a.at p.1 p.2).row,
-      cover_inside a.key a.bytes.now c.node_definition-definition.result.now c.key_cover-cover.result c.key_cover-cover.ensures,
+      cover_inside a.wanted.key a.bytes.now c.node_definition-definition.result.now c.key_cover-cover.result c.key_cover-cover.ensures,
     )
 
 pub returns-in_err-asked_by : goal.returns-in_err-asked_by
@@ -47,7 +47,7 @@ returns-in_err-asked_by c =
     let p = err_from_is_err_and c.from_residual.result c.from_residual.ensures.1 in
     rw (p.1, p.2)
     (record {
-      answers = ap (done_or {A = Unit {0}}) (c.in_err-asked_by.ensures ∙ asked_alone a.words.now a.arena.now q.0 a.at q.1 q.2 a.key a.bytes.now a.count c.node_definition-definition.result.now c.node_definition-definition.ensures c.key_cover-cover.result c.key_cover-cover.ensures);
+      answers = ap (done_or {A = Unit {0}}) (c.in_err-asked_by.ensures ∙ asked_alone a.words.now a.arena.now q.0 a.at q.1 q.2 a.wanted.key a.bytes.now a.wanted.count c.node_definition-definition.result.now c.node_definition-definition.ensures c.key_cover-cover.result c.key_cover-cover.ensures);
       words = refl;
     })
 
@@ -55,5 +55,5 @@ pub returns : goal.returns
 returns c =
     let a = c.args in
     let p = c.requires in
-    changed_alone a.words.now a.arena.now p.0 a.at p.1 p.2 a.key a.bytes.now a.count c.node_definition-definition.result.now c.node_definition-definition.ensures c.key_cover-cover.result c.key_cover-cover.ensures
-    a.change c.change_node.new.words c.in_ok-asked_by.ensures c.change_node.ensures
+    changed_alone a.words.now a.arena.now p.0 a.at p.1 p.2 a.wanted.key a.bytes.now a.wanted.count c.node_definition-definition.result.now c.node_definition-definition.ensures c.key_cover-cover.result c.key_cover-cover.ensures
+    a.wanted.change c.change_node.new.words c.in_ok-asked_by.ensures c.change_node.ensures

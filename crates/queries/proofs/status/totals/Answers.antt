@@ -1,4 +1,4 @@
-use Rattle.std.proofs.Common.{◌*◌, ◌-◌, ◌/◌, arith}
+use Rattle.std.proofs.Common.{◌*◌, ◌-◌, ◌/◌, ◌∙◌, arith}
 use Rattle.nodes.specs.Place.{group_slot}
 use Rattle.model.specs.Layout.{count_in}
 use Rattle.queries.specs.Tally.{slotted, tally_most, parts_none, tallied_all, tallies_few, summed_none}
@@ -12,36 +12,30 @@ tally_parts-requires c =
 pub tally_rest-requires : goal.tally_rest-requires
 tally_rest-requires c = (slotted c.args.words.now c.args.arena.now c.requires, omega (arith, c.wide-part.ensures), c.tally_parts.ensures.fourth)
 
-pub overflow_add-groups-3 : goal.overflow_add-groups-3
-overflow_add-groups-3 c =
+pub total-groups-requires : goal.total-groups-requires
+total-groups-requires c =
     let ws = c.args.words.now in
     let part = c.wide-part.result / 4 in
-    let all = tallied_all ws part (count_in ws - 3 * part) _ _ _ _ c.tally_parts.ensures.first c.tally_parts.ensures.second c.tally_parts.ensures.third c.tally_rest.ensures (omega arith) in
-    omega (arith, tallies_few ws _ _ _ _ (slotted ws c.args.arena.now c.requires) all group_slot (omega arith))
-
-pub overflow_add-groups : goal.overflow_add-groups
-overflow_add-groups c = omega (arith, overflow_add-groups-3 c)
-
-pub overflow_add-groups-2 : goal.overflow_add-groups-2
-overflow_add-groups-2 c = omega (arith, overflow_add-groups-3 c)
+    let all = tallied_all ws part (count_in ws - 3 * part) _ _ c.tally_parts.ensures c.tally_rest.ensures (omega arith) in
+    (omega arith, tallies_few ws _ (slotted ws c.args.arena.now c.requires) all group_slot (omega arith))
 
 pub overflow_sub-words : goal.overflow_sub-words
 overflow_sub-words c =
     let ws = c.args.words.now in
     let part = c.wide-part.result / 4 in
-    let all = tallied_all ws part (count_in ws - 3 * part) _ _ _ _ c.tally_parts.ensures.first c.tally_parts.ensures.second c.tally_parts.ensures.third c.tally_rest.ensures (omega arith) in
-    omega (arith, all group_slot (omega arith), tally_most ws group_slot)
+    let all = tallied_all ws part (count_in ws - 3 * part) _ _ c.tally_parts.ensures c.tally_rest.ensures (omega arith) in
+    omega (arith, c.total-groups.ensures, all group_slot (omega arith), tally_most ws group_slot)
 
 pub units_held-requires : goal.units_held-requires
 units_held-requires c =
     let ws = c.args.words.now in
     let part = c.wide-part.result / 4 in
-    let all = tallied_all ws part (count_in ws - 3 * part) _ _ _ _ c.tally_parts.ensures.first c.tally_parts.ensures.second c.tally_parts.ensures.third c.tally_rest.ensures (omega arith) in
-    (c.requires, all, summed_none ws c.args.arena.now _ (all group_slot (omega arith)))
+    let all = tallied_all ws part (count_in ws - 3 * part) _ _ c.tally_parts.ensures c.tally_rest.ensures (omega arith) in
+    (c.requires, all, summed_none ws c.args.arena.now _ (c.total-groups.ensures ∙ all group_slot (omega arith)))
 
 pub returns : goal.returns
 returns c =
     let ws = c.args.words.now in
     let part = c.wide-part.result / 4 in
-    let all = tallied_all ws part (count_in ws - 3 * part) _ _ _ _ c.tally_parts.ensures.first c.tally_parts.ensures.second c.tally_parts.ensures.third c.tally_rest.ensures (omega arith) in
-    (c.units_held.ensures, all group_slot (omega arith))
+    let all = tallied_all ws part (count_in ws - 3 * part) _ _ c.tally_parts.ensures c.tally_rest.ensures (omega arith) in
+    (c.units_held.ensures, c.total-groups.ensures ∙ all group_slot (omega arith))

@@ -1,13 +1,10 @@
 use Rattle.std.proofs.Common.{ap, arith}
 use Rattle.front.specs.declared.Counts.{Counts}
-use Rattle.readable.specs.Readable.{told_counts, told_entries, next_past, cover_some, cover_none}
+use Rattle.readable.specs.Readable.{told_counts, told_known, next_past, cover_some, cover_none}
 use Rattle.readable.proofs.lookups.name_cover.Goals as goal
 
-pub find_entry-requires : goal.find_entry-requires
-find_entry-requires c = told_entries c.requires c.counts-places.ensures
-
-pub next_index-next-requires : goal.next_index-next-requires
-next_index-next-requires c = told_entries c.requires c.counts-places.ensures
+pub invariant_of-names : goal.invariant_of-names
+invariant_of-names c = let k = told_known c.requires c.counts-places.ensures in record { later = k.0; short = k.1; known = k.2 }
 
 pub overflow_sub-result : goal.overflow_sub-result
 overflow_sub-result c =

@@ -5,4 +5,4 @@ use Rattle.reindex.specs.Edits.{closed}
 use Rattle.reindex.proofs.follow.close_entries.Given as goal
 
 abbrev pub invariant-loop-i : goal.invariant-loop-i
-invariant-loop-i l = (l.left ≤ l.i) × Followed (closed l.from l.to l.by) l.initial.index l.i l.index l.left
+invariant-loop-i l = (l.left ≤ l.i) × Followed (closed l.run.from l.run.to l.by) l.initial.index l.i l.index l.left

@@ -1,33 +1,32 @@
-use Prim.Native.Nat.{ℕ, ◌<◌}
-use mathlib.Core.Path.{◌≡◌, ap, ◌∙◌}
+use Prim.Native.Nat.{◌<◌}
 use native.Mathlib.Omega.{arith}
 use lib.ListN.{length, get_or}
-use Rattle.reindex.specs.FollowWords.{follow_first, follow_read, follow_kept}
+use Rattle.reindex.specs.FollowWords.{follow_first, read_low, follow_kept}
 use Rattle.reindex.specs.Edits.{swapped, swapped_low}
 use Rattle.reindex.proofs.follow.swap_entries.Goals as goal
 
 pub loop-i-init : goal.loop-i-init
 loop-i-init c =
     let a = c.args in
-    follow_first (swapped a.a a.b a.c) a.index.now
+    follow_first (swapped a.runs.a a.runs.b a.runs.c) a.index.now
 
 pub swapped_place-requires : goal.swapped_place-requires
 swapped_place-requires c =
     let a = c.args in
-    let e = c.requires.1.1.1 in
-    let read = follow_read (swapped a.a a.b a.c) a.index.now c.loop-i.index c.loop-i.i c.loop-i.i (omega (arith, e.many)) (omega arith) c.loop-i.invariant in
-    (c.requires.0, (c.requires.1.0, (c.requires.1.1.0, omega (arith, read, e.few, e.below c.loop-i.i (omega arith)))))
+    let l = c.loop-i in
+    let e = c.requires in
+    read_low (swapped a.runs.a a.runs.b a.runs.c) a.index.now l.index l.i l.i (omega (arith, e.many)) (omega arith) l.invariant a.count e (omega arith)
 
 pub loop-i-preserved : goal.loop-i-preserved
 loop-i-preserved c =
     let a = c.args in
-    let e = c.requires.1.1.1 in
+    let l = c.loop-i in
+    let r = a.runs in
+    let e = c.requires in
     let w = a.index.now in
-    let to = swapped a.a a.b a.c in
-    let p = get_or w c.loop-i.i 0 in
-    let v = c.swapped_place.result in
-    let long : c.loop-i.i < length w = omega (arith, e.many) in
-    let read = follow_read to w c.loop-i.index c.loop-i.i c.loop-i.i long (omega arith) c.loop-i.invariant in
-    let is : v ≡ to p = c.swapped_place.ensures ∙ ap (λ (p : ℕ). to p) read in
-    let low : v < 256 = omega (arith, is, swapped_low a.a a.b a.c p c.requires.0 c.requires.1.0 c.requires.1.1.0 (omega (arith, e.few, e.below c.loop-i.i (omega arith)))) in
-    follow_kept to w c.loop-i.index c.loop-i.i c.loop-i.i long (omega arith) c.loop-i.invariant v is low
+    let to = swapped r.a r.b r.c in
+    let v = c.swapped_place in
+    let long : l.i < length w = omega (arith, e.many) in
+    let low = read_low to w l.index l.i l.i long (omega arith) l.invariant a.count e (omega arith) in
+    let kept = swapped_low r.a r.b r.c (get_or l.index l.i 0) r.first r.second r.end low in
+    follow_kept to w l.index l.i l.i long (omega arith) l.invariant v.result v.ensures (omega arith)

@@ -4,4 +4,4 @@ use Rattle.reindex.specs.Edits.{swapped}
 use Rattle.reindex.proofs.follow.swap_entries.Given as goal
 
 abbrev pub invariant-loop-i : goal.invariant-loop-i
-invariant-loop-i l = Followed (swapped l.a l.b l.c) l.initial.index l.i l.index l.i
+invariant-loop-i l = Followed (swapped l.runs.a l.runs.b l.runs.c) l.initial.index l.i l.index l.i

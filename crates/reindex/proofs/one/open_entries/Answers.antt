@@ -1,8 +1,7 @@
-use Prim.Native.Nat.{ℕ, ◌<◌}
-use mathlib.Core.Path.{◌≡◌, ap, ◌∙◌}
+use Prim.Native.Nat.{◌<◌}
 use native.Mathlib.Omega.{arith}
 use lib.ListN.{length, get_or}
-use Rattle.reindex.specs.FollowWords.{follow_first, follow_read, follow_kept}
+use Rattle.reindex.specs.FollowWords.{follow_first, follow_read, read_low, follow_kept}
 use Rattle.reindex.specs.Edits.{closed, closed_low}
 use Rattle.reindex.proofs.one.open_entries.Goals as goal
 
@@ -14,20 +13,19 @@ loop-i-init c =
 pub closed_place-requires : goal.closed_place-requires
 closed_place-requires c =
     let a = c.args in
+    let l = c.loop-i in
     let e = c.requires.1 in
-    let read = follow_read (closed a.at a.at 1) a.index.now c.loop-i.index c.loop-i.i c.loop-i.i (omega (arith, e.many)) (omega arith) c.loop-i.invariant in
-    (omega arith, (omega arith, omega (arith, read, e.few, e.below c.loop-i.i (omega arith))))
+    (omega arith, read_low (closed a.at a.at 1) a.index.now l.index l.i l.i (omega (arith, e.many)) (omega arith) l.invariant a.count e (omega arith))
 
 pub loop-i-preserved : goal.loop-i-preserved
 loop-i-preserved c =
     let a = c.args in
+    let l = c.loop-i in
     let e = c.requires.1 in
     let w = a.index.now in
     let to = closed a.at a.at 1 in
-    let p = get_or w c.loop-i.i 0 in
-    let v = c.closed_place.result in
-    let long : c.loop-i.i < length w = omega (arith, e.many) in
-    let read = follow_read to w c.loop-i.index c.loop-i.i c.loop-i.i long (omega arith) c.loop-i.invariant in
-    let is : v ≡ to p = c.closed_place.ensures ∙ ap (λ (p : ℕ). to p) read in
-    let low : v < 256 = omega (arith, is, closed_low a.at a.at 1 p (omega (arith, c.requires.0, e.below c.loop-i.i (omega arith))) (λ h k. omega arith)) in
-    follow_kept to w c.loop-i.index c.loop-i.i c.loop-i.i long (omega arith) c.loop-i.invariant v is low
+    let v = c.closed_place in
+    let long : l.i < length w = omega (arith, e.many) in
+    let read = follow_read to w l.index l.i l.i long (omega arith) l.invariant in
+    let low = closed_low a.at a.at 1 (get_or l.index l.i 0) (omega (arith, read, e.below l.i (omega arith))) (λ h k. omega arith) in
+    follow_kept to w l.index l.i l.i long (omega arith) l.invariant v.result v.ensures (omega arith)

@@ -1,55 +1,19 @@
--- `settings::recalling::recall` meets its contract: each refusal by the check that fires, and the settings of the version.
-use mathlib.Core.Path.{sym, ◌∙◌}
-use native.Mathlib.Omega.{arith}
+-- `settings::recalling::recall` meets its contract: the refusal of the checks that it begins with, or the settings of the version.
 use Rattle.std.proofs.lemmas.Result.{err_from_is_err_and}
-use Rattle.state.specs.Known.{known}
-use Rattle.names.specs.Named.{findable}
-use Rattle.settings.specs.Recalled.{recall_bad_state, recall-unformed, recall_no_node, recall_group, recall-set}
+use Rattle.settings.specs.Recalled.{recall_unfit, recall-set}
 use Rattle.settings.proofs.recalling.recall.Goals as goal
 
-pub returns-then-not-well_formed : goal.returns-then-not-well_formed
-returns-then-not-well_formed c =
+pub returns-in_err-synth_place : goal.returns-in_err-synth_place
+returns-in_err-synth_place c =
     let a = c.args in
-    recall_bad_state a.name.now a.number a.node a.store.now a.words.now a.arena.now (λ i. (c.type_inv.arena i).fits) (sym c.well_formed-2.ensures ∙ c.if-not-well_formed.true)
-
-pub returns-then-not-store_formed : goal.returns-then-not-store_formed
-returns-then-not-store_formed c =
-    let a = c.args in
-    let whole = sym c.well_formed-2.ensures ∙ c.if-not-well_formed.false in
-    recall-unformed a.name.now a.number a.node a.store.now a.words.now a.arena.now (λ i. (c.type_inv.arena i).fits) whole (sym c.store_formed.ensures ∙ c.if-not-store_formed.true)
-
-pub node_place-requires : goal.node_place-requires
-node_place-requires c =
-    let a = c.args in
-    let whole = sym c.well_formed-2.ensures ∙ c.if-not-well_formed.false in
-    findable a.words.now a.arena.now (known a.words.now a.arena.now whole)
-
-pub returns-in_err-at : goal.returns-in_err-at
-returns-in_err-at c =
-    let a = c.args in
-    let whole = sym c.well_formed-2.ensures ∙ c.if-not-well_formed.false in
-    let stands = sym c.store_formed.ensures ∙ c.if-not-store_formed.false in
     let p = err_from_is_err_and c.from_residual.result c.from_residual.ensures.1 in
-    rw (p.1, p.2) (recall_no_node a.name.now a.number a.node a.store.now a.words.now a.arena.now (λ i. (c.type_inv.arena i).fits) whole stands _ c.in_err-at.ensures)
+    rw (p.1, p.2) (recall_unfit a.name.now a.number a.node a.store.now a.words.now a.arena.now (λ i. (c.type_inv.arena i).fits) _ c.in_err-synth_place.ensures)
 
-pub node_is_group-requires : goal.node_is_group-requires
-node_is_group-requires c =
-    let a = c.args in
-    let whole = sym c.well_formed-2.ensures ∙ c.if-not-well_formed.false in
-    let k = known a.words.now a.arena.now whole in
-    let live = c.in_ok-at.ensures.live in
-    (k.size, omega (arith, k.few))
-
-pub returns-then-node_is_group : goal.returns-then-node_is_group
-returns-then-node_is_group c =
-    let a = c.args in
-    let whole = sym c.well_formed-2.ensures ∙ c.if-not-well_formed.false in
-    let stands = sym c.store_formed.ensures ∙ c.if-not-store_formed.false in
-    recall_group a.name.now a.number a.node a.store.now a.words.now a.arena.now (λ i. (c.type_inv.arena i).fits) whole stands _ c.in_ok-at.ensures (sym c.node_is_group.ensures ∙ c.if-node_is_group.true)
+pub recall_version-requires : goal.recall_version-requires
+recall_version-requires c =
+    (c.in_ok-synth_place.ensures.stands, c.in_ok-synth_place.ensures.whole)
 
 pub returns : goal.returns
 returns c =
     let a = c.args in
-    let whole = sym c.well_formed-2.ensures ∙ c.if-not-well_formed.false in
-    let stands = sym c.store_formed.ensures ∙ c.if-not-store_formed.false in
-    recall-set a.name.now a.number a.node a.store.now a.words.now a.arena.now (λ i. (c.type_inv.arena i).fits) whole stands _ c.in_ok-at.ensures (sym c.node_is_group.ensures ∙ c.if-node_is_group.false) _ _ c.recall_version.ensures
+    recall-set a.name.now a.number a.node a.store.now a.words.now a.arena.now (λ i. (c.type_inv.arena i).fits) _ c.in_ok-synth_place.ensures _ _ c.recall_version.ensures

@@ -1,6 +1,6 @@
 use Rattle.std.proofs.Common.{◌≡◌, ℕ, ◌+◌, ◌-◌, ◌*◌, ◌%◌, ◌≤◌, List, arith}
 use Rattle.readable.specs.Entries.{entry_end, Left, Step, entries_step, entries_last}
-use Rattle.readable.proofs.entries.skip_entries.Goals as goal
+use Rattle.readable.proofs.entries.Names.end.Goals as goal
 
 -- the four entries of a turn, each from where the one before it ends
 module _ {s : List ℕ} {count first left at : ℕ} (l : Left s count first left at) (enough : 4 ≤ left) where
@@ -34,21 +34,21 @@ past_entry-at-requires-in-loop-3 c =
 
 pub loop-preserved : goal.loop-preserved
 loop-preserved c =
-    let e : c.args.count - 4 * (c.loop.counter + 1) ≡ c.args.count - 4 * c.loop.counter - 4 = omega arith in
+    let e : c.args.self.places.names - 4 * (c.loop.counter + 1) ≡ c.args.self.places.names - 4 * c.loop.counter - 4 = omega arith in
     rw e ((four c.loop.invariant (omega arith) c.past_entry-at.ensures c.past_entry-at-in-loop.ensures c.past_entry-at-in-loop-2.ensures).more c.past_entry-at-in-loop-3.ensures)
 
 pub loop-2-init : goal.loop-2-init
 loop-2-init c =
-    let e : c.args.count % 4 - 0 ≡ c.args.count - 4 * c.loop.counter = omega arith in
+    let e : c.args.self.places.names % 4 - 0 ≡ c.args.self.places.names - 4 * c.loop.counter = omega arith in
     rw e c.loop.invariant
 
 pub past_entry-at-requires-in-loop-2-2 : goal.past_entry-at-requires-in-loop-2-2
 past_entry-at-requires-in-loop-2-2 c =
-    (entries_step (c.args.count % 4 - (c.loop-2.counter + 1)) (omega arith) c.loop-2.invariant).within
+    (entries_step (c.args.self.places.names % 4 - (c.loop-2.counter + 1)) (omega arith) c.loop-2.invariant).within
 
 pub loop-2-preserved : goal.loop-2-preserved
 loop-2-preserved c =
-    (entries_step (c.args.count % 4 - (c.loop-2.counter + 1)) (omega arith) c.loop-2.invariant).more c.past_entry-at-in-loop-2-2.ensures
+    (entries_step (c.args.self.places.names % 4 - (c.loop-2.counter + 1)) (omega arith) c.loop-2.invariant).more c.past_entry-at-in-loop-2-2.ensures
 
 pub returns : goal.returns
 returns c = entries_last (omega arith) c.loop-2.invariant
