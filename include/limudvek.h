@@ -6,6 +6,8 @@
  * kept from one call to the next but in the runs that the caller lends. Integers pass as their
  * 32-bit patterns, floats as theirs.
  *
+ * Of the host libengine.a asks for memcpy and memset, libsynthdef.a for memset, and nothing else.
+ *
  * A call uses the caller's stack and no heap. A thread of 128 KB is enough for every call, whatever it
  * is given: a file with a definition of more than 256 units, which is refused, takes some 75 KB of it,
  * and all else 31 KB or less. The time that a file takes grows with its size, but where the units of a

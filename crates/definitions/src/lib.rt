@@ -35,7 +35,7 @@ use format::{FIRST_PLACE, SIZE_LIMIT, Width};
 use layout::{RECORD, SLOT, SLOTS};
 use slots::{bytes_on, resident_count, start_of};
 use widening::widen;
-use words::wide;
+use words::{copy_run, wide};
 
 // For each slot, whether a live synth holds it.
 pub fn held_slots(nodes: &[u32], count: usize) -> [bool; SLOTS]
@@ -70,7 +70,7 @@ fn copy_in(to: &mut [u8], at: usize, from: &[u8])
     requires { at + length from.now ≤ length to.old }
     ensures { to.new ≡ put at (length from.now) from.now to.old }
 {
-    to[at..at + from.len()].copy_from_slice(from);
+    copy_run(&mut to[at..at + from.len()], from);
 }
 
 // The definition that was read from one place of a file to another, put into a slot in its version 2 encoding, resident.

@@ -92,6 +92,6 @@ pub fn encoded_size(s: &[u8], at: usize, width: Width) -> usize
     let mut outs = [0; REMEMBERED];
     match next_definition(s, Cursor { at }, width, &mut outs) {
         Ok((fields, next)) => encoded_length(s, at, next.at, width, fields),
-        Err(_) => 0,
+        Err(FileError(_, place)) => place,
     }
 }

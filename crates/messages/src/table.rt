@@ -112,12 +112,11 @@ fn address_of(op: u32) -> Address
 pub fn slot_at(op: u32, k: usize) -> Option<Slot>
     ensures { result ≡ slice_get (slots_of op) k }
 {
-    let Slots(first, second, third, fourth) = slots_of(op);
     match k {
-        0 => first,
-        1 => second,
-        2 => third,
-        3 => fourth,
+        0 => slots_of(op).0,
+        1 => slots_of(op).1,
+        2 => slots_of(op).2,
+        3 => slots_of(op).3,
         _ => None,
     }
 }

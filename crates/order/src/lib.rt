@@ -14,6 +14,7 @@ ghost use Rattle.order.specs.Marks.{rows_hold};
 ghost use Rattle.order.specs.Visits.{marks};
 
 use layout::{DEPTH, GROUP, MOST_NODES, MOST_ORDER, NUMBER, RECORD, ROW, ROWS, RUN, SLOT};
+use words::copy_run;
 
 // The running order: its numbers, with zeros past them, and how many they are.
 // Kept: memory is fixed and nothing is allocated, so the numbers are an array with its length.
@@ -166,7 +167,7 @@ pub fn write_order(order: &mut [u32], from: Order)
     requires { length order.old ≡ most_order }
     ensures { order.new ≡ from.numbers }
 {
-    order.copy_from_slice(&from.numbers);
+    copy_run(order, &from.numbers);
 }
 
 // Two runs have the same first so many numbers.

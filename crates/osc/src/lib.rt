@@ -7,6 +7,8 @@ ghost use Rattle.osc.specs.Message.{padded, decimal};
 ghost use Rattle.words.specs.Parts.{over};
 ghost use Rattle.osc.specs.Over.{Decimal};
 
+use words::copy_run;
+
 // One byte at a place.
 pub fn put_byte(out: &mut [u8], at: usize, byte: u8)
     requires { at + 1 ≤ length out.old }
@@ -25,12 +27,12 @@ pub fn put_int(out: &mut [u8], at: usize, n: u32)
 }
 
 // Bytes as they stand.
-// Kept: a name for the library's call, whose contract is in the words of `over`.
+// Kept: a name for one copy, whose contract is in the words of `over`.
 pub fn put_bytes(out: &mut [u8], at: usize, bytes: &[u8])
     requires { at + length bytes.now ≤ length out.old }
     ensures { out.new ≡ over at bytes.now out.old }
 {
-    out[at..at + bytes.len()].copy_from_slice(bytes);
+    copy_run(&mut out[at..at + bytes.len()], bytes);
 }
 
 // So many zeros.

@@ -144,20 +144,25 @@ parts_none ws part =
     record { first = tallied_none ws 0; second = tallied_none ws part; third = tallied_none ws (2 * part); fourth = tallied_none ws (3 * part) }
 
 -- four parts side by side, of which the last goes on to the end
-pub tallied_all : (ws : List ℕ) (part i : ℕ) (t : PartCounts) (d : List ℕ)
-    → PartsTallied ws part part t → Tallied ws (3 * part) i d → count_in ws ≤ 3 * part + i → Tallies ws (record t { fourth = d })
-tallied_all ws part i t d parts last past k h =
+pub tallied_all : (ws : List ℕ) (part i : ℕ) (t : PartCounts)
+    → Tallied ws 0 part t.first → Tallied ws part part t.second → Tallied ws (2 * part) part t.third → Tallied ws (3 * part) i t.fourth
+    → count_in ws ≤ 3 * part + i → Tallies ws t
+tallied_all ws part i t first second third last past k h =
     omega (
       arith,
-      parts.first.same k h,
-      parts.second.same k h,
-      parts.third.same k h,
+      first.same k h,
+      second.same k h,
+      third.same k h,
       last.same k h,
       tally_place ws k (0 + part) part (omega arith),
       tally_place ws k (part + part) (2 * part) (omega arith),
       tally_place ws k (2 * part + part) (3 * part) (omega arith),
       tally_end ws k (3 * part + i) past,
     )
+
+pub tallied_parts : (ws : List ℕ) (part i : ℕ) (t : PartCounts) (d : List ℕ)
+    → PartsTallied ws part part t → Tallied ws (3 * part) i d → count_in ws ≤ 3 * part + i → Tallies ws (record t { fourth = d })
+tallied_parts ws part i t d parts last past = tallied_all ws part i (record t { fourth = d }) parts.first parts.second parts.third last past
 
 pub tallies_few : (ws : List ℕ) (t : PartCounts) → Slotted ws → Tallies ws t → (k : ℕ) → k < slot_words → counted_at t k ≤ most_nodes
 tallies_few ws t s all k h = omega (arith, all k h, tally_most ws k, s.few)

@@ -34,20 +34,20 @@ definition_on s at e k =
 
 -- where its front can be read
 module _ (s : List ℕ) {f : Front} {end : ℕ} (e : read_front s 0 ≡ got f end) where
-  pub parameters_of : parameters_in s ≡ Some (length f.values)
-  parameters_of = rw e
+  pub parameters_at : parameters_in s ≡ Some (length f.values)
+  parameters_at = rw e
 
-  pub values_of : values_in s ≡ Some (values_at Long 0 f, length f.values)
-  values_of = rw e
+  pub found_values_at : values_in s ≡ Some (values_at Long 0 f, length f.values)
+  found_values_at = rw e
 
-  pub cover-of : (n : List ℕ) → cover_in n s ≡ covered_by n (length f.values) f.names
-  cover-of n = rw e
+  pub found_cover_at : (n : List ℕ) → cover_in n s ≡ covered_by n (length f.values) f.names
+  found_cover_at n = rw e
 
   pub first_name_at : (i : ℕ) → name_of_in i s ≡ first_name i f.names
   first_name_at i = rw e
 
-  pub name_for_of : (i : ℕ) → name_for_in i s ≡ name_for i f.names
-  name_for_of i = rw e
+  pub name_for_at : (i : ℕ) → name_for_in i s ≡ name_for i f.names
+  name_for_at i = rw e
 
 -- where it is a whole definition
 module _ (s : List ℕ) {d : Definition} {end : ℕ} (e : read_definition s 0 ≡ got d end) where
@@ -59,3 +59,15 @@ module _ (s : List ℕ) {d : Definition} {end : ℕ} (e : read_definition s 0 �
 
   pub first_name_of : (i : ℕ) → name_of_in i s ≡ first_name i d.front.names
   first_name_of i = definition_on s 0 e (λ p q f u. first_name_at s f i)
+
+  pub parameters_of : parameters_in s ≡ Some (length d.front.values)
+  parameters_of = definition_on s 0 e (λ p q f u. parameters_at s f)
+
+  pub values_of : values_in s ≡ Some (values_at Long 0 d.front, length d.front.values)
+  values_of = definition_on s 0 e (λ p q f u. found_values_at s f)
+
+  pub cover-of : (n : List ℕ) → cover_in n s ≡ covered_by n (length d.front.values) d.front.names
+  cover-of n = definition_on s 0 e (λ p q f u. found_cover_at s f n)
+
+  pub name_for_of : (i : ℕ) → name_for_in i s ≡ name_for i d.front.names
+  name_for_of i = definition_on s 0 e (λ p q f u. name_for_at s f i)

@@ -11,7 +11,7 @@ use Rattle.format.specs.Read.{got}
 use Rattle.format.specs.Reader.{most_parameters, read_front}
 use Rattle.front.specs.Front.{names_at}
 use Rattle.readable.specs.Lookup.{name_for_in}
-use Rattle.readable.specs.LookupOf.{name_for_of}
+use Rattle.readable.specs.LookupOf.{name_for_at}
 use Rattle.readable.specs.Entries.{index_place, entry_end, entries_from, Entries}
 use Rattle.readable.specs.Labels.{label_from, label_at, LabelledFrom, named_by, from_within}
 use Rattle.readable.specs.Readable.{parts}
@@ -62,7 +62,7 @@ own_front s {f} {end} table e later known l =
     let at = names_at Long 0 f in
     record {
       size = l.size;
-      named = λ i h. name_for_of s e i ∙ rw (l.placed i h) (ap (name_for i) (parts s e).names ∙ from_own s n at n at i later);
+      named = λ i h. name_for_at s e i ∙ rw (l.placed i h) (ap (name_for i) (parts s e).names ∙ from_own s n at n at i later);
       within = λ i h p.
           let q : 0 < label_from (looks_up s n at) s n at i = rw (l.placed i h) at p in
           rw (l.placed i h) (from_within (looks_up s n at) s most_parameters n at i known q);

@@ -18,7 +18,7 @@ use Rattle.format.specs.Reader.{most_parameters, size_limit, parameter_name, fro
 use Rattle.front.specs.declared.Counts.{Counts}
 use Rattle.front.specs.Front.{name_end, values_at, names_at, counts_of}
 use Rattle.readable.specs.Lookup.{name_in, units_in, cover_in}
-use Rattle.readable.specs.LookupOf.{cover-of}
+use Rattle.readable.specs.LookupOf.{found_cover_at}
 use Rattle.front.specs.FrontLaws.{front_got}
 use Rattle.readable.specs.Entries.{entries_from, entries_end, Entries, entries_got, entries_below, named_below}
 
@@ -149,7 +149,7 @@ module _ {s : List ℕ} (k : Readable s) {p : Counts} (told : (f : Front) (end :
 -- what a name covers, by what is found along the entries
 module _ (s name : List ℕ) (k : Readable s) (p n at : ℕ) (few : p ≡ length k.front.values) (many : n ≡ length k.front.names) (here : at ≡ names_at Long 0 k.front) where
   by_entries : cover_in name s ≡ cover_from (first_index name (entries_from s n at)) p (entries_from s n at)
-  by_entries = cover-of s k.reads name ∙ rw (few, many, here) (ap (covered_by name (length k.front.values)) (parts s k.reads).names)
+  by_entries = found_cover_at s k.reads name ∙ rw (few, many, here) (ap (covered_by name (length k.front.values)) (parts s k.reads).names)
 
   pub cover_none : none ≡ first_index name (entries_from s n at) → none ≡ cover_in name s
   cover_none e = sym (by_entries ∙ ap (λ (o : Option ℕ). cover_from o p (entries_from s n at)) (sym e))

@@ -44,13 +44,17 @@ module _ (s : List ℕ) where
     pub first_whole : (size : ℕ) → size ≡ size_in s → head_size + size ≤ length s
         → FieldFirst s (field_with (get_or s 0 0) (slice_range s head_size (head_size + size))) (slice_range s (head_size + size) (length s))
     first_whole size e inside =
-        let whole : head_size + size_in s ≤ length s = omega (arith, e) in
+        let within : head_size + size_in s ≤ length s = omega (arith, e) in
+        let uncut : is_cut s ≡ false = le-ltb (length s) (head_size + size_in s) within in
         let contents : head_size + size_in s - head_size ≡ size_in s = omega arith in
         let last : take (length s - (head_size + size_in s)) (behind s) ≡ behind s = take_rest s (head_size + size_in s) in
         rw (e, contents, last) (record {
+          whole = uncut;
+          first = refl;
+          next = refl;
           fields =
               fields_open
-              ∙ rw (le-ltb (length s) (head_size + size_in s) whole)
+              ∙ rw uncut
               (ap (λ (fs : List Field). field_in s ∷ fs)
               (steps_enough (length s - 1) (length (behind s)) (behind s) (simp length-drop (omega (arith, more))) (omega arith)));
           shorter = simp length-drop (omega (arith, more));

@@ -3,7 +3,7 @@ use Rattle.std.specs.Prelude.{ℕ, ◌<◌, Bool, true, false, ◌≡◌, List, 
 use Rattle.std.specs.Borrow.{Bor}
 use Rattle.words.specs.Choice.{pick, both}
 use Rattle.format.specs.Reader.{same_name}
-use Rattle.tagged.specs.Fields.{Field}
+use Rattle.tagged.specs.Fields.{Field, is_cut, field_in, behind}
 use Rattle.store.specs.declared.formed.Tagged.{Tagged}
 use Rattle.store.specs.declared.formed.Walk.{Walk}
 use Rattle.store.specs.Store.{name_tag, closes, cut_field, fields_of, settings_at, versions_at, highest_at, entries_at, may_follow, in_place, contents_formed, all_contents_formed, rising, up_to, settings_apart, all_apart, most_versions, entry_formed, entries_formed}
@@ -15,8 +15,11 @@ field_with tag contents = record { tag = tag; contents = contents }
 abbrev pub field_of : Tagged → Field
 field_of t = field_with t.tag t.contents.now
 
--- the first field of what is left of a store, and what lies behind it
+-- the first field of what is left of a store, a whole one, and what lies right behind it
 pub record FieldFirst (s : List ℕ) (f : Field) (rest : List ℕ) : Type 0 where
+  pub whole : is_cut s ≡ false
+  pub first : f ≡ field_in s
+  pub next : rest ≡ behind s
   pub fields : fields_of s ≡ f ∷ fields_of rest
   pub shorter : length rest < length s
 

@@ -41,8 +41,21 @@ along_back f p i us h =
 abbrev pub above : ℕ → ℕ → Node → ℕ
 above d p r = pick (ltb r.depth d) r.number p
 
+abbrev pub beside_or : ℕ → ℕ → ℕ → Node → ℕ
+beside_or none d p r = pick (ltb r.depth d) none (pick (eqb r.depth d) r.number p)
+
 abbrev pub beside : ℕ → ℕ → Node → ℕ
-beside d p r = pick (ltb r.depth d) no_node (pick (eqb r.depth d) r.number p)
+beside d p r = beside_or no_node d p r
+
+-- the number of the first record, where it is at the depth d
+unfoldable pub first_beside_or : ℕ → ℕ → List Node → ℕ
+first_beside_or none d [] = none
+first_beside_or none d (r ∷ l) = pick (eqb r.depth d) r.number none
+
+first_beside_told : (d : ℕ) (l : List Node) → first_beside_or no_node d l ≡ first_beside d l
+unfolding first_beside_or first_beside
+first_beside_told d [] = refl
+first_beside_told d (r ∷ l) = refl
 
 -- a walk up to the record of n carries its number along the records before it
 walk_along : (f : ℕ → Node → ℕ) (n : ℕ) (walk : ℕ → List Node → ℕ) → ((p : ℕ) → walk p [] ≡ p) → ((p : ℕ) (r : Node) (l : List Node) → walk p (r ∷ l) ≡ pick (eqb r.number n) p (walk (f p r) l))
@@ -106,15 +119,27 @@ unfolding child_numbers
 child_numbers_end n us d i h = ap (λ (l : List Node). child_numbers d l) (rows_end n us i h)
 
 -- of the record at a place: the last one before it that is less deep; the last one before it at its depth, with none less deep between them;
--- what follows its run, where it is at its depth; and its children
+-- what follows its run, where it is at its depth; and its children. Each but the children by what stands for none, which may be any number
+abbrev pub parent_or : ℕ → List ℕ → ℕ → ℕ
+parent_or none us at = along (above (depth_at us at)) none (rows at us)
+
 abbrev pub parent_at : List ℕ → ℕ → ℕ
-parent_at us at = along (above (depth_at us at)) no_node (rows at us)
+parent_at us at = parent_or no_node us at
+
+abbrev pub previous_or : ℕ → List ℕ → ℕ → ℕ
+previous_or none us at = along (beside_or none (depth_at us at)) none (rows at us)
 
 abbrev pub previous_at : List ℕ → ℕ → ℕ
-previous_at us at = along (beside (depth_at us at)) no_node (rows at us)
+previous_at us at = previous_or no_node us at
+
+abbrev pub next_or : ℕ → ℕ → List ℕ → ℕ → ℕ
+next_or none count us at = first_beside_or none (depth_at us at) (drop (end_at count us at) (rows count us))
 
 abbrev pub next_at : ℕ → List ℕ → ℕ → ℕ
 next_at count us at = first_beside (depth_at us at) (drop (end_at count us at) (rows count us))
+
+pub next_told : (count : ℕ) (us : List ℕ) (at : ℕ) → next_or no_node count us at ≡ next_at count us at
+next_told count us at = first_beside_told (depth_at us at) (drop (end_at count us at) (rows count us))
 
 abbrev pub children_at : ℕ → List ℕ → ℕ → List ℕ
 children_at count us at = child_numbers (depth_at us at) (drop (at + 1) (rows count us))
@@ -152,10 +177,16 @@ module _ (c : ℕ) (us : List ℕ) (n at : ℕ) (here : at ≡ place n (rows c u
       ∙ child_numbers_run d l
 
 -- what follows a run, where there is something, and where there is nothing
+pub beside_or_turn : (none n : ℕ) (us : List ℕ) (d i : ℕ) → i < n → first_beside_or none d (drop i (rows n us)) ≡ pick (eqb (depth_at us i) d) (get_or us (width * i) 0) none
+unfolding first_beside_or
+beside_or_turn none n us d i h = ap (λ (l : List Node). first_beside_or none d l) (row-from n us i h)
+
+pub beside_or_end : (none n : ℕ) (us : List ℕ) (d i : ℕ) → n ≤ i → first_beside_or none d (drop i (rows n us)) ≡ none
+unfolding first_beside_or
+beside_or_end none n us d i h = ap (λ (l : List Node). first_beside_or none d l) (rows_end n us i h)
+
 pub beside_turn : (n : ℕ) (us : List ℕ) (d i : ℕ) → i < n → first_beside d (drop i (rows n us)) ≡ pick (eqb (depth_at us i) d) (get_or us (width * i) 0) no_node
-unfolding first_beside
-beside_turn n us d i h = ap (λ (l : List Node). first_beside d l) (row-from n us i h)
+beside_turn n us d i h = sym (first_beside_told d (drop i (rows n us))) ∙ beside_or_turn no_node n us d i h
 
 pub beside_end : (n : ℕ) (us : List ℕ) (d i : ℕ) → n ≤ i → first_beside d (drop i (rows n us)) ≡ no_node
-unfolding first_beside
-beside_end n us d i h = ap (λ (l : List Node). first_beside d l) (rows_end n us i h)
+beside_end n us d i h = sym (first_beside_told d (drop i (rows n us))) ∙ beside_or_end no_node n us d i h

@@ -11,6 +11,7 @@ ghost use Rattle.tree.specs.Ends.{MoveTo};
 
 use crate::add::Place;
 use layout::{DEPTH, NODES_WORDS, RECORD};
+use words::copy_run;
 
 // Room made at a place for the words from `from` up to `to`: those between come over them.
 fn make_room(words: &mut [u32], from: usize, to: usize, at: usize)
@@ -31,9 +32,9 @@ fn move_through(words: &mut [u32], from: usize, to: usize, at: usize, run: &mut 
     ensures { words.new ≡ put_in at (take (to - from) (drop from words.old)) (without from to words.old) }
 {
     let count = to - from;
-    run[..count].copy_from_slice(&words[from..to]);
+    copy_run(&mut run[..count], &words[from..to]);
     make_room(words, from, to, at);
-    words[at..at + count].copy_from_slice(&run[..count]);
+    copy_run(&mut words[at..at + count], &run[..count]);
 }
 
 // The words of a short run, of up to 16 records.

@@ -1,10 +1,10 @@
 // The rows of controls that a table's synths have, and the lowest that is free.
 ghost use Rattle.std.specs.Prelude.{◌≡◌, true, false, ℕ, ◌+◌, ◌*◌, ◌≤◌, ◌<◌, ◌++◌, length, take, drop, get_or, unwrap_or};
-ghost use Rattle.words.specs.Choice.{either};
+ghost use Rattle.words.specs.Choice.{pick, either};
 ghost use Rattle.nodes.specs.Table.{width, node_from, rows};
 ghost use Rattle.nodes.specs.Sizes.{TableFits};
+ghost use Rattle.nodes.specs.Place.{is_group};
 ghost use Rattle.nodes.specs.Formed.{most_rows, row_taken, free_row};
-ghost use Rattle.tree.specs.FreeRow.{row_or};
 
 use layout::{GROUP, RECORD, ROW, ROWS, SLOT};
 use words::wide;
@@ -12,7 +12,7 @@ use words::wide;
 // The row of the synth at a place; a group has none.
 fn row_at(nodes: &[u32], at: usize) -> Option<usize>
     requires { width * at + width ≤ length nodes.now }
-    ensures { unwrap_or result most_rows ≡ row_or (node_from nodes.now (width * at)) }
+    ensures { (none : ℕ) → unwrap_or result none ≡ pick (is_group (node_from nodes.now (width * at))) none (node_from nodes.now (width * at)).row }
 {
     if nodes[RECORD * at + SLOT] == GROUP {
         None

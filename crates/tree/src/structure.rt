@@ -1,9 +1,9 @@
 // Who stands around the node at a place.
-ghost use Rattle.std.specs.Prelude.{◌≡◌, ◌+◌, ◌*◌, ◌≤◌, length, unwrap_or};
+ghost use Rattle.std.specs.Prelude.{ℕ, ◌≡◌, ◌+◌, ◌*◌, ◌≤◌, length, unwrap_or};
 ghost use Rattle.nodes.specs.Table.{width};
-ghost use Rattle.nodes.specs.Structure.{no_node, first_or, last_or};
+ghost use Rattle.nodes.specs.Structure.{first_or, last_or};
 ghost use Rattle.tree.specs.Sizes.{Placed, TwoPlaces};
-ghost use Rattle.tree.specs.Around.{parent_at, previous_at, next_at, children_at};
+ghost use Rattle.tree.specs.Around.{parent_or, previous_or, next_or, children_at};
 ghost use Rattle.tree.specs.Ends.{in_run};
 
 use crate::search::subtree_end;
@@ -12,7 +12,7 @@ use layout::{DEPTH, RECORD};
 // The number of the node's parent.
 pub fn parent_of(nodes: &[u32], at: usize) -> Option<u32>
     requires { width * at + width ≤ length nodes.now }
-    ensures { unwrap_or result no_node ≡ parent_at nodes.now at }
+    ensures { (none : ℕ) → unwrap_or result none ≡ parent_or none nodes.now at }
 {
     let depth = nodes[RECORD * at + DEPTH];
     for i in (0..at).rev() {
@@ -26,7 +26,7 @@ pub fn parent_of(nodes: &[u32], at: usize) -> Option<u32>
 // The number of the node before it in its group.
 pub fn previous_of(nodes: &[u32], at: usize) -> Option<u32>
     requires { width * at + width ≤ length nodes.now }
-    ensures { unwrap_or result no_node ≡ previous_at nodes.now at }
+    ensures { (none : ℕ) → unwrap_or result none ≡ previous_or none nodes.now at }
 {
     let depth = nodes[RECORD * at + DEPTH];
     for i in (0..at).rev() {
@@ -44,7 +44,7 @@ pub fn previous_of(nodes: &[u32], at: usize) -> Option<u32>
 // The number of the node after it in its group.
 pub fn next_of(nodes: &[u32], count: usize, at: usize) -> Option<u32>
     requires { Placed nodes.now count at }
-    ensures { unwrap_or result no_node ≡ next_at count nodes.now at }
+    ensures { (none : ℕ) → unwrap_or result none ≡ next_or none count nodes.now at }
 {
     let end = subtree_end(nodes, count, at);
     if end < count && nodes[RECORD * end + DEPTH] == nodes[RECORD * at + DEPTH] {
@@ -57,7 +57,7 @@ pub fn next_of(nodes: &[u32], count: usize, at: usize) -> Option<u32>
 // The number of its first child.
 pub fn head_of(nodes: &[u32], count: usize, at: usize) -> Option<u32>
     requires { Placed nodes.now count at }
-    ensures { unwrap_or result no_node ≡ first_or no_node (children_at count nodes.now at) }
+    ensures { (none : ℕ) → unwrap_or result none ≡ first_or none (children_at count nodes.now at) }
 {
     let depth = nodes[RECORD * at + DEPTH];
     for i in at + 1..count {
@@ -75,7 +75,7 @@ pub fn head_of(nodes: &[u32], count: usize, at: usize) -> Option<u32>
 // The number of its last child.
 pub fn tail_of(nodes: &[u32], count: usize, at: usize) -> Option<u32>
     requires { Placed nodes.now count at }
-    ensures { unwrap_or result no_node ≡ last_or no_node (children_at count nodes.now at) }
+    ensures { (none : ℕ) → unwrap_or result none ≡ last_or none (children_at count nodes.now at) }
 {
     let depth = nodes[RECORD * at + DEPTH];
     let mut last = None;

@@ -19,3 +19,14 @@ pub fn zero_words(words: &mut [u32])
 {
     words.fill(0);
 }
+
+// A run over another of its length, one element after the other: the library's `copy_from_slice` calls memmove, which a host without a C library
+// need not have.
+pub fn copy_run<T: Copy>(to: &mut [T], from: &[T])
+    requires { length to.old ≡ length from.now }
+    ensures { to.new ≡ from.now }
+{
+    for (i, element) in from.iter().enumerate() {
+        to[i] = *element;
+    }
+}

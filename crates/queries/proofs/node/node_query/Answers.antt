@@ -6,7 +6,7 @@ use Rattle.words.specs.Parts.{region}
 use Rattle.nodes.specs.Place.{group_slot}
 use Rattle.nodes.specs.Structure.{no_node, first_or, last_or}
 use Rattle.nodes.specs.Table.{width, slot_field}
-use Rattle.tree.specs.Around.{next_at, children_at, children_of-at}
+use Rattle.tree.specs.Around.{next_at, next_told, children_at, children_of-at}
 use Rattle.model.specs.declared.Query.TheVariants as query
 use Rattle.model.specs.Layout.{count_in, nodes_place, nodes_words, record_in}
 use Rattle.queries.specs.Answers.{reply-refused, reply-sent}
@@ -35,11 +35,11 @@ returns-then-nodes-at-eq-GROUP c =
     reply-sent (query.Node a.node) a.bytes.now ws bs a.out.now _ _ _ (node_passes a.node a.bytes.now ws bs here found)
     (group-info a.node a.bytes.now ws bs here found there (eq-eqb (get_or us (width * here + slot_field) 0) group_slot c.if-nodes-at-eq-GROUP.true) _ _ _ _ _
     (around a.node ws bs here found there _ _ _
-    (c.unwrap_or-parent.ensures ∙ c.parent_of.ensures)
-    (c.unwrap_or-previous.ensures ∙ c.previous_of.ensures)
-    (c.unwrap_or-next.ensures ∙ c.next_of.ensures ∙ ap (λ (k : ℕ). next_at k us here) c.wide-count.ensures))
-    (c.unwrap_or-head.ensures ∙ c.head_of.ensures ∙ ap (λ (l : List ℕ). first_or no_node l) children)
-    (c.unwrap_or-tail.ensures ∙ c.tail_of.ensures ∙ ap (λ (l : List ℕ). last_or no_node l) children))
+    (c.unwrap_or-parent.ensures ∙ c.parent_of.ensures no_node)
+    (c.unwrap_or-previous.ensures ∙ c.previous_of.ensures no_node)
+    (c.unwrap_or-next.ensures ∙ c.next_of.ensures no_node ∙ next_told c.wide-count.result us here ∙ ap (λ (k : ℕ). next_at k us here) c.wide-count.ensures))
+    (c.unwrap_or-head.ensures ∙ c.head_of.ensures no_node ∙ ap (λ (l : List ℕ). first_or no_node l) children)
+    (c.unwrap_or-tail.ensures ∙ c.tail_of.ensures no_node ∙ ap (λ (l : List ℕ). last_or no_node l) children))
     c.send_words.ensures
 
 pub returns : goal.returns
@@ -54,7 +54,7 @@ returns c =
     reply-sent (query.Node a.node) a.bytes.now ws bs a.out.now _ _ _ (node_passes a.node a.bytes.now ws bs here found)
     (synth_info a.node a.bytes.now ws bs here found there (ne_eqb (get_or us (width * here + slot_field) 0) group_slot c.if-nodes-at-eq-GROUP.false) _ _ _
     (around a.node ws bs here found there _ _ _
-    (c.unwrap_or-parent.ensures ∙ c.parent_of.ensures)
-    (c.unwrap_or-previous.ensures ∙ c.previous_of.ensures)
-    (c.unwrap_or-next.ensures ∙ c.next_of.ensures ∙ ap (λ (k : ℕ). next_at k us here) c.wide-count.ensures)))
+    (c.unwrap_or-parent.ensures ∙ c.parent_of.ensures no_node)
+    (c.unwrap_or-previous.ensures ∙ c.previous_of.ensures no_node)
+    (c.unwrap_or-next.ensures ∙ c.next_of.ensures no_node ∙ next_told c.wide-count.result us here ∙ ap (λ (k : ℕ). next_at k us here) c.wide-count.ensures)))
     c.send_words-2.ensures

@@ -13,9 +13,9 @@ loop-i-preserved c =
     let all : ℕ → Bool = λ (k : ℕ). either (get_or a.marks.now k false) (row_taken k (drop a.from (rows a.to us))) in
     let size : length c.loop-i.marks ≡ 256 = omega arith in
     elim c.match-row_at.branch [
-      | in-Some+then-row-lt-ROWS w ↦ rw w.marks-is (marked_set c.loop-i.marks all a.to us c.loop-i.i w.in-Some.row (omega arith) w.in-Some.ensures c.loop-i.invariant w.if-row-lt-ROWS.true size)
-      | in-Some+else-row-lt-ROWS w ↦ rw w.marks-is (marked_skip c.loop-i.marks all a.to us c.loop-i.i w.in-Some.row (omega arith) w.in-Some.ensures c.loop-i.invariant w.if-row-lt-ROWS.false)
-      | in_default w ↦ rw w.marks-is (marked_skip c.loop-i.marks all a.to us c.loop-i.i 256 (omega arith) w.in_default.ensures c.loop-i.invariant (omega arith))
+      | in-Some+then-row-lt-ROWS w ↦ rw w.marks-is (marked_set c.loop-i.marks all a.to us c.loop-i.i w.in-Some.row (omega arith) (w.in-Some.ensures 256) c.loop-i.invariant w.if-row-lt-ROWS.true size)
+      | in-Some+else-row-lt-ROWS w ↦ rw w.marks-is (marked_skip c.loop-i.marks all a.to us c.loop-i.i w.in-Some.row (omega arith) (w.in-Some.ensures 256) c.loop-i.invariant w.if-row-lt-ROWS.false)
+      | in_default w ↦ rw w.marks-is (marked_skip c.loop-i.marks all a.to us c.loop-i.i 256 (omega arith) (w.in_default.ensures 256) c.loop-i.invariant (omega arith))
     ]
 
 pub returns : goal.returns
