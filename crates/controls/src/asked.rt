@@ -86,10 +86,11 @@ pub fn read_key(words: &[u32], arena: &[u8], place: usize, key: Key, name: &[u8]
     requires { (Ready words.now arena.now) × (place < count_in words.now) × (is_group (record_in words.now place) ≡ false) }
     ensures { result ≡ read_at (buses_in words.now) (controls_of (decode words.now arena.now).slots (controls_in words.now) (record_in words.now place)) (cover_of key name.now (definition_of (decode words.now arena.now).slots (record_in words.now place))) }
 {
-    match key_cover(node_definition(words, arena, place), key, name) {
-        Some(cover) if cover.width != 0 => {
-            read_control(words, node_row(words, place), cover.index)
-        }
-        _ => 0,
+    let Some(cover) = key_cover(node_definition(words, arena, place), key, name) else {
+        return 0;
+    };
+    if cover.width == 0 {
+        return 0;
     }
+    read_control(words, node_row(words, place), cover.index)
 }

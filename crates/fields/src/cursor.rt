@@ -1,11 +1,11 @@
 // The place in a file: it goes in and comes back by value. Each method reads one field.
-ghost use Rattle.std.specs.Prelude.{◌+◌, ◌*◌, ◌≤◌, ◌≡◌, leb, length};
+ghost use Rattle.std.specs.Prelude.{◌+◌, ◌*◌, ◌≤◌, ◌≡◌, IfOk, leb, length};
 ghost use Rattle.fields.specs.Answers.{number_of, text_of};
 ghost use Rattle.format.specs.declared.Width.TheVariants.{Short};
 ghost use Rattle.format.specs.Read.{checked};
 ghost use Rattle.format.specs.Fields.{half, word, size_of, extended, value_by, int8, int16, int32, integer_by, float32, pstring, name, definition_name, count_to_by, short_count_to, rate, index_below_by};
 
-use crate::name::name_bytes;
+use crate::name::is_name;
 use faults::{Fault, FileError};
 use format::{HIGHEST_RATE, Width};
 
@@ -156,9 +156,9 @@ impl Cursor {
         Err(FileError(Fault::BadIndex, at))
     }
 
-    // A pstring, of bytes of any kind.
+    // A pstring, of bytes of any kind. They lie in the file, so that nobody asks again.
     pub fn pstring(self, s: &[u8]) -> Reading<usize>
-        ensures { text_of s.now result ≡ pstring s.now self.at }
+        ensures { (text_of s.now result ≡ pstring s.now self.at) × IfOk result (λ r. (r.0 ≤ r.1.at) × (r.1.at ≤ length s.now)) }
     {
         let at = self.at;
         if s.len() <= at {
@@ -177,7 +177,7 @@ impl Cursor {
     {
         let at = self.at;
         let (start, next) = self.pstring(s)?;
-        if name_bytes(s, start, next.at) {
+        if is_name(&s[start..next.at]) {
             return Ok((start, next));
         }
         Err(FileError(Fault::BadName, at))
@@ -189,7 +189,7 @@ impl Cursor {
     {
         let at = self.at;
         let (start, next) = self.pstring(s)?;
-        if start < next.at && name_bytes(s, start, next.at) {
+        if start < next.at && is_name(&s[start..next.at]) {
             return Ok((start, next));
         }
         Err(FileError(Fault::BadName, at))

@@ -4,11 +4,18 @@ ghost use Rattle.words.specs.Parts.{region};
 ghost use Rattle.format.specs.Fields.{name_bytes, string_at};
 ghost use Rattle.format.specs.Reader.{same_name};
 
+// All bytes are those of a name.
+pub(crate) fn is_name(bytes: &[u8]) -> bool
+    ensures { result ≡ name_bytes bytes.now }
+{
+    bytes.iter().all(|b| 1 <= *b && *b <= 127)
+}
+
 // The bytes from one place to another are bytes of a name.
 pub fn name_bytes(s: &[u8], from: usize, to: usize) -> bool
     ensures { result ≡ name_bytes (region from (to - from) s.now) }
 {
-    part(s, from, to).iter().all(|b| 1 <= *b && *b <= 127)
+    is_name(part(s, from, to))
 }
 
 // The bytes of the pstring at a place, a part of the lent bytes.

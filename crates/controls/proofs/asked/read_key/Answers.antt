@@ -28,28 +28,28 @@ read_control-requires c =
     let a = c.args in
     let p = c.requires in
     let row = (synth_ready a.words.now a.arena.now p.0 a.place p.1 p.2).row in
-    let covered : 0 < c.in-Some.cover.width = omega (arith, c.if-cover-ne0.true) in
+    let covered : 0 < c.in-Some.cover.width = omega (arith, c.if-cover-eq0.false) in
     let inside = rw c.in-Some.is at (cover_inside a.key a.name.now c.node_definition.result.now c.key_cover.result c.key_cover.ensures) in
     (p.0.size, rw c.node_row.ensures row, omega (arith, inside covered))
 
-pub returns-in-Some : goal.returns-in-Some
-returns-in-Some c =
+pub returns : goal.returns
+returns c =
     let a = c.args in
     let p = c.requires in
     let said = c.key_cover.ensures ∙ ap (λ (s : List ℕ). cover_of a.key a.name.now (front_only s)) c.node_definition.ensures in
     c.read_control.ensures
     ∙ ap (λ (row : ℕ). shown_by (buses_in a.words.now) (control_in (controls_in a.words.now) row c.in-Some.cover.index)) c.node_row.ensures
-    ∙ sym (read_there a.words.now a.arena.now p.0 a.place p.1 p.2 a.key a.name.now c.key_cover.result said c.in-Some.cover c.in-Some.is (omega (arith, c.if-cover-ne0.true)))
+    ∙ sym (read_there a.words.now a.arena.now p.0 a.place p.1 p.2 a.key a.name.now c.key_cover.result said c.in-Some.cover c.in-Some.is (omega (arith, c.if-cover-eq0.false)))
 
-pub returns-in_default : goal.returns-in_default
-returns-in_default c =
+pub returns-then-cover-eq0 : goal.returns-then-cover-eq0
+returns-then-cover-eq0 c =
     let a = c.args in
     let p = c.requires in
     let said = c.key_cover.ensures ∙ ap (λ (s : List ℕ). cover_of a.key a.name.now (front_only s)) c.node_definition.ensures in
-    sym (read_past a.words.now a.arena.now p.0 a.place p.1 p.2 a.key a.name.now c.key_cover.result said c.in-Some.cover c.in-Some.is (omega (arith, c.if-cover-ne0.false)))
+    sym (read_past a.words.now a.arena.now p.0 a.place p.1 p.2 a.key a.name.now c.key_cover.result said c.in-Some.cover c.in-Some.is (omega (arith, c.if-cover-eq0.true)))
 
-pub returns-in_default-2 : goal.returns-in_default-2
-returns-in_default-2 c =
+pub returns-in_default : goal.returns-in_default
+returns-in_default c =
     let a = c.args in
     let p = c.requires in
     let said = c.key_cover.ensures ∙ ap (λ (s : List ℕ). cover_of a.key a.name.now (front_only s)) c.node_definition.ensures in

@@ -1,11 +1,11 @@
-use Rattle.std.proofs.Common.{ℕ, Bool, List, [], ◌∷◌, ◌≡◌, refl, ap, ◌∙◌, leb, arith, rules}
+use Rattle.std.proofs.Common.{ℕ, Bool, List, [], ◌∷◌, ◌≡◌, refl, ◌∙◌, leb, arith, rules}
 use borrow.Author.Tests.{tests}
 use Rattle.std.specs.List.{list_all}
 use Rattle.std.proofs.lemmas.Iterator.{YieldsList-from_slice}
 use Rattle.std.proofs.lemmas.Iterator.Search.{all_from_yields_List}
 use Rattle.words.specs.Choice.{both}
 use Rattle.format.specs.Fields.{name_bytes}
-use Rattle.fields.proofs.name.name_bytes.Goals as goal
+use Rattle.fields.proofs.name.is_name.Goals as goal
 
 -- a byte of a name
 abbrev in_name : ℕ → Bool
@@ -18,6 +18,5 @@ each (b ∷ bs) = grind (arith, each bs)
 
 pub returns : goal.returns
 returns c =
-    all_from_yields_List in_name _ _ _ c.all.ensures.ran (YieldsList-from_slice c.part.result.now cc) (λ x b q k. search (rules, tests))
-    ∙ each c.part.result.now
-    ∙ ap name_bytes c.part.ensures
+    all_from_yields_List in_name _ _ _ c.all.ensures.ran (YieldsList-from_slice c.args.bytes.now cc) (λ x b q k. search (rules, tests))
+    ∙ each c.args.bytes.now
